@@ -10,3 +10,4 @@ pub mod Errors
 pub mod Evaluations
 pub mod Results
 pub mod WithoutCanonical
+pub mod RootEvaluations

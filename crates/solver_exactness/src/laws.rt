@@ -86,7 +86,7 @@ pub trait RootSearching {
     ghost declares: { Handler → List Entry → World };
 }
 
-/// So it is of what `evaluate_root_goal` is told by its search, as its clauses `answer` and `refusal` say (`found` of `IsResult`), for
+/// So it is of what `evaluate_root_goal` is told by its search, as its clauses `says` and `refusal` say (`found` of `IsResult`), for
 /// chains of premises of one question more than the graph is deep: of a goal of a formed fact a refusal says that it is not possible,
 /// and any other answer that it is; outside coherence a definite yes says that it has a proof, and a refusal that it has none.
 pub fn root_answers_are_right<S: RootSearching>()

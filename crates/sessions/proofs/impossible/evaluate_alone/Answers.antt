@@ -13,14 +13,14 @@ returns-clause-impossible g c = λ q.
     let asked : Goal = record { param_env = c.new.result; predicate = record { trait_ref = c.args.trait_ref } } in
     alone-has-none (g.H.GoalHandler.meaning.goals.handled (g.H.GoalHandler.meaning.world c.args.cx.now.handler c.args.cx.now.interner.entries)) c.args.cx.now.interner.entries c.args.table.now asked c.args.trait_ref
     (goal-is-alone c.args.cx.now.interner.entries asked c.args.trait_ref c.new.ensures.items refl)
-    (c.evaluate_root_goal-evaluated.ensures.no_solution q)
+    (c.evaluate_root_goal-evaluated.ensures.refusal.no_proof q)
 
 pub returns-clause-left_open : goal.returns-clause-left_open
 returns-clause-left_open g c = λ q.
     let asked : Goal = record { param_env = c.new.result; predicate = record { trait_ref = c.args.trait_ref } } in
     still-open g.H.GoalHandler.meaning c.args.cx.now c.args.graph.now c.args.table.now asked c.args.trait_ref
     (goal-is-alone c.args.cx.now.interner.entries asked c.args.trait_ref c.new.ensures.items refl)
-    (left-open _ _ _ c.evaluate_root_goal-evaluated.result c.evaluate_root_goal-evaluated.ensures.answer (λ e x. (x.0, x.1.found)) c.evaluate_root_goal-evaluated.ensures.no_conflict q)
+    (left-open _ _ _ c.evaluate_root_goal-evaluated.result c.evaluate_root_goal-evaluated.ensures.says (λ e x. (x.answer.0, x.answer.1.found)) c.evaluate_root_goal-evaluated.ensures.faults.not_plain q)
 
 pub returns-clause-full : goal.returns-clause-full
 returns-clause-full g c = λ q.
@@ -30,4 +30,4 @@ returns-clause-full g c = λ q.
     (λ a. IsResult (solver_meaning g.H.GoalHandler.meaning) c.args.cx.now c.args.cache.now c.args.graph.now
     c.evaluate_root_goal-evaluated.new.cx c.evaluate_root_goal-evaluated.new.cache c.evaluate_root_goal-evaluated.new.graph (asked_in Coherence c.args.cx.now.interner.entries c.args.table.now asked) (Some a))
     (λ a x. x.found))
-    (c.evaluate_root_goal-evaluated.ensures.full q)
+    (c.evaluate_root_goal-evaluated.ensures.faults.full q)

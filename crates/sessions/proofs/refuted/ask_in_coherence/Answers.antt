@@ -19,7 +19,7 @@ returns-clause-no g c =
     let es = c.args.cx.now.interner.entries in
     let asked : Goal = record { param_env = c.new.result; predicate = record { trait_ref = c.args.asked } } in
     no-proof es c.args.table.now asked (goal_alone (reference_in es c.args.asked)) c.requires.no_values (alone-is es asked c.args.asked c.new.ensures.items refl)
-    (g.H.GoalHandler.meaning.goals.handled (g.H.GoalHandler.meaning.world c.args.cx.now.handler es)) (c.evaluate_root_goal-evaluated.ensures.no_solution (c.answer_of.ensures.no q)) tt (a, tt) tt (k, tt)
+    (g.H.GoalHandler.meaning.goals.handled (g.H.GoalHandler.meaning.world c.args.cx.now.handler es)) (c.evaluate_root_goal-evaluated.ensures.refusal.no_proof (c.answer_of.ensures.no q)) tt (a, tt) tt (k, tt)
 
 pub returns-clause-open : goal.returns-clause-open
 returns-clause-open g c = λ q.
@@ -30,7 +30,7 @@ returns-clause-open g c = λ q.
     let depth = c.args.graph.now.root_depth in
     asked-is es c.args.table.now asked (goal_alone (reference_in es c.args.asked)) c.requires.no_values (alone-is es asked c.args.asked c.new.ensures.items refl)
     (λ (z : Asked). ((a : AnswerTrees) × IsFound m w depth z (Some a)) ⊎ IsNotPlain m w (depth + 1) z)
-    (left-open _ _ _ c.evaluate_root_goal-evaluated.result c.evaluate_root_goal-evaluated.ensures.answer (λ e x. (x.0, x.1.found)) c.evaluate_root_goal-evaluated.ensures.no_conflict (c.answer_of.ensures.open q))
+    (left-open _ _ _ c.evaluate_root_goal-evaluated.result c.evaluate_root_goal-evaluated.ensures.says (λ e x. (x.answer.0, x.answer.1.found)) c.evaluate_root_goal-evaluated.ensures.faults.not_plain (c.answer_of.ensures.open q))
 
 pub returns-clause-frames : goal.returns-clause-frames
 returns-clause-frames g c =
@@ -39,4 +39,4 @@ returns-clause-frames g c =
     let w = g.H.GoalHandler.meaning.world c.args.cx.now.handler es in
     asked-is es c.args.table.now asked (goal_alone (reference_in es c.args.asked)) c.requires.no_values (alone-is es asked c.args.asked c.new.ensures.items refl)
     (λ (z : Asked). c.evaluate_root_goal-evaluated.new.graph.frames ≤ c.args.graph.now.frames + frames_for g.H.GoalHandler.meaning w c.args.graph.now.root_depth z)
-    (c.evaluate_root_goal-evaluated.ensures.frames _ (le_refl _))
+    (c.evaluate_root_goal-evaluated.ensures.costs.frames _ (le_refl _))

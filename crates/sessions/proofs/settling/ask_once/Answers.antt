@@ -12,7 +12,7 @@ use Rattle.sessions.proofs.settling.ask_once.Goals as goal
 
 pub returns-in-Ok-clause-again : goal.returns-in-Ok-clause-again
 returns-in-Ok-clause-again g c =
-    let e = c.evaluate_root_goal.ensures in
+    let e = c.evaluate_root_goal.ensures.rests in
     record {
       empty = e.empty;
       cache = e.cache;
@@ -23,8 +23,8 @@ returns-in-Ok-clause-again g c =
 
 pub returns-in-Ok-clause-asked : goal.returns-in-Ok-clause-asked
 returns-in-Ok-clause-asked g c =
-    let e = c.evaluate_root_goal.ensures in
-    let a = c.in-Ok.ensures.answer in
+    let e = c.evaluate_root_goal.ensures.rests in
+    let a = c.in-Ok.ensures.says.answer in
     record {
       depth = e.depth;
       results = e.results;
@@ -32,13 +32,13 @@ returns-in-Ok-clause-asked g c =
       keeps = e.keeps;
       entries = e.entries;
       grows = e.grows;
-      narrows = c.in-Ok.ensures.narrows;
+      narrows = c.in-Ok.ensures.says.narrows;
       clean = λ h. evaluations-keep-out (table_trees c.args.cx.now.interner.entries c.args.table.now) (table_trees c.evaluate_root_goal.new.cx.interner.entries c.evaluate_root_goal.new.table) (goal_in c.args.cx.now.interner.entries c.args.table.now c.args.goal.now) a.0 h a.3;
     }
 
 pub returns-in-Err-NoSolution-clause-again : goal.returns-in-Err-NoSolution-clause-again
 returns-in-Err-NoSolution-clause-again g c =
-    let e = c.evaluate_root_goal.ensures in
+    let e = c.evaluate_root_goal.ensures.rests in
     record {
       empty = e.empty;
       cache = e.cache;
@@ -49,7 +49,7 @@ returns-in-Err-NoSolution-clause-again g c =
 
 pub returns-in-Err-NoSolution-clause-asked : goal.returns-in-Err-NoSolution-clause-asked
 returns-in-Err-NoSolution-clause-asked g c =
-    let e = c.evaluate_root_goal.ensures in
+    let e = c.evaluate_root_goal.ensures.rests in
     record {
       depth = e.depth;
       results = e.results;
@@ -57,13 +57,13 @@ returns-in-Err-NoSolution-clause-asked g c =
       keeps = e.keeps;
       entries = e.entries;
       grows = e.grows;
-      narrows = narrows-refused c.args.cx.now.interner.entries c.evaluate_root_goal.new.cx.interner.entries c.args.table.now c.evaluate_root_goal.new.table e.entries c.requires.table c.in-Err-NoSolution.ensures.refused;
-      clean = clean-refused c.args.cx.now.interner.entries c.evaluate_root_goal.new.cx.interner.entries c.args.table.now c.evaluate_root_goal.new.table e.entries c.requires.table c.in-Err-NoSolution.ensures.refused;
+      narrows = narrows-refused c.args.cx.now.interner.entries c.evaluate_root_goal.new.cx.interner.entries c.args.table.now c.evaluate_root_goal.new.table e.entries c.requires.table c.in-Err-NoSolution.ensures.refusal.unchanged;
+      clean = clean-refused c.args.cx.now.interner.entries c.evaluate_root_goal.new.cx.interner.entries c.args.table.now c.evaluate_root_goal.new.table e.entries c.requires.table c.in-Err-NoSolution.ensures.refusal.unchanged;
     }
 
 pub returns-in-Err-Conflict-clause-again : goal.returns-in-Err-Conflict-clause-again
 returns-in-Err-Conflict-clause-again g c =
-    let e = c.evaluate_root_goal.ensures in
+    let e = c.evaluate_root_goal.ensures.rests in
     record {
       empty = e.empty;
       cache = e.cache;
@@ -74,7 +74,7 @@ returns-in-Err-Conflict-clause-again g c =
 
 pub returns-in-Err-Conflict-clause-asked : goal.returns-in-Err-Conflict-clause-asked
 returns-in-Err-Conflict-clause-asked g c =
-    let e = c.evaluate_root_goal.ensures in
+    let e = c.evaluate_root_goal.ensures.rests in
     record {
       depth = e.depth;
       results = e.results;
@@ -82,13 +82,13 @@ returns-in-Err-Conflict-clause-asked g c =
       keeps = e.keeps;
       entries = e.entries;
       grows = e.grows;
-      narrows = narrows-refused c.args.cx.now.interner.entries c.evaluate_root_goal.new.cx.interner.entries c.args.table.now c.evaluate_root_goal.new.table e.entries c.requires.table c.in-Err-Conflict.ensures.refused;
-      clean = clean-refused c.args.cx.now.interner.entries c.evaluate_root_goal.new.cx.interner.entries c.args.table.now c.evaluate_root_goal.new.table e.entries c.requires.table c.in-Err-Conflict.ensures.refused;
+      narrows = narrows-refused c.args.cx.now.interner.entries c.evaluate_root_goal.new.cx.interner.entries c.args.table.now c.evaluate_root_goal.new.table e.entries c.requires.table c.in-Err-Conflict.ensures.refusal.unchanged;
+      clean = clean-refused c.args.cx.now.interner.entries c.evaluate_root_goal.new.cx.interner.entries c.args.table.now c.evaluate_root_goal.new.table e.entries c.requires.table c.in-Err-Conflict.ensures.refusal.unchanged;
     }
 
 pub returns-in-Err-Fault-clause-again : goal.returns-in-Err-Fault-clause-again
 returns-in-Err-Fault-clause-again g c =
-    let e = c.evaluate_root_goal.ensures in
+    let e = c.evaluate_root_goal.ensures.rests in
     record {
       empty = e.empty;
       cache = e.cache;
@@ -99,7 +99,7 @@ returns-in-Err-Fault-clause-again g c =
 
 pub returns-in-Err-Fault-clause-asked : goal.returns-in-Err-Fault-clause-asked
 returns-in-Err-Fault-clause-asked g c =
-    let e = c.evaluate_root_goal.ensures in
+    let e = c.evaluate_root_goal.ensures.rests in
     record {
       depth = e.depth;
       results = e.results;
@@ -107,44 +107,44 @@ returns-in-Err-Fault-clause-asked g c =
       keeps = e.keeps;
       entries = e.entries;
       grows = e.grows;
-      narrows = narrows-refused c.args.cx.now.interner.entries c.evaluate_root_goal.new.cx.interner.entries c.args.table.now c.evaluate_root_goal.new.table e.entries c.requires.table c.in-Err-Fault.ensures.refused;
-      clean = clean-refused c.args.cx.now.interner.entries c.evaluate_root_goal.new.cx.interner.entries c.args.table.now c.evaluate_root_goal.new.table e.entries c.requires.table c.in-Err-Fault.ensures.refused;
+      narrows = narrows-refused c.args.cx.now.interner.entries c.evaluate_root_goal.new.cx.interner.entries c.args.table.now c.evaluate_root_goal.new.table e.entries c.requires.table c.in-Err-Fault.ensures.refusal.unchanged;
+      clean = clean-refused c.args.cx.now.interner.entries c.evaluate_root_goal.new.cx.interner.entries c.args.table.now c.evaluate_root_goal.new.table e.entries c.requires.table c.in-Err-Fault.ensures.refusal.unchanged;
     }
 
 pub returns-in-Ok-clause-holds : goal.returns-in-Ok-clause-holds
 returns-in-Ok-clause-holds g c = λ e.
     let h = c.read.ensures.holds (ok-same e) in
     proved-once g.H.GoalHandler.meaning (g.H.GoalHandler.meaning.world c.args.cx.now.handler c.args.cx.now.interner.entries) c.args.cx.now c.evaluate_root_goal.new.cx c.args.table.now c.evaluate_root_goal.new.table c.args.goal.now
-    c.in-Ok.ensures.narrows (c.in-Ok.ensures.yes h.0 h.1)
+    c.in-Ok.ensures.says.narrows (c.in-Ok.ensures.yes h.0 h.1)
 
 pub returns-in-Ok-clause-changes : goal.returns-in-Ok-clause-changes
 returns-in-Ok-clause-changes g c = λ e.
-    let a = c.in-Ok.ensures.answer in
+    let a = c.in-Ok.ensures.says.answer in
     inr (a.0, a.1.found, not-definite-changed a.0 (sym a.2.has_changed ∙ c.read.ensures.changes (ok-same e)))
 
 pub returns-in-Ok-clause-unsure : goal.returns-in-Ok-clause-unsure
 returns-in-Ok-clause-unsure g c = λ e.
-    let a = c.in-Ok.ensures.answer in
+    let a = c.in-Ok.ensures.says.answer in
     inr (a.0, a.1.found, not-definite-unsure a.0 (λ q. c.read.ensures.unsure (ok-same e) (a.2.certainty ∙ q)))
 
 pub returns-in-Err-Fault-clause-full : goal.returns-in-Err-Fault-clause-full
 returns-in-Err-Fault-clause-full g c = λ e.
     let is : c.evaluate_root_goal.result ≡ Err (Root.Fault Full) = search rules in
-    runs-out-more (c.evaluate_root_goal.ensures.full is) (λ a r. r.found)
+    runs-out-more (c.evaluate_root_goal.ensures.faults.full is) (λ a r. r.found)
 
 pub returns-in-Ok-clause-frames : goal.returns-in-Ok-clause-frames
-returns-in-Ok-clause-frames g c = c.evaluate_root_goal.ensures.frames _ (le_refl _)
+returns-in-Ok-clause-frames g c = c.evaluate_root_goal.ensures.costs.frames _ (le_refl _)
 
 pub returns-in-Err-NoSolution-clause-frames : goal.returns-in-Err-NoSolution-clause-frames
-returns-in-Err-NoSolution-clause-frames g c = c.evaluate_root_goal.ensures.frames _ (le_refl _)
+returns-in-Err-NoSolution-clause-frames g c = c.evaluate_root_goal.ensures.costs.frames _ (le_refl _)
 
 pub returns-in-Err-Conflict-clause-frames : goal.returns-in-Err-Conflict-clause-frames
-returns-in-Err-Conflict-clause-frames g c = c.evaluate_root_goal.ensures.frames _ (le_refl _)
+returns-in-Err-Conflict-clause-frames g c = c.evaluate_root_goal.ensures.costs.frames _ (le_refl _)
 
 pub returns-in-Err-Fault-clause-frames : goal.returns-in-Err-Fault-clause-frames
-returns-in-Err-Fault-clause-frames g c = c.evaluate_root_goal.ensures.frames _ (le_refl _)
+returns-in-Err-Fault-clause-frames g c = c.evaluate_root_goal.ensures.costs.frames _ (le_refl _)
 
 pub returns-in-Ok-clause-left : goal.returns-in-Ok-clause-left
 returns-in-Ok-clause-left g c = λ _.
-    let a = c.in-Ok.ensures.answer in
-    (a.0, a.1.found, a.3, older-are-terms _ _ c.evaluate_root_goal.ensures.table.older)
+    let a = c.in-Ok.ensures.says.answer in
+    (a.0, a.1.found, a.3, older-are-terms _ _ c.evaluate_root_goal.ensures.rests.table.older)

@@ -3,6 +3,7 @@ use Rattle.infer_table.proofs.PairFacts.{table-kept}
 use Rattle.evaluation.proofs.Shortages.{same-shortage}
 use Rattle.infer_table.specs.Canonical.{goal_leaves}
 use Rattle.infer_table.specs.Content.{variables_of}
+use Rattle.infer_table.specs.Growth.{grows-refl}
 use Rattle.infer_table.specs.Kept.{content-kept, ready-later}
 use Rattle.infer_table.specs.Solutions.{Solves}
 use Rattle.infer_table.specs.declared.certainty.EqError.{EqError}
@@ -31,47 +32,9 @@ use Rattle.solver_context.proofs.Rooted.{definite, keeps-two, entries-two, keeps
 use Rattle.solver_context.proofs.Searched.{root-proof, root-agrees}
 use Rattle.solver_context.proofs.root.evaluate_root_goal.Goals as goal
 
-pub returns-in_err-asked-clause-cache : goal.returns-in_err-asked-clause-cache
-returns-in_err-asked-clause-cache g c =
-    justified-later (solver_meaning g.H.GoalHandler.meaning) c.args.cx.now c.ask.new.cx c.args.cache.now (keeps g.H.GoalHandler.meaning g.met.H.GoalHandler.lawful.world_kept c.args.cx.now c.ask.new.cx c.requires.ready c.ask.ensures.advances) c.requires.cache
-
-pub returns-in_err-asked-clause-keeps : goal.returns-in_err-asked-clause-keeps
-returns-in_err-asked-clause-keeps g c =
-    keeps g.H.GoalHandler.meaning g.met.H.GoalHandler.lawful.world_kept c.args.cx.now c.ask.new.cx c.requires.ready c.ask.ensures.advances
-
 pub search-requires-clause-cache : goal.search-requires-clause-cache
 search-requires-clause-cache g c =
     justified-later (solver_meaning g.H.GoalHandler.meaning) c.args.cx.now c.ask.new.cx c.args.cache.now (keeps g.H.GoalHandler.meaning g.met.H.GoalHandler.lawful.world_kept c.args.cx.now c.ask.new.cx c.requires.ready c.ask.ensures.advances) c.requires.cache
-
-pub returns-in_err-answer-clause-keeps : goal.returns-in_err-answer-clause-keeps
-returns-in_err-answer-clause-keeps g c =
-    keeps-two g.H.GoalHandler.meaning g.met.H.GoalHandler.lawful.world_kept c.args.cx.now c.ask.new.cx c.search.new.cx c.requires.ready c.ask.ensures.advances c.search.ensures.keeps
-
-pub returns-in_err-answer-clause-entries : goal.returns-in_err-answer-clause-entries
-returns-in_err-answer-clause-entries g c =
-    entries-two g.H.GoalHandler.meaning g.met.H.GoalHandler.lawful.world_kept c.args.cx.now c.ask.new.cx c.search.new.cx c.requires.ready c.ask.ensures.advances c.search.ensures.keeps
-
-pub returns-in_err-answer-clause-table : goal.returns-in_err-answer-clause-table
-returns-in_err-answer-clause-table g c =
-    ready-later c.args.cx.now.interner.entries c.search.new.cx.interner.entries c.args.table.now (entries-two g.H.GoalHandler.meaning g.met.H.GoalHandler.lawful.world_kept c.args.cx.now c.ask.new.cx c.search.new.cx c.requires.ready c.ask.ensures.advances c.search.ensures.keeps) c.requires.table
-
-pub returns-in_default-clause-keeps : goal.returns-in_default-clause-keeps
-returns-in_default-clause-keeps g c =
-    keeps-two g.H.GoalHandler.meaning g.met.H.GoalHandler.lawful.world_kept c.args.cx.now c.ask.new.cx c.search.new.cx c.requires.ready c.ask.ensures.advances c.search.ensures.keeps
-
-pub returns-in_default-clause-entries : goal.returns-in_default-clause-entries
-returns-in_default-clause-entries g c =
-    entries-two g.H.GoalHandler.meaning g.met.H.GoalHandler.lawful.world_kept c.args.cx.now c.ask.new.cx c.search.new.cx c.requires.ready c.ask.ensures.advances c.search.ensures.keeps
-
-pub returns-in_default-clause-table : goal.returns-in_default-clause-table
-returns-in_default-clause-table g c =
-    ready-later c.args.cx.now.interner.entries c.search.new.cx.interner.entries c.args.table.now (entries-two g.H.GoalHandler.meaning g.met.H.GoalHandler.lawful.world_kept c.args.cx.now c.ask.new.cx c.search.new.cx c.requires.ready c.ask.ensures.advances c.search.ensures.keeps) c.requires.table
-
-pub returns-in_default-clause-no_solution : goal.returns-in_default-clause-no_solution
-returns-in_default-clause-no_solution g c =
-    λ _ p x s h q.
-    let n : c.in_ok-answer.field-0 ≡ None = search rules in
-    root-agrees c.args.cx.now.interner.entries c.requires.ready.lawful c.args.table.now c.requires.table c.args.goal.now c.requires.goal p.clean s h g.H.GoalHandler.meaning.goals g.met.H.GoalHandler.lawful.goals (g.H.GoalHandler.meaning.world c.args.cx.now.handler c.args.cx.now.interner.entries) c.args.mode None (right-at g.H.GoalHandler.meaning g.met.H.GoalHandler.lawful.world_kept c.args.cx.now c.ask.new.cx c.requires.ready c.ask.ensures.advances c.in_ok-asked.asked.input (asked_in c.args.mode c.args.cx.now.interner.entries c.args.table.now c.args.goal.now) (result_read c.search.new.cx.interner.entries c.in_ok-answer.field-0) None c.in_ok-asked.ensures.input.1 (ap (result_read c.search.new.cx.interner.entries) n) c.in_ok-answer.ensures.sound).covers x q
 
 pub apply_answer-applied-requires-clause-values : goal.apply_answer-applied-requires-clause-values
 apply_answer-applied-requires-clause-values g c =
@@ -87,76 +50,6 @@ pub apply_answer-applied-requires-clause-ready : goal.apply_answer-applied-requi
 apply_answer-applied-requires-clause-ready g c =
     ready-later c.args.cx.now.interner.entries c.search.new.cx.interner.entries c.args.table.now (entries-two g.H.GoalHandler.meaning g.met.H.GoalHandler.lawful.world_kept c.args.cx.now c.ask.new.cx c.search.new.cx c.requires.ready c.ask.ensures.advances c.search.ensures.keeps) c.requires.table
 
-pub returns-in-Ok-clause-cache : goal.returns-in-Ok-clause-cache
-returns-in-Ok-clause-cache g c =
-    justified-later (solver_meaning g.H.GoalHandler.meaning) c.search.new.cx (record { alloc = c.search.new.cx.alloc; interner = c.apply_answer-applied.new.cx; handler = c.search.new.cx.handler; store = c.search.new.cx.store }) c.search.new.cache (keeps g.H.GoalHandler.meaning g.met.H.GoalHandler.lawful.world_kept c.search.new.cx (record { alloc = c.search.new.cx.alloc; interner = c.apply_answer-applied.new.cx; handler = c.search.new.cx.handler; store = c.search.new.cx.store }) c.search.ensures.ready (later g.H.GoalHandler.meaning.IsReady g.met.H.GoalHandler.lawful.ready_kept c.search.new.cx (record { alloc = c.search.new.cx.alloc; interner = c.apply_answer-applied.new.cx; handler = c.search.new.cx.handler; store = c.search.new.cx.store }) c.search.ensures.ready refl refl c.apply_answer-applied.ensures.keeps c.lawful.ensures)) c.search.ensures.cache
-
-pub returns-in-Ok-clause-ready : goal.returns-in-Ok-clause-ready
-returns-in-Ok-clause-ready g c =
-    (later g.H.GoalHandler.meaning.IsReady g.met.H.GoalHandler.lawful.ready_kept c.search.new.cx (record { alloc = c.search.new.cx.alloc; interner = c.apply_answer-applied.new.cx; handler = c.search.new.cx.handler; store = c.search.new.cx.store }) c.search.ensures.ready refl refl c.apply_answer-applied.ensures.keeps c.lawful.ensures).ready
-
-pub returns-in-Ok-clause-keeps : goal.returns-in-Ok-clause-keeps
-returns-in-Ok-clause-keeps g c =
-    keeps-three g.H.GoalHandler.meaning g.met.H.GoalHandler.lawful.world_kept c.args.cx.now c.ask.new.cx c.search.new.cx c.requires.ready c.ask.ensures.advances c.search.ensures.keeps (record { alloc = c.search.new.cx.alloc; interner = c.apply_answer-applied.new.cx; handler = c.search.new.cx.handler; store = c.search.new.cx.store }) c.search.ensures.ready (later g.H.GoalHandler.meaning.IsReady g.met.H.GoalHandler.lawful.ready_kept c.search.new.cx (record { alloc = c.search.new.cx.alloc; interner = c.apply_answer-applied.new.cx; handler = c.search.new.cx.handler; store = c.search.new.cx.store }) c.search.ensures.ready refl refl c.apply_answer-applied.ensures.keeps c.lawful.ensures)
-
-pub returns-in-Ok-clause-entries : goal.returns-in-Ok-clause-entries
-returns-in-Ok-clause-entries g c =
-    λ i e h. c.apply_answer-applied.ensures.keeps i e (entries-two g.H.GoalHandler.meaning g.met.H.GoalHandler.lawful.world_kept c.args.cx.now c.ask.new.cx c.search.new.cx c.requires.ready c.ask.ensures.advances c.search.ensures.keeps i e h)
-
-pub returns-in-Err-clause-cache : goal.returns-in-Err-clause-cache
-returns-in-Err-clause-cache g c =
-    justified-later (solver_meaning g.H.GoalHandler.meaning) c.search.new.cx (record { alloc = c.search.new.cx.alloc; interner = c.apply_answer-applied.new.cx; handler = c.search.new.cx.handler; store = c.search.new.cx.store }) c.search.new.cache (keeps g.H.GoalHandler.meaning g.met.H.GoalHandler.lawful.world_kept c.search.new.cx (record { alloc = c.search.new.cx.alloc; interner = c.apply_answer-applied.new.cx; handler = c.search.new.cx.handler; store = c.search.new.cx.store }) c.search.ensures.ready (later g.H.GoalHandler.meaning.IsReady g.met.H.GoalHandler.lawful.ready_kept c.search.new.cx (record { alloc = c.search.new.cx.alloc; interner = c.apply_answer-applied.new.cx; handler = c.search.new.cx.handler; store = c.search.new.cx.store }) c.search.ensures.ready refl refl c.apply_answer-applied.ensures.keeps c.lawful.ensures)) c.search.ensures.cache
-
-pub returns-in-Err-clause-ready : goal.returns-in-Err-clause-ready
-returns-in-Err-clause-ready g c =
-    (later g.H.GoalHandler.meaning.IsReady g.met.H.GoalHandler.lawful.ready_kept c.search.new.cx (record { alloc = c.search.new.cx.alloc; interner = c.apply_answer-applied.new.cx; handler = c.search.new.cx.handler; store = c.search.new.cx.store }) c.search.ensures.ready refl refl c.apply_answer-applied.ensures.keeps c.lawful.ensures).ready
-
-pub returns-in-Err-clause-keeps : goal.returns-in-Err-clause-keeps
-returns-in-Err-clause-keeps g c =
-    keeps-three g.H.GoalHandler.meaning g.met.H.GoalHandler.lawful.world_kept c.args.cx.now c.ask.new.cx c.search.new.cx c.requires.ready c.ask.ensures.advances c.search.ensures.keeps (record { alloc = c.search.new.cx.alloc; interner = c.apply_answer-applied.new.cx; handler = c.search.new.cx.handler; store = c.search.new.cx.store }) c.search.ensures.ready (later g.H.GoalHandler.meaning.IsReady g.met.H.GoalHandler.lawful.ready_kept c.search.new.cx (record { alloc = c.search.new.cx.alloc; interner = c.apply_answer-applied.new.cx; handler = c.search.new.cx.handler; store = c.search.new.cx.store }) c.search.ensures.ready refl refl c.apply_answer-applied.ensures.keeps c.lawful.ensures)
-
-pub returns-in-Err-clause-entries : goal.returns-in-Err-clause-entries
-returns-in-Err-clause-entries g c =
-    λ i e h. c.apply_answer-applied.ensures.keeps i e (entries-two g.H.GoalHandler.meaning g.met.H.GoalHandler.lawful.world_kept c.args.cx.now c.ask.new.cx c.search.new.cx c.requires.ready c.ask.ensures.advances c.search.ensures.keeps i e h)
-
-pub returns-in-Ok-clause-held : goal.returns-in-Ok-clause-held
-returns-in-Ok-clause-held g c =
-    goal-held-later c.ask.new.cx.interner.entries c.apply_answer-applied.new.cx.entries (λ i e h. c.apply_answer-applied.ensures.keeps i e (c.search.ensures.keeps.held (i, e) h)) c.in_ok-asked.asked.goal c.in_ok-asked.ensures.held
-
-pub returns-in-Ok-clause-resolved : goal.returns-in-Ok-clause-resolved
-returns-in-Ok-clause-resolved g c =
-    goal-trees-later c.ask.new.cx.interner.entries c.apply_answer-applied.new.cx.entries (λ i e h. c.apply_answer-applied.ensures.keeps i e (c.search.ensures.keeps.held (i, e) h)) c.in_ok-asked.asked.goal c.in_ok-asked.ensures.held ∙ c.in_ok-asked.ensures.resolved
-
-pub returns-in-Ok-clause-answer : goal.returns-in-Ok-clause-answer
-returns-in-Ok-clause-answer g c =
-    let d : c.deref.result.now ≡ c.in_ok-asked.asked.values.items = search rules in
-    let v = (values-later c.ask.new.cx.interner.entries c.search.new.cx.interner.entries (λ i e h. c.search.ensures.keeps.held (i, e) h) c.in_ok-asked.asked.values.items c.deref.result.now d (goal_leaves (goal_in c.args.cx.now.interner.entries c.args.table.now c.args.goal.now)) c.in_ok-asked.ensures.args c.in_ok-asked.ensures.leaves c.in_ok-asked.ensures.values) in (
-      (answer_trees c.search.new.cx.interner.entries c.in-Some.answer),
-      (result-later (solver_meaning g.H.GoalHandler.meaning) c.args.cx.now c.search.new.cx (record { alloc = c.search.new.cx.alloc; interner = c.apply_answer-applied.new.cx; handler = c.search.new.cx.handler; store = c.search.new.cx.store }) (keeps g.H.GoalHandler.meaning g.met.H.GoalHandler.lawful.world_kept c.search.new.cx (record { alloc = c.search.new.cx.alloc; interner = c.apply_answer-applied.new.cx; handler = c.search.new.cx.handler; store = c.search.new.cx.store }) c.search.ensures.ready (later g.H.GoalHandler.meaning.IsReady g.met.H.GoalHandler.lawful.ready_kept c.search.new.cx (record { alloc = c.search.new.cx.alloc; interner = c.apply_answer-applied.new.cx; handler = c.search.new.cx.handler; store = c.search.new.cx.store }) c.search.ensures.ready refl refl c.apply_answer-applied.ensures.keeps c.lawful.ensures)) c.args.cache.now c.search.new.cache c.search.ensures.cache c.args.graph.now c.search.new.graph (asked_in c.args.mode c.args.cx.now.interner.entries c.args.table.now c.args.goal.now) (Some (answer_trees c.search.new.cx.interner.entries c.in-Some.answer))
-          (result-before (solver_meaning g.H.GoalHandler.meaning) c.args.cx.now c.ask.new.cx (keeps g.H.GoalHandler.meaning g.met.H.GoalHandler.lawful.world_kept c.args.cx.now c.ask.new.cx c.requires.ready c.ask.ensures.advances) (goal_of c.ask.new.cx c.in_ok-asked.asked.input) (asked_in c.args.mode c.args.cx.now.interner.entries c.args.table.now c.args.goal.now) c.in_ok-asked.ensures.input.1 c.args.graph.now c.search.new.graph c.args.cache.now c.requires.cache c.search.new.cache c.search.new.cx (result_read c.search.new.cx.interner.entries c.in_ok-answer.field-0) (Some (answer_trees c.search.new.cx.interner.entries c.in-Some.answer)) (ap (result_read c.search.new.cx.interner.entries) c.in-Some.is) c.in_ok-answer.ensures.found)),
-      record { certainty = refl; has_changed = c.has_changed-changed.ensures },
-      left-later c.args.cx.now.interner.entries c.search.new.cx.interner.entries (entries-two g.H.GoalHandler.meaning g.met.H.GoalHandler.lawful.world_kept c.args.cx.now c.ask.new.cx c.search.new.cx c.requires.ready c.ask.ensures.advances c.search.ensures.keeps) c.args.table.now c.requires.table (values_of c.search.new.cx.interner.entries c.deref.result.now) (goal_in c.args.cx.now.interner.entries c.args.table.now c.args.goal.now) (answer_trees c.search.new.cx.interner.entries c.in-Some.answer) (values-are c.search.new.cx.interner.entries c.search.ensures.ready.lawful c.deref.result.now (goal_in c.args.cx.now.interner.entries c.args.table.now c.args.goal.now) v.args v.leaves v.labels_are) ∙ c.in-Ok.ensures.exact,
-    )
-
-pub returns-in-Ok-clause-yes : goal.returns-in-Ok-clause-yes
-returns-in-Ok-clause-yes g c =
-    λ y n clean s h.
-    root-proof c.args.cx.now.interner.entries c.requires.ready.lawful c.args.table.now c.requires.table c.args.goal.now c.requires.goal clean s h g.H.GoalHandler.meaning.goals g.met.H.GoalHandler.lawful.goals (g.H.GoalHandler.meaning.world c.args.cx.now.handler c.args.cx.now.interner.entries) c.args.mode c.handlers_are_programs.ensures
-    ((right-at g.H.GoalHandler.meaning g.met.H.GoalHandler.lawful.world_kept c.args.cx.now c.ask.new.cx c.requires.ready c.ask.ensures.advances c.in_ok-asked.asked.input (asked_in c.args.mode c.args.cx.now.interner.entries c.args.table.now c.args.goal.now) (result_read c.search.new.cx.interner.entries c.in_ok-answer.field-0) (Some (answer_trees c.search.new.cx.interner.entries c.in-Some.answer)) c.in_ok-asked.ensures.input.1 (ap (result_read c.search.new.cx.interner.entries) c.in-Some.is) c.in_ok-answer.ensures.sound).yes (definite (answer_trees c.search.new.cx.interner.entries c.in-Some.answer) y (sym c.has_changed-changed.ensures ∙ n)))
-
-pub returns-in-Ok-clause-covers : goal.returns-in-Ok-clause-covers
-returns-in-Ok-clause-covers g c =
-    λ p x s h q.
-    let d : c.deref.result.now ≡ c.in_ok-asked.asked.values.items = search rules in
-    let v = (values-later c.ask.new.cx.interner.entries c.search.new.cx.interner.entries (λ i e h. c.search.ensures.keeps.held (i, e) h) c.in_ok-asked.asked.values.items c.deref.result.now d (goal_leaves (goal_in c.args.cx.now.interner.entries c.args.table.now c.args.goal.now)) c.in_ok-asked.ensures.args c.in_ok-asked.ensures.leaves c.in_ok-asked.ensures.values) in
-    let same = (content-kept c.args.cx.now.interner.entries c.search.new.cx.interner.entries c.args.table.now.values (entries-two g.H.GoalHandler.meaning g.met.H.GoalHandler.lawful.world_kept c.args.cx.now c.ask.new.cx c.search.new.cx c.requires.ready c.ask.ensures.advances c.search.ensures.keeps) c.requires.table.held) in
-    c.in-Ok.ensures.kept (goal_in c.args.cx.now.interner.entries c.args.table.now c.args.goal.now) v.labels_are p.environment_known p.predicate_known (subst (IsOfKnown (variables_of c.args.table.now)) (sym same) p.table_known) s (subst (Solves s) (sym same) h)
-    (root-agrees c.args.cx.now.interner.entries c.requires.ready.lawful c.args.table.now c.requires.table c.args.goal.now c.requires.goal p.clean s h g.H.GoalHandler.meaning.goals g.met.H.GoalHandler.lawful.goals (g.H.GoalHandler.meaning.world c.args.cx.now.handler c.args.cx.now.interner.entries) c.args.mode (Some (answer_trees c.search.new.cx.interner.entries c.in-Some.answer)) (right-at g.H.GoalHandler.meaning g.met.H.GoalHandler.lawful.world_kept c.args.cx.now c.ask.new.cx c.requires.ready c.ask.ensures.advances c.in_ok-asked.asked.input (asked_in c.args.mode c.args.cx.now.interner.entries c.args.table.now c.args.goal.now) (result_read c.search.new.cx.interner.entries c.in_ok-answer.field-0) (Some (answer_trees c.search.new.cx.interner.entries c.in-Some.answer)) c.in_ok-asked.ensures.input.1 (ap (result_read c.search.new.cx.interner.entries) c.in-Some.is) c.in_ok-answer.ensures.sound).covers x q)
-
-pub returns-in-Ok-clause-narrows : goal.returns-in-Ok-clause-narrows
-returns-in-Ok-clause-narrows g c =
-    λ s h. subst (Solves s) (content-kept c.args.cx.now.interner.entries c.search.new.cx.interner.entries c.args.table.now.values (entries-two g.H.GoalHandler.meaning g.met.H.GoalHandler.lawful.world_kept c.args.cx.now c.ask.new.cx c.search.new.cx c.requires.ready c.ask.ensures.advances c.search.ensures.keeps) c.requires.table.held) (c.in-Ok.ensures.narrows s h)
-
 -- the error says no solution only where the answer was refused
 refused : (error : EqError) → error_of_equation error ≡ Root.NoSolution → error ≡ Eq.NoSolution
 refused Eq.NoSolution e = refl
@@ -169,102 +62,207 @@ no-conflict (Eq.Fault fault) e = cc
 err-is : (x y : RootError) → ◌≡◌ {A = Result GoalEvaluation RootError} (Err x) (Err y) → x ≡ y
 err-is x y e = cc
 
-pub returns-in-Err-clause-refusal : goal.returns-in-Err-clause-refusal
-returns-in-Err-clause-refusal g c =
-    λ n.
-    let d : c.deref.result.now ≡ c.in_ok-asked.asked.values.items = search rules in
-    let v = (values-later c.ask.new.cx.interner.entries c.search.new.cx.interner.entries (λ i e h. c.search.ensures.keeps.held (i, e) h) c.in_ok-asked.asked.values.items c.deref.result.now d (goal_leaves (goal_in c.args.cx.now.interner.entries c.args.table.now c.args.goal.now)) c.in_ok-asked.ensures.args c.in_ok-asked.ensures.leaves c.in_ok-asked.ensures.values) in (
-      Some (answer_trees c.search.new.cx.interner.entries c.in-Some.answer),
-      (result-later (solver_meaning g.H.GoalHandler.meaning) c.args.cx.now c.search.new.cx (record { alloc = c.search.new.cx.alloc; interner = c.apply_answer-applied.new.cx; handler = c.search.new.cx.handler; store = c.search.new.cx.store }) (keeps g.H.GoalHandler.meaning g.met.H.GoalHandler.lawful.world_kept c.search.new.cx (record { alloc = c.search.new.cx.alloc; interner = c.apply_answer-applied.new.cx; handler = c.search.new.cx.handler; store = c.search.new.cx.store }) c.search.ensures.ready (later g.H.GoalHandler.meaning.IsReady g.met.H.GoalHandler.lawful.ready_kept c.search.new.cx (record { alloc = c.search.new.cx.alloc; interner = c.apply_answer-applied.new.cx; handler = c.search.new.cx.handler; store = c.search.new.cx.store }) c.search.ensures.ready refl refl c.apply_answer-applied.ensures.keeps c.lawful.ensures)) c.args.cache.now c.search.new.cache c.search.ensures.cache c.args.graph.now c.search.new.graph (asked_in c.args.mode c.args.cx.now.interner.entries c.args.table.now c.args.goal.now) (Some (answer_trees c.search.new.cx.interner.entries c.in-Some.answer))
-          (result-before (solver_meaning g.H.GoalHandler.meaning) c.args.cx.now c.ask.new.cx (keeps g.H.GoalHandler.meaning g.met.H.GoalHandler.lawful.world_kept c.args.cx.now c.ask.new.cx c.requires.ready c.ask.ensures.advances) (goal_of c.ask.new.cx c.in_ok-asked.asked.input) (asked_in c.args.mode c.args.cx.now.interner.entries c.args.table.now c.args.goal.now) c.in_ok-asked.ensures.input.1 c.args.graph.now c.search.new.graph c.args.cache.now c.requires.cache c.search.new.cache c.search.new.cx (result_read c.search.new.cx.interner.entries c.in_ok-answer.field-0) (Some (answer_trees c.search.new.cx.interner.entries c.in-Some.answer)) (ap (result_read c.search.new.cx.interner.entries) c.in-Some.is) c.in_ok-answer.ensures.found)),
-      left-later c.args.cx.now.interner.entries c.search.new.cx.interner.entries (entries-two g.H.GoalHandler.meaning g.met.H.GoalHandler.lawful.world_kept c.args.cx.now c.ask.new.cx c.search.new.cx c.requires.ready c.ask.ensures.advances c.search.ensures.keeps) c.args.table.now c.requires.table (values_of c.search.new.cx.interner.entries c.deref.result.now) (goal_in c.args.cx.now.interner.entries c.args.table.now c.args.goal.now) (answer_trees c.search.new.cx.interner.entries c.in-Some.answer) (values-are c.search.new.cx.interner.entries c.search.ensures.ready.lawful c.deref.result.now (goal_in c.args.cx.now.interner.entries c.args.table.now c.args.goal.now) v.args v.leaves v.labels_are) ∙ c.in-Err.ensures.refusal (ap Err (refused c.in-Err.error (sym c.from.ensures ∙ err-is _ _ n))),
-    )
+pub returns-in_err-asked-clause-rests : goal.returns-in_err-asked-clause-rests
+returns-in_err-asked-clause-rests g c = record {
+  empty = search rules;
+  depth = search rules;
+  cache = justified-later (solver_meaning g.H.GoalHandler.meaning) c.args.cx.now c.ask.new.cx c.args.cache.now (keeps g.H.GoalHandler.meaning g.met.H.GoalHandler.lawful.world_kept c.args.cx.now c.ask.new.cx c.requires.ready c.ask.ensures.advances) c.requires.cache;
+  consistent = search rules;
+  results = search rules;
+  ready = search rules;
+  keeps = keeps g.H.GoalHandler.meaning g.met.H.GoalHandler.lawful.world_kept c.args.cx.now c.ask.new.cx c.requires.ready c.ask.ensures.advances;
+  entries = search rules;
+  table = search rules;
+  grows = grows-refl c.args.table.now;
+}
 
-pub returns-in-Err-clause-no_solution : goal.returns-in-Err-clause-no_solution
-returns-in-Err-clause-no_solution g c =
-    λ n p x s h q.
-    let d : c.deref.result.now ≡ c.in_ok-asked.asked.values.items = search rules in
-    let v = (values-later c.ask.new.cx.interner.entries c.search.new.cx.interner.entries (λ i e h. c.search.ensures.keeps.held (i, e) h) c.in_ok-asked.asked.values.items c.deref.result.now d (goal_leaves (goal_in c.args.cx.now.interner.entries c.args.table.now c.args.goal.now)) c.in_ok-asked.ensures.args c.in_ok-asked.ensures.leaves c.in_ok-asked.ensures.values) in
-    let same = (content-kept c.args.cx.now.interner.entries c.search.new.cx.interner.entries c.args.table.now.values (entries-two g.H.GoalHandler.meaning g.met.H.GoalHandler.lawful.world_kept c.args.cx.now c.ask.new.cx c.search.new.cx c.requires.ready c.ask.ensures.advances c.search.ensures.keeps) c.requires.table.held) in
-    c.in-Err.ensures.accepted (ap Err (refused c.in-Err.error (sym c.from.ensures ∙ err-is _ _ n))) (goal_in c.args.cx.now.interner.entries c.args.table.now c.args.goal.now) v.labels_are p.environment_known p.predicate_known (subst (IsOfKnown (variables_of c.args.table.now)) (sym same) p.table_known) s (subst (Solves s) (sym same) h)
-    (root-agrees c.args.cx.now.interner.entries c.requires.ready.lawful c.args.table.now c.requires.table c.args.goal.now c.requires.goal p.clean s h g.H.GoalHandler.meaning.goals g.met.H.GoalHandler.lawful.goals (g.H.GoalHandler.meaning.world c.args.cx.now.handler c.args.cx.now.interner.entries) c.args.mode (Some (answer_trees c.search.new.cx.interner.entries c.in-Some.answer)) (right-at g.H.GoalHandler.meaning g.met.H.GoalHandler.lawful.world_kept c.args.cx.now c.ask.new.cx c.requires.ready c.ask.ensures.advances c.in_ok-asked.asked.input (asked_in c.args.mode c.args.cx.now.interner.entries c.args.table.now c.args.goal.now) (result_read c.search.new.cx.interner.entries c.in_ok-answer.field-0) (Some (answer_trees c.search.new.cx.interner.entries c.in-Some.answer)) c.in_ok-asked.ensures.input.1 (ap (result_read c.search.new.cx.interner.entries) c.in-Some.is) c.in_ok-answer.ensures.sound).covers x q)
+pub returns-in_err-asked-clause-costs : goal.returns-in_err-asked-clause-costs
+returns-in_err-asked-clause-costs g c = record {
+  frames = no-frames (solver_meaning g.H.GoalHandler.meaning) c.args.cx.now (asked_in c.args.mode c.args.cx.now.interner.entries c.args.table.now c.args.goal.now) c.args.graph.now;
+  cached = no-cost (solver_meaning g.H.GoalHandler.meaning) c.args.cx.now (asked_in c.args.mode c.args.cx.now.interner.entries c.args.table.now c.args.goal.now) c.args.graph.now c.args.cache.now;
+  limits = no-limits (solver_meaning g.H.GoalHandler.meaning) c.args.cx.now (asked_in c.args.mode c.args.cx.now.interner.entries c.args.table.now c.args.goal.now) c.args.graph.now;
+}
 
-pub returns-in-Err-clause-no_conflict : goal.returns-in-Err-clause-no_conflict
-returns-in-Err-clause-no_conflict g c = λ n. absurd (no-conflict c.in-Err.error (sym c.from.ensures ∙ err-is _ _ n))
+pub returns-in_err-asked-clause-faults : goal.returns-in_err-asked-clause-faults
+returns-in_err-asked-clause-faults g c = record {
+  not_plain = search rules;
+  conflict = search rules;
+  full =
+      λ q.
+      asked-full (handed-root c.from_residual.result c.from_residual.ensures.1 (λ p. c.in_err-asked.ensures.full (ap Err p)) q);
+}
 
-pub returns-in-Err-clause-conflict : goal.returns-in-Err-clause-conflict
-returns-in-Err-clause-conflict g c = λ n. absurd (no-conflict c.in-Err.error (sym c.from.ensures ∙ err-is _ _ n))
+pub returns-in_err-answer-clause-rests : goal.returns-in_err-answer-clause-rests
+returns-in_err-answer-clause-rests g c = record {
+  empty = search rules;
+  depth = search rules;
+  cache = search rules;
+  consistent = search rules;
+  results = search rules;
+  ready = search rules;
+  keeps = keeps-two g.H.GoalHandler.meaning g.met.H.GoalHandler.lawful.world_kept c.args.cx.now c.ask.new.cx c.search.new.cx c.requires.ready c.ask.ensures.advances c.search.ensures.keeps;
+  entries = entries-two g.H.GoalHandler.meaning g.met.H.GoalHandler.lawful.world_kept c.args.cx.now c.ask.new.cx c.search.new.cx c.requires.ready c.ask.ensures.advances c.search.ensures.keeps;
+  table = ready-later c.args.cx.now.interner.entries c.search.new.cx.interner.entries c.args.table.now (entries-two g.H.GoalHandler.meaning g.met.H.GoalHandler.lawful.world_kept c.args.cx.now c.ask.new.cx c.search.new.cx c.requires.ready c.ask.ensures.advances c.search.ensures.keeps) c.requires.table;
+  grows = grows-refl c.args.table.now;
+}
 
-pub returns-in_err-answer-clause-frames : goal.returns-in_err-answer-clause-frames
-returns-in_err-answer-clause-frames g c = frames-before (solver_meaning g.H.GoalHandler.meaning) c.args.cx.now c.ask.new.cx (keeps g.H.GoalHandler.meaning g.met.H.GoalHandler.lawful.world_kept c.args.cx.now c.ask.new.cx c.requires.ready c.ask.ensures.advances) (goal_of c.ask.new.cx c.in_ok-asked.asked.input) (asked_in c.args.mode c.args.cx.now.interner.entries c.args.table.now c.args.goal.now) c.in_ok-asked.ensures.input.1 c.args.graph.now c.search.new.graph c.search.ensures.frames
+pub returns-in_err-answer-clause-costs : goal.returns-in_err-answer-clause-costs
+returns-in_err-answer-clause-costs g c = record {
+  frames = frames-before (solver_meaning g.H.GoalHandler.meaning) c.args.cx.now c.ask.new.cx (keeps g.H.GoalHandler.meaning g.met.H.GoalHandler.lawful.world_kept c.args.cx.now c.ask.new.cx c.requires.ready c.ask.ensures.advances) (goal_of c.ask.new.cx c.in_ok-asked.asked.input) (asked_in c.args.mode c.args.cx.now.interner.entries c.args.table.now c.args.goal.now) c.in_ok-asked.ensures.input.1 c.args.graph.now c.search.new.graph c.search.ensures.frames;
+  cached = free-before (solver_meaning g.H.GoalHandler.meaning) c.args.cx.now c.ask.new.cx (keeps g.H.GoalHandler.meaning g.met.H.GoalHandler.lawful.world_kept c.args.cx.now c.ask.new.cx c.requires.ready c.ask.ensures.advances) (goal_of c.ask.new.cx c.in_ok-asked.asked.input) (asked_in c.args.mode c.args.cx.now.interner.entries c.args.table.now c.args.goal.now) c.in_ok-asked.ensures.input.1 c.args.graph.now c.search.new.graph c.args.cache.now c.requires.cache c.search.new.cache c.search.ensures.cached;
+  limits = limits-before (solver_meaning g.H.GoalHandler.meaning) c.args.cx.now c.ask.new.cx (keeps g.H.GoalHandler.meaning g.met.H.GoalHandler.lawful.world_kept c.args.cx.now c.ask.new.cx c.requires.ready c.ask.ensures.advances) (goal_of c.ask.new.cx c.in_ok-asked.asked.input) (asked_in c.args.mode c.args.cx.now.interner.entries c.args.table.now c.args.goal.now) c.in_ok-asked.ensures.input.1 c.args.graph.now c.search.new.graph c.search.ensures.limits;
+}
 
-pub returns-in_err-answer-clause-cached : goal.returns-in_err-answer-clause-cached
-returns-in_err-answer-clause-cached g c = free-before (solver_meaning g.H.GoalHandler.meaning) c.args.cx.now c.ask.new.cx (keeps g.H.GoalHandler.meaning g.met.H.GoalHandler.lawful.world_kept c.args.cx.now c.ask.new.cx c.requires.ready c.ask.ensures.advances) (goal_of c.ask.new.cx c.in_ok-asked.asked.input) (asked_in c.args.mode c.args.cx.now.interner.entries c.args.table.now c.args.goal.now) c.in_ok-asked.ensures.input.1 c.args.graph.now c.search.new.graph c.args.cache.now c.requires.cache c.search.new.cache c.search.ensures.cached
+pub returns-in_err-answer-clause-faults : goal.returns-in_err-answer-clause-faults
+returns-in_err-answer-clause-faults g c = record {
+  not_plain = search rules;
+  conflict = search rules;
+  full =
+      λ q.
+      let handed = c.from_residual-in_err-answer in
+      inl (handed-error handed.result handed.ensures.1 (λ p. c.in_err-answer.ensures.full (ap Err p)) q);
+}
 
-pub returns-in_err-answer-clause-limits : goal.returns-in_err-answer-clause-limits
-returns-in_err-answer-clause-limits g c = limits-before (solver_meaning g.H.GoalHandler.meaning) c.args.cx.now c.ask.new.cx (keeps g.H.GoalHandler.meaning g.met.H.GoalHandler.lawful.world_kept c.args.cx.now c.ask.new.cx c.requires.ready c.ask.ensures.advances) (goal_of c.ask.new.cx c.in_ok-asked.asked.input) (asked_in c.args.mode c.args.cx.now.interner.entries c.args.table.now c.args.goal.now) c.in_ok-asked.ensures.input.1 c.args.graph.now c.search.new.graph c.search.ensures.limits
+pub returns-in_default-clause-rests : goal.returns-in_default-clause-rests
+returns-in_default-clause-rests g c = record {
+  empty = search rules;
+  depth = search rules;
+  cache = search rules;
+  consistent = search rules;
+  results = search rules;
+  ready = search rules;
+  keeps = keeps-two g.H.GoalHandler.meaning g.met.H.GoalHandler.lawful.world_kept c.args.cx.now c.ask.new.cx c.search.new.cx c.requires.ready c.ask.ensures.advances c.search.ensures.keeps;
+  entries = entries-two g.H.GoalHandler.meaning g.met.H.GoalHandler.lawful.world_kept c.args.cx.now c.ask.new.cx c.search.new.cx c.requires.ready c.ask.ensures.advances c.search.ensures.keeps;
+  table = ready-later c.args.cx.now.interner.entries c.search.new.cx.interner.entries c.args.table.now (entries-two g.H.GoalHandler.meaning g.met.H.GoalHandler.lawful.world_kept c.args.cx.now c.ask.new.cx c.search.new.cx c.requires.ready c.ask.ensures.advances c.search.ensures.keeps) c.requires.table;
+  grows = grows-refl c.args.table.now;
+}
 
-pub returns-in_default-clause-frames : goal.returns-in_default-clause-frames
-returns-in_default-clause-frames g c = frames-before (solver_meaning g.H.GoalHandler.meaning) c.args.cx.now c.ask.new.cx (keeps g.H.GoalHandler.meaning g.met.H.GoalHandler.lawful.world_kept c.args.cx.now c.ask.new.cx c.requires.ready c.ask.ensures.advances) (goal_of c.ask.new.cx c.in_ok-asked.asked.input) (asked_in c.args.mode c.args.cx.now.interner.entries c.args.table.now c.args.goal.now) c.in_ok-asked.ensures.input.1 c.args.graph.now c.search.new.graph c.search.ensures.frames
-
-pub returns-in_default-clause-cached : goal.returns-in_default-clause-cached
-returns-in_default-clause-cached g c = free-before (solver_meaning g.H.GoalHandler.meaning) c.args.cx.now c.ask.new.cx (keeps g.H.GoalHandler.meaning g.met.H.GoalHandler.lawful.world_kept c.args.cx.now c.ask.new.cx c.requires.ready c.ask.ensures.advances) (goal_of c.ask.new.cx c.in_ok-asked.asked.input) (asked_in c.args.mode c.args.cx.now.interner.entries c.args.table.now c.args.goal.now) c.in_ok-asked.ensures.input.1 c.args.graph.now c.search.new.graph c.args.cache.now c.requires.cache c.search.new.cache c.search.ensures.cached
-
-pub returns-in_default-clause-limits : goal.returns-in_default-clause-limits
-returns-in_default-clause-limits g c = limits-before (solver_meaning g.H.GoalHandler.meaning) c.args.cx.now c.ask.new.cx (keeps g.H.GoalHandler.meaning g.met.H.GoalHandler.lawful.world_kept c.args.cx.now c.ask.new.cx c.requires.ready c.ask.ensures.advances) (goal_of c.ask.new.cx c.in_ok-asked.asked.input) (asked_in c.args.mode c.args.cx.now.interner.entries c.args.table.now c.args.goal.now) c.in_ok-asked.ensures.input.1 c.args.graph.now c.search.new.graph c.search.ensures.limits
-
-pub returns-in-Ok-clause-frames : goal.returns-in-Ok-clause-frames
-returns-in-Ok-clause-frames g c = frames-before (solver_meaning g.H.GoalHandler.meaning) c.args.cx.now c.ask.new.cx (keeps g.H.GoalHandler.meaning g.met.H.GoalHandler.lawful.world_kept c.args.cx.now c.ask.new.cx c.requires.ready c.ask.ensures.advances) (goal_of c.ask.new.cx c.in_ok-asked.asked.input) (asked_in c.args.mode c.args.cx.now.interner.entries c.args.table.now c.args.goal.now) c.in_ok-asked.ensures.input.1 c.args.graph.now c.search.new.graph c.search.ensures.frames
-
-pub returns-in-Ok-clause-cached : goal.returns-in-Ok-clause-cached
-returns-in-Ok-clause-cached g c = free-before (solver_meaning g.H.GoalHandler.meaning) c.args.cx.now c.ask.new.cx (keeps g.H.GoalHandler.meaning g.met.H.GoalHandler.lawful.world_kept c.args.cx.now c.ask.new.cx c.requires.ready c.ask.ensures.advances) (goal_of c.ask.new.cx c.in_ok-asked.asked.input) (asked_in c.args.mode c.args.cx.now.interner.entries c.args.table.now c.args.goal.now) c.in_ok-asked.ensures.input.1 c.args.graph.now c.search.new.graph c.args.cache.now c.requires.cache c.search.new.cache c.search.ensures.cached
-
-pub returns-in-Ok-clause-limits : goal.returns-in-Ok-clause-limits
-returns-in-Ok-clause-limits g c = limits-before (solver_meaning g.H.GoalHandler.meaning) c.args.cx.now c.ask.new.cx (keeps g.H.GoalHandler.meaning g.met.H.GoalHandler.lawful.world_kept c.args.cx.now c.ask.new.cx c.requires.ready c.ask.ensures.advances) (goal_of c.ask.new.cx c.in_ok-asked.asked.input) (asked_in c.args.mode c.args.cx.now.interner.entries c.args.table.now c.args.goal.now) c.in_ok-asked.ensures.input.1 c.args.graph.now c.search.new.graph c.search.ensures.limits
-
-pub returns-in-Err-clause-frames : goal.returns-in-Err-clause-frames
-returns-in-Err-clause-frames g c = frames-before (solver_meaning g.H.GoalHandler.meaning) c.args.cx.now c.ask.new.cx (keeps g.H.GoalHandler.meaning g.met.H.GoalHandler.lawful.world_kept c.args.cx.now c.ask.new.cx c.requires.ready c.ask.ensures.advances) (goal_of c.ask.new.cx c.in_ok-asked.asked.input) (asked_in c.args.mode c.args.cx.now.interner.entries c.args.table.now c.args.goal.now) c.in_ok-asked.ensures.input.1 c.args.graph.now c.search.new.graph c.search.ensures.frames
-
-pub returns-in-Err-clause-cached : goal.returns-in-Err-clause-cached
-returns-in-Err-clause-cached g c = free-before (solver_meaning g.H.GoalHandler.meaning) c.args.cx.now c.ask.new.cx (keeps g.H.GoalHandler.meaning g.met.H.GoalHandler.lawful.world_kept c.args.cx.now c.ask.new.cx c.requires.ready c.ask.ensures.advances) (goal_of c.ask.new.cx c.in_ok-asked.asked.input) (asked_in c.args.mode c.args.cx.now.interner.entries c.args.table.now c.args.goal.now) c.in_ok-asked.ensures.input.1 c.args.graph.now c.search.new.graph c.args.cache.now c.requires.cache c.search.new.cache c.search.ensures.cached
-
-pub returns-in-Err-clause-limits : goal.returns-in-Err-clause-limits
-returns-in-Err-clause-limits g c = limits-before (solver_meaning g.H.GoalHandler.meaning) c.args.cx.now c.ask.new.cx (keeps g.H.GoalHandler.meaning g.met.H.GoalHandler.lawful.world_kept c.args.cx.now c.ask.new.cx c.requires.ready c.ask.ensures.advances) (goal_of c.ask.new.cx c.in_ok-asked.asked.input) (asked_in c.args.mode c.args.cx.now.interner.entries c.args.table.now c.args.goal.now) c.in_ok-asked.ensures.input.1 c.args.graph.now c.search.new.graph c.search.ensures.limits
+pub returns-in_default-clause-costs : goal.returns-in_default-clause-costs
+returns-in_default-clause-costs g c = record {
+  frames = frames-before (solver_meaning g.H.GoalHandler.meaning) c.args.cx.now c.ask.new.cx (keeps g.H.GoalHandler.meaning g.met.H.GoalHandler.lawful.world_kept c.args.cx.now c.ask.new.cx c.requires.ready c.ask.ensures.advances) (goal_of c.ask.new.cx c.in_ok-asked.asked.input) (asked_in c.args.mode c.args.cx.now.interner.entries c.args.table.now c.args.goal.now) c.in_ok-asked.ensures.input.1 c.args.graph.now c.search.new.graph c.search.ensures.frames;
+  cached = free-before (solver_meaning g.H.GoalHandler.meaning) c.args.cx.now c.ask.new.cx (keeps g.H.GoalHandler.meaning g.met.H.GoalHandler.lawful.world_kept c.args.cx.now c.ask.new.cx c.requires.ready c.ask.ensures.advances) (goal_of c.ask.new.cx c.in_ok-asked.asked.input) (asked_in c.args.mode c.args.cx.now.interner.entries c.args.table.now c.args.goal.now) c.in_ok-asked.ensures.input.1 c.args.graph.now c.search.new.graph c.args.cache.now c.requires.cache c.search.new.cache c.search.ensures.cached;
+  limits = limits-before (solver_meaning g.H.GoalHandler.meaning) c.args.cx.now c.ask.new.cx (keeps g.H.GoalHandler.meaning g.met.H.GoalHandler.lawful.world_kept c.args.cx.now c.ask.new.cx c.requires.ready c.ask.ensures.advances) (goal_of c.ask.new.cx c.in_ok-asked.asked.input) (asked_in c.args.mode c.args.cx.now.interner.entries c.args.table.now c.args.goal.now) c.in_ok-asked.ensures.input.1 c.args.graph.now c.search.new.graph c.search.ensures.limits;
+}
 
 pub returns-in_default-clause-refusal : goal.returns-in_default-clause-refusal
-returns-in_default-clause-refusal g c =
-    λ _.
-    let n : c.in_ok-answer.field-0 ≡ None = search rules in
-    (None, (result-before (solver_meaning g.H.GoalHandler.meaning) c.args.cx.now c.ask.new.cx (keeps g.H.GoalHandler.meaning g.met.H.GoalHandler.lawful.world_kept c.args.cx.now c.ask.new.cx c.requires.ready c.ask.ensures.advances) (goal_of c.ask.new.cx c.in_ok-asked.asked.input) (asked_in c.args.mode c.args.cx.now.interner.entries c.args.table.now c.args.goal.now) c.in_ok-asked.ensures.input.1 c.args.graph.now c.search.new.graph c.args.cache.now c.requires.cache c.search.new.cache c.search.new.cx (result_read c.search.new.cx.interner.entries c.in_ok-answer.field-0) None (ap (result_read c.search.new.cx.interner.entries) n) c.in_ok-answer.ensures.found), refl)
+returns-in_default-clause-refusal g c = record {
+  unchanged = search rules;
+  answer =
+      λ _.
+      let n : c.in_ok-answer.field-0 ≡ None = search rules in
+      (None, (result-before (solver_meaning g.H.GoalHandler.meaning) c.args.cx.now c.ask.new.cx (keeps g.H.GoalHandler.meaning g.met.H.GoalHandler.lawful.world_kept c.args.cx.now c.ask.new.cx c.requires.ready c.ask.ensures.advances) (goal_of c.ask.new.cx c.in_ok-asked.asked.input) (asked_in c.args.mode c.args.cx.now.interner.entries c.args.table.now c.args.goal.now) c.in_ok-asked.ensures.input.1 c.args.graph.now c.search.new.graph c.args.cache.now c.requires.cache c.search.new.cache c.search.new.cx (result_read c.search.new.cx.interner.entries c.in_ok-answer.field-0) None (ap (result_read c.search.new.cx.interner.entries) n) c.in_ok-answer.ensures.found), refl);
+  no_proof =
+      λ _ p x s h q.
+      let n : c.in_ok-answer.field-0 ≡ None = search rules in
+      root-agrees c.args.cx.now.interner.entries c.requires.ready.lawful c.args.table.now c.requires.table c.args.goal.now c.requires.goal p.clean s h g.H.GoalHandler.meaning.goals g.met.H.GoalHandler.lawful.goals (g.H.GoalHandler.meaning.world c.args.cx.now.handler c.args.cx.now.interner.entries) c.args.mode None (right-at g.H.GoalHandler.meaning g.met.H.GoalHandler.lawful.world_kept c.args.cx.now c.ask.new.cx c.requires.ready c.ask.ensures.advances c.in_ok-asked.asked.input (asked_in c.args.mode c.args.cx.now.interner.entries c.args.table.now c.args.goal.now) (result_read c.search.new.cx.interner.entries c.in_ok-answer.field-0) None c.in_ok-asked.ensures.input.1 (ap (result_read c.search.new.cx.interner.entries) n) c.in_ok-answer.ensures.sound).covers x q;
+}
 
-pub returns-in_err-asked-clause-frames : goal.returns-in_err-asked-clause-frames
-returns-in_err-asked-clause-frames g c = no-frames (solver_meaning g.H.GoalHandler.meaning) c.args.cx.now (asked_in c.args.mode c.args.cx.now.interner.entries c.args.table.now c.args.goal.now) c.args.graph.now
+pub returns-in-Ok-clause-rests : goal.returns-in-Ok-clause-rests
+returns-in-Ok-clause-rests g c = record {
+  empty = search rules;
+  depth = search rules;
+  cache = justified-later (solver_meaning g.H.GoalHandler.meaning) c.search.new.cx (record { alloc = c.search.new.cx.alloc; interner = c.apply_answer-applied.new.cx; handler = c.search.new.cx.handler; store = c.search.new.cx.store }) c.search.new.cache (keeps g.H.GoalHandler.meaning g.met.H.GoalHandler.lawful.world_kept c.search.new.cx (record { alloc = c.search.new.cx.alloc; interner = c.apply_answer-applied.new.cx; handler = c.search.new.cx.handler; store = c.search.new.cx.store }) c.search.ensures.ready (later g.H.GoalHandler.meaning.IsReady g.met.H.GoalHandler.lawful.ready_kept c.search.new.cx (record { alloc = c.search.new.cx.alloc; interner = c.apply_answer-applied.new.cx; handler = c.search.new.cx.handler; store = c.search.new.cx.store }) c.search.ensures.ready refl refl c.apply_answer-applied.ensures.keeps c.lawful.ensures)) c.search.ensures.cache;
+  consistent = search rules;
+  results = search rules;
+  ready = (later g.H.GoalHandler.meaning.IsReady g.met.H.GoalHandler.lawful.ready_kept c.search.new.cx (record { alloc = c.search.new.cx.alloc; interner = c.apply_answer-applied.new.cx; handler = c.search.new.cx.handler; store = c.search.new.cx.store }) c.search.ensures.ready refl refl c.apply_answer-applied.ensures.keeps c.lawful.ensures).ready;
+  keeps = keeps-three g.H.GoalHandler.meaning g.met.H.GoalHandler.lawful.world_kept c.args.cx.now c.ask.new.cx c.search.new.cx c.requires.ready c.ask.ensures.advances c.search.ensures.keeps (record { alloc = c.search.new.cx.alloc; interner = c.apply_answer-applied.new.cx; handler = c.search.new.cx.handler; store = c.search.new.cx.store }) c.search.ensures.ready (later g.H.GoalHandler.meaning.IsReady g.met.H.GoalHandler.lawful.ready_kept c.search.new.cx (record { alloc = c.search.new.cx.alloc; interner = c.apply_answer-applied.new.cx; handler = c.search.new.cx.handler; store = c.search.new.cx.store }) c.search.ensures.ready refl refl c.apply_answer-applied.ensures.keeps c.lawful.ensures);
+  entries = λ i e h. c.apply_answer-applied.ensures.keeps i e (entries-two g.H.GoalHandler.meaning g.met.H.GoalHandler.lawful.world_kept c.args.cx.now c.ask.new.cx c.search.new.cx c.requires.ready c.ask.ensures.advances c.search.ensures.keeps i e h);
+  table = search rules;
+  grows = search rules;
+}
 
-pub returns-in_err-asked-clause-cached : goal.returns-in_err-asked-clause-cached
-returns-in_err-asked-clause-cached g c = no-cost (solver_meaning g.H.GoalHandler.meaning) c.args.cx.now (asked_in c.args.mode c.args.cx.now.interner.entries c.args.table.now c.args.goal.now) c.args.graph.now c.args.cache.now
+pub returns-in-Ok-clause-costs : goal.returns-in-Ok-clause-costs
+returns-in-Ok-clause-costs g c = record {
+  frames = frames-before (solver_meaning g.H.GoalHandler.meaning) c.args.cx.now c.ask.new.cx (keeps g.H.GoalHandler.meaning g.met.H.GoalHandler.lawful.world_kept c.args.cx.now c.ask.new.cx c.requires.ready c.ask.ensures.advances) (goal_of c.ask.new.cx c.in_ok-asked.asked.input) (asked_in c.args.mode c.args.cx.now.interner.entries c.args.table.now c.args.goal.now) c.in_ok-asked.ensures.input.1 c.args.graph.now c.search.new.graph c.search.ensures.frames;
+  cached = free-before (solver_meaning g.H.GoalHandler.meaning) c.args.cx.now c.ask.new.cx (keeps g.H.GoalHandler.meaning g.met.H.GoalHandler.lawful.world_kept c.args.cx.now c.ask.new.cx c.requires.ready c.ask.ensures.advances) (goal_of c.ask.new.cx c.in_ok-asked.asked.input) (asked_in c.args.mode c.args.cx.now.interner.entries c.args.table.now c.args.goal.now) c.in_ok-asked.ensures.input.1 c.args.graph.now c.search.new.graph c.args.cache.now c.requires.cache c.search.new.cache c.search.ensures.cached;
+  limits = limits-before (solver_meaning g.H.GoalHandler.meaning) c.args.cx.now c.ask.new.cx (keeps g.H.GoalHandler.meaning g.met.H.GoalHandler.lawful.world_kept c.args.cx.now c.ask.new.cx c.requires.ready c.ask.ensures.advances) (goal_of c.ask.new.cx c.in_ok-asked.asked.input) (asked_in c.args.mode c.args.cx.now.interner.entries c.args.table.now c.args.goal.now) c.in_ok-asked.ensures.input.1 c.args.graph.now c.search.new.graph c.search.ensures.limits;
+}
 
-pub returns-in_err-asked-clause-limits : goal.returns-in_err-asked-clause-limits
-returns-in_err-asked-clause-limits g c = no-limits (solver_meaning g.H.GoalHandler.meaning) c.args.cx.now (asked_in c.args.mode c.args.cx.now.interner.entries c.args.table.now c.args.goal.now) c.args.graph.now
+pub returns-in-Ok-clause-says : goal.returns-in-Ok-clause-says
+returns-in-Ok-clause-says g c = record {
+  held = goal-held-later c.ask.new.cx.interner.entries c.apply_answer-applied.new.cx.entries (λ i e h. c.apply_answer-applied.ensures.keeps i e (c.search.ensures.keeps.held (i, e) h)) c.in_ok-asked.asked.goal c.in_ok-asked.ensures.held;
+  resolved = goal-trees-later c.ask.new.cx.interner.entries c.apply_answer-applied.new.cx.entries (λ i e h. c.apply_answer-applied.ensures.keeps i e (c.search.ensures.keeps.held (i, e) h)) c.in_ok-asked.asked.goal c.in_ok-asked.ensures.held ∙ c.in_ok-asked.ensures.resolved;
+  answer =
+      let d : c.deref.result.now ≡ c.in_ok-asked.asked.values.items = search rules in
+      let v = (values-later c.ask.new.cx.interner.entries c.search.new.cx.interner.entries (λ i e h. c.search.ensures.keeps.held (i, e) h) c.in_ok-asked.asked.values.items c.deref.result.now d (goal_leaves (goal_in c.args.cx.now.interner.entries c.args.table.now c.args.goal.now)) c.in_ok-asked.ensures.args c.in_ok-asked.ensures.leaves c.in_ok-asked.ensures.values) in (
+        (answer_trees c.search.new.cx.interner.entries c.in-Some.answer),
+        (result-later (solver_meaning g.H.GoalHandler.meaning) c.args.cx.now c.search.new.cx (record { alloc = c.search.new.cx.alloc; interner = c.apply_answer-applied.new.cx; handler = c.search.new.cx.handler; store = c.search.new.cx.store }) (keeps g.H.GoalHandler.meaning g.met.H.GoalHandler.lawful.world_kept c.search.new.cx (record { alloc = c.search.new.cx.alloc; interner = c.apply_answer-applied.new.cx; handler = c.search.new.cx.handler; store = c.search.new.cx.store }) c.search.ensures.ready (later g.H.GoalHandler.meaning.IsReady g.met.H.GoalHandler.lawful.ready_kept c.search.new.cx (record { alloc = c.search.new.cx.alloc; interner = c.apply_answer-applied.new.cx; handler = c.search.new.cx.handler; store = c.search.new.cx.store }) c.search.ensures.ready refl refl c.apply_answer-applied.ensures.keeps c.lawful.ensures)) c.args.cache.now c.search.new.cache c.search.ensures.cache c.args.graph.now c.search.new.graph (asked_in c.args.mode c.args.cx.now.interner.entries c.args.table.now c.args.goal.now) (Some (answer_trees c.search.new.cx.interner.entries c.in-Some.answer))
+            (result-before (solver_meaning g.H.GoalHandler.meaning) c.args.cx.now c.ask.new.cx (keeps g.H.GoalHandler.meaning g.met.H.GoalHandler.lawful.world_kept c.args.cx.now c.ask.new.cx c.requires.ready c.ask.ensures.advances) (goal_of c.ask.new.cx c.in_ok-asked.asked.input) (asked_in c.args.mode c.args.cx.now.interner.entries c.args.table.now c.args.goal.now) c.in_ok-asked.ensures.input.1 c.args.graph.now c.search.new.graph c.args.cache.now c.requires.cache c.search.new.cache c.search.new.cx (result_read c.search.new.cx.interner.entries c.in_ok-answer.field-0) (Some (answer_trees c.search.new.cx.interner.entries c.in-Some.answer)) (ap (result_read c.search.new.cx.interner.entries) c.in-Some.is) c.in_ok-answer.ensures.found)),
+        record { certainty = refl; has_changed = c.has_changed-changed.ensures },
+        left-later c.args.cx.now.interner.entries c.search.new.cx.interner.entries (entries-two g.H.GoalHandler.meaning g.met.H.GoalHandler.lawful.world_kept c.args.cx.now c.ask.new.cx c.search.new.cx c.requires.ready c.ask.ensures.advances c.search.ensures.keeps) c.args.table.now c.requires.table (values_of c.search.new.cx.interner.entries c.deref.result.now) (goal_in c.args.cx.now.interner.entries c.args.table.now c.args.goal.now) (answer_trees c.search.new.cx.interner.entries c.in-Some.answer) (values-are c.search.new.cx.interner.entries c.search.ensures.ready.lawful c.deref.result.now (goal_in c.args.cx.now.interner.entries c.args.table.now c.args.goal.now) v.args v.leaves v.labels_are) ∙ c.in-Ok.ensures.exact,
+      );
+  covers =
+      λ p x s h q.
+      let d : c.deref.result.now ≡ c.in_ok-asked.asked.values.items = search rules in
+      let v = (values-later c.ask.new.cx.interner.entries c.search.new.cx.interner.entries (λ i e h. c.search.ensures.keeps.held (i, e) h) c.in_ok-asked.asked.values.items c.deref.result.now d (goal_leaves (goal_in c.args.cx.now.interner.entries c.args.table.now c.args.goal.now)) c.in_ok-asked.ensures.args c.in_ok-asked.ensures.leaves c.in_ok-asked.ensures.values) in
+      let same = (content-kept c.args.cx.now.interner.entries c.search.new.cx.interner.entries c.args.table.now.values (entries-two g.H.GoalHandler.meaning g.met.H.GoalHandler.lawful.world_kept c.args.cx.now c.ask.new.cx c.search.new.cx c.requires.ready c.ask.ensures.advances c.search.ensures.keeps) c.requires.table.held) in
+      c.in-Ok.ensures.kept (goal_in c.args.cx.now.interner.entries c.args.table.now c.args.goal.now) v.labels_are p.environment_known p.predicate_known (subst (IsOfKnown (variables_of c.args.table.now)) (sym same) p.table_known) s (subst (Solves s) (sym same) h)
+      (root-agrees c.args.cx.now.interner.entries c.requires.ready.lawful c.args.table.now c.requires.table c.args.goal.now c.requires.goal p.clean s h g.H.GoalHandler.meaning.goals g.met.H.GoalHandler.lawful.goals (g.H.GoalHandler.meaning.world c.args.cx.now.handler c.args.cx.now.interner.entries) c.args.mode (Some (answer_trees c.search.new.cx.interner.entries c.in-Some.answer)) (right-at g.H.GoalHandler.meaning g.met.H.GoalHandler.lawful.world_kept c.args.cx.now c.ask.new.cx c.requires.ready c.ask.ensures.advances c.in_ok-asked.asked.input (asked_in c.args.mode c.args.cx.now.interner.entries c.args.table.now c.args.goal.now) (result_read c.search.new.cx.interner.entries c.in_ok-answer.field-0) (Some (answer_trees c.search.new.cx.interner.entries c.in-Some.answer)) c.in_ok-asked.ensures.input.1 (ap (result_read c.search.new.cx.interner.entries) c.in-Some.is) c.in_ok-answer.ensures.sound).covers x q);
+  narrows = λ s h. subst (Solves s) (content-kept c.args.cx.now.interner.entries c.search.new.cx.interner.entries c.args.table.now.values (entries-two g.H.GoalHandler.meaning g.met.H.GoalHandler.lawful.world_kept c.args.cx.now c.ask.new.cx c.search.new.cx c.requires.ready c.ask.ensures.advances c.search.ensures.keeps) c.requires.table.held) (c.in-Ok.ensures.narrows s h);
+}
 
-pub returns-in_err-asked-clause-full : goal.returns-in_err-asked-clause-full
-returns-in_err-asked-clause-full g c = λ q.
-    asked-full (handed-root c.from_residual.result c.from_residual.ensures.1 (λ p. c.in_err-asked.ensures.full (ap Err p)) q)
+pub returns-in-Ok-clause-yes : goal.returns-in-Ok-clause-yes
+returns-in-Ok-clause-yes g c =
+    λ y n clean s h.
+    root-proof c.args.cx.now.interner.entries c.requires.ready.lawful c.args.table.now c.requires.table c.args.goal.now c.requires.goal clean s h g.H.GoalHandler.meaning.goals g.met.H.GoalHandler.lawful.goals (g.H.GoalHandler.meaning.world c.args.cx.now.handler c.args.cx.now.interner.entries) c.args.mode c.handlers_are_programs.ensures
+    ((right-at g.H.GoalHandler.meaning g.met.H.GoalHandler.lawful.world_kept c.args.cx.now c.ask.new.cx c.requires.ready c.ask.ensures.advances c.in_ok-asked.asked.input (asked_in c.args.mode c.args.cx.now.interner.entries c.args.table.now c.args.goal.now) (result_read c.search.new.cx.interner.entries c.in_ok-answer.field-0) (Some (answer_trees c.search.new.cx.interner.entries c.in-Some.answer)) c.in_ok-asked.ensures.input.1 (ap (result_read c.search.new.cx.interner.entries) c.in-Some.is) c.in_ok-answer.ensures.sound).yes (definite (answer_trees c.search.new.cx.interner.entries c.in-Some.answer) y (sym c.has_changed-changed.ensures ∙ n)))
 
-pub returns-in_err-answer-clause-full : goal.returns-in_err-answer-clause-full
-returns-in_err-answer-clause-full g c = λ q.
-    let handed = c.from_residual-in_err-answer in
-    inl (handed-error handed.result handed.ensures.1 (λ p. c.in_err-answer.ensures.full (ap Err p)) q)
+pub returns-in-Err-clause-rests : goal.returns-in-Err-clause-rests
+returns-in-Err-clause-rests g c = record {
+  empty = search rules;
+  depth = search rules;
+  cache = justified-later (solver_meaning g.H.GoalHandler.meaning) c.search.new.cx (record { alloc = c.search.new.cx.alloc; interner = c.apply_answer-applied.new.cx; handler = c.search.new.cx.handler; store = c.search.new.cx.store }) c.search.new.cache (keeps g.H.GoalHandler.meaning g.met.H.GoalHandler.lawful.world_kept c.search.new.cx (record { alloc = c.search.new.cx.alloc; interner = c.apply_answer-applied.new.cx; handler = c.search.new.cx.handler; store = c.search.new.cx.store }) c.search.ensures.ready (later g.H.GoalHandler.meaning.IsReady g.met.H.GoalHandler.lawful.ready_kept c.search.new.cx (record { alloc = c.search.new.cx.alloc; interner = c.apply_answer-applied.new.cx; handler = c.search.new.cx.handler; store = c.search.new.cx.store }) c.search.ensures.ready refl refl c.apply_answer-applied.ensures.keeps c.lawful.ensures)) c.search.ensures.cache;
+  consistent = search rules;
+  results = search rules;
+  ready = (later g.H.GoalHandler.meaning.IsReady g.met.H.GoalHandler.lawful.ready_kept c.search.new.cx (record { alloc = c.search.new.cx.alloc; interner = c.apply_answer-applied.new.cx; handler = c.search.new.cx.handler; store = c.search.new.cx.store }) c.search.ensures.ready refl refl c.apply_answer-applied.ensures.keeps c.lawful.ensures).ready;
+  keeps = keeps-three g.H.GoalHandler.meaning g.met.H.GoalHandler.lawful.world_kept c.args.cx.now c.ask.new.cx c.search.new.cx c.requires.ready c.ask.ensures.advances c.search.ensures.keeps (record { alloc = c.search.new.cx.alloc; interner = c.apply_answer-applied.new.cx; handler = c.search.new.cx.handler; store = c.search.new.cx.store }) c.search.ensures.ready (later g.H.GoalHandler.meaning.IsReady g.met.H.GoalHandler.lawful.ready_kept c.search.new.cx (record { alloc = c.search.new.cx.alloc; interner = c.apply_answer-applied.new.cx; handler = c.search.new.cx.handler; store = c.search.new.cx.store }) c.search.ensures.ready refl refl c.apply_answer-applied.ensures.keeps c.lawful.ensures);
+  entries = λ i e h. c.apply_answer-applied.ensures.keeps i e (entries-two g.H.GoalHandler.meaning g.met.H.GoalHandler.lawful.world_kept c.args.cx.now c.ask.new.cx c.search.new.cx c.requires.ready c.ask.ensures.advances c.search.ensures.keeps i e h);
+  table = search rules;
+  grows = search rules;
+}
 
-pub returns-in-Err-clause-full : goal.returns-in-Err-clause-full
-returns-in-Err-clause-full g c =
-    λ n.
-    let d : c.deref.result.now ≡ c.in_ok-asked.asked.values.items = search rules in
-    let goal_is = goal_in c.args.cx.now.interner.entries c.args.table.now c.args.goal.now in
-    let v = (values-later c.ask.new.cx.interner.entries c.search.new.cx.interner.entries (λ i e h. c.search.ensures.keeps.held (i, e) h) c.in_ok-asked.asked.values.items c.deref.result.now d (goal_leaves goal_is) c.in_ok-asked.ensures.args c.in_ok-asked.ensures.leaves c.in_ok-asked.ensures.values) in
-    let k = entries-two g.H.GoalHandler.meaning g.met.H.GoalHandler.lawful.world_kept c.args.cx.now c.ask.new.cx c.search.new.cx c.requires.ready c.ask.ensures.advances c.search.ensures.keeps in
-    applied-full
-    (λ h. answer (answer_trees c.search.new.cx.interner.entries c.in-Some.answer)
-    (result-later (solver_meaning g.H.GoalHandler.meaning) c.args.cx.now c.search.new.cx (record { alloc = c.search.new.cx.alloc; interner = c.apply_answer-applied.new.cx; handler = c.search.new.cx.handler; store = c.search.new.cx.store }) (keeps g.H.GoalHandler.meaning g.met.H.GoalHandler.lawful.world_kept c.search.new.cx (record { alloc = c.search.new.cx.alloc; interner = c.apply_answer-applied.new.cx; handler = c.search.new.cx.handler; store = c.search.new.cx.store }) c.search.ensures.ready (later g.H.GoalHandler.meaning.IsReady g.met.H.GoalHandler.lawful.ready_kept c.search.new.cx (record { alloc = c.search.new.cx.alloc; interner = c.apply_answer-applied.new.cx; handler = c.search.new.cx.handler; store = c.search.new.cx.store }) c.search.ensures.ready refl refl c.apply_answer-applied.ensures.keeps c.lawful.ensures)) c.args.cache.now c.search.new.cache c.search.ensures.cache c.args.graph.now c.search.new.graph (asked_in c.args.mode c.args.cx.now.interner.entries c.args.table.now c.args.goal.now) (Some (answer_trees c.search.new.cx.interner.entries c.in-Some.answer))
-    (result-before (solver_meaning g.H.GoalHandler.meaning) c.args.cx.now c.ask.new.cx (keeps g.H.GoalHandler.meaning g.met.H.GoalHandler.lawful.world_kept c.args.cx.now c.ask.new.cx c.requires.ready c.ask.ensures.advances) (goal_of c.ask.new.cx c.in_ok-asked.asked.input) (asked_in c.args.mode c.args.cx.now.interner.entries c.args.table.now c.args.goal.now) c.in_ok-asked.ensures.input.1 c.args.graph.now c.search.new.graph c.args.cache.now c.requires.cache c.search.new.cache c.search.new.cx (result_read c.search.new.cx.interner.entries c.in_ok-answer.field-0) (Some (answer_trees c.search.new.cx.interner.entries c.in-Some.answer)) (ap (result_read c.search.new.cx.interner.entries) c.in-Some.is) c.in_ok-answer.ensures.found))
-    (same-shortage {a = answer_trees c.search.new.cx.interner.entries c.in-Some.answer} (table-kept c.args.cx.now.interner.entries c.search.new.cx.interner.entries k c.args.table.now c.requires.table) (values-are c.search.new.cx.interner.entries c.search.ensures.ready.lawful c.deref.result.now goal_is v.args v.leaves v.labels_are) refl h))
-    (c.in-Err.ensures.full (ap Err (out-of-numbers c.in-Err.error (sym c.from.ensures ∙ err-is _ _ n))))
+pub returns-in-Err-clause-costs : goal.returns-in-Err-clause-costs
+returns-in-Err-clause-costs g c = record {
+  frames = frames-before (solver_meaning g.H.GoalHandler.meaning) c.args.cx.now c.ask.new.cx (keeps g.H.GoalHandler.meaning g.met.H.GoalHandler.lawful.world_kept c.args.cx.now c.ask.new.cx c.requires.ready c.ask.ensures.advances) (goal_of c.ask.new.cx c.in_ok-asked.asked.input) (asked_in c.args.mode c.args.cx.now.interner.entries c.args.table.now c.args.goal.now) c.in_ok-asked.ensures.input.1 c.args.graph.now c.search.new.graph c.search.ensures.frames;
+  cached = free-before (solver_meaning g.H.GoalHandler.meaning) c.args.cx.now c.ask.new.cx (keeps g.H.GoalHandler.meaning g.met.H.GoalHandler.lawful.world_kept c.args.cx.now c.ask.new.cx c.requires.ready c.ask.ensures.advances) (goal_of c.ask.new.cx c.in_ok-asked.asked.input) (asked_in c.args.mode c.args.cx.now.interner.entries c.args.table.now c.args.goal.now) c.in_ok-asked.ensures.input.1 c.args.graph.now c.search.new.graph c.args.cache.now c.requires.cache c.search.new.cache c.search.ensures.cached;
+  limits = limits-before (solver_meaning g.H.GoalHandler.meaning) c.args.cx.now c.ask.new.cx (keeps g.H.GoalHandler.meaning g.met.H.GoalHandler.lawful.world_kept c.args.cx.now c.ask.new.cx c.requires.ready c.ask.ensures.advances) (goal_of c.ask.new.cx c.in_ok-asked.asked.input) (asked_in c.args.mode c.args.cx.now.interner.entries c.args.table.now c.args.goal.now) c.in_ok-asked.ensures.input.1 c.args.graph.now c.search.new.graph c.search.ensures.limits;
+}
+
+pub returns-in-Err-clause-refusal : goal.returns-in-Err-clause-refusal
+returns-in-Err-clause-refusal g c = record {
+  unchanged = search rules;
+  answer =
+      λ n.
+      let d : c.deref.result.now ≡ c.in_ok-asked.asked.values.items = search rules in
+      let v = (values-later c.ask.new.cx.interner.entries c.search.new.cx.interner.entries (λ i e h. c.search.ensures.keeps.held (i, e) h) c.in_ok-asked.asked.values.items c.deref.result.now d (goal_leaves (goal_in c.args.cx.now.interner.entries c.args.table.now c.args.goal.now)) c.in_ok-asked.ensures.args c.in_ok-asked.ensures.leaves c.in_ok-asked.ensures.values) in (
+        Some (answer_trees c.search.new.cx.interner.entries c.in-Some.answer),
+        (result-later (solver_meaning g.H.GoalHandler.meaning) c.args.cx.now c.search.new.cx (record { alloc = c.search.new.cx.alloc; interner = c.apply_answer-applied.new.cx; handler = c.search.new.cx.handler; store = c.search.new.cx.store }) (keeps g.H.GoalHandler.meaning g.met.H.GoalHandler.lawful.world_kept c.search.new.cx (record { alloc = c.search.new.cx.alloc; interner = c.apply_answer-applied.new.cx; handler = c.search.new.cx.handler; store = c.search.new.cx.store }) c.search.ensures.ready (later g.H.GoalHandler.meaning.IsReady g.met.H.GoalHandler.lawful.ready_kept c.search.new.cx (record { alloc = c.search.new.cx.alloc; interner = c.apply_answer-applied.new.cx; handler = c.search.new.cx.handler; store = c.search.new.cx.store }) c.search.ensures.ready refl refl c.apply_answer-applied.ensures.keeps c.lawful.ensures)) c.args.cache.now c.search.new.cache c.search.ensures.cache c.args.graph.now c.search.new.graph (asked_in c.args.mode c.args.cx.now.interner.entries c.args.table.now c.args.goal.now) (Some (answer_trees c.search.new.cx.interner.entries c.in-Some.answer))
+            (result-before (solver_meaning g.H.GoalHandler.meaning) c.args.cx.now c.ask.new.cx (keeps g.H.GoalHandler.meaning g.met.H.GoalHandler.lawful.world_kept c.args.cx.now c.ask.new.cx c.requires.ready c.ask.ensures.advances) (goal_of c.ask.new.cx c.in_ok-asked.asked.input) (asked_in c.args.mode c.args.cx.now.interner.entries c.args.table.now c.args.goal.now) c.in_ok-asked.ensures.input.1 c.args.graph.now c.search.new.graph c.args.cache.now c.requires.cache c.search.new.cache c.search.new.cx (result_read c.search.new.cx.interner.entries c.in_ok-answer.field-0) (Some (answer_trees c.search.new.cx.interner.entries c.in-Some.answer)) (ap (result_read c.search.new.cx.interner.entries) c.in-Some.is) c.in_ok-answer.ensures.found)),
+        left-later c.args.cx.now.interner.entries c.search.new.cx.interner.entries (entries-two g.H.GoalHandler.meaning g.met.H.GoalHandler.lawful.world_kept c.args.cx.now c.ask.new.cx c.search.new.cx c.requires.ready c.ask.ensures.advances c.search.ensures.keeps) c.args.table.now c.requires.table (values_of c.search.new.cx.interner.entries c.deref.result.now) (goal_in c.args.cx.now.interner.entries c.args.table.now c.args.goal.now) (answer_trees c.search.new.cx.interner.entries c.in-Some.answer) (values-are c.search.new.cx.interner.entries c.search.ensures.ready.lawful c.deref.result.now (goal_in c.args.cx.now.interner.entries c.args.table.now c.args.goal.now) v.args v.leaves v.labels_are) ∙ c.in-Err.ensures.refusal (ap Err (refused c.in-Err.error (sym c.from.ensures ∙ err-is _ _ n))),
+      );
+  no_proof =
+      λ n p x s h q.
+      let d : c.deref.result.now ≡ c.in_ok-asked.asked.values.items = search rules in
+      let v = (values-later c.ask.new.cx.interner.entries c.search.new.cx.interner.entries (λ i e h. c.search.ensures.keeps.held (i, e) h) c.in_ok-asked.asked.values.items c.deref.result.now d (goal_leaves (goal_in c.args.cx.now.interner.entries c.args.table.now c.args.goal.now)) c.in_ok-asked.ensures.args c.in_ok-asked.ensures.leaves c.in_ok-asked.ensures.values) in
+      let same = (content-kept c.args.cx.now.interner.entries c.search.new.cx.interner.entries c.args.table.now.values (entries-two g.H.GoalHandler.meaning g.met.H.GoalHandler.lawful.world_kept c.args.cx.now c.ask.new.cx c.search.new.cx c.requires.ready c.ask.ensures.advances c.search.ensures.keeps) c.requires.table.held) in
+      c.in-Err.ensures.accepted (ap Err (refused c.in-Err.error (sym c.from.ensures ∙ err-is _ _ n))) (goal_in c.args.cx.now.interner.entries c.args.table.now c.args.goal.now) v.labels_are p.environment_known p.predicate_known (subst (IsOfKnown (variables_of c.args.table.now)) (sym same) p.table_known) s (subst (Solves s) (sym same) h)
+      (root-agrees c.args.cx.now.interner.entries c.requires.ready.lawful c.args.table.now c.requires.table c.args.goal.now c.requires.goal p.clean s h g.H.GoalHandler.meaning.goals g.met.H.GoalHandler.lawful.goals (g.H.GoalHandler.meaning.world c.args.cx.now.handler c.args.cx.now.interner.entries) c.args.mode (Some (answer_trees c.search.new.cx.interner.entries c.in-Some.answer)) (right-at g.H.GoalHandler.meaning g.met.H.GoalHandler.lawful.world_kept c.args.cx.now c.ask.new.cx c.requires.ready c.ask.ensures.advances c.in_ok-asked.asked.input (asked_in c.args.mode c.args.cx.now.interner.entries c.args.table.now c.args.goal.now) (result_read c.search.new.cx.interner.entries c.in_ok-answer.field-0) (Some (answer_trees c.search.new.cx.interner.entries c.in-Some.answer)) c.in_ok-asked.ensures.input.1 (ap (result_read c.search.new.cx.interner.entries) c.in-Some.is) c.in_ok-answer.ensures.sound).covers x q);
+}
+
+pub returns-in-Err-clause-faults : goal.returns-in-Err-clause-faults
+returns-in-Err-clause-faults g c = record {
+  not_plain = λ n. absurd (no-conflict c.in-Err.error (sym c.from.ensures ∙ err-is _ _ n));
+  conflict = λ n. absurd (no-conflict c.in-Err.error (sym c.from.ensures ∙ err-is _ _ n));
+  full =
+      λ n.
+      let d : c.deref.result.now ≡ c.in_ok-asked.asked.values.items = search rules in
+      let goal_is = goal_in c.args.cx.now.interner.entries c.args.table.now c.args.goal.now in
+      let v = (values-later c.ask.new.cx.interner.entries c.search.new.cx.interner.entries (λ i e h. c.search.ensures.keeps.held (i, e) h) c.in_ok-asked.asked.values.items c.deref.result.now d (goal_leaves goal_is) c.in_ok-asked.ensures.args c.in_ok-asked.ensures.leaves c.in_ok-asked.ensures.values) in
+      let k = entries-two g.H.GoalHandler.meaning g.met.H.GoalHandler.lawful.world_kept c.args.cx.now c.ask.new.cx c.search.new.cx c.requires.ready c.ask.ensures.advances c.search.ensures.keeps in
+      applied-full
+      (λ h. answer (answer_trees c.search.new.cx.interner.entries c.in-Some.answer)
+      (result-later (solver_meaning g.H.GoalHandler.meaning) c.args.cx.now c.search.new.cx (record { alloc = c.search.new.cx.alloc; interner = c.apply_answer-applied.new.cx; handler = c.search.new.cx.handler; store = c.search.new.cx.store }) (keeps g.H.GoalHandler.meaning g.met.H.GoalHandler.lawful.world_kept c.search.new.cx (record { alloc = c.search.new.cx.alloc; interner = c.apply_answer-applied.new.cx; handler = c.search.new.cx.handler; store = c.search.new.cx.store }) c.search.ensures.ready (later g.H.GoalHandler.meaning.IsReady g.met.H.GoalHandler.lawful.ready_kept c.search.new.cx (record { alloc = c.search.new.cx.alloc; interner = c.apply_answer-applied.new.cx; handler = c.search.new.cx.handler; store = c.search.new.cx.store }) c.search.ensures.ready refl refl c.apply_answer-applied.ensures.keeps c.lawful.ensures)) c.args.cache.now c.search.new.cache c.search.ensures.cache c.args.graph.now c.search.new.graph (asked_in c.args.mode c.args.cx.now.interner.entries c.args.table.now c.args.goal.now) (Some (answer_trees c.search.new.cx.interner.entries c.in-Some.answer))
+      (result-before (solver_meaning g.H.GoalHandler.meaning) c.args.cx.now c.ask.new.cx (keeps g.H.GoalHandler.meaning g.met.H.GoalHandler.lawful.world_kept c.args.cx.now c.ask.new.cx c.requires.ready c.ask.ensures.advances) (goal_of c.ask.new.cx c.in_ok-asked.asked.input) (asked_in c.args.mode c.args.cx.now.interner.entries c.args.table.now c.args.goal.now) c.in_ok-asked.ensures.input.1 c.args.graph.now c.search.new.graph c.args.cache.now c.requires.cache c.search.new.cache c.search.new.cx (result_read c.search.new.cx.interner.entries c.in_ok-answer.field-0) (Some (answer_trees c.search.new.cx.interner.entries c.in-Some.answer)) (ap (result_read c.search.new.cx.interner.entries) c.in-Some.is) c.in_ok-answer.ensures.found))
+      (same-shortage {a = answer_trees c.search.new.cx.interner.entries c.in-Some.answer} (table-kept c.args.cx.now.interner.entries c.search.new.cx.interner.entries k c.args.table.now c.requires.table) (values-are c.search.new.cx.interner.entries c.search.ensures.ready.lawful c.deref.result.now goal_is v.args v.leaves v.labels_are) refl h))
+      (c.in-Err.ensures.full (ap Err (out-of-numbers c.in-Err.error (sym c.from.ensures ∙ err-is _ _ n))));
+}
