@@ -51,6 +51,8 @@ pub mod PairRefusals
 pub mod PairChecks
 pub mod ImplNumbers
 pub mod CratesAside
+pub mod ProofsAside
+pub mod ShownProofs
 pub mod CheckedSubjects
 mod DecidedAnswers
 pub mod Answering

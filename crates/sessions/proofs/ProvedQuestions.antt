@@ -215,7 +215,7 @@ clauses-clean (r ∷ F) h = (clean-fixed r.args (args-fixed r.args (left (are_fi
 abbrev pub reference : ℕ → Trees → Reference
 reference t x = record { trait = t; args = x }
 
-clauses-erased : (rs : List Reference) → map erased_reference (unbound_references rs) ≡ map erased_reference rs
+pub clauses-erased : (rs : List Reference) → map erased_reference (unbound_references rs) ≡ map erased_reference rs
 clauses-erased [] = refl
 clauses-erased (r ∷ rs) = ap (λ z. reference r.trait z ∷ map erased_reference (unbound_references rs)) (plain-erased r.args) ∙ ap (λ zs. erased_reference r ∷ zs) (clauses-erased rs)
 
@@ -345,12 +345,16 @@ module _ (ks : List Sort) (E : List Reference) (r : Reference) (own : is_made (i
   proper-args : IsProper r.args
   proper-args = proper r.args (made-leaves (is_own ks) terms r.args own)
 
+  -- its arguments with a table's values, without lifetimes
+  pub filled-args : (fs : List Entry) (t : Table) → Ready fs t → filled ks (values_in (content fs t.values) ks) (erase r.args) ≡ erase (resolved (content fs t.values) r.args)
+  filled-args fs t ready = (values-fill fs t ready ks).1 r.args proper-args (known ks r.args good)
+
   asked-with : (F : List Reference) (fs : List Entry) (t : Table) (ready : Ready fs t)
       → reference_in (fact_with_values (content fs t.values) (goal_of F r)) ≡ filled_reference ks (values_in (content fs t.values) ks) (erased_reference r)
   asked-with F fs t ready =
       ap (λ z. reference r.trait (children_of z)) (sym (themselves-read fs t ready (goal_of F r).predicate (proper-args, tt)))
       ∙ ap (reference r.trait) (themselves-read fs t ready r.args proper-args)
-      ∙ ap (reference r.trait) (sym ((values-fill fs t ready ks).1 r.args proper-args (known ks r.args good)))
+      ∙ ap (reference r.trait) (sym (filled-args fs t ready))
 
 -- ---- questions
 module _ (d : Declarations) (text : IsOfText d) (n : ℕ) (q : Question) (is : IsQuestion d n q) (s : Solving) (of : IsSolvingOf d q.asker s) where
@@ -366,7 +370,7 @@ module _ (d : Declarations) (text : IsOfText d) (n : ℕ) (q : Question) (is : I
   abbrev W : World
   W = written of.entries of.declarations
 
-  own : is_made (is_own kinds) terms asked.args ≡ true
+  pub own : is_made (is_own kinds) terms asked.args ≡ true
   own = (fixed text.0 d text.1 (n - 1) q is.there of.entries of.declarations of.seen).own
 
   each : (x : Reference) → In x E → IsFormedClause W (sorts_in of.declarations) x

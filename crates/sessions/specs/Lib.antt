@@ -43,4 +43,5 @@ pub use Rattle.overlap_check.specs.Questions as QuestionAnswers
 pub use Rattle.overlap_check.specs.Verdicts
 pub use Rattle.view_lowering.specs.Questions as TextQuestions
 pub use Rattle.view_lowering.specs.QuestionVariables
+pub mod Shown
 pub mod ByTrait

@@ -29,6 +29,7 @@ mod question_laws;
 mod refuted;
 mod session;
 pub mod settling;
+mod shown;
 mod supertrait_laws;
 mod supertraits;
 pub mod table;

@@ -1,11 +1,14 @@
 //! Sessions.
 
-ghost use Rattle.std.specs.Prelude.{◌≡◌, ◌<◌, ◌≤◌, ◌+◌, ℕ, length, IfOk, IfSome, Ok, Err};
+ghost use Rattle.std.specs.Prelude.{◌≡◌, ◌<◌, ◌≤◌, ◌+◌, ℕ, true, length, IfOk, IfSome, Ok, Err};
 ghost use Rattle.type_terms.specs.Failures.{SomeKindIsFull};
+ghost use Rattle.type_terms.specs.Kinds.{ArgsHeld};
 ghost use Rattle.type_terms.specs.declared.TheConstants.{MAX_INDEX};
 ghost use Rattle.type_terms.specs.Laws.{HeldSetsAreLinked, InEveryLinkedSet};
+ghost use Rattle.declarations.specs.Merges.{Each};
 ghost use Rattle.orphan_check.specs.Held.{ErrorHeld};
 ghost use Rattle.overlap_check.specs.SessionLaws.{HeadlineHolds, HeadlineOfHeldSets};
+ghost use Rattle.proof_checker.specs.Steps.{StepHeld};
 ghost use Rattle.workspace.specs.Numbered.{IsNumbered};
 ghost use Rattle.text_definitions.specs.Declarations.{Question};
 ghost use Rattle.sessions.specs.ByTrait.{ListsSeen, HavePartnersSeen};
@@ -15,6 +18,7 @@ ghost use Rattle.sessions.specs.FrameBounds.{ProvesInFrames, RefutesInFrames};
 ghost use Rattle.sessions.specs.Given.{AnswerHeld, VerdictHeld, answer_in, later_of, refutation_of, supers_of, verdict_in};
 ghost use Rattle.sessions.specs.Promises.{IsProved, IsRefutation, IsVerdictOf};
 ghost use Rattle.sessions.specs.Releases.{AddedImplsBreakNoUser, IsSectionOf, IsLaterAnswer, IsSupersAnswer};
+ghost use Rattle.sessions.specs.Shown.{AreProofOfQuestion};
 ghost use Rattle.sessions.specs.Supertraits.{IsCheckedAt};
 ghost use Rattle.sessions.specs.Subjects.{IsOfText, AsksProof, AsksRefutation, StaysOn};
 
@@ -29,6 +33,7 @@ use crate::limits::Limits;
 use crate::proved_questions::yes_is_proved;
 use crate::proving::prove_question;
 use crate::refuted::refute_question;
+use crate::shown::is_proof_of_question;
 use crate::supertrait_laws::impls_apply;
 use crate::supertraits::{HeaderAnswer, header_answer_at};
 use crate::text_laws::held_texts_are_coherent;
@@ -36,12 +41,13 @@ use crate::view::lower_view;
 use candidate_assembly::solver::Solver;
 use orphan_check::errors::OrphanCheckErr;
 use overlap_check::{accepted_sets_have_one_impl, held_sets_have_one_impl};
+use proof_checker::steps::Step;
 use search_graph::{GlobalCache, SearchGraph};
 use solver_context::{SolverCx, SolverGraph};
 use std::alloc::Global;
 use std::marker::Model;
 use type_terms::interner::Interner;
-use type_terms::kinds::Ty;
+use type_terms::kinds::{GenericArgKind, Ty};
 use type_terms::laws::held_sets_are_linked;
 use type_terms::{CrateId, Fault, ImplId};
 use view_lowering::refutations_have_variables_alone;
@@ -385,6 +391,31 @@ impl<'w> Session<'w> {
             self.workspace,
             number,
         )
+    }
+
+    /// Whether steps are a proof of the reference of a `prove` question of this crate, with values for its variables, as `Yes` gives
+    /// them: by what the crate sees of the text, the question's where-clauses, and what the steps assume. Questions count from 1.
+    ///
+    /// The steps may come from anyone, and so may the values: `true` says that the last step concludes the reference with some values
+    /// of the variables' kinds. A step that is assumed is taken as one more where-clause; where none is, the reference has the proof
+    /// that `Yes` promises. `false` says nothing. No goal is asked. The fault is `Memory` where memory is refused, or `Full` where a
+    /// table of the session is full.
+    pub fn is_proof_of(
+        &mut self,
+        number: u32,
+        values: &[GenericArgKind],
+        steps: &[Step],
+    ) -> Result<bool, Fault>
+        requires question { (q : Question) × AsksProof self.old.declarations self.old.of_crate number q }
+        requires values { ArgsHeld self.old.terms values.now }
+        requires steps { Each (StepHeld self.old.terms) steps.now }
+        ensures proof { (q : Question) → AsksProof self.old.declarations self.old.of_crate number q
+            → IfOk result (λ b. b ≡ true → AreProofOfQuestion self.old.declarations q self.old.terms steps.now) }
+        ensures stays { StaysOn self.old self.new }
+        ensures frames { self.new.frames ≡ self.old.frames }
+    {
+        rest_laws::<Solver>();
+        is_proof_of_question(&mut self.cx, self.workspace, number, values, steps)
     }
 
     /// Whether the reference of a `refute` question of this crate is refused: it has no proof wherever the crate is linked, whatever its
