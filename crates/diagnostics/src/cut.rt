@@ -1,0 +1,45 @@
+//! Long texts and lists, cut.
+
+ghost use Rattle.std.specs.Prelude.{◌≡◌, ◌≤◌, ◌<◌, ◌++◌, length, map, take, codes, string_bytes, IfOk};
+ghost use Rattle.diagnostics.specs.Shown.{shown};
+
+use crate::row::push_shown;
+use std::alloc::{AllocError, Global};
+
+/// How many bytes of a type are shown.
+pub const TYPE_LIMIT: usize = 120;
+
+/// How many items of a list are shown.
+pub const LIST_LIMIT: usize = 8;
+
+/// A text as it is shown: at most so many of its bytes, and `..` behind them where it has more. A byte that is no printable ASCII is
+/// shown as `?`, a tab as a space.
+pub fn cut_text(alloc: Global, text: &[u8], limit: usize) -> Result<String, AllocError>
+    ensures whole { IfOk result (λ t. length text.now ≤ limit → string_bytes t ≡ map shown text.now) }
+    ensures cut { IfOk result (λ t. limit < length text.now → string_bytes t ≡ map shown (take limit text.now) ++ codes "..") }
+{
+    let mut out = String::new(alloc);
+    if text.len() <= limit {
+        push_shown(&mut out, text)?;
+    } else {
+        push_shown(&mut out, &text[..limit])?;
+        out.push_str("..")?;
+    }
+    Ok(out)
+}
+
+/// A list as it is shown: its first items with `, ` between each two, and `, ..` behind them where it has more than `LIST_LIMIT`.
+pub fn cut_list(alloc: Global, items: &[String]) -> Result<String, AllocError> {
+    let mut out = String::new(alloc);
+    for (index, item) in items.iter().enumerate() {
+        if index > 0 {
+            out.push_str(", ")?;
+        }
+        if index == LIST_LIMIT {
+            out.push_str("..")?;
+            break;
+        }
+        out.push_str(item.as_str())?;
+    }
+    Ok(out)
+}

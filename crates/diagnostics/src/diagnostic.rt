@@ -1,0 +1,191 @@
+//! Diagnostics as data: what is said, where, and what follows.
+
+ghost use Rattle.std.specs.Prelude.{◌≡◌, []};
+
+use crate::span::Span;
+use std::alloc::Global;
+
+/// How much it matters, after rustc's `Level`.
+#[derive(Clone, Copy, PartialEq, Eq)]
+pub enum Level {
+    Error,
+    Warning,
+    Note,
+    Help,
+}
+
+/// A code of rustc that says by what rule something is refused. `rustc --explain CODE` tells of it.
+#[derive(Clone, Copy, PartialEq, Eq)]
+pub enum ErrCode {
+    /// A wrong number of arguments.
+    E0107,
+    /// An impl of a foreign trait for foreign types.
+    E0117,
+    /// Two impls that apply to one type.
+    E0119,
+    /// A parameter of an impl that is not constrained.
+    E0207,
+    /// A parameter that comes before the first local type.
+    E0210,
+    /// The depth limit was met.
+    E0275,
+    /// A bound that was not proved.
+    E0277,
+    /// More than one way, or a type that is not known.
+    E0283,
+    /// A cycle among supertraits.
+    E0391,
+    /// A name that is declared twice among parameters.
+    E0403,
+    /// A trait that is not known.
+    E0405,
+    /// A type that is not known.
+    E0412,
+    /// A name that is declared twice.
+    E0428,
+    /// A crate that is not known.
+    E0463,
+}
+
+/// What is said of a part of the text, after rustc's `SpanLabel`.
+#[derive(Drop)]
+pub struct SpanLabel {
+    pub span: Span,
+    /// Whether this is what the message is about: it is marked by `^`, others by `-`.
+    pub is_primary: bool,
+    /// Empty where nothing is said beside the mark.
+    pub label: String,
+}
+
+/// What follows a message: a note, or a help, which advises and claims nothing. After rustc's `Subdiag`.
+#[derive(Drop)]
+pub struct Subdiagnostic {
+    pub level: Level,
+    pub message: String,
+    pub spans: Vec<SpanLabel>,
+}
+
+/// A row of a proof: what holds, how deep below the first row it stands, and by what it holds.
+#[derive(Drop)]
+pub struct ProofRow {
+    pub depth: usize,
+    pub goal: String,
+    pub reason: String,
+}
+
+/// What is said after a line of the answer.
+pub struct Diagnostic {
+    pub level: Level,
+    pub code: Option<ErrCode>,
+    pub message: String,
+    pub spans: Vec<SpanLabel>,
+    /// Empty where no proof is shown.
+    pub proof: Vec<ProofRow>,
+    pub children: Vec<Subdiagnostic>,
+}
+
+impl Drop for Diagnostic {
+    fn drop(self) {
+        let Diagnostic {
+            level: _,
+            code: _,
+            message: _,
+            spans: _,
+            proof: _,
+            children: _,
+        } = self;
+    }
+}
+
+impl SpanLabel {
+    /// What the message is about.
+    pub fn primary(span: Span, label: String) -> SpanLabel
+        ensures span { result.span ≡ span }
+        ensures label { result.label ≡ label }
+    {
+        SpanLabel {
+            span,
+            is_primary: true,
+            label,
+        }
+    }
+
+    /// What stands beside it.
+    pub fn secondary(span: Span, label: String) -> SpanLabel
+        ensures span { result.span ≡ span }
+        ensures label { result.label ≡ label }
+    {
+        SpanLabel {
+            span,
+            is_primary: false,
+            label,
+        }
+    }
+}
+
+impl Subdiagnostic {
+    /// A message without a span.
+    pub fn new(alloc: Global, level: Level, message: String) -> Subdiagnostic
+        ensures message { result.message ≡ message }
+        ensures spans { result.spans.items ≡ [] }
+    {
+        Subdiagnostic {
+            level,
+            message,
+            spans: Vec::new(alloc),
+        }
+    }
+}
+
+impl Diagnostic {
+    /// A message without a span, a proof or children: these are put into its fields.
+    pub fn new(alloc: Global, level: Level, code: Option<ErrCode>, message: String) -> Diagnostic
+        ensures message { result.message ≡ message }
+        ensures spans { result.spans.items ≡ [] }
+        ensures proof { result.proof.items ≡ [] }
+        ensures children { result.children.items ≡ [] }
+    {
+        Diagnostic {
+            level,
+            code,
+            message,
+            spans: Vec::new(alloc),
+            proof: Vec::new(alloc),
+            children: Vec::new(alloc),
+        }
+    }
+}
+
+impl Level {
+    /// As rustc writes it.
+    pub(crate) fn name(self) -> &'static str {
+        match self {
+            Level::Error => "error",
+            Level::Warning => "warning",
+            Level::Note => "note",
+            Level::Help => "help",
+        }
+    }
+}
+
+impl ErrCode {
+    /// As rustc writes it.
+    pub fn name(self) -> &'static str {
+        match self {
+            ErrCode::E0107 => "E0107",
+            ErrCode::E0117 => "E0117",
+            ErrCode::E0119 => "E0119",
+            ErrCode::E0207 => "E0207",
+            ErrCode::E0210 => "E0210",
+            ErrCode::E0275 => "E0275",
+            ErrCode::E0277 => "E0277",
+            ErrCode::E0283 => "E0283",
+            ErrCode::E0391 => "E0391",
+            ErrCode::E0403 => "E0403",
+            ErrCode::E0405 => "E0405",
+            ErrCode::E0412 => "E0412",
+            ErrCode::E0428 => "E0428",
+            ErrCode::E0463 => "E0463",
+        }
+    }
+}

@@ -1,0 +1,30 @@
+//! Diagnostics: what is said of parts of a text, as text for people and as JSON.
+//!
+//! A diagnostic has a level, a code, a message, spans of the text with labels, a proof as rows, and children, after rustc's. It is data:
+//! `render` makes rustc's text of it, and `json_line` an object with rustc's keys. Whatever a diagnostic holds, both give a text or the
+//! refused request for memory: a span that leaves its line is shown as far as it is in there.
+//!
+//! The text is any bytes. Each byte of it is shown in one column, so columns count bytes.
+#![tactic(auto)]
+
+mod cut;
+mod diagnostic;
+mod excerpt;
+mod json;
+mod parts;
+mod proof_tree;
+mod rendering;
+mod row;
+mod source;
+mod span;
+mod tokens;
+mod window;
+
+pub use cut::{LIST_LIMIT, TYPE_LIMIT, cut_list, cut_text};
+pub use diagnostic::{Diagnostic, ErrCode, Level, ProofRow, SpanLabel, Subdiagnostic};
+pub use json::{answer_object, json_line};
+pub use parts::{LineParts, parts_of_impl, parts_of_question};
+pub use rendering::render;
+pub use source::SourceFile;
+pub use span::{Place, Span, on_line};
+pub use tokens::{text_of, token_places};
