@@ -1,19 +1,30 @@
 # Of which sources a program is. Read by ./celtisdarts, ./test and tools/release, which say in `here` where the repository is.
 #
+# There are two programs: celtisdarts, and celtisdarts_explain, which says why as well. All here speaks of one of them, which is
+# celtisdarts until `of_program` says another.
+#
 # Beside a proved program, in NAME.proved, stand three lines: `program` with the sum of its bytes, `sources` with the sum of what
 # it was built from, and `toolchain` with what `rt version` printed then. Sums are those of sha256sum.
 # shellcheck shell=sh disable=SC2034,SC2154
-built="$here/crates/celtisdarts/out/celtisdarts"
-released="$here/release/celtisdarts"
+programs="celtisdarts celtisdarts_explain"
+
+# of_program NAME: from here on it is about this one
+of_program() {
+    of=$1
+    built="$here/crates/$of/out/$of"
+    released="$here/release/$of"
+}
+
+of_program celtisdarts
 
 # The crates that the program stands on, and then its own, in the order of crates.txt, which is lowest first: of each its `line`
-# there, or its `name`.
+# there, or its `name`. Behind the part other programs may be named: then those of all of them, each once.
 below() {
-    awk -F: -v part="$1" '
+    awk -F: -v part="$1" -v roots="${2:-$of}" '
         { sub(/#.*/, ""); gsub(/[ \t]+/, " "); sub(/ $/, "") }
         NF > 1 { split($1, head, " "); names[++lines] = head[1]; whole[lines] = $0; uses[head[1]] = $2 }
         END {
-            todo[1] = "celtisdarts"; count = 1
+            count = split(roots, todo, " ")
             for (i = 1; i <= count; i++) {
                 if (!(todo[i] in uses) || todo[i] in below) continue
                 below[todo[i]]

@@ -1,0 +1,27 @@
+//! The lines of the answer.
+
+ghost use Rattle.std.specs.Prelude.{◌↔◌, ◌≤◌, ◌<◌, IsTrue, IfSome, length};
+
+/// The first line of a text, without its end, and what stands behind it; none where no line ends.
+pub fn split_line(text: &[u8]) -> Option<(&[u8], &[u8])>
+    ensures { IfSome result (λ parts. length parts.1.now < length text.now) }
+{
+    let end = text.iter().position(|byte| *byte == b'\n')?;
+    Some((&text[..end], &text[end + 1..]))
+}
+
+/// The last words of the best answer of each kind but `yes`, behind which values may stand.
+const BEST_ENDS: [&[u8]; 4] = [b": accepted", b": compatible", b": held", b": no"];
+
+/// What stands in a line that says yes, and in no other: what names items has no colon.
+const YES: &[u8] = b": yes";
+
+/// Whether a line of the answer is the best of its kind: `accepted`, `compatible`, `held`, `yes` or `no`.
+pub fn is_best(line: &[u8]) -> bool {
+    for end in &BEST_ENDS {
+        if line.ends_with(*end) {
+            return true;
+        }
+    }
+    line.windows(YES.len()).any(|part| part == YES)
+}

@@ -1,0 +1,172 @@
+//! Answers the text on standard input, or that of a file, as `celtisdarts` does, and says why after each line.
+//!
+//! The words are `DEPTH [--json] [--color auto|always|never] [--file NAME] [--check] [FILE]`, in any order but that `DEPTH`, from 1 to 255,
+//! stands before `FILE`. Exit statuses: 0 where the answers were written, 1 where the text has a fault, 2 where the words are no good ones,
+//! 3 where reading, writing or memory failed before all answers were written, and, with `--check`, 4 where an answer is not the best one.
+#![tactic(auto)]
+
+ghost use Rattle.std.specs.Prelude.{◌≡◌};
+ghost use Rattle.celtisdarts_explain.specs.ExitStatus.{exit_status};
+
+mod input;
+mod lines;
+mod printed;
+mod words;
+
+use crate::input::read_text;
+use crate::printed::{Shown, Told, write_answers, write_note};
+use crate::words::{ColorConfig, Options, read_words};
+use coherence::{Limits, RunFault, Status, run};
+use diagnostics::{Diagnostic, SourceFile};
+use std::fs::File;
+use std::io::IsTerminal;
+use std::process::ExitCode;
+use std::{env, io};
+
+/// How many handles of each kind a session holds at most.
+const HANDLES: u32 = 16_777_216;
+
+/// What is printed where the words are no good ones.
+const USAGE: &str =
+    "usage: celtisdarts_explain DEPTH [--json] [--color auto|always|never] [--file NAME] [--check] [FILE]";
+
+/// Why there is no output, or not all of it.
+#[derive(Clone, Copy)]
+enum Failure {
+    /// The words are no good ones.
+    Words,
+    /// The run stopped, or a request for memory was refused before it.
+    Run(RunFault),
+}
+
+/// How the answers are.
+#[derive(Clone, Copy)]
+struct Ending {
+    status: Status,
+    /// Whether good answers alone are asked for, and one is another.
+    is_refused: bool,
+}
+
+/// The words behind the program's name.
+fn command_words(rt: &HostRuntime) -> Result<Vec<String>, Failure> {
+    let mut words = Vec::new(rt.alloc());
+    match env::args(rt) {
+        Err(e) => {
+            if e.kind() == io::ErrorKind::OutOfMemory {
+                return Err(Failure::Run(RunFault::Memory));
+            }
+            return Err(Failure::Words);
+        }
+        Ok(args) => {
+            for word in args.skip(1) {
+                if words.push(word).is_err() {
+                    return Err(Failure::Run(RunFault::Memory));
+                }
+            }
+        }
+    }
+    Ok(words)
+}
+
+/// The text of the file, or of standard input.
+fn text_asked(rt: &HostRuntime, file: Option<&str>) -> Result<Vec<u8>, RunFault> {
+    match file {
+        None => {
+            let mut reader = rt.stdin();
+            read_text(rt.alloc(), &mut reader)
+        }
+        Some(name) => match File::open(rt, name) {
+            Err(_) => Err(RunFault::Read),
+            Ok(mut reader) => read_text(rt.alloc(), &mut reader),
+        },
+    }
+}
+
+/// Whether there are colours.
+fn has_colors(rt: &HostRuntime, options: Options<'_>) -> bool {
+    match options.color {
+        ColorConfig::Always => true,
+        ColorConfig::Never => false,
+        ColorConfig::Auto => rt.stdout().is_terminal(),
+    }
+}
+
+/// Writes the lines of the answer, each with what is said of it.
+fn tell(
+    rt: &HostRuntime,
+    options: Options<'_>,
+    text: &[u8],
+    lines: &[u8],
+) -> Result<Told, io::Error> {
+    let shown = Shown {
+        is_json: options.is_json,
+        has_colors: !options.is_json && has_colors(rt, options),
+    };
+    let alloc = rt.alloc();
+    let name = options.name.or(options.file).unwrap_or("<stdin>");
+    let file = SourceFile::new(alloc, name, text).ok();
+    let found: Vec<Option<Diagnostic>> = Vec::new(alloc);
+    let mut writer = rt.stdout();
+    let told = write_answers(alloc, &mut writer, shown, file.as_ref(), lines, &found)?;
+    if told.is_cut {
+        write_note(&mut writer, shown)?;
+    }
+    Ok(told)
+}
+
+/// Answers a text: first all lines are there, and then each is explained as it is written.
+fn answer_text(rt: &HostRuntime, options: Options<'_>, text: &[u8]) -> Result<Ending, Failure> {
+    let Some(limits) = Limits::new(options.depth, HANDLES) else {
+        return Err(Failure::Words);
+    };
+    let mut reader = text;
+    let mut lines = Vec::new(rt.alloc());
+    let ran = run(rt.alloc(), &mut reader, &mut lines, limits);
+    let Ok(told) = tell(rt, options, text, &lines) else {
+        return Err(Failure::Run(RunFault::Write));
+    };
+    match ran {
+        Err(fault) => Err(Failure::Run(fault)),
+        Ok(status) => Ok(Ending {
+            status,
+            is_refused: options.is_check && !told.are_best,
+        }),
+    }
+}
+
+/// Answers the text that the words name.
+fn answer(rt: &HostRuntime) -> Result<Ending, Failure> {
+    let words = command_words(rt)?;
+    let Some(options) = read_words(&words) else {
+        return Err(Failure::Words);
+    };
+    match text_asked(rt, options.file) {
+        Err(fault) => {
+            let _printed = eprintln!(rt; "celtisdarts_explain: {fault}");
+            Err(Failure::Run(fault))
+        }
+        Ok(text) => answer_text(rt, options, &text),
+    }
+}
+
+/// The exit status that tells how the program ended.
+fn exit_status(ending: Result<Ending, Failure>) -> u8
+    ensures { result ≡ exit_status ending }
+{
+    match ending {
+        Ok(ending) => match ending.status {
+            Status::TextFault => 1,
+            Status::Done => { if ending.is_refused { 4 } else { 0 } }
+        },
+        Err(Failure::Words) => 2,
+        Err(Failure::Run(_)) => 3,
+    }
+}
+
+fn main(rt: HostRuntime) -> ExitCode {
+    let ending = answer(&rt);
+    if let Err(Failure::Words) = ending {
+        let _printed = eprintln!(rt; "{USAGE}");
+    }
+    ExitCode::from(exit_status(ending))
+}

@@ -1,0 +1,150 @@
+//! The words of the command.
+
+ghost use Rattle.std.specs.Prelude.{◌≤◌, IfSome};
+
+use coherence::parse_depth;
+
+/// When there are colours, after rustc's `--color`.
+#[derive(Clone, Copy, PartialEq, Eq)]
+pub enum ColorConfig {
+    /// Where standard output is a terminal.
+    Auto,
+    Always,
+    Never,
+}
+
+/// What the words ask for.
+#[derive(Clone, Copy)]
+pub struct Options<'w> {
+    /// The depth limit, from 1 to 255.
+    pub depth: u32,
+    pub is_json: bool,
+    pub color: ColorConfig,
+    /// Whether the exit status is to tell if each answer is the best one.
+    pub is_check: bool,
+    /// What the text is called; none: by its file's name.
+    pub name: Option<&'w str>,
+    /// The file of the text; none: standard input.
+    pub file: Option<&'w str>,
+}
+
+/// The words read so far.
+#[derive(Clone, Copy)]
+struct Reading<'w> {
+    /// 0 where the depth limit is not read yet.
+    depth: u32,
+    is_json: bool,
+    color: ColorConfig,
+    is_check: bool,
+    name: Option<&'w str>,
+    file: Option<&'w str>,
+    awaits: Awaits,
+    ghost small: { depth ≤ 255 },
+}
+
+/// What the next word is.
+#[derive(Clone, Copy)]
+enum Awaits {
+    Word,
+    Color,
+    Name,
+}
+
+/// When there are colours, by the word behind `--color`.
+fn color_named(word: &str) -> Option<ColorConfig> {
+    match word {
+        "auto" => Some(ColorConfig::Auto),
+        "always" => Some(ColorConfig::Always),
+        "never" => Some(ColorConfig::Never),
+        _ => None,
+    }
+}
+
+impl<'w> Reading<'w> {
+    /// Reads a word that stands by itself; false where it is no good one.
+    fn take_word(&mut self, word: &'w str) -> bool {
+        match word {
+            "--json" => self.is_json = true,
+            "--check" => self.is_check = true,
+            "--color" => self.awaits = Awaits::Color,
+            "--file" => self.awaits = Awaits::Name,
+            _ => return self.take_operand(word),
+        }
+        true
+    }
+
+    /// Reads the depth limit, or behind it the file.
+    fn take_operand(&mut self, word: &'w str) -> bool {
+        if self.depth == 0 {
+            return match parse_depth(word.as_bytes()) {
+                None => false,
+                Some(depth) => {
+                    self.depth = depth;
+                    true
+                }
+            };
+        }
+        if self.file.is_some() || word.is_empty() || word.as_bytes().first() == Some(&b'-') {
+            return false;
+        }
+        self.file = Some(word);
+        true
+    }
+
+    /// Reads a word; false where it is no good one.
+    fn take(&mut self, word: &'w str) -> bool {
+        match self.awaits {
+            Awaits::Word => self.take_word(word),
+            Awaits::Name => {
+                self.awaits = Awaits::Word;
+                self.name = Some(word);
+                true
+            }
+            Awaits::Color => {
+                self.awaits = Awaits::Word;
+                match color_named(word) {
+                    None => false,
+                    Some(color) => {
+                        self.color = color;
+                        true
+                    }
+                }
+            }
+        }
+    }
+}
+
+/// What the words behind the program's name ask for; none where they are no good ones.
+pub fn read_words<'w>(words: &'w [String]) -> Option<Options<'w>>
+    ensures least { IfSome result (λ options. 1 ≤ options.depth) }
+    ensures most { IfSome result (λ options. options.depth ≤ 255) }
+{
+    let mut reading = Reading {
+        depth: 0,
+        is_json: false,
+        color: ColorConfig::Auto,
+        is_check: false,
+        name: None,
+        file: None,
+        awaits: Awaits::Word,
+    };
+    for word in words {
+        if !reading.take(word.as_str()) {
+            return None;
+        }
+    }
+    let Awaits::Word = reading.awaits else {
+        return None;
+    };
+    if reading.depth == 0 {
+        return None;
+    }
+    Some(Options {
+        depth: reading.depth,
+        is_json: reading.is_json,
+        color: reading.color,
+        is_check: reading.is_check,
+        name: reading.name,
+        file: reading.file,
+    })
+}
