@@ -20,8 +20,9 @@ use Rattle.name_resolution.specs.declared.resolve.Resolved.{Resolved}
 use Rattle.name_resolution.specs.declared.resolve.ResolvedBound.{ResolvedBound}
 use Rattle.name_resolution.proofs.Judged.{no-uses}
 use Rattle.name_resolution.proofs.Uses.{findings-append, variables-append}
-use Rattle.name_resolution.specs.Found.{uses_of, depth_of, IsFound, FindsParts, AddsPart}
+use Rattle.name_resolution.specs.Found.{uses_of, depth_of, Resolves, IsFound, FindsParts, AddsPart}
 use Rattle.name_resolution.specs.declared.parts.PartsFound.{PartsFound}
+use Rattle.name_resolution.specs.declared.parts.ResolvedPart.{ResolvedPart}
 
 lt-max : (n a b : ℕ) → nat_lt n (max a b) ≡ nat_lt n a || nat_lt n b
 lt-max n a b = grind (arith, nat_tests)
@@ -42,20 +43,27 @@ depth-together v (p ∷ ps) qs = ap (max (part_depth (items v) p)) (depth-togeth
 depth-more : (v : Sight) (ps : List LinePart) (p : LinePart) → depth_of v (ps ++ p ∷ []) ≡ max (depth_of v ps) (part_depth (items v) p)
 depth-more v ps p = let e : max (part_depth (items v) p) 0 ≡ part_depth (items v) p = omega arith in depth-together v ps (p ∷ []) ∙ ap (max (depth_of v ps)) e
 
-pub found-none : (v : Sight) (f : PartsFound) → f.faults ≡ nothing_found.faults → map variable_in f.variables.items ≡ [] → f.is_deep ≡ false → IsFound v [] f
-found-none v f e g h = record { faults = e ∙ no-uses v; variables = g; is_deep = h }
+pub found-none : (v : Sight) (f : PartsFound) → f.faults ≡ nothing_found.faults → map variable_in f.variables.items ≡ [] → f.is_deep ≡ false → f.parts.items ≡ [] → IsFound v [] f
+found-none v f e g h z = record { faults = e ∙ no-uses v; variables = g; is_deep = h; parts = subst (EachOf (Resolves v) []) (sym z) tt }
+
+each-more : {T Y : Type 0} (P : T → Y → Type 0) (ts : List T) (ys : List Y) (t : T) (y : Y) → EachOf P ts ys → P t y → EachOf P (ts ++ t ∷ []) (ys ++ y ∷ [])
+each-more P [] [] t y h p = (p, tt)
+each-more P [] (z ∷ ys) t y h p = absurd h
+each-more P (s ∷ ts) [] t y h p = absurd h
+each-more P (s ∷ ts) (z ∷ ys) t y h p = (h.0, each-more P ts ys t y h.1 p)
 
 -- the part was found to be this
-pub found-more : (v : Sight) (ps : List LinePart) (p : LinePart) (old new : PartsFound) (f : Findings) (vs : List (List ℕ × Sort)) (b : Bool)
+pub found-more : (v : Sight) (ps : List LinePart) (p : LinePart) (old new : PartsFound) (f : Findings) (vs : List (List ℕ × Sort)) (b : Bool) (r : ResolvedPart)
     → f ≡ findings v (part_uses (items v) p) → vs ≡ variables_in (part_uses (items v) p) → b ≡ nat_lt depth_limit (part_depth (items v) p)
-    → new.faults ≡ either old.faults f → map variable_in new.variables.items ≡ map variable_in old.variables.items ++ vs → new.is_deep ≡ old.is_deep || b
-    → IsFound v ps old → IsFound v (ps ++ p ∷ []) new
-found-more v ps p old new f vs b ef ev eb nf nv nb is =
+    → Resolves v p r → new.faults ≡ either old.faults f → map variable_in new.variables.items ≡ map variable_in old.variables.items ++ vs → new.is_deep ≡ old.is_deep || b
+    → new.parts.items ≡ old.parts.items ++ r ∷ [] → IsFound v ps old → IsFound v (ps ++ p ∷ []) new
+found-more v ps p old new f vs b r ef ev eb er nf nv nb nr is =
     let us = part_uses (items v) p in
     record {
       faults = nf ∙ ap (λ x. either x f) is.faults ∙ ap (either (findings v (uses_of v ps))) ef ∙ sym (findings-append v (uses_of v ps) us) ∙ sym (ap (findings v) (uses-more v ps p));
       variables = nv ∙ ap (λ x. x ++ vs) is.variables ∙ ap (λ x. variables_in (uses_of v ps) ++ x) ev ∙ sym (variables-append (uses_of v ps) us) ∙ sym (ap variables_in (uses-more v ps p));
       is_deep = nb ∙ ap (λ x. x || b) is.is_deep ∙ ap (λ x. nat_lt depth_limit (depth_of v ps) || x) eb ∙ sym (lt-max depth_limit (depth_of v ps) (part_depth (items v) p)) ∙ sym (ap (nat_lt depth_limit) (depth-more v ps p));
+      parts = subst (EachOf (Resolves v) (ps ++ p ∷ [])) (sym nr) (each-more (Resolves v) ps old.parts.items p r is.parts er);
     }
 
 -- ---- one after the other
@@ -93,19 +101,23 @@ going-at v cells ps all i d at old new h e adds g =
 
 -- ---- one part
 pub adds-type : (v : Sight) (cells : List Cell) (s : Span) (r : Resolved) (old new : PartsFound) (front : List Cell) → front ≡ take s.end cells → ResolvesType v front r
-    → new.faults ≡ either old.faults r.faults → map variable_in new.variables.items ≡ map variable_in old.variables.items ++ map variable_in r.variables.items → new.is_deep ≡ old.is_deep || r.is_deep → AddsPart v cells (place.Type s) old new
-adds-type v cells s r old new front e is nf nv nb ps (type_part t) h k =
+    → new.faults ≡ either old.faults r.faults → map variable_in new.variables.items ≡ map variable_in old.variables.items ++ map variable_in r.variables.items → new.is_deep ≡ old.is_deep || r.is_deep
+    → new.parts.items ≡ old.parts.items ++ record { trait_number = 0; cells = r.cells } ∷ [] → AddsPart v cells (place.Type s) old new
+adds-type v cells s r old new front e is nf nv nb nr ps (type_part t) h k =
     let found : found_in r ≡ type_found v t = is t (take s.start cells) (e ∙ h.2) in
-    found-more v ps (type_part t) old new r.faults (map variable_in r.variables.items) r.is_deep (ap (λ x. x.faults) found) (ap (λ x. x.variables) found) (ap (λ x. x.is_deep) found) nf nv nb k
-adds-type v cells s r old new front e is nf nv nb ps (bound_part b) h k = absurd h
+    found-more v ps (type_part t) old new r.faults (map variable_in r.variables.items) r.is_deep (record { trait_number = 0; cells = r.cells })
+    (ap (λ x. x.faults) found) (ap (λ x. x.variables) found) (ap (λ x. x.is_deep) found) (ap (λ x. x.cells) found) nf nv nb nr k
+adds-type v cells s r old new front e is nf nv nb nr ps (bound_part b) h k = absurd h
 
 pub adds-bound : (v : Sight) (cells : List Cell) (s : Span) (r : ResolvedBound) (old new : PartsFound) (front : List Cell) → front ≡ take s.end cells → ResolvesBound v front r
     → new.faults ≡ either old.faults r.resolved.faults → map variable_in new.variables.items ≡ map variable_in old.variables.items ++ map variable_in r.resolved.variables.items → new.is_deep ≡ old.is_deep || r.resolved.is_deep
-    → AddsPart v cells (place.Bound s) old new
-adds-bound v cells s r old new front e is nf nv nb ps (bound_part b) h k =
-    let found : found_in r.resolved ≡ bound_found v b = (is b (take s.start cells) (e ∙ h.2)).0 in
-    found-more v ps (bound_part b) old new r.resolved.faults (map variable_in r.resolved.variables.items) r.resolved.is_deep (ap (λ x. x.faults) found) (ap (λ x. x.variables) found) (ap (λ x. x.is_deep) found) nf nv nb k
-adds-bound v cells s r old new front e is nf nv nb ps (type_part t) h k = absurd h
+    → new.parts.items ≡ old.parts.items ++ record { trait_number = r.trait_number; cells = r.resolved.cells } ∷ [] → AddsPart v cells (place.Bound s) old new
+adds-bound v cells s r old new front e is nf nv nb nr ps (bound_part b) h k =
+    let both = is b (take s.start cells) (e ∙ h.2) in
+    let found : found_in r.resolved ≡ bound_found v b = both.0 in
+    found-more v ps (bound_part b) old new r.resolved.faults (map variable_in r.resolved.variables.items) r.resolved.is_deep (record { trait_number = r.trait_number; cells = r.resolved.cells })
+    (ap (λ x. x.faults) found) (ap (λ x. x.variables) found) (ap (λ x. x.is_deep) found) (ap (λ x. x.cells) found, both.1) nf nv nb nr k
+adds-bound v cells s r old new front e is nf nv nb nr ps (type_part t) h k = absurd h
 
 -- what was found of the parts that stand there, wherever the code has the list of these
 pub finds-at : (v : Sight) (cells cs : List Cell) (ps : List LinePart) (at ys : List places.LinePart) (f : PartsFound) → FindsParts v cs at f → cs ≡ cells → at ≡ ys → EachOf (PartStands cells) ps ys → IsFound v ps f

@@ -2,14 +2,18 @@
 use Rattle.std.specs.Prelude.{◌≡◌, ℕ, List, [], ◌∷◌, ◌++◌, map, nat_lt}
 use Rattle.std.specs.List.{flat_map}
 use Rattle.text_definitions.specs.Faults.{variables_in, depth_limit}
+use Rattle.text_definitions.specs.Declarations.{known}
+use Rattle.text_definitions.specs.Lowering.{trait_number}
 use Rattle.text_definitions.specs.Uses.{Use, greatest}
 use Rattle.line_reader.specs.Cells.{Cell}
-use Rattle.line_reader.specs.LineParts.{LinePart, PartStands, part_uses, part_depth}
+use Rattle.line_reader.specs.LineParts.{LinePart, type_part, bound_part, PartStands, part_uses, part_depth}
 use Rattle.line_reader.specs.Places.{EachOf}
 use Rattle.line_reader.specs.declared.parts.LinePart as places
 use Rattle.name_resolution.specs.Machine.{Sight, items, findings}
-use Rattle.name_resolution.specs.Views.{variable_in}
+use Rattle.name_resolution.specs.Resolving.{type_found, bound_found}
+use Rattle.name_resolution.specs.Views.{resolved_in, variable_in}
 use Rattle.name_resolution.specs.declared.parts.PartsFound.{PartsFound}
+use Rattle.name_resolution.specs.declared.parts.ResolvedPart.{ResolvedPart}
 
 -- what these use
 abbrev pub uses_of : Sight → List LinePart → List Use
@@ -18,11 +22,17 @@ uses_of v ps = flat_map (part_uses (items v)) ps
 abbrev pub depth_of : Sight → List LinePart → ℕ
 depth_of v ps = greatest (map (part_depth (items v)) ps)
 
+-- The type resolves to these cells; the bound to its trait's number and the cells of its arguments.
+abbrev pub Resolves : Sight → LinePart → ResolvedPart → Type 0
+Resolves v (type_part t) r = map resolved_in r.cells.items ≡ (type_found v t).cells
+Resolves v (bound_part b) r = (map resolved_in r.cells.items ≡ (bound_found v b).cells) × (r.trait_number ≡ trait_number (known (items v) b.trait))
+
 -- This was found of these types and bounds.
 pub record IsFound (v : Sight) (ps : List LinePart) (found : PartsFound) : Type 0 where
   pub faults : found.faults ≡ findings v (uses_of v ps)
   pub variables : map variable_in found.variables.items ≡ variables_in (uses_of v ps)
   pub is_deep : found.is_deep ≡ nat_lt depth_limit (depth_of v ps)
+  pub parts : EachOf (Resolves v) ps found.parts.items
 
 -- Whichever types and bounds stand there, this was found of them.
 abbrev pub FindsParts : Sight → List Cell → List places.LinePart → PartsFound → Type 0

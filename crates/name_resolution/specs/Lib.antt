@@ -19,3 +19,4 @@ pub mod Header
 pub mod Variables
 pub mod Limits
 pub mod FaultNumbers
+pub mod Judged

@@ -1,16 +1,18 @@
-//! The fault of a line that was read.
+//! The fault of a line that was read, and what was found of a line without one.
 ghost use Rattle.std.specs.Prelude.{◌≡◌, ◌||◌, ◌&&◌, false, map, is_some, length, nat_le, IfOk};
 ghost use Rattle.std.specs.Option.{option_map, option_map_or};
 ghost use Rattle.text_definitions.specs.Syntax.{Line};
 ghost use Rattle.text_definitions.specs.Declarations.{known};
-ghost use Rattle.text_definitions.specs.Faults.{is_any, tests, fault_of};
+ghost use Rattle.text_definitions.specs.Faults.{is_any, tests, first_of, fault_of};
 ghost use Rattle.line_reader.specs.Lines.{ReadsLine};
 ghost use Rattle.line_reader.specs.Says.{name_said};
 ghost use Rattle.line_reader.specs.Views.{statement_of};
-ghost use Rattle.name_resolution.specs.Machine.{items};
+ghost use Rattle.name_resolution.specs.Machine.{Sight, items};
 ghost use Rattle.name_resolution.specs.Views.{variable_in};
 ghost use Rattle.name_resolution.specs.FaultNumbers.{fault_number, numbered};
+ghost use Rattle.name_resolution.specs.Judged.{fault_in, HandsOn};
 ghost use Rattle.name_resolution.specs.Limits.{is_misplaced_for};
+ghost use Rattle.name_resolution.specs.LineFound.{IsLineFound, FindsLine};
 ghost use Rattle.name_resolution.specs.Params.{takes_said};
 ghost use Rattle.name_resolution.specs.Speaks.{Speaks, is_trait_said};
 ghost use Rattle.name_resolution.specs.Variables.{have_two_kinds};
@@ -24,6 +26,15 @@ use crate::params::is_taken_param;
 use crate::variables::are_of_two_kinds;
 use line_reader::{LineRead, Statement};
 use std::alloc::{AllocError, Global};
+
+/// A line that was judged.
+#[derive(Drop)]
+pub enum JudgedLine<'a> {
+    /// Of all faults that apply the one with the smallest number.
+    Faulty(FaultKind),
+    /// No fault applies, and this was found of the line.
+    Faultless(LineFound<'a>),
+}
 
 /// Whether a struct or trait stands in a section of a later version, or a struct, trait or impl outside one before any crate but `core`.
 fn is_misplaced<N: LineNames>(names: &N, statement: &Statement<'_>) -> bool
@@ -82,16 +93,16 @@ fn tests_of<N: LineNames>(
     names: &N,
     alloc: Global,
     read: &LineRead<'_>,
+    found: &LineFound<'_>,
 ) -> Result<Tests, AllocError>
     requires { Speaks (N.sight names.now).line (statement_of read.now.statement) }
-    ensures { IfOk result (λ t. (l : Line) → ReadsLine l read.now → numbered t ≡ tests (N.sight names.now).before l) }
+    ensures { IfOk result (λ t. (l : Line) → ReadsLine l read.now → IsLineFound (N.sight names.now) l found.now → numbered t ≡ tests (N.sight names.now).before l) }
 {
-    let found = find_line(names, alloc, read)?;
     let faults = found.faults();
     let takes_own = takes_names(names, alloc, &read.statement)?;
     let has_free_param = has_free_param(alloc, read)?;
-    let has_stray_variable = has_stray_variable(alloc, &found)?;
-    let passes_limit = passes_limit(names, alloc, read, &found)?;
+    let has_stray_variable = has_stray_variable(alloc, found)?;
+    let passes_limit = passes_limit(names, alloc, read, found)?;
     Ok(Tests {
         is_misplaced: is_misplaced(names, &read.statement),
         takes_names: takes_own | faults.takes_names,
@@ -110,18 +121,32 @@ fn tests_of<N: LineNames>(
     })
 }
 
-/// What is wrong with a line that was read: of all faults that apply, the one with the smallest number, or none. The names are those
-/// of the line: they know what is declared before it, and its own name and parameters.
+/// A line that fails these tests, and of which this was found.
+fn judged_by(tests: Tests, found: LineFound<'_>) -> JudgedLine<'_>
+    ensures fault { option_map fault_number (fault_in result) ≡ first_of (numbered tests) }
+    ensures found { (v : Sight) (read : LineRead) → FindsLine v read found.entry → HandsOn v read result }
+{
+    match tests.first() {
+        Some(kind) => JudgedLine::Faulty(kind),
+        None => JudgedLine::Faultless(found),
+    }
+}
+
+/// What is wrong with a line that was read: of all faults that apply, the one with the smallest number. Of a line without a fault the
+/// answer is what was found of it, its types and bounds with all names looked up. The names are those of the line: they know what is
+/// declared before it, and its own name and parameters.
 ///
 /// The error says that a request for memory was refused.
-pub fn fault_of<N: LineNames>(
+pub fn judge_line<'a, N: LineNames>(
     names: &N,
     alloc: Global,
-    read: &LineRead<'_>,
-) -> Result<Option<FaultKind>, AllocError>
+    read: &LineRead<'a>,
+) -> Result<JudgedLine<'a>, AllocError>
     requires { Speaks (N.sight names.now).line (statement_of read.now.statement) }
-    ensures { IfOk result (λ found. (l : Line) → ReadsLine l read.now → option_map fault_number found ≡ fault_of (N.sight names.now).before l) }
+    ensures fault { IfOk result (λ judged. (l : Line) → ReadsLine l read.now → option_map fault_number (fault_in judged) ≡ fault_of (N.sight names.now).before l) }
+    ensures found { IfOk result (HandsOn (N.sight names.now) read.now) }
 {
-    let tests = tests_of(names, alloc, read)?;
-    Ok(tests.first())
+    let found = find_line(names, alloc, read)?;
+    let tests = tests_of(names, alloc, read, &found)?;
+    Ok(judged_by(tests, found))
 }

@@ -36,11 +36,13 @@ mod walk;
 pub use fault::FaultKind;
 pub use findings::Findings;
 pub use found_variables::each_once;
-pub use judge::fault_of;
+pub use judge::{JudgedLine, judge_line};
 pub use judge_use::{crate_name, has_static, is_param, repeats};
+pub use line::LineFound;
 pub use looked_up::Names;
 pub use name_set::NameSet;
 pub use names::LineNames;
+pub use parts::{PartsFound, ResolvedPart};
 pub use resolve::{Resolved, ResolvedBound, resolve_bound, resolve_type};
 pub use resolved::{NodeLabel, Region, ResolvedCell, Variable};
 

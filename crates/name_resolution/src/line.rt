@@ -16,7 +16,7 @@ use std::alloc::{AllocError, Global};
 
 /// What was found of a line.
 #[derive(Drop)]
-pub(crate) struct LineFound<'a> {
+pub struct LineFound<'a> {
     /// What is wrong with the crates that it names.
     pub crates: Findings,
     /// What was found of what a question asks.

@@ -9,10 +9,19 @@ ghost use Rattle.name_resolution.specs.Found.{IsFound, FindsParts, AddsPart};
 
 use crate::findings::Findings;
 use crate::looked_up::Names;
-use crate::resolve::{Resolved, resolve_bound, resolve_type};
-use crate::resolved::Variable;
+use crate::resolve::{Resolved, ResolvedBound, resolve_bound, resolve_type};
+use crate::resolved::{ResolvedCell, Variable};
 use line_reader::{Cell, LinePart};
 use std::alloc::{AllocError, Global};
+
+/// A type or a bound of a line, by numbers.
+#[derive(Drop)]
+pub struct ResolvedPart<'a> {
+    /// The number of a bound's trait. Of a type, and where the bound's name isn't a trait's, 0.
+    pub trait_number: usize,
+    /// Its cells with numbers in the place of names; of a bound, those of its arguments.
+    pub cells: Vec<ResolvedCell<'a>>,
+}
 
 /// What was found of types and bounds that stand one behind the other.
 #[derive(Drop)]
@@ -23,6 +32,8 @@ pub struct PartsFound<'a> {
     pub variables: Vec<Variable<'a>>,
     /// Whether more types than may be are around each other.
     pub is_deep: bool,
+    /// Each of them with its names looked up, so that no later step looks one up again.
+    pub parts: Vec<ResolvedPart<'a>>,
 }
 
 /// The cells before this place.
@@ -41,24 +52,30 @@ impl<'a> PartsFound<'a> {
             faults: Findings::NONE,
             variables: Vec::new(alloc),
             is_deep: false,
+            parts: Vec::new(alloc),
         }
     }
 
-    /// What was found of one more, behind the others.
-    fn join(&mut self, found: Resolved<'a>) -> Result<(), AllocError>
+    /// What was found of one more, behind the others; of a bound with the number of its trait.
+    fn join(&mut self, found: Resolved<'a>, trait_number: usize) -> Result<(), AllocError>
         ensures faults { OnOk result (self.new.faults ≡ either self.old.faults found.entry.faults) }
         ensures variables { OnOk result (map variable_in self.new.variables.items ≡ map variable_in self.old.variables.items ++ map variable_in found.entry.variables.items) }
         ensures deep { OnOk result (self.new.is_deep ≡ (self.old.is_deep || found.entry.is_deep)) }
+        ensures parts { OnOk result (self.new.parts.items ≡ self.old.parts.items ++ record { trait_number = trait_number; cells = found.entry.cells } ∷ []) }
     {
         let Resolved {
             faults,
             variables,
             is_deep,
-            cells: _,
+            cells,
         } = found;
         self.faults = self.faults.either(faults);
         self.is_deep = self.is_deep || is_deep;
         self.variables.extend_from_slice(&variables)?;
+        self.parts.push(ResolvedPart {
+            trait_number,
+            cells,
+        })?;
         Ok(())
     }
 
@@ -75,11 +92,15 @@ impl<'a> PartsFound<'a> {
         match part {
             LinePart::Type(span) => {
                 let found = resolve_type(names, alloc, cells_to(cells, span.end))?;
-                self.join(found)?;
+                self.join(found, 0)?;
             }
             LinePart::Bound(span) => {
                 let found = resolve_bound(names, alloc, cells_to(cells, span.end))?;
-                self.join(found.resolved)?;
+                let ResolvedBound {
+                    trait_number,
+                    resolved,
+                } = found;
+                self.join(resolved, trait_number)?;
             }
         }
         Ok(())

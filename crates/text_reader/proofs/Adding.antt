@@ -22,7 +22,7 @@ use Rattle.workspace.specs.declared.declared.Param as kept
 use Rattle.workspace.specs.declared.declared.QuestionEntry.{QuestionEntry}
 use Rattle.workspace.specs.declared.declared.ReferenceCells.{ReferenceCells}
 use Rattle.text_reader.specs.BareLines.{sort_of_param, sorted_param}
-use Rattle.text_reader.specs.Entries.{OfRead, AreFields, AreBounds, IsMain, AreClauses, IsAsking, IsEntry}
+use Rattle.text_reader.specs.Entries.{OfRead, AreFields, AreBounds, IsMain, AreClauses, SaysStruct, SaysTrait, SaysImpl, IsStruct, IsTrait, IsImpl, IsAsking, IsEntry}
 use Rattle.text_reader.proofs.WhatIsAdded.{crate-line, later-line, supers-line, struct-line, trait-line, impl-line, question-line, Says, firsts, firsts-kept, variables-kept}
 
 -- the name that it declares is new
@@ -40,23 +40,54 @@ later-adds d e read n line is = λ l r. is ∙ ap (added d) (later-line n l (sym
 pub supers-adds : (d e : Declarations) (read : LineRead) (n : List ℕ) → statement_of read.statement ≡ supers_statement n → e ≡ added d (supers_line n) → AddsLine d read e
 supers-adds d e read n line is = λ l r. is ∙ ap (added d) (supers-line n l (sym line ∙ r.0))
 
-pub struct-adds : (d e : Declarations) (read : LineRead) (f : Bool) (n : List ℕ) (ps : List Param) (ss : List Span) (kinds : List ParamKind) (cells : List TermCell)
-    → statement_of read.statement ≡ struct_statement f n ps ss → sorts_of kinds ≡ map sort_of_param ps → OfRead read (λ l. AreFields d l (trees_of (cells_of cells))) → AddsStructLine d e n f kinds cells → AddsLine d read e
-struct-adds d e read f n ps ss kinds cells line k are adds = λ l r. adds l (struct-line d f n ps ss (sorts_of kinds) (trees_of (cells_of cells)) l (sym line ∙ r.0) k (are l r))
+-- what is left of a statement is its types
+pub struct-said : (s : Statement) (f : Bool) (n : List ℕ) (ps : List Param) → SaysStruct s f n ps → (ss : List Span) × (s ≡ struct_statement f n ps ss)
+struct-said (struct_statement g m qs ss) f n ps h = (ss, ap (λ x. struct_statement x m qs ss) h.0 ∙ ap (λ x. struct_statement f x qs ss) h.1 ∙ ap (λ x. struct_statement f n x ss) h.2)
+struct-said s f n ps h = absurd h
 
-pub trait-adds : (d e : Declarations) (read : LineRead) (f a : Bool) (n : List ℕ) (ps : List Param) (ss : List Span) (kinds : List ParamKind) (rs : List ReferenceCells)
-    → statement_of read.statement ≡ trait_statement f a n ps ss → sorts_of kinds ≡ map sort_of_param ps → OfRead read (λ l. AreBounds d l (map reference_of rs)) → AddsTraitLine d e n f a kinds rs → AddsLine d read e
-trait-adds d e read f a n ps ss kinds rs line k are adds = λ l r. adds l (trait-line d f a n ps ss (sorts_of kinds) (map reference_of rs) l (sym line ∙ r.0) k (are l r))
+pub trait-said : (s : Statement) (f a : Bool) (n : List ℕ) (ps : List Param) → SaysTrait s f a n ps → (ss : List Span) × (s ≡ trait_statement f a n ps ss)
+trait-said (trait_statement g b m qs ss) f a n ps h =
+    (ss, ap (λ x. trait_statement x b m qs ss) h.0 ∙ ap (λ x. trait_statement f x m qs ss) h.1 ∙ ap (λ x. trait_statement f a x qs ss) h.2 ∙ ap (λ x. trait_statement f a n x ss) h.3)
+trait-said s f a n ps h = absurd h
 
-pub impl-adds : (d e : Declarations) (read : LineRead) (ps : List Param) (k : ClauseSpans) (ks : List ClauseSpans) (params : List kept.Param) (header : ReferenceCells) (rs : List ReferenceCells)
-    → statement_of read.statement ≡ impl_statement ps k ks → sorted_params params ≡ map sorted_param ps → OfRead read (λ l. IsMain d l (reference_of header)) → OfRead read (λ l. AreClauses d l (map reference_of rs))
+impl-said : (s : Statement) (ps : List Param) → SaysImpl s ps → (k : ClauseSpans) × (ks : List ClauseSpans) × (s ≡ impl_statement ps k ks)
+impl-said (impl_statement qs k ks) ps h = (k, ks, ap (λ x. impl_statement x k ks) h)
+impl-said s ps h = absurd h
+
+pub struct-is : (s : Statement) (f : Bool) (n : List ℕ) (ps : List Param) → SaysStruct s f n ps → IsStruct s
+struct-is (struct_statement g m qs ss) f n ps h = tt
+struct-is s f n ps h = absurd h
+
+pub trait-is : (s : Statement) (f a : Bool) (n : List ℕ) (ps : List Param) → SaysTrait s f a n ps → IsTrait s
+trait-is (trait_statement g b m qs ss) f a n ps h = tt
+trait-is s f a n ps h = absurd h
+
+pub impl-is : (s : Statement) (ps : List Param) → SaysImpl s ps → IsImpl s
+impl-is (impl_statement qs k ks) ps h = tt
+impl-is s ps h = absurd h
+
+pub struct-adds : (d e : Declarations) (read : LineRead) (f : Bool) (n : List ℕ) (ps : List Param) (kinds : List ParamKind) (cells : List TermCell)
+    → SaysStruct (statement_of read.statement) f n ps → sorts_of kinds ≡ map sort_of_param ps → OfRead read (λ l. AreFields d l (trees_of (cells_of cells))) → AddsStructLine d e n f kinds cells → AddsLine d read e
+struct-adds d e read f n ps kinds cells says k are adds =
+    let (ss, line) = struct-said (statement_of read.statement) f n ps says in
+    λ l r. adds l (struct-line d f n ps ss (sorts_of kinds) (trees_of (cells_of cells)) l (sym line ∙ r.0) k (are l r))
+
+pub trait-adds : (d e : Declarations) (read : LineRead) (f a : Bool) (n : List ℕ) (ps : List Param) (kinds : List ParamKind) (rs : List ReferenceCells)
+    → SaysTrait (statement_of read.statement) f a n ps → sorts_of kinds ≡ map sort_of_param ps → OfRead read (λ l. AreBounds d l (map reference_of rs)) → AddsTraitLine d e n f a kinds rs → AddsLine d read e
+trait-adds d e read f a n ps kinds rs says k are adds =
+    let (ss, line) = trait-said (statement_of read.statement) f a n ps says in
+    λ l r. adds l (trait-line d f a n ps ss (sorts_of kinds) (map reference_of rs) l (sym line ∙ r.0) k (are l r))
+
+pub impl-adds : (d e : Declarations) (read : LineRead) (ps : List Param) (params : List kept.Param) (header : ReferenceCells) (rs : List ReferenceCells)
+    → SaysImpl (statement_of read.statement) ps → sorted_params params ≡ map sorted_param ps → OfRead read (λ l. IsMain d l (reference_of header)) → OfRead read (λ l. AreClauses d l (map reference_of rs))
     → AddsImplLine d e params header rs → AddsLine d read e
-impl-adds d e read ps k ks params header rs line named main are adds =
+impl-adds d e read ps params header rs says named main are adds =
+    let (k, ks, line) = impl-said (statement_of read.statement) ps says in
     λ l r. adds l (impl-line d ps k ks (sorted_params params) (reference_of header) (map reference_of rs) l (sym line ∙ r.0) named (main l r) (are l r))
 
-pub question-adds : (d e : Declarations) (read : LineRead) (how : Asked) (ps : List Param) (k : ClauseSpans) (ks : List ClauseSpans) (q : QuestionEntry)
-    → IsAsking d (statement_of read.statement) how ps k ks → q.asked_how ≡ how → IsEntry d ps read q → AddsQuestionLine d e (question_of q) → AddsLine d read e
-question-adds d e read how ps k ks q asking same entry adds = λ l r.
+pub question-adds : (d e : Declarations) (read : LineRead) (how : Asked) (ps : List Param) (q : QuestionEntry)
+    → IsAsking d (statement_of read.statement) how ps → q.asked_how ≡ how → IsEntry d ps read q → AddsQuestionLine d e (question_of q) → AddsLine d read e
+question-adds d e read how ps q asking same entry adds = λ l r.
     let says : Says d (is_refute how) asking.0 ps (question_of q) l = record {
       refutes = ap is_refute same;
       asks = ap asker_of same ∙ asking.2;
@@ -67,4 +98,4 @@ question-adds d e read how ps k ks q asking same entry adds = λ l r.
       variables = variables-kept q.variables.items;
       are = entry.variables l r;
     } in
-    adds l (question-line d (statement_of read.statement) (is_refute how) asking.0 ps k ks (question_of q) l r.0 asking.1 says)
+    adds l (question-line d (statement_of read.statement) (is_refute how) asking.0 ps (question_of q) l r.0 asking.1 says)

@@ -1,7 +1,8 @@
 -- What is kept of a type, of a bound, and of lists of them.
-use Rattle.std.proofs.Common.{◌≡◌, ℕ, zero, suc, ◌+◌, ◌<◌, ◌≤◌, true, List, [], ◌∷◌, ◌++◌, length, map, take, drop, get_or, drop-cons, Some, refl, sym, ap, ◌∙◌, arith, append_assoc, append-nil, length-append, subst}
-use Rattle.std.proofs.lemmas.List.{length-take, length-map}
+use Rattle.std.proofs.Common.{◌≡◌, ℕ, zero, suc, ◌+◌, ◌-◌, ◌<◌, ◌≤◌, true, List, [], ◌∷◌, ◌++◌, length, map, take, drop, get_or, drop-cons, Some, refl, sym, ap, ◌∙◌, arith, append_assoc, append-nil, length-append, subst}
+use Rattle.std.proofs.lemmas.List.{length-take, length-map, take_all}
 use Rattle.std.proofs.lemmas.Option.{same_Some}
+use Rattle.std.specs.List.{flat_map}
 use Rattle.std.specs.Prelude.{slice_get}
 use Rattle.type_terms.specs.Label.{of_type, of_const, of_lifetime, param}
 use Rattle.type_terms.specs.Trees.{Trees, leaf, ◌+++◌}
@@ -10,28 +11,28 @@ use Rattle.type_terms.specs.declared.TheConstants.{MAX_INDEX}
 use Rattle.line_reader.specs.TokenViews.{primitive_label}
 use Rattle.line_reader.specs.declared.token.Primitive.{Primitive}
 use Rattle.line_reader.specs.declared.token.Primitive.TheVariants as primitives
-use Rattle.text_definitions.specs.Syntax.{TypeTree, named, Types, no_types, and_type, Params, Clause, Line}
+use Rattle.text_definitions.specs.Syntax.{TypeTree, named, Types, no_types, and_type, Params, Bound, Clause, Line}
 use Rattle.text_definitions.specs.Declarations.{known, kinds_of}
-use Rattle.text_definitions.specs.Uses.{type_uses, types_uses, bound_uses, clause_uses, params_of, kinds_of_trait}
-use Rattle.text_definitions.specs.Faults.{with_own, variables_in, variable_limit}
-use Rattle.text_definitions.specs.Lowering.{Meanings, trait_number, type_tree, field_trees, args_trees}
+use Rattle.text_definitions.specs.Uses.{type_uses, types_uses, bound_uses, params_of, kinds_of_trait}
+use Rattle.text_definitions.specs.Faults.{with_own, variable_limit}
+use Rattle.text_definitions.specs.Lowering.{Meanings, trait_number, type_tree, field_trees, args_trees, clause_reference}
 use Rattle.line_reader.specs.Faultless.{UsesFit}
 use Rattle.line_reader.specs.Cells as cell
 use Rattle.line_reader.specs.TypeViews.{cells_in, cell_of}
 use Rattle.line_reader.specs.declared.cell.Cell.{Cell}
 use Rattle.line_reader.specs.declared.cell.Cell.TheVariants as cells
+use Rattle.line_reader.specs.LineParts as line
+use Rattle.line_reader.specs.LineParts.{LinePart, clause_parts, PartStands}
 use Rattle.line_reader.specs.Statement.{type_list}
-use Rattle.line_reader.specs.Places.{TypeStands, ClauseStands, EachOf}
+use Rattle.line_reader.specs.Places.{TypeStands, EachOf}
+use Rattle.line_reader.specs.declared.parts.LinePart as places
+use Rattle.line_reader.specs.declared.parts.LinePart.TheVariants as place
 use Rattle.line_reader.specs.declared.statement.Span.{Span}
-use Rattle.line_reader.specs.declared.statement.ClauseSpans.{ClauseSpans}
-use Rattle.name_resolution.specs.Machine.{Sight, items, params}
+use Rattle.name_resolution.specs.Machine.{Sight, params}
 use Rattle.name_resolution.specs.Resolved.{type_before, args_before}
-use Rattle.name_resolution.specs.Resolving.{ResolvesType, ResolvesBound, found_in, type_found}
 use Rattle.name_resolution.specs.Views.{resolved_in, variable_in}
-use Rattle.name_resolution.specs.declared.resolve.Resolved.{Resolved}
-use Rattle.name_resolution.specs.declared.resolve.ResolvedBound.{ResolvedBound}
+use Rattle.name_resolution.specs.declared.parts.ResolvedPart.{ResolvedPart}
 use Rattle.name_resolution.proofs.StandingLaws.{at-type}
-use Rattle.name_resolution.proofs.Uses.{variables-append}
 use Rattle.workspace.specs.TermCells.{trees_of, joined}
 use Rattle.workspace.specs.Made.{Part, type_part, is_arg, is_type, AreMade, ReferenceMade, ReferencesMade}
 use Rattle.workspace.specs.Views.{cells_of, reference_of}
@@ -40,8 +41,8 @@ use Rattle.workspace.specs.declared.cell.TermCell.TheVariants as term
 use Rattle.workspace.specs.declared.declared.ReferenceCells.{ReferenceCells}
 use Rattle.text_reader.proofs.Each.{Every}
 use Rattle.text_reader.specs.Keeping.{pushed, Keeps, AddsCells}
-use Rattle.text_reader.specs.Kept.{IsSightOf, IsReady, NumberingFits, IsOfLine, KeepsType, MeansBound, MeansReference}
-use Rattle.text_reader.specs.Laws.{AllOf}
+use Rattle.text_reader.specs.Kept.{IsSightOf, IsReady, NumberingFits, IsShort, IsReadAs, IsOfLine, KeepsType, MeansBound, MeansReference}
+use Rattle.text_reader.specs.Laws.{AllOf, ClauseFits}
 use Rattle.text_reader.specs.Meant.{FewNames, UsesMean}
 use Rattle.text_reader.specs.Numbering.{meanings, first_number, variables_of}
 use Rattle.text_reader.specs.declared.numbering.Numbering.{Numbering}
@@ -93,12 +94,37 @@ size-within cells t s h =
 stands-plain : (cells : List cell.Cell) (t : TypeTree) (s : Span) → PlainCells cells → TypeStands cells t s → PlainType t
 stands-plain cells t s p h = (type-plain t (take s.start cells) (subst PlainCells h.2 (take-plain s.end cells p))).0
 
--- ---- names
-at-items : (v : Sight) (e : Meanings) (cells : List cell.Cell) (l : Line) → IsOfLine v e cells l → e.items ≡ with_own v.before l
-at-items v e cells l o = o.items ∙ o.sight.items
+-- so is one that was read from a short line
+record FromLine (t : TypeTree) : Type 0 where
+  size : type_size t < MAX_INDEX
+  plain : PlainType t
 
-at-params : (v : Sight) (e : Meanings) (cells : List cell.Cell) (l : Line) → IsOfLine v e cells l → e.params ≡ params_of l
-at-params v e cells l o = o.params ∙ o.sight.params
+from-type : (t : TypeTree) (cells : List Cell) (s : Span) → length cells < MAX_INDEX → TypeStands (cells_in cells) t s → FromLine t
+from-type t cells s few st = record {
+  size = omega (arith, size-within (cells_in cells) t s st, length-map cells cell_of, few);
+  plain = stands-plain (cells_in cells) t s (cells-plain cells) st;
+}
+
+short-type : (t : TypeTree) → IsShort (line.type_part t) → FromLine t
+short-type t (cells, at, few, st) = by at st
+  where
+    by : (at : places.LinePart) → PartStands (cells_in cells) (line.type_part t) at → FromLine t
+    by (place.Type s) st = from-type t cells s few st
+    by (place.Bound s) st = absurd st
+
+short-bound : (b : Bound) → IsShort (line.bound_part b) → FromLine (named b.trait b.args)
+short-bound b (cells, at, few, st) = by at st
+  where
+    by : (at : places.LinePart) → PartStands (cells_in cells) (line.bound_part b) at → FromLine (named b.trait b.args)
+    by (place.Type s) st = absurd st
+    by (place.Bound s) st = from-type (named b.trait b.args) cells s few st
+
+-- ---- names
+at-items : (v : Sight) (e : Meanings) (l : Line) → IsOfLine v e l → e.items ≡ with_own v.before l
+at-items v e l o = o.items ∙ o.sight.items
+
+at-params : (v : Sight) (e : Meanings) (l : Line) → IsOfLine v e l → e.params ≡ params_of l
+at-params v e l o = o.params ∙ o.sight.params
 
 -- ---- what is ready
 few-params : (p : Params) → length (kinds_of p) ≡ length p.lifetimes + (length p.types + length p.consts)
@@ -116,48 +142,46 @@ few-by : (n : Numbering) → NumberingFits n → (first_number n ≤ 1) × (leng
 few-by (Item first) h = (h, omega arith)
 few-by (Question vs) h = (omega arith, omega (arith, length-map vs.now variable_in, h))
 
-pub few-names : (v : Sight) (n : Numbering) (cells : List cell.Cell) → IsReady v n cells → FewNames (meanings v n)
-few-names v n cells h = let b = few-by n h.numbering in (omega (arith, few-params (params v), h.params, b.0), omega (arith, b.1))
+pub few-names : (v : Sight) (n : Numbering) → IsReady v n → FewNames (meanings v n)
+few-names v n h = let b = few-by n h.numbering in (omega (arith, few-params (params v), h.params, b.0), omega (arith, b.1))
 
-pub line-ready : (v : Sight) (n : Numbering) (cells : List cell.Cell) (l : Line) → IsReady v n cells → IsSightOf v l → IsOfLine v (meanings v n) cells l
-line-ready v n cells l h s = record { sight = s; items = refl; params = refl; few = few-names v n cells h; numbers = h.numbers; short = h.short }
+pub line-ready : (v : Sight) (n : Numbering) (l : Line) → IsReady v n → IsSightOf v l → IsOfLine v (meanings v n) l
+line-ready v n l h s = record { sight = s; items = refl; params = refl; few = few-names v n h; numbers = h.numbers }
 
 -- ---- a type
-pub type-kept : (v : Sight) (e : Meanings) (cells front : List cell.Cell) (s : Span) (r : Resolved) (old new : List TermCell) → PlainCells cells → front ≡ take s.end cells → ResolvesType v front r
-    → AddsCells e (map resolved_in r.cells.items) old new → KeepsType v e cells s old new
-type-kept v e cells front s r old new plain f is adds l t o st u ts xs k =
-    let found : found_in r ≡ type_found v t = is t (take s.start cells) (f ∙ st.2) in
+pub type-kept : (v : Sight) (e : Meanings) (r : ResolvedPart) (old new : List TermCell) → AddsCells e (map resolved_in r.cells.items) old new → KeepsType v e r old new
+type-kept v e r old new adds l t o is u ts xs k =
+    let from = short-type t is.1 in
     let same : map resolved_in r.cells.items ≡ type_before e.items e.params [] of_type t [] =
-    ap (λ x. x.cells) found ∙ ap (λ d. type_before d (params v) [] of_type t []) (sym o.items) ∙ ap (λ ps. type_before e.items ps [] of_type t []) (sym o.params) in
-    let room : 0 + type_size t < MAX_INDEX = omega (arith, size-within cells t s st, o.short) in
+    is.0 ∙ ap (λ d. type_before d (params v) [] of_type t []) (sym o.items) ∙ ap (λ ps. type_before e.items ps [] of_type t []) (sym o.params) in
+    let room : 0 + type_size t < MAX_INDEX = omega (arith, from.size) in
     let around : Around e [] (type_size t) = record { few = o.few; numbers = o.numbers; short = tt; room = room } in
     let w = with_own v.before l in
     let uses : UsesMean e (type_uses e.items [] of_type t) =
-    subst (λ d. UsesMean e (type_uses d [] of_type t)) (sym (at-items v e cells l o)) (uses-mean e v.before l (type_uses w [] of_type t) (at-items v e cells l o) (at-params v e cells l o) u) in
+    subst (λ d. UsesMean e (type_uses d [] of_type t)) (sym (at-items v e l o)) (uses-mean e v.before l (type_uses w [] of_type t) (at-items v e l o) (at-params v e l o) u) in
     kept-more e (type_before e.items e.params [] of_type t []) old new (type_tree e [] of_type t ∷ []) (type_part ∷ [])
     (subst (λ cs. AddsCells e cs old new) same adds)
-    (λ S. type-makes e [] t [] S (type_part ∷ S) around (stands-plain cells t s plain st) uses refl)
+    (λ S. type-makes e [] t [] S (type_part ∷ S) around from.plain uses refl)
     (λ S. at-type e [] of_type t [] S) ts xs k
 
 -- ---- a bound
-pub bound-kept : (v : Sight) (e : Meanings) (cells front : List cell.Cell) (s : Span) (f : ResolvedBound) (self : List TermCell) (r : ReferenceCells) → PlainCells cells → front ≡ take s.end cells → ResolvesBound v front f
-    → AddsCells e (map resolved_in f.resolved.cells.items) self r.args.items → (f.trait_number < MAX_INDEX → r.trait_id.index ≡ f.trait_number) → MeansBound v e cells s self r
-bound-kept v e cells front s f self r plain h is adds small l b t o st u k =
-    let both = is b (take s.start cells) (h ∙ st.2) in
+pub bound-kept : (v : Sight) (e : Meanings) (f : ResolvedPart) (self : List TermCell) (r : ReferenceCells)
+    → AddsCells e (map resolved_in f.cells.items) self r.args.items → (f.trait_number < MAX_INDEX → r.trait_id.index ≡ f.trait_number) → MeansBound v e f self r
+bound-kept v e f self r adds small l b t o is u k =
+    let from = short-bound b is.1 in
     let ks = kinds_of_trait (known e.items b.trait) in
-    let same : map resolved_in f.resolved.cells.items ≡ args_before e.items e.params [] ks b.args [] =
-    ap (λ x. x.cells) both.0 ∙ ap (λ d. args_before d (params v) [] (kinds_of_trait (known d b.trait)) b.args []) (sym o.items) ∙ ap (λ ps. args_before e.items ps [] ks b.args []) (sym o.params) in
-    let number : f.trait_number ≡ trait_number (known e.items b.trait) = both.1 ∙ ap (λ d. trait_number (known d b.trait)) (sym o.items) in
+    let same : map resolved_in f.cells.items ≡ args_before e.items e.params [] ks b.args [] =
+    is.0.0 ∙ ap (λ d. args_before d (params v) [] (kinds_of_trait (known d b.trait)) b.args []) (sym o.items) ∙ ap (λ ps. args_before e.items ps [] ks b.args []) (sym o.params) in
+    let number : f.trait_number ≡ trait_number (known e.items b.trait) = is.0.1 ∙ ap (λ d. trait_number (known d b.trait)) (sym o.items) in
     let fits : f.trait_number < MAX_INDEX = subst (λ n. n < MAX_INDEX) (sym number) (number-small e b.trait o.numbers) in
-    let size = size-within cells (named b.trait b.args) s st in
-    let room : 0 + args_size b.args < MAX_INDEX = omega (arith, size, o.short) in
+    let room : 0 + args_size b.args < MAX_INDEX = omega (arith, from.size) in
     let around : Around e [] (args_size b.args) = record { few = o.few; numbers = o.numbers; short = tt; room = room } in
     let w = with_own v.before l in
-    let all : UsesMean e (bound_uses e.items b) = subst (λ d. UsesMean e (bound_uses d b)) (sym (at-items v e cells l o)) (uses-mean e v.before l (bound_uses w b) (at-items v e cells l o) (at-params v e cells l o) u) in
+    let all : UsesMean e (bound_uses e.items b) = subst (λ d. UsesMean e (bound_uses d b)) (sym (at-items v e l o)) (uses-mean e v.before l (bound_uses w b) (at-items v e l o) (at-params v e l o) u) in
     let kept : Keeps r.args.items (t ∷ args_list e [] ks b.args) (type_part ∷ arg_kinds ks b.args) =
     kept-more e (args_before e.items e.params [] ks b.args []) self r.args.items (args_list e [] ks b.args) (arg_kinds ks b.args)
     (subst (λ cs. AddsCells e cs self r.args.items) same adds)
-    (λ S. args-make e [] ks b.args [] S (pushed (arg_kinds ks b.args) S) around (stands-plain cells (named b.trait b.args) s plain st) all.1 (kinds-pushed ks b.args S))
+    (λ S. args-make e [] ks b.args [] S (pushed (arg_kinds ks b.args) S) around from.plain all.1 (kinds-pushed ks b.args S))
     (λ S. args-stand e [] ks b.args [] S) (t ∷ []) (type_part ∷ []) k in
     let trees : joined (trees_of (cells_of r.args.items)) ≡ t +++ args_trees e [] ks b.args = ap joined (kept-trees r.args.items _ _ kept) ∙ ap (λ x. t +++ x) (args-joined e [] ks b.args) in
     (reference-same r (trait_number (known e.items b.trait)) (t +++ args_trees e [] ks b.args) (small fits ∙ number) trees, kept-made is_arg r.args.items _ _ kept (refl, kinds-args ks b.args))
@@ -165,18 +189,9 @@ bound-kept v e cells front s f self r plain h is adds small l b t o st u k =
     reference-same : (r : ReferenceCells) (n : ℕ) (x : Trees) → r.trait_id.index ≡ n → joined (trees_of (cells_of r.args.items)) ≡ x → reference_of r ≡ record { trait = n; args = x }
     reference-same r n x e g = ap (λ m. record { trait = m; args = joined (trees_of (cells_of r.args.items)) }) e ∙ ap (λ y. record { trait = n; args = y }) g
 
--- ---- the variables of a clause
-pub variables-kept : (v : Sight) (cells front back : List cell.Cell) (s : ClauseSpans) (r : Resolved) (f : ResolvedBound) → front ≡ take s.subject.end cells → back ≡ take s.bound.end cells → ResolvesType v front r → ResolvesBound v back f
-    → (k : Clause) → ClauseStands cells k s → map variable_in r.variables.items ++ map variable_in f.resolved.variables.items ≡ variables_in (clause_uses (items v) k)
-variables-kept v cells front back s r f g h is at k st =
-    let t : map variable_in r.variables.items ≡ variables_in (type_uses (items v) [] of_type k.subject) = ap (λ x. x.variables) (is k.subject (take s.subject.start cells) (g ∙ st.0.2)) in
-    let b : map variable_in f.resolved.variables.items ≡ variables_in (bound_uses (items v) k.bound) = ap (λ x. x.variables) (at k.bound (take s.bound.start cells) (h ∙ st.1.2)).0 in
-    ap (λ x. x ++ map variable_in f.resolved.variables.items) t ∙ ap (λ x. variables_in (type_uses (items v) [] of_type k.subject) ++ x) b
-    ∙ sym (variables-append (type_uses (items v) [] of_type k.subject) (bound_uses (items v) k.bound))
-
 -- ---- a clause
-pub reference-kept : (v : Sight) (e : Meanings) (cells : List cell.Cell) (s : ClauseSpans) (self : List TermCell) (r : ReferenceCells) → KeepsType v e cells s.subject [] self → MeansBound v e cells s.bound self r → MeansReference v e cells s r
-reference-kept v e cells s self r subject bound l k o st f = bound l k.bound (type_tree e [] of_type k.subject) o st.1 f.1 (subject l k.subject o st.0 f.0 [] [] keeps-none)
+pub reference-kept : (v : Sight) (e : Meanings) (s b : ResolvedPart) (self : List TermCell) (r : ReferenceCells) → KeepsType v e s [] self → MeansBound v e b self r → MeansReference v e s b r
+reference-kept v e s b self r subject bound l k o is at f = bound l k.bound (type_tree e [] of_type k.subject) o at f.1 (subject l k.subject o is f.0 [] [] keeps-none)
 
 -- what stands at a place, and behind it
 one-front : {A : Type 0} (all : List A) (i : ℕ) (d x : A) → i < length all → x ≡ get_or all i d → drop i all ≡ x ∷ drop (i + 1) all
@@ -185,29 +200,29 @@ one-front all i d x h same =
     drop-cons all i d h ∙ ap (λ j. get_or all i d ∷ drop j all) s ∙ ap (λ z. z ∷ drop (i + 1) all) (sym same)
 
 -- ---- the loop over the fields of a struct
-pub record Fields (v : Sight) (e : Meanings) (cells : List cell.Cell) (l : Line) (fs : Types) (rest : List Span) (kept : List TermCell) : Type 0 where
+pub record Fields (v : Sight) (e : Meanings) (l : Line) (fs : Types) (rest : List ResolvedPart) (kept : List TermCell) : Type 0 where
   pub done : List Trees
   pub parts : List Part
   pub behind : Types
   pub whole : field_trees e fs ≡ done ++ field_trees e behind
-  pub stand : EachOf (TypeStands cells) (type_list behind) rest
+  pub stand : EachOf (IsReadAs v) (map line.type_part (type_list behind)) rest
   pub fit : UsesFit v.before l (types_uses (with_own v.before l) [] behind)
   pub are : Every (λ x. is_type x ≡ true) parts
   pub keeps : Keeps kept done parts
 
-pub fields-start : (v : Sight) (e : Meanings) (cells : List cell.Cell) (l : Line) (fs : Types) (spans : List Span) → EachOf (TypeStands cells) (type_list fs) spans → UsesFit v.before l (types_uses (with_own v.before l) [] fs)
-    → (kept : List TermCell) → kept ≡ [] → Fields v e cells l fs spans kept
-fields-start v e cells l fs spans st f kept z = record { done = []; parts = []; behind = fs; whole = refl; stand = st; fit = f; are = tt; keeps = subst (λ x. Keeps x [] []) (sym z) keeps-none }
+pub fields-start : (v : Sight) (e : Meanings) (l : Line) (fs : Types) (rs : List ResolvedPart) → EachOf (IsReadAs v) (map line.type_part (type_list fs)) rs → UsesFit v.before l (types_uses (with_own v.before l) [] fs)
+    → (kept : List TermCell) → kept ≡ [] → Fields v e l fs rs kept
+fields-start v e l fs rs st f kept z = record { done = []; parts = []; behind = fs; whole = refl; stand = st; fit = f; are = tt; keeps = subst (λ x. Keeps x [] []) (sym z) keeps-none }
 
 every-push : (xs : List Part) (x : Part) → Every (λ y. is_type y ≡ true) xs → is_type x ≡ true → Every (λ y. is_type y ≡ true) (xs ++ x ∷ [])
 every-push [] x h q = (q, tt)
 every-push (y ∷ ys) x h q = (h.0, every-push ys x h.1 q)
 
-pub fields-on : (v : Sight) (e : Meanings) (cells : List cell.Cell) (l : Line) (fs : Types) (s : Span) (rest : List Span) (old new : List TermCell) → IsOfLine v e cells l → KeepsType v e cells s old new
-    → Fields v e cells l fs (s ∷ rest) old → Fields v e cells l fs rest new
-fields-on v e cells l fs s rest old new o keeps f = by f.behind f.whole f.stand f.fit
+pub fields-on : (v : Sight) (e : Meanings) (l : Line) (fs : Types) (s : ResolvedPart) (rest : List ResolvedPart) (old new : List TermCell) → IsOfLine v e l → KeepsType v e s old new
+    → Fields v e l fs (s ∷ rest) old → Fields v e l fs rest new
+fields-on v e l fs s rest old new o keeps f = by f.behind f.whole f.stand f.fit
   where
-    by : (behind : Types) → field_trees e fs ≡ f.done ++ field_trees e behind → EachOf (TypeStands cells) (type_list behind) (s ∷ rest) → UsesFit v.before l (types_uses (with_own v.before l) [] behind) → Fields v e cells l fs rest new
+    by : (behind : Types) → field_trees e fs ≡ f.done ++ field_trees e behind → EachOf (IsReadAs v) (map line.type_part (type_list behind)) (s ∷ rest) → UsesFit v.before l (types_uses (with_own v.before l) [] behind) → Fields v e l fs rest new
     by no_types w st u = absurd st
     by (and_type t ts) w st u = record {
       done = f.done ++ type_tree e [] of_type t ∷ [];
@@ -220,14 +235,14 @@ fields-on v e cells l fs s rest old new o keeps f = by f.behind f.whole f.stand 
       keeps = keeps l t o st.0 (first-fit v.before l (type_uses (with_own v.before l) [] of_type t) (types_uses (with_own v.before l) [] ts) u) f.done f.parts f.keeps;
     }
 
-pub fields-at : (v : Sight) (e : Meanings) (cells : List cell.Cell) (l : Line) (fs : Types) (all : List Span) (i : ℕ) (d s : Span) (old new : List TermCell) → i < length all → s ≡ get_or all i d → IsOfLine v e cells l → KeepsType v e cells s old new
-    → Fields v e cells l fs (drop i all) old → Fields v e cells l fs (drop (i + 1) all) new
-fields-at v e cells l fs all i d s old new h same o keeps f = fields-on v e cells l fs s (drop (i + 1) all) old new o keeps (subst (λ z. Fields v e cells l fs z old) (one-front all i d s h same) f)
+pub fields-at : (v : Sight) (e : Meanings) (l : Line) (fs : Types) (all : List ResolvedPart) (i : ℕ) (d s : ResolvedPart) (old new : List TermCell) → i < length all → s ≡ get_or all i d → IsOfLine v e l → KeepsType v e s old new
+    → Fields v e l fs (drop i all) old → Fields v e l fs (drop (i + 1) all) new
+fields-at v e l fs all i d s old new h same o keeps f = fields-on v e l fs s (drop (i + 1) all) old new o keeps (subst (λ z. Fields v e l fs z old) (one-front all i d s h same) f)
 
-pub fields-end : (v : Sight) (e : Meanings) (cells : List cell.Cell) (l : Line) (fs : Types) (kept : List TermCell) → Fields v e cells l fs [] kept → (trees_of (cells_of kept) ≡ field_trees e fs) × AreMade is_type kept
-fields-end v e cells l fs kept f = by f.behind f.whole f.stand
+pub fields-end : (v : Sight) (e : Meanings) (l : Line) (fs : Types) (kept : List TermCell) → Fields v e l fs [] kept → (trees_of (cells_of kept) ≡ field_trees e fs) × AreMade is_type kept
+fields-end v e l fs kept f = by f.behind f.whole f.stand
   where
-    by : (behind : Types) → field_trees e fs ≡ f.done ++ field_trees e behind → EachOf (TypeStands cells) (type_list behind) [] → (trees_of (cells_of kept) ≡ field_trees e fs) × AreMade is_type kept
+    by : (behind : Types) → field_trees e fs ≡ f.done ++ field_trees e behind → EachOf (IsReadAs v) (map line.type_part (type_list behind)) [] → (trees_of (cells_of kept) ≡ field_trees e fs) × AreMade is_type kept
     by no_types w st = (kept-trees kept f.done f.parts f.keeps ∙ sym (w ∙ append-nil f.done), kept-made is_type kept f.done f.parts f.keeps f.are)
     by (and_type t ts) w st = absurd st
 
@@ -238,7 +253,15 @@ made-each (y ∷ xs) h = λ k. elim k as (λ j. (x : ReferenceCells) → slice_g
   | suc j ↦ λ x e. made-each xs h.1 j x e
 ]
 
--- ---- the loops over clauses and bounds
+map-push : {A B : Type 0} (h : A → B) (xs : List A) (x : A) → map h (xs ++ x ∷ []) ≡ map h xs ++ h x ∷ []
+map-push h [] x = refl
+map-push h (z ∷ xs) x = ap (λ w. h z ∷ w) (map-push h xs x)
+
+made-push : (xs : List ReferenceCells) (x : ReferenceCells) → Every ReferenceMade xs → ReferenceMade x → Every ReferenceMade (xs ++ x ∷ [])
+made-push [] x h q = (q, tt)
+made-push (z ∷ xs) x h q = (h.0, made-push xs x h.1 q)
+
+-- ---- the loop over bounds
 pub record References {T Y : Type 0} (Stands : T → Y → Type 0) (Fits : T → Type 0) (f : T → Reference) (all : List T) (rest : List Y) (rs : List ReferenceCells) : Type 0 where
   pub done : List T
   pub behind : List T
@@ -255,14 +278,6 @@ pub references-on : {T Y : Type 0} (Stands : T → Y → Type 0) (Fits : T → T
     → ((t : T) → Stands t y → Fits t → (reference_of r ≡ f t) × ReferenceMade r) → References Stands Fits f all (y ∷ rest) rs → References Stands Fits f all rest (rs ++ r ∷ [])
 references-on {T} {Y} Stands Fits f all y rest rs r one g = by g.behind g.whole g.stand g.fit
   where
-    map-push : {A B : Type 0} (h : A → B) (xs : List A) (x : A) → map h (xs ++ x ∷ []) ≡ map h xs ++ h x ∷ []
-    map-push h [] x = refl
-    map-push h (z ∷ xs) x = ap (λ w. h z ∷ w) (map-push h xs x)
-
-    made-push : (xs : List ReferenceCells) (x : ReferenceCells) → Every ReferenceMade xs → ReferenceMade x → Every ReferenceMade (xs ++ x ∷ [])
-    made-push [] x h q = (q, tt)
-    made-push (z ∷ xs) x h q = (h.0, made-push xs x h.1 q)
-
     by : (behind : List T) → all ≡ g.done ++ behind → EachOf Stands behind (y ∷ rest) → AllOf Fits behind → References Stands Fits f all rest (rs ++ r ∷ [])
     by [] w st u = absurd st
     by (t ∷ ts) w st u =
@@ -292,3 +307,66 @@ references-end {T} {Y} Stands Fits f all rs g = by g.behind g.whole g.stand
     by : (behind : List T) → all ≡ g.done ++ behind → EachOf Stands behind [] → (map reference_of rs ≡ map f all) × ReferencesMade rs
     by [] w st = (g.same ∙ ap (map f) (sym (w ∙ append-nil g.done)), made-each rs g.made)
     by (t ∷ ts) w st = absurd st
+
+-- the first two, and those behind them
+pub two-first : {A : Type 0} (xs : List A) (x y d e : A) → 2 ≤ length xs → x ≡ get_or xs 0 d → y ≡ get_or xs 1 e → xs ≡ x ∷ y ∷ take (length xs - 2) (drop 2 xs)
+two-first [] x y d e h p q = absurd (omega (arith, h))
+two-first (a ∷ []) x y d e h p q = absurd (omega (arith, h))
+two-first (a ∷ b ∷ r) x y d e h p q =
+    let n : length r ≤ suc (suc (length r)) - 2 = omega arith in
+    ap (λ z. z ∷ b ∷ r) (sym p) ∙ ap (λ z. x ∷ z ∷ r) (sym q) ∙ ap (λ z. x ∷ y ∷ z) (sym (take_all (suc (suc (length r)) - 2) r n))
+
+pub two-alone : {A : Type 0} (xs : List A) (x y d e : A) → length xs ≡ 2 → x ≡ get_or xs 0 d → y ≡ get_or xs 1 e → xs ≡ x ∷ y ∷ []
+two-alone [] x y d e h p q = absurd (omega (arith, h))
+two-alone (a ∷ []) x y d e h p q = absurd (omega (arith, h))
+two-alone (a ∷ b ∷ []) x y d e h p q = ap (λ z. z ∷ b ∷ []) (sym p) ∙ ap (λ z. x ∷ z ∷ []) (sym q)
+two-alone (a ∷ b ∷ c ∷ r) x y d e h p q = absurd (omega (arith, h))
+
+-- bounds, one part each
+pub bounds-read : (v : Sight) (bs : List Bound) (rs : List ResolvedPart) → EachOf (IsReadAs v) (map line.bound_part bs) rs → EachOf (λ b r. IsReadAs v (line.bound_part b) r) bs rs
+bounds-read v [] [] h = tt
+bounds-read v [] (r ∷ rs) h = absurd h
+bounds-read v (b ∷ bs) [] h = absurd h
+bounds-read v (b ∷ bs) (r ∷ rs) h = (h.0, bounds-read v bs rs h.1)
+
+-- ---- the loop over clauses, two parts each
+pub record Clauses (v : Sight) (e : Meanings) (l : Line) (ks : List Clause) (rest : List ResolvedPart) (rs : List ReferenceCells) : Type 0 where
+  pub done : List Clause
+  pub behind : List Clause
+  pub whole : ks ≡ done ++ behind
+  pub stand : EachOf (IsReadAs v) (flat_map clause_parts behind) rest
+  pub fit : AllOf (ClauseFits v.before l) behind
+  pub same : map reference_of rs ≡ map (clause_reference e) done
+  pub made : Every ReferenceMade rs
+
+pub clauses-start : (v : Sight) (e : Meanings) (l : Line) (ks : List Clause) (rest : List ResolvedPart) → EachOf (IsReadAs v) (flat_map clause_parts ks) rest → AllOf (ClauseFits v.before l) ks
+    → (rs : List ReferenceCells) → rs ≡ [] → Clauses v e l ks rest rs
+clauses-start v e l ks rest st u rs z = record { done = []; behind = ks; whole = refl; stand = st; fit = u; same = ap (map reference_of) z; made = subst (Every ReferenceMade) (sym z) tt }
+
+pub clauses-on : (v : Sight) (e : Meanings) (l : Line) (ks : List Clause) (s b : ResolvedPart) (rest : List ResolvedPart) (rs new : List ReferenceCells) (r : ReferenceCells) → IsOfLine v e l → MeansReference v e s b r → new ≡ rs ++ r ∷ []
+    → Clauses v e l ks (s ∷ b ∷ rest) rs → Clauses v e l ks rest new
+clauses-on v e l ks s b rest rs new r o means n g = subst (Clauses v e l ks rest) (sym n) (by g.behind g.whole g.stand g.fit)
+  where
+    by : (behind : List Clause) → ks ≡ g.done ++ behind → EachOf (IsReadAs v) (flat_map clause_parts behind) (s ∷ b ∷ rest) → AllOf (ClauseFits v.before l) behind → Clauses v e l ks rest (rs ++ r ∷ [])
+    by [] w st u = absurd st
+    by (k ∷ more) w st u =
+        let one = means l k o st.0 st.1.0 u.0 in
+        record {
+          done = g.done ++ k ∷ [];
+          behind = more;
+          whole = w ∙ sym (append_assoc g.done (k ∷ []) more);
+          stand = st.1.1;
+          fit = u.1;
+          same = map-push reference_of rs r ∙ ap (λ z. z ++ reference_of r ∷ []) g.same ∙ ap (λ z. map (clause_reference e) g.done ++ z ∷ []) one.0 ∙ sym (map-push (clause_reference e) g.done k);
+          made = made-push rs r g.made one.1;
+        }
+
+-- fewer than two parts are left
+pub clauses-end : (v : Sight) (e : Meanings) (l : Line) (ks : List Clause) (rest : List ResolvedPart) (rs : List ReferenceCells) → length rest < 2 → Clauses v e l ks rest rs → (map reference_of rs ≡ map (clause_reference e) ks) × ReferencesMade rs
+clauses-end v e l ks rest rs few g = by g.behind rest g.whole g.stand few
+  where
+    by : (behind : List Clause) (rest : List ResolvedPart) → ks ≡ g.done ++ behind → EachOf (IsReadAs v) (flat_map clause_parts behind) rest → length rest < 2 → (map reference_of rs ≡ map (clause_reference e) ks) × ReferencesMade rs
+    by [] rest w st few = (g.same ∙ ap (map (clause_reference e)) (sym (w ∙ append-nil g.done)), made-each rs g.made)
+    by (k ∷ more) [] w st few = absurd st
+    by (k ∷ more) (x ∷ []) w st few = absurd st.1
+    by (k ∷ more) (x ∷ y ∷ rest) w st few = absurd (omega (arith, few))

@@ -11,19 +11,26 @@ use Rattle.name_resolution.specs.Machine.{Sight}
 use Rattle.name_resolution.specs.Speaks.{Speaks}
 use Rattle.name_resolution.proofs.Bare.{same-items, same-params}
 use Rattle.text_reader.specs.BareLines.{bare_line}
-use Rattle.text_reader.specs.Sights.{IsSightOfRead}
+use Rattle.text_reader.specs.Sights.{IsSightOfRead, sight_at}
 use Rattle.text_reader.proofs.Ordering.{line-ordered, speaks-bare}
 
 -- it speaks of whichever line was read
-speaks : (read : LineRead) (v : Sight) → v.line ≡ bare_line (statement_of read.statement) → (l : Line) → ReadsLine l read → Speaks v.line (line_statement l)
+pub speaks : (read : LineRead) (v : Sight) → v.line ≡ bare_line (statement_of read.statement) → (l : Line) → ReadsLine l read → Speaks v.line (line_statement l)
 speaks read v e l r = subst (λ x. Speaks x (line_statement l)) (sym (e ∙ ap bare_line r.0)) (speaks-bare (line_statement l) (line-ordered l))
 
 pub sighted : (d : Declarations) (read : LineRead) (v : Sight) → v.before ≡ d → v.line ≡ bare_line (statement_of read.statement) → IsSightOfRead d read v
 sighted d read v b e = record {
   before = b;
+  line = e;
   items = λ l r. same-items v l (speaks read v e l r) ∙ ap (λ x. with_own x l) b;
   params = λ l r. same-params v l (speaks read v e l r);
 }
+
+-- there is one such
+pub same-sight : (d : Declarations) (read : LineRead) (v : Sight) → IsSightOfRead d read v → v ≡ sight_at d read
+same-sight d read v s =
+    let at : Declarations → Line → Sight = λ x l. record { before = x; line = l } in
+    ap (λ x. at x v.line) s.before ∙ ap (at d) s.line
 
 -- two things of one result
 pub both-ok : {T E : Type 0} (P Q R : T → Type 0) (r : Result T E) → ((x : T) → P x → Q x → R x) → IfOk r P → IfOk r Q → IfOk r R

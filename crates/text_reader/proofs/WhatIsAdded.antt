@@ -145,19 +145,19 @@ pub record Says (d : Declarations) (is_refute : Bool) (asker : List ℕ) (params
 params-as : (ps : List Param) (qs : Params) → ps ≡ param_list qs → firsts (map sorted_param ps) ≡ names_of qs
 params-as ps qs e = ap (λ x. firsts (map sorted_param x)) e ∙ ap firsts (names-said qs) ∙ firsts-said qs
 
-asked-line : (d : Declarations) (l : Line) (b : Bool) (c : List ℕ) (ps : List Param) (k : ClauseSpans) (ks : List ClauseSpans) (q : Question)
-    → Asks (line_statement l) b c ps k ks → Says d b c ps q l → IsQuestionLine d q l
-asked-line d (prove_line a qs j js) false c ps k ks q h s =
+asked-line : (d : Declarations) (l : Line) (b : Bool) (c : List ℕ) (ps : List Param) (q : Question)
+    → Asks (line_statement l) b c ps → Says d b c ps q l → IsQuestionLine d q l
+asked-line d (prove_line a qs j js) false c ps q h s =
     same-question q (question_of d (question_meanings d (prove_line a qs j js)) false a qs j js)
     s.refutes (s.asks ∙ ap (λ n. crate_number (known d n)) (sym h.0)) (s.names ∙ params-as ps qs (sym h.1)) s.main s.clauses (s.variables ∙ ap (map as_variable) s.are)
-asked-line d (refute_line a qs j) true c ps k ks q h s =
+asked-line d (refute_line a qs j) true c ps q h s =
     same-question q (question_of d (question_meanings d (refute_line a qs j)) true a qs j [])
     s.refutes (s.asks ∙ ap (λ n. crate_number (known d n)) (sym h.0)) (s.names ∙ params-as ps qs (sym h.1)) s.main s.clauses (s.variables ∙ ap (map as_variable) s.are)
-asked-line d l b c ps k ks q h s = absurd h
+asked-line d l b c ps q h s = absurd h
 
-pub question-line : (d : Declarations) (s : Statement) (b : Bool) (c : List ℕ) (ps : List Param) (k : ClauseSpans) (ks : List ClauseSpans) (q : Question) (l : Line)
-    → s ≡ line_statement l → Asks s b c ps k ks → Says d b c ps q l → IsQuestionLine d q l
-question-line d s b c ps k ks q l e h says = asked-line d l b c ps k ks q (subst (λ x. Asks x b c ps k ks) e h) says
+pub question-line : (d : Declarations) (s : Statement) (b : Bool) (c : List ℕ) (ps : List Param) (q : Question) (l : Line)
+    → s ≡ line_statement l → Asks s b c ps → Says d b c ps q l → IsQuestionLine d q l
+question-line d s b c ps q l e h says = asked-line d l b c ps q (subst (λ x. Asks x b c ps) e h) says
 
 -- ---- impls
 pub impl-line : (d : Declarations) (ps : List Param) (k : ClauseSpans) (ks : List ClauseSpans) (params : List (List ℕ × Sort)) (header : Reference) (clauses : List Reference) (l : Line)

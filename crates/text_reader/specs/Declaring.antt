@@ -9,7 +9,12 @@ use Rattle.text_definitions.specs.Adding.{added}
 use Rattle.line_reader.specs.Lines.{ReadsLine}
 use Rattle.line_reader.specs.declared.statement.LineRead.{LineRead}
 use Rattle.name_resolution.specs.FaultNumbers.{fault_number}
+use Rattle.name_resolution.specs.Judged.{HandsOn}
+use Rattle.name_resolution.specs.LineFound.{FindsLine}
 use Rattle.name_resolution.specs.declared.fault.FaultKind.{FaultKind}
+use Rattle.name_resolution.specs.declared.judge.JudgedLine.{JudgedLine}
+use Rattle.name_resolution.specs.declared.line.LineFound.{LineFound}
+use Rattle.text_reader.specs.Sights.{sight_at}
 
 -- some line was read
 abbrev pub IsRead : LineRead → Type 0
@@ -26,3 +31,11 @@ IsFaultless d read = IsRead read × ((l : Line) → ReadsLine l read → fault_o
 -- The declarations are e then: whichever line was read, they are those with this line.
 abbrev pub AddsLine : Declarations → LineRead → Declarations → Type 0
 AddsLine d read e = (l : Line) → ReadsLine l read → e ≡ added d l
+
+-- This was found of the line that was read, its names looked up in what is declared before it and in what it declares itself.
+abbrev pub IsFoundOf : Declarations → LineRead → LineFound → Type 0
+IsFoundOf d read found = FindsLine (sight_at d read) read found
+
+-- Of a line without a fault this was found.
+abbrev pub HandsOnFound : Declarations → LineRead → JudgedLine → Type 0
+HandsOnFound d read judged = HandsOn (sight_at d read) read judged

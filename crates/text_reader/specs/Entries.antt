@@ -11,9 +11,7 @@ use Rattle.text_definitions.specs.Lowering.{crate_number, field_trees, with_self
 use Rattle.text_definitions.specs.Adding.{item_meanings, question_meanings}
 use Rattle.line_reader.specs.Lines.{ReadsLine}
 use Rattle.line_reader.specs.Statement.{Param, Statement, struct_statement, trait_statement, impl_statement, prove_statement, refute_statement}
-use Rattle.line_reader.specs.declared.statement.ClauseSpans.{ClauseSpans}
 use Rattle.line_reader.specs.declared.statement.LineRead.{LineRead}
-use Rattle.line_reader.specs.declared.statement.Span.{Span}
 use Rattle.workspace.specs.Views.{asker_of, is_refute, reference_of, sorted_params}
 use Rattle.workspace.specs.declared.declared.Asked.{Asked}
 use Rattle.workspace.specs.declared.declared.QuestionEntry.{QuestionEntry}
@@ -52,16 +50,40 @@ AreVariables d l vs = vs ≡ once (variables_in (asked_uses d l))
 abbrev pub OfRead : LineRead → (Line → Type 0) → Type 0
 OfRead read P = (l : Line) → ReadsLine l read → P l
 
--- ---- questions
--- the statement asks so: in this crate, with these parameters, this reference where these clauses hold
-abbrev pub Asks : Statement → (is_refute : Bool) → (asker : List ℕ) → List Param → ClauseSpans → List ClauseSpans → Type 0
-Asks (prove_statement c ps k ks) false a qs j js = (c ≡ a) × (ps ≡ qs) × (k ≡ j) × (ks ≡ js)
-Asks (refute_statement c ps k) true a qs j js = (c ≡ a) × (ps ≡ qs) × (k ≡ j) × (js ≡ [])
-Asks _ _ a qs j js = ⊥
+-- ---- what the statement says apart from its types
+abbrev pub SaysStruct : Statement → (is_fundamental : Bool) → List ℕ → List Param → Type 0
+SaysStruct (struct_statement f n ps ss) g m qs = (f ≡ g) × (n ≡ m) × (ps ≡ qs)
+SaysStruct _ g m qs = ⊥
+
+abbrev pub IsStruct : Statement → Type 0
+IsStruct (struct_statement f n ps ss) = Unit {0}
+IsStruct _ = ⊥
+
+abbrev pub SaysTrait : Statement → (is_fundamental is_auto : Bool) → List ℕ → List Param → Type 0
+SaysTrait (trait_statement f a n ps ss) g b m qs = (f ≡ g) × (a ≡ b) × (n ≡ m) × (ps ≡ qs)
+SaysTrait _ g b m qs = ⊥
+
+abbrev pub IsTrait : Statement → Type 0
+IsTrait (trait_statement f a n ps ss) = Unit {0}
+IsTrait _ = ⊥
+
+abbrev pub SaysImpl : Statement → List Param → Type 0
+SaysImpl (impl_statement ps h ks) qs = ps ≡ qs
+SaysImpl _ qs = ⊥
+
+abbrev pub IsImpl : Statement → Type 0
+IsImpl (impl_statement ps h ks) = Unit {0}
+IsImpl _ = ⊥
+
+-- it asks so, in this crate, with these parameters
+abbrev pub Asks : Statement → (is_refute : Bool) → (asker : List ℕ) → List Param → Type 0
+Asks (prove_statement c ps k ks) false a qs = (c ≡ a) × (ps ≡ qs)
+Asks (refute_statement c ps k) true a qs = (c ≡ a) × (ps ≡ qs)
+Asks _ _ a qs = ⊥
 
 -- and the crate has this number
-abbrev pub IsAsking : Declarations → Statement → Asked → List Param → ClauseSpans → List ClauseSpans → Type 0
-IsAsking d s how ps k ks = (c : List ℕ) × Asks s (is_refute how) c ps k ks × (asker_of how ≡ crate_number (known d c))
+abbrev pub IsAsking : Declarations → Statement → Asked → List Param → Type 0
+IsAsking d s how ps = (c : List ℕ) × Asks s (is_refute how) c ps × (asker_of how ≡ crate_number (known d c))
 
 -- the entry of a question has what was read
 pub record IsEntry (d : Declarations) (params : List Param) (read : LineRead) (q : QuestionEntry) : Type 0 where
@@ -69,16 +91,3 @@ pub record IsEntry (d : Declarations) (params : List Param) (read : LineRead) (q
   pub asked : OfRead read (λ l. IsMain d l (reference_of q.asked))
   pub clauses : OfRead read (λ l. AreClauses d l (map reference_of q.clauses.items))
   pub variables : OfRead read (λ l. AreVariables d l (sorted_params q.variables.items))
-
--- ---- what the statement of the code holds of these parts
-abbrev pub HasFields : Statement → List Span → Type 0
-HasFields (struct_statement f n ps ss) fields = ss ≡ fields
-HasFields _ fields = ⊥
-
-abbrev pub HasBounds : Statement → List Span → Type 0
-HasBounds (trait_statement f a n ps ss) bounds = ss ≡ bounds
-HasBounds _ bounds = ⊥
-
-abbrev pub HasHeader : Statement → ClauseSpans → List ClauseSpans → Type 0
-HasHeader (impl_statement ps h ks) header clauses = (h ≡ header) × (ks ≡ clauses)
-HasHeader _ header clauses = ⊥

@@ -14,6 +14,10 @@ use Rattle.text_reader.specs.declared.line_tables.LineTables.{LineTables}
 abbrev pub sight_of : LineTables → Sight
 sight_of t = record { before = t.before; line = bare_line (statement_of t.statement.now) }
 
+-- what the names of a line that was read are looked up in, after these declarations
+abbrev pub sight_at : Declarations → LineRead → Sight
+sight_at d read = record { before = d; line = bare_line (statement_of read.statement) }
+
 -- some line was read
 abbrev pub IsOfLine : LineRead → Type 0
 IsOfLine read = (l : Line) × ReadsLine l read
@@ -21,5 +25,6 @@ IsOfLine read = (l : Line) × ReadsLine l read
 -- Names are looked up in what is declared before the line that was read, and in what that line declares itself.
 pub record IsSightOfRead (d : Declarations) (read : LineRead) (v : Sight) : Type 0 where
   pub before : v.before ≡ d
+  pub line : v.line ≡ bare_line (statement_of read.statement)
   pub items : (l : Line) → ReadsLine l read → items v ≡ with_own d l
   pub params : (l : Line) → ReadsLine l read → params v ≡ params_of l

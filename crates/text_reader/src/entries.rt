@@ -1,22 +1,23 @@
 //! The types and references of a line, by numbers alone.
 ghost use Rattle.std.specs.Prelude.{◌≡◌, ◌≤◌, length, map, IfOk};
 ghost use Rattle.line_reader.specs.Views.{params_in, statement_of};
-ghost use Rattle.text_reader.specs.Declaring.{IsRead, IsFaultless};
+ghost use Rattle.text_reader.specs.Declaring.{IsRead, IsFaultless, IsFoundOf};
 ghost use Rattle.workspace.specs.Made.{AreMade, ReferenceMade, ReferencesMade, is_type};
 ghost use Rattle.workspace.specs.Numbered.{IsFew};
 ghost use Rattle.workspace.specs.Tables.{declared, IsConsistent};
 ghost use Rattle.workspace.specs.TermCells.{trees_of};
 ghost use Rattle.workspace.specs.Views.{cells_of, reference_of};
-ghost use Rattle.text_reader.specs.Entries.{OfRead, AreFields, AreBounds, IsMain, AreClauses, HasFields, HasBounds, HasHeader, IsAsking, IsEntry};
+ghost use Rattle.text_reader.specs.Entries.{OfRead, AreFields, AreBounds, IsMain, AreClauses, IsStruct, IsTrait, IsImpl, IsAsking, IsEntry};
 ghost use Rattle.text_reader.specs.Sights.{IsSightOfRead, sight_of};
 
 use crate::line_tables::LineTables;
 use crate::lines::TEXT_LIMIT;
 use crate::numbering::Numbering;
 use crate::params::{named_params, named_variables};
-use crate::parts::{asked_variables, bound_cells, clause_cells, clauses_cells, field_cells};
+use crate::parts::{bound_cells, clause_cells, clauses_cells, field_cells};
 use crate::so_far::SoFar;
-use line_reader::{ClauseSpans, LineRead, Param, Span};
+use line_reader::{LineRead, Param};
+use name_resolution::{LineFound, each_once};
 use std::alloc::{AllocError, Global};
 use workspace::{Asked, ENTRY_LIMIT, QuestionEntry, ReferenceCells, Tables, TermCell};
 
@@ -41,18 +42,19 @@ fn names_of<'w, 's, 'a>(
     LineTables::new(alloc, SoFar::new(tables), &read.statement)
 }
 
-/// The fields of a struct that a line declares.
-pub(crate) fn struct_fields(
+/// The fields of a struct that a line declares, of which this was found.
+pub(crate) fn struct_fields<'a>(
     tables: &Tables,
     alloc: Global,
-    read: &LineRead<'_>,
-    fields: &[Span],
+    read: &LineRead<'a>,
+    found: &LineFound<'a>,
 ) -> Result<Vec<TermCell>, AllocError>
     requires agrees { IsConsistent tables.now }
     requires few { IsFew (declared tables.now) ENTRY_LIMIT }
     requires faultless { IsFaultless (declared tables.now) read.now }
     requires short { length read.now.cells.items ≤ TEXT_LIMIT }
-    requires line { HasFields (statement_of read.now.statement) fields.now }
+    requires found { IsFoundOf (declared tables.now) read.now found.now }
+    requires line { IsStruct (statement_of read.now.statement) }
     ensures made { IfOk result (λ cs. AreMade is_type cs.items) }
     ensures are { IfOk result (λ cs. OfRead read.now (λ l. AreFields (declared tables.now) l (trees_of (cells_of cs.items)))) }
 {
@@ -61,53 +63,55 @@ pub(crate) fn struct_fields(
         &names,
         alloc,
         Numbering::Item { first: 0 },
-        &read.cells,
-        fields,
+        &found.others.parts,
     )
 }
 
 /// The supertraits of a trait that a line declares, of its Self.
-pub(crate) fn trait_bounds(
+pub(crate) fn trait_bounds<'a>(
     tables: &Tables,
     alloc: Global,
-    read: &LineRead<'_>,
-    bounds: &[Span],
+    read: &LineRead<'a>,
+    found: &LineFound<'a>,
 ) -> Result<Vec<ReferenceCells>, AllocError>
     requires agrees { IsConsistent tables.now }
     requires few { IsFew (declared tables.now) ENTRY_LIMIT }
     requires faultless { IsFaultless (declared tables.now) read.now }
     requires short { length read.now.cells.items ≤ TEXT_LIMIT }
-    requires line { HasBounds (statement_of read.now.statement) bounds.now }
+    requires found { IsFoundOf (declared tables.now) read.now found.now }
+    requires line { IsTrait (statement_of read.now.statement) }
     ensures made { IfOk result (λ rs. ReferencesMade rs.items) }
     ensures are { IfOk result (λ rs. OfRead read.now (λ l. AreBounds (declared tables.now) l (map reference_of rs.items))) }
 {
     let names = names_of(tables, alloc, read)?;
-    bound_cells(&names, alloc, &read.cells, bounds)
+    bound_cells(&names, alloc, &found.others.parts)
 }
 
-/// The header and the clauses of an impl that a line declares.
-pub(crate) fn impl_references(
+/// The header and the clauses of an impl that a line declares. The bound of the header stands first in the line, and its subject next.
+pub(crate) fn impl_references<'a>(
     tables: &Tables,
     alloc: Global,
-    read: &LineRead<'_>,
-    header: ClauseSpans,
-    clauses: &[ClauseSpans],
+    read: &LineRead<'a>,
+    found: &LineFound<'a>,
 ) -> Result<ImplReferences, AllocError>
     requires agrees { IsConsistent tables.now }
     requires few { IsFew (declared tables.now) ENTRY_LIMIT }
     requires faultless { IsFaultless (declared tables.now) read.now }
     requires short { length read.now.cells.items ≤ TEXT_LIMIT }
-    requires line { HasHeader (statement_of read.now.statement) header clauses.now }
+    requires found { IsFoundOf (declared tables.now) read.now found.now }
+    requires line { IsImpl (statement_of read.now.statement) }
     ensures header_made { IfOk result (λ r. ReferenceMade r.header) }
     ensures header { IfOk result (λ r. OfRead read.now (λ l. IsMain (declared tables.now) l (reference_of r.header))) }
     ensures clauses_made { IfOk result (λ r. ReferencesMade r.clauses.items) }
     ensures clauses { IfOk result (λ r. OfRead read.now (λ l. AreClauses (declared tables.now) l (map reference_of r.clauses.items))) }
 {
     let names = names_of(tables, alloc, read)?;
-    let cells = read.cells.as_slice();
+    let [bound, subject, clauses @ ..] = found.others.parts.as_slice() else {
+        unreachable!()
+    };
     let numbering = Numbering::Item { first: 0 };
-    let reference = clause_cells(&names, alloc, numbering, cells, header)?;
-    let references = clauses_cells(&names, alloc, numbering, cells, clauses)?;
+    let reference = clause_cells(&names, alloc, numbering, subject, bound)?;
+    let references = clauses_cells(&names, alloc, numbering, clauses)?;
     Ok(ImplReferences {
         header: reference,
         clauses: references,
@@ -115,32 +119,34 @@ pub(crate) fn impl_references(
 }
 
 /// What a line asks, with its variables each once, by their first places.
-pub(crate) fn question_entry(
+pub(crate) fn question_entry<'a>(
     tables: &Tables,
     alloc: Global,
-    read: &LineRead<'_>,
+    read: &LineRead<'a>,
+    found: &LineFound<'a>,
     asked_how: Asked,
     params: &[Param<'_>],
-    asked: ClauseSpans,
-    clauses: &[ClauseSpans],
 ) -> Result<QuestionEntry, AllocError>
     requires agrees { IsConsistent tables.now }
     requires few { IsFew (declared tables.now) ENTRY_LIMIT }
     requires faultless { IsFaultless (declared tables.now) read.now }
     requires short { length read.now.cells.items ≤ TEXT_LIMIT }
-    requires line { IsAsking (declared tables.now) (statement_of read.now.statement) asked_how (params_in params.now) asked clauses.now }
+    requires found { IsFoundOf (declared tables.now) read.now found.now }
+    requires line { IsAsking (declared tables.now) (statement_of read.now.statement) asked_how (params_in params.now) }
     ensures how { IfOk result (λ q. q.asked_how ≡ asked_how) }
     ensures asked_made { IfOk result (λ q. ReferenceMade q.asked) }
     ensures clauses_made { IfOk result (λ q. ReferencesMade q.clauses.items) }
     ensures entry { IfOk result (λ q. IsEntry (declared tables.now) (params_in params.now) read.now q) }
 {
     let names = names_of(tables, alloc, read)?;
-    let cells = read.cells.as_slice();
-    let found = asked_variables(&names, alloc, cells, asked)?;
-    let variables = found.as_slice();
+    let [subject, bound, ..] = found.asked.parts.as_slice() else {
+        unreachable!()
+    };
+    let firsts = each_once(alloc, &found.asked.variables)?;
+    let variables = firsts.as_slice();
     let numbering = Numbering::Question { variables };
-    let reference = clause_cells(&names, alloc, numbering, cells, asked)?;
-    let references = clauses_cells(&names, alloc, numbering, cells, clauses)?;
+    let reference = clause_cells(&names, alloc, numbering, subject, bound)?;
+    let references = clauses_cells(&names, alloc, numbering, &found.others.parts)?;
     let named = named_params(alloc, params)?;
     let unknowns = named_variables(alloc, variables)?;
     Ok(QuestionEntry {

@@ -5,6 +5,8 @@ ghost use Rattle.text_definitions.specs.Syntax.{Line};
 ghost use Rattle.text_definitions.specs.Faults.{fault_of};
 ghost use Rattle.line_reader.specs.Lines.{ReadsLine};
 ghost use Rattle.name_resolution.specs.FaultNumbers.{fault_number};
+ghost use Rattle.name_resolution.specs.Judged.{fault_in};
+ghost use Rattle.text_reader.specs.Declaring.{HandsOnFound};
 ghost use Rattle.workspace.specs.Numbered.{IsFew};
 ghost use Rattle.workspace.specs.Tables.{declared, IsConsistent};
 ghost use Rattle.text_reader.specs.Sights.{IsOfLine};
@@ -12,24 +14,25 @@ ghost use Rattle.text_reader.specs.Sights.{IsOfLine};
 use crate::line_tables::LineTables;
 use crate::so_far::SoFar;
 use line_reader::LineRead;
-use name_resolution::{FaultKind, fault_of};
+use name_resolution::JudgedLine;
 use std::alloc::{AllocError, Global};
 use workspace::{ENTRY_LIMIT, Tables};
 
 /// What is wrong with a line that was read, after the lines that the tables hold: of all faults that apply the one with the smallest
-/// number, or none.
+/// number; of a line without a fault what was found of it, its types and bounds with all names looked up.
 ///
 /// The error says that a request for memory was refused; nothing was changed.
-pub fn line_fault(
+pub fn judge_line<'a>(
     tables: &Tables,
     alloc: Global,
-    read: &LineRead<'_>,
-) -> Result<Option<FaultKind>, AllocError>
+    read: &LineRead<'a>,
+) -> Result<JudgedLine<'a>, AllocError>
     requires agrees { IsConsistent tables.now }
     requires few { IsFew (declared tables.now) ENTRY_LIMIT }
     requires line { IsOfLine read.now }
-    ensures { IfOk result (λ found. (l : Line) → ReadsLine l read.now → option_map fault_number found ≡ fault_of (declared tables.now) l) }
+    ensures fault { IfOk result (λ judged. (l : Line) → ReadsLine l read.now → option_map fault_number (fault_in judged) ≡ fault_of (declared tables.now) l) }
+    ensures found { IfOk result (HandsOnFound (declared tables.now) read.now) }
 {
     let names = LineTables::new(alloc, SoFar::new(tables), &read.statement)?;
-    fault_of(&names, alloc, read)
+    name_resolution::judge_line(&names, alloc, read)
 }

@@ -28,12 +28,12 @@ mod text_tables;
 pub use declares::Declares;
 pub use declaring::declare;
 pub use fault::{TextError, TextFault};
-pub use faults::line_fault;
+pub use faults::judge_line;
 pub use form::{LineForm, line_form};
 pub use lines::{TEXT_LIMIT, long_line, split_line};
 pub use numbering::Numbering;
 pub use parsing::parse;
-pub use parts::{asked_variables, bound_cells, clause_cells, clauses_cells, field_cells};
+pub use parts::{bound_cells, clause_cells, clauses_cells, field_cells};
 pub use text::read_text;
 use workspace::ENTRY_LIMIT;
 

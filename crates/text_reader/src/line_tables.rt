@@ -1,6 +1,7 @@
 //! What the names of one line are looked up in.
 ghost use Rattle.std.specs.Prelude.{◌≡◌, length, ◌<◌, if◌then◌else◌, Some, None, IfOk, IfSome, not};
 ghost use Rattle.std.specs.Option.{option_map};
+ghost use Rattle.type_terms.specs.declared.CrateId.{CrateId};
 ghost use Rattle.text_definitions.specs.Declarations.{a_struct, a_trait, kinds_of, last_crate};
 ghost use Rattle.text_definitions.specs.Faults.{looking_crate};
 ghost use Rattle.text_definitions.specs.Uses.{params_of};
@@ -25,7 +26,23 @@ pub(crate) struct LineTables<'w, 's, 'a> {
     before: SoFar<'w>,
     statement: &'s Statement<'a>,
     kinds: Vec<ParamKind>,
+    looking: Option<CrateId>,
     ghost kinds_said: { sorts_of kinds.items ≡ kinds_of (params_of (bare_line (statement_of statement.now))) },
+    ghost looking_said: { option_map (λ c. c.index) looking ≡ looking_crate before (bare_line (statement_of statement.now)) },
+    ghost looking_there: { (c : CrateId) → looking ≡ Some c → c.index < length before.crates },
+}
+
+/// The crate of the line's items, of an impl of a section the one that is changed; of a question the one that asks.
+fn looking_crate(before: &SoFar<'_>, statement: &Statement<'_>) -> Option<CrateId>
+    ensures number { option_map (λ c. c.index) result ≡ looking_crate before.now (bare_line (statement_of statement.now)) }
+    ensures there { IfSome result (λ c. c.index < length before.now.crates) }
+{
+    match statement {
+        Statement::Crate { .. } | Statement::Later { .. } | Statement::Supers { .. } => None,
+        Statement::Prove { crate_name, .. } => before.crate_named(crate_name),
+        Statement::Refute { crate_name, .. } => before.crate_named(crate_name),
+        _ => Some(before.impl_owner()),
+    }
 }
 
 impl<'w, 's, 'a> LineTables<'w, 's, 'a> {
@@ -42,10 +59,12 @@ impl<'w, 's, 'a> LineTables<'w, 's, 'a> {
         ensures statement { IfOk result (λ names. names.statement.now ≡ statement.now) }
     {
         let kinds = kinds_of(alloc, statement.params())?;
+        let looking = looking_crate(&before, statement);
         Ok(LineTables {
             before,
             statement,
             kinds,
+            looking,
         })
     }
 
@@ -77,19 +96,6 @@ impl<'w, 's, 'a> LineTables<'w, 's, 'a> {
         }
         None
     }
-
-    /// The crate of the line's items, of an impl of a section the one that is changed; of a question the one that asks.
-    fn looking_crate(&self) -> Option<CrateId>
-        ensures number { option_map (λ c. c.index) result ≡ looking_crate (sight_of self.now).before (sight_of self.now).line }
-        ensures there { IfSome result (λ c. c.index < length self.now.before.crates) }
-    {
-        match self.statement {
-            Statement::Crate { .. } | Statement::Later { .. } | Statement::Supers { .. } => None,
-            Statement::Prove { crate_name, .. } => self.before.crate_named(crate_name),
-            Statement::Refute { crate_name, .. } => self.before.crate_named(crate_name),
-            _ => Some(self.before.impl_owner()),
-        }
-    }
 }
 
 impl<'w, 's, 'a> Names for LineTables<'w, 's, 'a> {
@@ -114,7 +120,7 @@ impl<'w, 's, 'a> Names for LineTables<'w, 's, 'a> {
     }
 
     fn hides(&self, home: CrateId) -> bool {
-        match self.looking_crate() {
+        match self.looking {
             Some(seeing) => !self.before.sees(seeing, home),
             None => false,
         }

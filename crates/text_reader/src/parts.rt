@@ -1,29 +1,20 @@
-//! The types, bounds and clauses of a line.
-ghost use Rattle.std.specs.Prelude.{◌≡◌, ◌∷◌, [], ◌++◌, map, take, IfOk, OnOk};
+//! The types, bounds and clauses of a line, whose names were looked up as it was judged.
+ghost use Rattle.std.specs.Prelude.{◌≡◌, ◌∷◌, [], IfOk, OnOk};
 ghost use Rattle.type_terms.specs.Label.{of_type, param};
 ghost use Rattle.type_terms.specs.Trees.{leaf};
 ghost use Rattle.text_definitions.specs.Lowering.{Meanings};
-ghost use Rattle.line_reader.specs.TypeViews.{cells_in};
-ghost use Rattle.name_resolution.specs.Views.{variable_in};
+ghost use Rattle.name_resolution.specs.Machine.{Sight};
 ghost use Rattle.workspace.specs.Made.{type_part};
 ghost use Rattle.text_reader.specs.Keeping.{Keeps};
-ghost use Rattle.text_reader.specs.Kept.{IsReady, MeansFields, MeansClause, MeansClauses, MeansBounds, AsksVariables, KeepsType, MeansBound, MeansReference};
+ghost use Rattle.text_reader.specs.Kept.{IsReady, MeansFields, MeansClause, MeansClauses, MeansBounds, KeepsType, MeansBound, MeansReference};
 ghost use Rattle.text_reader.specs.Numbering.{IsNumbersOf};
 
 use crate::keep::push_cells;
 use crate::numbering::{Numbering, Numbers};
 use crate::small::trait_id;
-use line_reader::{Cell, ClauseSpans, Span};
-use name_resolution::{Names, Variable, each_once, resolve_bound, resolve_type};
+use name_resolution::{Names, ResolvedPart};
 use std::alloc::{AllocError, Global};
 use workspace::{ReferenceCells, TermCell};
-
-/// The cells before this place.
-fn cells_to<'c, 'a>(cells: &'c [Cell<'a>], end: usize) -> &'c [Cell<'a>]
-    ensures { result.now ≡ take end cells.now }
-{
-    &cells[..end.min(cells.len())]
-}
 
 /// Self of a trait, which is its parameter 0.
 fn self_cells(alloc: Global) -> Result<Vec<TermCell>, AllocError>
@@ -35,73 +26,63 @@ fn self_cells(alloc: Global) -> Result<Vec<TermCell>, AllocError>
 }
 
 /// Puts the cells of a type behind others.
-fn push_type<'a, N: Names>(
-    names: &N,
-    alloc: Global,
+fn push_type<'a>(
     numbers: &Numbers<'_, 'a>,
-    cells: &[Cell<'a>],
-    span: Span,
+    part: &ResolvedPart<'a>,
     kept: &mut Vec<TermCell>,
 ) -> Result<(), AllocError>
-    ensures { OnOk result ((e : Meanings) → IsNumbersOf numbers.now e → KeepsType (N.sight names.now) e (cells_in cells.now) span kept.old.items kept.new.items) }
+    ensures { OnOk result ((v : Sight) (e : Meanings) → IsNumbersOf numbers.now e → KeepsType v e part.now kept.old.items kept.new.items) }
 {
-    let found = resolve_type(names, alloc, cells_to(cells, span.end))?;
-    push_cells(numbers, &found.cells, kept)?;
+    push_cells(numbers, &part.cells, kept)?;
     Ok(())
 }
 
 /// A bound of a self type, which these cells are.
-fn with_self<'a, N: Names>(
-    names: &N,
-    alloc: Global,
+fn with_self<'a>(
     numbers: &Numbers<'_, 'a>,
-    cells: &[Cell<'a>],
-    span: Span,
+    bound: &ResolvedPart<'a>,
     subject: Vec<TermCell>,
 ) -> Result<ReferenceCells, AllocError>
-    ensures { IfOk result (λ r. (e : Meanings) → IsNumbersOf numbers.now e → MeansBound (N.sight names.now) e (cells_in cells.now) span subject.items r) }
+    ensures { IfOk result (λ r. (v : Sight) (e : Meanings) → IsNumbersOf numbers.now e → MeansBound v e bound.now subject.items r) }
 {
-    let found = resolve_bound(names, alloc, cells_to(cells, span.end))?;
     let mut args = subject;
-    push_cells(numbers, &found.resolved.cells, &mut args)?;
+    push_cells(numbers, &bound.cells, &mut args)?;
     Ok(ReferenceCells {
-        trait_id: trait_id(found.trait_number),
+        trait_id: trait_id(bound.trait_number),
         args,
     })
 }
 
-fn reference<'a, N: Names>(
-    names: &N,
-    alloc: Global,
+fn reference<'a>(
     numbers: &Numbers<'_, 'a>,
-    cells: &[Cell<'a>],
-    clause: ClauseSpans,
+    alloc: Global,
+    subject: &ResolvedPart<'a>,
+    bound: &ResolvedPart<'a>,
 ) -> Result<ReferenceCells, AllocError>
-    ensures { IfOk result (λ r. (e : Meanings) → IsNumbersOf numbers.now e → MeansReference (N.sight names.now) e (cells_in cells.now) clause r) }
+    ensures { IfOk result (λ r. (v : Sight) (e : Meanings) → IsNumbersOf numbers.now e → MeansReference v e subject.now bound.now r) }
 {
-    let mut subject = Vec::new(alloc);
-    push_type(names, alloc, numbers, cells, clause.subject, &mut subject)?;
-    let made = with_self(names, alloc, numbers, cells, clause.bound, subject)?;
+    let mut own = Vec::new(alloc);
+    push_type(numbers, subject, &mut own)?;
+    let made = with_self(numbers, bound, own)?;
     Ok(made)
 }
 
-/// The fields of a struct, one type behind the other. The names have to be those of the line, whose types stand among the cells.
+/// The fields of a struct, one type behind the other. The names have to be those of the line.
 ///
 /// The error says that a request for memory was refused.
 pub fn field_cells<'a, N: Names>(
     names: &N,
     alloc: Global,
     numbering: Numbering<'_, 'a>,
-    cells: &[Cell<'a>],
-    fields: &[Span],
+    fields: &[ResolvedPart<'a>],
 ) -> Result<Vec<TermCell>, AllocError>
-    requires { IsReady (N.sight names.now) numbering (cells_in cells.now) }
-    ensures { IfOk result (λ kept. MeansFields (N.sight names.now) numbering.entry (cells_in cells.now) fields.now kept.items) }
+    requires { IsReady (N.sight names.now) numbering }
+    ensures { IfOk result (λ kept. MeansFields (N.sight names.now) numbering.entry fields.now kept.items) }
 {
     let numbers = Numbers::of(names, numbering);
     let mut kept = Vec::new(alloc);
     for field in fields {
-        push_type(names, alloc, &numbers, cells, *field, &mut kept)?;
+        push_type(&numbers, field, &mut kept)?;
     }
     Ok(kept)
 }
@@ -113,35 +94,36 @@ pub fn clause_cells<'a, N: Names>(
     names: &N,
     alloc: Global,
     numbering: Numbering<'_, 'a>,
-    cells: &[Cell<'a>],
-    clause: ClauseSpans,
+    subject: &ResolvedPart<'a>,
+    bound: &ResolvedPart<'a>,
 ) -> Result<ReferenceCells, AllocError>
-    requires { IsReady (N.sight names.now) numbering (cells_in cells.now) }
-    ensures { IfOk result (λ r. MeansClause (N.sight names.now) numbering.entry (cells_in cells.now) clause r) }
+    requires { IsReady (N.sight names.now) numbering }
+    ensures { IfOk result (λ r. MeansClause (N.sight names.now) numbering.entry subject.now bound.now r) }
 {
     let numbers = Numbers::of(names, numbering);
-    let made = reference(names, alloc, &numbers, cells, clause)?;
+    let made = reference(&numbers, alloc, subject, bound)?;
     Ok(made)
 }
 
-/// Clauses, one after the other.
+/// Clauses, one after the other, of each its subject and then its bound.
 ///
 /// The error says that a request for memory was refused.
 pub fn clauses_cells<'a, N: Names>(
     names: &N,
     alloc: Global,
     numbering: Numbering<'_, 'a>,
-    cells: &[Cell<'a>],
-    clauses: &[ClauseSpans],
+    parts: &[ResolvedPart<'a>],
 ) -> Result<Vec<ReferenceCells>, AllocError>
-    requires { IsReady (N.sight names.now) numbering (cells_in cells.now) }
-    ensures { IfOk result (λ rs. MeansClauses (N.sight names.now) numbering.entry (cells_in cells.now) clauses.now rs.items) }
+    requires { IsReady (N.sight names.now) numbering }
+    ensures { IfOk result (λ rs. MeansClauses (N.sight names.now) numbering.entry parts.now rs.items) }
 {
     let numbers = Numbers::of(names, numbering);
     let mut references = Vec::new(alloc);
-    for clause in clauses {
-        let made = reference(names, alloc, &numbers, cells, *clause)?;
+    let mut rest = parts;
+    while let [subject, bound, others @ ..] = rest {
+        let made = reference(&numbers, alloc, subject, bound)?;
         references.push(made)?;
+        rest = others;
     }
     Ok(references)
 }
@@ -152,49 +134,16 @@ pub fn clauses_cells<'a, N: Names>(
 pub fn bound_cells<'a, N: Names>(
     names: &N,
     alloc: Global,
-    cells: &[Cell<'a>],
-    bounds: &[Span],
+    bounds: &[ResolvedPart<'a>],
 ) -> Result<Vec<ReferenceCells>, AllocError>
-    requires { IsReady (N.sight names.now) (Numbering.Item 1) (cells_in cells.now) }
-    ensures { IfOk result (λ rs. MeansBounds (N.sight names.now) (cells_in cells.now) bounds.now rs.items) }
+    requires { IsReady (N.sight names.now) (Numbering.Item 1) }
+    ensures { IfOk result (λ rs. MeansBounds (N.sight names.now) bounds.now rs.items) }
 {
     let numbers = Numbers::of(names, Numbering::Item { first: 1 });
     let mut references = Vec::new(alloc);
     for bound in bounds {
-        let made = with_self(names, alloc, &numbers, cells, *bound, self_cells(alloc)?)?;
+        let made = with_self(&numbers, bound, self_cells(alloc)?)?;
         references.push(made)?;
     }
     Ok(references)
-}
-
-/// These, and those behind them.
-fn both<'a>(
-    alloc: Global,
-    first: &[Variable<'a>],
-    second: &[Variable<'a>],
-) -> Result<Vec<Variable<'a>>, AllocError>
-    ensures { IfOk result (λ all. map variable_in all.items ≡ map variable_in first.now ++ map variable_in second.now) }
-{
-    let mut all = Vec::new(alloc);
-    all.extend_from_slice(first)?;
-    all.extend_from_slice(second)?;
-    Ok(all)
-}
-
-/// The variables of what a question asks, each once, in the order of their first places.
-///
-/// The error says that a request for memory was refused.
-pub fn asked_variables<'a, N: Names>(
-    names: &N,
-    alloc: Global,
-    cells: &[Cell<'a>],
-    asked: ClauseSpans,
-) -> Result<Vec<Variable<'a>>, AllocError>
-    ensures { IfOk result (λ vs. AsksVariables (N.sight names.now) (cells_in cells.now) asked vs.items) }
-{
-    let subject = resolve_type(names, alloc, cells_to(cells, asked.subject.end))?;
-    let bound = resolve_bound(names, alloc, cells_to(cells, asked.bound.end))?;
-    let variables = both(alloc, &subject.variables, &bound.resolved.variables)?;
-    let firsts = each_once(alloc, &variables)?;
-    Ok(firsts)
 }

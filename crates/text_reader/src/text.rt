@@ -10,7 +10,7 @@ use crate::fault::{TextError, TextFault};
 use crate::form::{LineForm, line_form};
 use crate::lines::{TEXT_LIMIT, long_line, split_line};
 use line_reader::LineRead;
-use name_resolution::FaultKind;
+use name_resolution::{FaultKind, JudgedLine};
 use std::alloc::{AllocError, Global};
 use workspace::ENTRY_LIMIT;
 
@@ -31,11 +31,13 @@ fn take_read<D: Declares>(
     ensures added { IfOk result (λ found. found ≡ None → AddsLine (D.so_far tables.old) read.now (D.so_far tables.new)) }
     ensures agrees { OnOk result (D.agrees tables.new) }
 {
-    if let Some(kind) = tables.fault_of(alloc, read)? {
-        return Ok(Some(kind));
+    match tables.judge(alloc, read)? {
+        JudgedLine::Faulty(kind) => Ok(Some(kind)),
+        JudgedLine::Faultless(found) => {
+            tables.declare(alloc, read, &found)?;
+            Ok(None)
+        }
     }
-    tables.declare(alloc, read)?;
-    Ok(None)
 }
 
 /// Takes a line. The answer is its fault, or nothing where the line was taken.

@@ -3,9 +3,9 @@ ghost use Rattle.workspace.specs.Tables.{declared, IsConsistent};
 
 use crate::declares::Declares;
 use crate::declaring::declare;
-use crate::faults::line_fault;
+use crate::faults::judge_line;
 use line_reader::LineRead;
-use name_resolution::FaultKind;
+use name_resolution::{JudgedLine, LineFound};
 use std::alloc::{AllocError, Global};
 use workspace::Tables;
 
@@ -25,15 +25,16 @@ impl Declares for TextTables {
         Ok(TextTables { tables })
     }
 
-    fn fault_of(
-        &self,
-        alloc: Global,
-        read: &LineRead<'_>,
-    ) -> Result<Option<FaultKind>, AllocError> {
-        line_fault(&self.tables, alloc, read)
+    fn judge<'a>(&self, alloc: Global, read: &LineRead<'a>) -> Result<JudgedLine<'a>, AllocError> {
+        judge_line(&self.tables, alloc, read)
     }
 
-    fn declare(&mut self, alloc: Global, read: &LineRead<'_>) -> Result<(), AllocError> {
-        declare(&mut self.tables, alloc, read)
+    fn declare<'a>(
+        &mut self,
+        alloc: Global,
+        read: &LineRead<'a>,
+        found: &LineFound<'a>,
+    ) -> Result<(), AllocError> {
+        declare(&mut self.tables, alloc, read, found)
     }
 }

@@ -8,13 +8,12 @@ use Rattle.name_resolution.proofs.Judging.{misplaced-is, taken-is, own-is, stray
 use Rattle.name_resolution.proofs.judge.tests_of.Goals as goal
 
 pub returns : goal.returns
-returns g c l h =
+returns g c l h is =
     let v = g.N.Names.sight c.args.names.now in
     let d = v.before in
     let s = statement_of c.args.read.now.statement in
     let sp = subst (Speaks v.line) h.0 c.requires in
-    let found = c.in_ok-found.found in
-    let is = c.in_ok-found.ensures l h in
+    let found = c.args.found.now in
     let f = c.faults-faults.result in
     let ef = c.faults-faults.ensures ∙ line-findings v l found sp is in
     tests-are d l _ (misplaced-is d l s c.is_misplaced.result h.0 c.is_misplaced.ensures)

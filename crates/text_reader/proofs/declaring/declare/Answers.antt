@@ -60,6 +60,21 @@ declare_question-requires-in-Refute-clause-faultless c = c.requires.faultless
 pub declare_question-requires-in-Refute-clause-short : goal.declare_question-requires-in-Refute-clause-short
 declare_question-requires-in-Refute-clause-short c = c.requires.short
 
+pub declare_struct-requires-clause-found : goal.declare_struct-requires-clause-found
+declare_struct-requires-clause-found c = c.requires.found
+
+pub declare_trait-requires-clause-found : goal.declare_trait-requires-clause-found
+declare_trait-requires-clause-found c = c.requires.found
+
+pub declare_impl-requires-clause-found : goal.declare_impl-requires-clause-found
+declare_impl-requires-clause-found c = c.requires.found
+
+pub declare_question-requires-clause-found : goal.declare_question-requires-clause-found
+declare_question-requires-clause-found c = c.requires.found
+
+pub declare_question-requires-in-Refute-clause-found : goal.declare_question-requires-in-Refute-clause-found
+declare_question-requires-in-Refute-clause-found c = c.requires.found
+
 pub new-requires-clause-agrees : goal.new-requires-clause-agrees
 new-requires-clause-agrees c = c.requires.agrees
 

@@ -1,30 +1,31 @@
-use Rattle.std.proofs.Common.{refl, subst}
+use Rattle.std.proofs.Common.{subst}
 use Rattle.std.proofs.lemmas.List.{drop_all}
 use Rattle.type_terms.specs.Label.{of_type, param}
 use Rattle.type_terms.specs.Trees.{leaf}
 use Rattle.text_definitions.specs.Lowering.{with_self}
+use Rattle.line_reader.specs.LineParts.{bound_part}
 use Rattle.text_reader.specs.declared.numbering.Numbering.TheVariants.{Item}
-use Rattle.line_reader.specs.TypeViews.{cells_in}
-use Rattle.line_reader.specs.Places.{BoundStands}
+use Rattle.text_reader.specs.Kept.{IsReadAs}
 use Rattle.text_reader.specs.Laws.{BoundFits}
 use Rattle.text_reader.specs.Numbering.{meanings}
-use Rattle.text_reader.proofs.KeptTypes.{References, references-start, references-at, references-end, line-ready}
+use Rattle.text_reader.proofs.KeptTypes.{References, references-start, references-at, references-end, bounds-read, line-ready}
 use Rattle.text_reader.proofs.parts.bound_cells.Goals as goal
 
 pub loop-bound-init : goal.loop-bound-init
 loop-bound-init g c line bs s st u =
     let v = g.N.Names.sight c.args.names.now in
-    references-start (BoundStands (cells_in c.args.cells.now)) (BoundFits v.before line) (with_self (meanings v (Item 1)) (leaf (param of_type 0))) bs c.args.bounds.now st u c.new-references.result.items c.new-references.ensures.items
+    references-start (λ b r. IsReadAs v (bound_part b) r) (BoundFits v.before line) (with_self (meanings v (Item 1)) (leaf (param of_type 0))) bs c.args.bounds.now (bounds-read v bs c.args.bounds.now st) u c.new-references.result.items
+    c.new-references.ensures.items
 
 pub loop-bound-preserved : goal.loop-bound-preserved
 loop-bound-preserved g c line bs s st u =
     let v = g.N.Names.sight c.args.names.now in
-    references-at (BoundStands (cells_in c.args.cells.now)) (BoundFits v.before line) (with_self (meanings v (Item 1)) (leaf (param of_type 0))) bs c.args.bounds.now c.loop-bound.bound-index _ _ c.loop-bound.references.items _ c.in_ok-made.made c.loop-bound-test.true refl
-    c.in_ok-push.ensures.items (λ b h f. c.in_ok-made.ensures (meanings v (Item 1)) c.of-numbers.ensures line b (leaf (param of_type 0)) (line-ready v (Item 1) (cells_in c.args.cells.now) line c.requires s) h f c.in_ok-self_cells.ensures) (c.loop-bound.invariant line bs s st u)
+    references-at (λ b r. IsReadAs v (bound_part b) r) (BoundFits v.before line) (with_self (meanings v (Item 1)) (leaf (param of_type 0))) bs c.args.bounds.now c.loop-bound.bound-index _ c.bound-item.result c.loop-bound.references.items _ c.in_ok-made.made c.loop-bound-test.true c.bound-item.is
+    c.in_ok-push.ensures.items (λ b h f. c.in_ok-made.ensures v (meanings v (Item 1)) c.of-numbers.ensures line b (leaf (param of_type 0)) (line-ready v (Item 1) line c.requires s) h f c.in_ok-self_cells.ensures) (c.loop-bound.invariant line bs s st u)
 
 pub returns : goal.returns
 returns g c line bs s st u =
     let v = g.N.Names.sight c.args.names.now in
-    references-end (BoundStands (cells_in c.args.cells.now)) (BoundFits v.before line) (with_self (meanings v (Item 1)) (leaf (param of_type 0))) bs c.loop-bound.references.items
-    (subst (λ z. References (BoundStands (cells_in c.args.cells.now)) (BoundFits v.before line) (with_self (meanings v (Item 1)) (leaf (param of_type 0))) bs z c.loop-bound.references.items) (drop_all c.loop-bound.bound-index c.args.bounds.now c.loop-bound-test.false)
+    references-end (λ b r. IsReadAs v (bound_part b) r) (BoundFits v.before line) (with_self (meanings v (Item 1)) (leaf (param of_type 0))) bs c.loop-bound.references.items
+    (subst (λ z. References (λ b r. IsReadAs v (bound_part b) r) (BoundFits v.before line) (with_self (meanings v (Item 1)) (leaf (param of_type 0))) bs z c.loop-bound.references.items) (drop_all c.loop-bound.bound-index c.args.bounds.now c.loop-bound-test.false)
     (c.loop-bound.invariant line bs s st u))

@@ -1,12 +1,12 @@
-use Rattle.std.proofs.Common.{List, drop}
+use Rattle.std.proofs.Common.{List, map, drop}
 use Rattle.type_terms.specs.Label.{of_type, param}
 use Rattle.type_terms.specs.Trees.{leaf}
 use Rattle.text_definitions.specs.Lowering.{with_self}
 use Rattle.text_reader.specs.declared.numbering.Numbering.TheVariants.{Item}
 use Rattle.text_definitions.specs.Syntax.{Bound, Line}
-use Rattle.line_reader.specs.TypeViews.{cells_in}
-use Rattle.line_reader.specs.Places.{BoundStands, EachOf}
-use Rattle.text_reader.specs.Kept.{IsSightOf}
+use Rattle.line_reader.specs.LineParts.{bound_part}
+use Rattle.line_reader.specs.Places.{EachOf}
+use Rattle.text_reader.specs.Kept.{IsSightOf, IsReadAs}
 use Rattle.text_reader.specs.Laws.{AllOf, BoundFits}
 use Rattle.text_reader.specs.Numbering.{meanings}
 use Rattle.text_reader.proofs.KeptTypes.{References}
@@ -14,5 +14,5 @@ use Rattle.text_reader.proofs.parts.bound_cells.Given as goal
 
 abbrev pub invariant-loop-bound : goal.invariant-loop-bound
 invariant-loop-bound g l =
-    (line : Line) (bs : List Bound) → IsSightOf (g.N.Names.sight l.names) line → EachOf (BoundStands (cells_in l.cells)) bs l.bounds → AllOf (BoundFits (g.N.Names.sight l.names).before line) bs
-    → References (BoundStands (cells_in l.cells)) (BoundFits (g.N.Names.sight l.names).before line) (with_self (meanings (g.N.Names.sight l.names) (Item 1)) (leaf (param of_type 0))) bs (drop l.bound-index l.bounds) l.references.items
+    (line : Line) (bs : List Bound) → IsSightOf (g.N.Names.sight l.names) line → EachOf (IsReadAs (g.N.Names.sight l.names)) (map bound_part bs) l.bounds → AllOf (BoundFits (g.N.Names.sight l.names).before line) bs
+    → References (λ b r. IsReadAs (g.N.Names.sight l.names) (bound_part b) r) (BoundFits (g.N.Names.sight l.names).before line) (with_self (meanings (g.N.Names.sight l.names) (Item 1)) (leaf (param of_type 0))) bs (drop l.bound-index l.bounds) l.references.items

@@ -1,4 +1,3 @@
-use Rattle.line_reader.specs.TypeViews.{cells_in}
 use Rattle.text_reader.specs.Numbering.{meanings}
 use Rattle.text_reader.proofs.KeptTypes.{line-ready}
 use Rattle.text_reader.proofs.parts.clause_cells.Goals as goal
@@ -6,4 +5,4 @@ use Rattle.text_reader.proofs.parts.clause_cells.Goals as goal
 pub returns : goal.returns
 returns g c line k s st f =
     let v = g.N.Names.sight c.args.names.now in
-    c.in_ok-made.ensures (meanings v c.args.numbering) c.of-numbers.ensures line k (line-ready v c.args.numbering (cells_in c.args.cells.now) line c.requires s) st f
+    c.in_ok-made.ensures v (meanings v c.args.numbering) c.of-numbers.ensures line k (line-ready v c.args.numbering line c.requires s) st f

@@ -1,15 +1,18 @@
-use Rattle.std.proofs.Common.{List, drop}
-use Rattle.text_definitions.specs.Lowering.{clause_reference}
+use Rattle.std.proofs.Common.{List, length}
+use Rattle.std.specs.List.{flat_map}
 use Rattle.text_definitions.specs.Syntax.{Clause, Line}
-use Rattle.line_reader.specs.TypeViews.{cells_in}
-use Rattle.line_reader.specs.Places.{ClauseStands, EachOf}
-use Rattle.text_reader.specs.Kept.{IsSightOf}
+use Rattle.line_reader.specs.LineParts.{clause_parts}
+use Rattle.line_reader.specs.Places.{EachOf}
+use Rattle.text_reader.specs.Kept.{IsSightOf, IsReadAs}
 use Rattle.text_reader.specs.Laws.{AllOf, ClauseFits}
 use Rattle.text_reader.specs.Numbering.{meanings}
-use Rattle.text_reader.proofs.KeptTypes.{References}
+use Rattle.text_reader.proofs.KeptTypes.{Clauses}
 use Rattle.text_reader.proofs.parts.clauses_cells.Given as goal
 
-abbrev pub invariant-loop-clause : goal.invariant-loop-clause
-invariant-loop-clause g l =
-    (line : Line) (ks : List Clause) → IsSightOf (g.N.Names.sight l.names) line → EachOf (ClauseStands (cells_in l.cells)) ks l.clauses → AllOf (ClauseFits (g.N.Names.sight l.names).before line) ks
-    → References (ClauseStands (cells_in l.cells)) (ClauseFits (g.N.Names.sight l.names).before line) (clause_reference (meanings (g.N.Names.sight l.names) l.numbering)) ks (drop l.clause-index l.clauses) l.references.items
+abbrev pub invariant-loop-rest : goal.invariant-loop-rest
+invariant-loop-rest g l =
+    (line : Line) (ks : List Clause) → IsSightOf (g.N.Names.sight l.names) line → EachOf (IsReadAs (g.N.Names.sight l.names)) (flat_map clause_parts ks) l.parts → AllOf (ClauseFits (g.N.Names.sight l.names).before line) ks
+    → Clauses (g.N.Names.sight l.names) (meanings (g.N.Names.sight l.names) l.numbering) line ks l.rest l.references.items
+
+abbrev pub decreases-loop-rest : goal.decreases-loop-rest
+decreases-loop-rest g l = length l.rest
