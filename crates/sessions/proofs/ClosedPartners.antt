@@ -13,7 +13,6 @@ use Rattle.type_terms.proofs.ProofEntries.{map-in}
 use Rattle.type_terms.proofs.Matching.{same-label-sound}
 use Rattle.type_terms.proofs.Members.{same-number, self-number}
 use Rattle.type_terms.specs.Terms.{Entry, Lawful, Has, args_lists, trees_at}
-use Rattle.type_terms.specs.declared.Fault.{Fault}
 use Rattle.type_terms.specs.declared.ImplId.{ImplId}
 use Rattle.declarations.specs.Heads.{head_of, label_of}
 use Rattle.declarations.specs.Items.{Items, HeldImpl, declared, impl_in}
@@ -31,9 +30,13 @@ use Rattle.sessions.proofs.ErasedHeads.{erased-head}
 use Rattle.sessions.proofs.ImplGroups.{same-open, same-closed, same-under}
 
 -- what is answered, said in three clauses
-pub ok-of-three : {A : Type 0} (P Q R S : A → Type 0) (r : Result A Fault) → ((x : A) → P x → Q x → R x → S x) → IfOk r P → IfOk r Q → IfOk r R → IfOk r S
+pub ok-of-three : {A E : Type 0} (P Q R S : A → Type 0) (r : Result A E) → ((x : A) → P x → Q x → R x → S x) → IfOk r P → IfOk r Q → IfOk r R → IfOk r S
 ok-of-three P Q R S (Ok x) f p q r = f x p q r
 ok-of-three P Q R S (Err e) f p q r = tt
+
+pub ok-after : {A E : Type 0} (P Q : A → Type 0) (r : Result A E) → ((x : A) → P x → Q x) → IfOk r P → IfOk r Q
+ok-after P Q (Ok x) f h = f x h
+ok-after P Q (Err e) f h = tt
 
 module _ (es : List Entry) (law : Lawful es) (d : Items) (later : ImplId) (def : ImplDef) (named : impls_named (declared es d) later.index ≡ erased_impl (impl_in es later def) ∷ [])
     (held : Has es args_lists def.header.args.0) where

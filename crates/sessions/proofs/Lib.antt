@@ -1,4 +1,5 @@
 pub mod Settled
+pub mod ShortCalls
 mod FramesStarted
 mod ErasedWidths
 mod FrameBounds

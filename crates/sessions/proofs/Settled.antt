@@ -123,17 +123,18 @@ module _ {Handler : Type 0} (handler : HandlerMeaning Handler) where
   proved-once w c d t u q narrows p = λ no clean s solves. p (resolving-keeps-out (content (entries_of c) t.values) (goal_trees (entries_of c) q) no clean) s (narrows s solves)
 
   -- ---- shortages
-  pub first-out : (g : SearchState) (ks : List (KnownResult InputId (Option ResponseId))) (c : SolverCx Handler) (t : Table) (q : Goal) → RunsOut handler c g t q
-      → SomeAskingRunsOut handler g ks c t q
-  first-out g ks c t q h = record { graph_then = g; known_then = ks; context_then = c; table_then = t; asked = asked-nothing g ks c t; runs_out = h }
+  pub first-out : (g : SearchState) (ks : List (KnownResult InputId (Option ResponseId))) (c d : SolverCx Handler) (t : Table) (q : Goal) → Keeps (entries_of c) (entries_of d) → RunsOut handler c g t q
+      → SomeAskingRunsOut handler g ks c t q d
+  first-out g ks c d t q k h = record { graph_then = g; known_then = ks; context_then = c; table_then = t; asked = asked-nothing g ks c t; runs_out = h; known = k }
 
-  pub later-out : (f g : SearchState) (ks ls : List (KnownResult InputId (Option ResponseId))) (c d : SolverCx Handler) (t u : Table) (q : Goal) → Asked f ks c t g ls d u
-      → SomeAskingRunsOut handler g ls d u q → SomeAskingRunsOut handler f ks c t q
-  later-out f g ks ls c d t u q a h = record {
+  pub later-out : (f g : SearchState) (ks ls : List (KnownResult InputId (Option ResponseId))) (c d e : SolverCx Handler) (t u : Table) (q : Goal) → Asked f ks c t g ls d u
+      → SomeAskingRunsOut handler g ls d u q e → SomeAskingRunsOut handler f ks c t q e
+  later-out f g ks ls c d e t u q a h = record {
     graph_then = h.graph_then;
     known_then = h.known_then;
     context_then = h.context_then;
     table_then = h.table_then;
     asked = asked-further f g h.graph_then ks ls h.known_then c d h.context_then t u h.table_then a h.asked;
     runs_out = h.runs_out;
+    known = h.known;
   }

@@ -11,6 +11,7 @@ pub mod Goals
 pub mod Questions
 pub mod Answers
 pub mod Subjects
+pub mod Shortages
 pub mod Resting
 pub mod Sessions
 pub mod Frames

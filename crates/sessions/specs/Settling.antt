@@ -77,11 +77,12 @@ module _ {Handler : Type 0} (handler : HandlerMeaning Handler) where
   RunsOut c graph t g =
       RootRunsOut (λ a. IsFound m (m.world c) graph.root_depth (asked_in PostAnalysis (entries_of c) t g) (Some a)) (table_trees (entries_of c) t) (goal_in (entries_of c) t g)
 
-  -- So it is at one of the askings that begin here.
-  pub record SomeAskingRunsOut (graph : SearchState) (ks : List (KnownResult InputId (Option ResponseId))) (c : SolverCx Handler) (t : Table) (g : Goal) : Type 0 where
+  -- So it is at one of the askings that begin here, in a context that becomes d.
+  pub record SomeAskingRunsOut (graph : SearchState) (ks : List (KnownResult InputId (Option ResponseId))) (c : SolverCx Handler) (t : Table) (g : Goal) (d : SolverCx Handler) : Type 0 where
     pub graph_then : SearchState
     pub known_then : List (KnownResult InputId (Option ResponseId))
     pub context_then : SolverCx Handler
     pub table_then : Table
     pub asked : HasAsked graph ks c t graph_then known_then context_then table_then
     pub runs_out : RunsOut context_then graph_then table_then g
+    pub known : Keeps (entries_of context_then) (entries_of d)

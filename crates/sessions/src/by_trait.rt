@@ -16,12 +16,12 @@ use declarations::declarations::Declarations;
 use declarations::items::ImplDef;
 use declarations::simplify::{SimplifiedType, simplify_type};
 use overlap_check::heads::is_fixed;
-use std::alloc::Global;
+use std::alloc::{AllocError, Global};
 use std::collections::HashMap;
 use term_folds::predicate::TraitRef;
 use type_terms::interner::Interner;
 use type_terms::kinds::{GenericArgs, Ty};
-use type_terms::{Fault, ImplId, TraitId};
+use type_terms::{ImplId, TraitId};
 
 /// Whether the arguments of a header are closed: no parameter, no variable and no lifetime but `'static` stands in them, and no binder
 /// in them counts its lifetimes. Their flags tell, and no type is walked.
@@ -87,8 +87,8 @@ impl ImplsByTrait {
         }
     }
 
-    /// Puts an impl behind those of a group. The fault is `Memory`.
-    fn add(&mut self, alloc: Global, group: ImplGroup, id: ImplId) -> Result<(), Fault>
+    /// Puts an impl behind those of a group.
+    fn add(&mut self, alloc: Global, group: ImplGroup, id: ImplId) -> Result<(), AllocError>
         ensures { OnOk result ((g : ImplGroup) → listed self.new g ≡ (if is_group group g then listed self.old g ++ id ∷ [] else listed self.old g)) }
     {
         match self.groups.get_mut(&group) {
@@ -101,14 +101,14 @@ impl ImplsByTrait {
         Ok(())
     }
 
-    /// Puts an impl behind those of its trait, and behind those of its own group. The fault is `Memory`.
+    /// Puts an impl behind those of its trait, and behind those of its own group.
     fn add_impl(
         &mut self,
         alloc: Global,
         cx: &Interner,
         id: ImplId,
         def: &ImplDef,
-    ) -> Result<(), Fault>
+    ) -> Result<(), AllocError>
         requires { ImplHeld cx.now.entries def.now }
         ensures stay { OnOk result ((y : ImplDecl) → IsListed cx.now.entries self.old y → IsListed cx.now.entries self.new y) }
         ensures listed { OnOk result (IsListed cx.now.entries self.new (erased_impl (impl_in cx.now.entries id def.now))) }
@@ -117,13 +117,13 @@ impl ImplsByTrait {
         self.add(alloc, own_group(cx, def), id)
     }
 
-    /// The impls of declarations, whose numbers are below `end`. The fault is `Memory`.
+    /// The impls of declarations, whose numbers are below `end`. The error is a refused request for memory.
     pub fn of_declarations(
         alloc: Global,
         cx: &Interner,
         declarations: &Declarations,
         end: u32,
-    ) -> Result<ImplsByTrait, Fault>
+    ) -> Result<ImplsByTrait, AllocError>
         requires held { AreHeld cx.now.entries declarations.now }
         requires numbered { IsAbove end declarations.now }
         requires in_range { end ≤ MAX_INDEX + 1 }
@@ -142,15 +142,15 @@ impl ImplsByTrait {
 
     /// The impls that the crate that asks brings together with one of its own, and with which that may have a common instance, by rising
     /// number: those of its trait that can match its self type, or all of its trait where that is a parameter; if its header is closed,
-    /// only those of them that have the same header or one that is not closed. There are none for an impl of another crate. The fault is
-    /// `Memory`.
+    /// only those of them that have the same header or one that is not closed. There are none for an impl of another crate. The error is
+    /// a refused request for memory.
     pub fn partners_of(
         &self,
         alloc: Global,
         cx: &Interner,
         declarations: &Declarations,
         later: ImplId,
-    ) -> Result<Vec<ImplId>, Fault>
+    ) -> Result<Vec<ImplId>, AllocError>
         requires held { AreHeld cx.now.entries declarations.now }
         requires listed { ListsImpls cx.now.entries (declared cx.now.entries declarations.now) self.now }
         ensures { IfOk result (λ ids. HavePartners (declared cx.now.entries declarations.now) declarations.now.local later.index ids.items) }
@@ -178,13 +178,13 @@ impl ImplsByTrait {
     }
 
     /// The impls with a closed header, and those whose headers are not closed and that can match its self type, which has this head, by
-    /// rising number. The fault is `Memory`.
+    /// rising number.
     fn partners_of_closed(
         &self,
         alloc: Global,
         header: TraitRef,
         head: SimplifiedType,
-    ) -> Result<Vec<ImplId>, Fault>
+    ) -> Result<Vec<ImplId>, AllocError>
         ensures same { IfOk result (λ ids. HaveNumbers (names_of (listed self.now (ImplGroup.Closed header))) ids.items) }
         ensures headed { IfOk result (λ ids. HaveNumbers (names_of (listed self.now (ImplGroup.Open header.def_id (Some head)))) ids.items) }
         ensures blanket { IfOk result (λ ids. HaveNumbers (names_of (listed self.now (ImplGroup.Open header.def_id None))) ids.items) }
@@ -197,14 +197,14 @@ impl ImplsByTrait {
     }
 }
 
-/// The impls of a trait that can match a self type, by rising number. The fault is `Memory`.
+/// The impls of a trait that can match a self type, by rising number.
 fn relevant_impls(
     alloc: Global,
     cx: &Interner,
     declarations: &Declarations,
     trait_id: TraitId,
     self_ty: Ty,
-) -> Result<Vec<ImplId>, Fault>
+) -> Result<Vec<ImplId>, AllocError>
     requires held { AreHeld cx.now.entries declarations.now }
     requires self_held { Has cx.now.entries types self_ty.0 }
     ensures { IfOk result (λ ids. HaveNumbers (relevant_in cx.now.entries declarations.now trait_id.index (trees_at cx.now.entries self_ty.0)) ids.items) }

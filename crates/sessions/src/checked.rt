@@ -1,6 +1,6 @@
 //! The headers of a crate's impls, and the pairs that it brings together.
 
-ghost use Rattle.std.specs.Prelude.{◌≡◌, ◌≤◌, ◌+◌, ℕ, not, IfOk, IfSome, Ok, None};
+ghost use Rattle.std.specs.Prelude.{◌≡◌, ◌≤◌, ◌+◌, ℕ, not, IfOk, IfSome, Ok, Err, None};
 ghost use Rattle.type_terms.specs.Terms.{Keeps};
 ghost use Rattle.type_terms.specs.declared.TheConstants.{MAX_INDEX};
 ghost use Rattle.declarations.specs.Items.{IsAbove};
@@ -10,6 +10,7 @@ ghost use Rattle.text_definitions.specs.Declarations.{Declarations};
 ghost use Rattle.sessions.specs.Checking.{IsReadySolver, SolverAdvances, HaveOwnNumbers, AreApartAt, IsFoundAt, IsJudgedAt, rules_in, solving_in};
 ghost use Rattle.sessions.specs.Promises.{view_in};
 ghost use Rattle.sessions.specs.Sessions.{SolverRests, IsSession};
+ghost use Rattle.sessions.specs.Shortages.{IsOutOf};
 
 use crate::asked::rest_laws;
 use crate::obligations::has_impossible_obligation;
@@ -38,6 +39,7 @@ pub(crate) fn first_broken_header(
     ensures advances { SolverAdvances cx.old cx.new }
     ensures held { IfOk result (λ found. IfSome found (λ x. ErrorHeld cx.new.interner.entries x.1)) }
     ensures first { IfOk result (IsFirstError (rules_in cx.old) cx.old.handler.declarations.local cx.new.interner.entries) }
+    ensures full { result ≡ Err Fault.Full → IsOutOf cx.new }
 {
     rest_laws::<Solver>();
     ready_impls_are_written_well();
@@ -58,6 +60,7 @@ fn intersection_at(
     ensures advances { SolverAdvances cx.old cx.new }
     ensures apart { result ≡ Ok None → AreApartAt (rules_in cx.old) cx.old.handler.declarations.local later.index earlier.index }
     ensures found { IfOk result (λ found. IfSome found (IsFoundAt cx.old.interner.entries cx.old.handler.declarations later earlier cx.new.interner.entries)) }
+    ensures full { result ≡ Err Fault.Full → IsOutOf cx.new }
 {
     rest_laws::<Solver>();
     ready_impls_are_written_well();
@@ -90,6 +93,7 @@ pub(crate) fn overlap_at(
     ensures entries { Keeps cx.old.interner.entries cx.new.interner.entries }
     ensures judged { (d : Declarations) (c depth : ℕ) → IsSession d c depth cx.old graph.old cache.old
         → IfOk result (IsJudgedAt depth (view_in d c) c later.index earlier.index) }
+    ensures full { result ≡ Err Fault.Full → IsOutOf cx.new }
 {
     rest_laws::<Solver>();
     ready_impls_are_written_well();

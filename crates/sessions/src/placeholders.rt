@@ -1,11 +1,13 @@
 //! Impls with placeholders in the place of their parameters.
 
-ghost use Rattle.std.specs.Prelude.{◌≡◌, ◌+◌, map, IfOk, None};
+ghost use Rattle.std.specs.Prelude.{◌≡◌, ◌≤◌, ◌⊎◌, ◌+◌, length, map, IfOk, Err, None};
+ghost use Rattle.type_terms.specs.Failures.{SomeKindIsFull};
 ghost use Rattle.type_terms.specs.Label.{placeholder};
 ghost use Rattle.type_terms.specs.Trees.{leaf, outer_binder};
 ghost use Rattle.type_terms.specs.Worlds.{with_args, all_with_args};
 ghost use Rattle.type_terms.specs.Kinds.{ArgHeld, arg_trees};
 ghost use Rattle.type_terms.specs.Terms.{Has, Keeps, args_lists, trees_at};
+ghost use Rattle.type_terms.specs.declared.TheConstants.{MAX_INDEX};
 ghost use Rattle.term_folds.specs.Arguments.{first_misfit};
 ghost use Rattle.declarations.specs.Applied.{AllHeld, references_in, sort_of_param};
 ghost use Rattle.declarations.specs.Held.{ImplHeld, ReferenceHeld};
@@ -13,6 +15,7 @@ ghost use Rattle.declarations.specs.Items.{reference_in};
 ghost use Rattle.declarations.specs.Merges.{Each};
 ghost use Rattle.overlap_check.specs.Written.{IsWrittenWell};
 ghost use Rattle.sessions.specs.Placeholders.{IsOpaqueOf, placeholders_from};
+ghost use Rattle.sessions.specs.Shortages.{HasManyParams};
 
 use declarations::items::{GenericParamKind, ImplDef};
 use std::alloc::Global;
@@ -27,7 +30,8 @@ use type_terms::region::{Region, RegionKind};
 
 /// The next number. The fault is `Full`, where there is none.
 pub(crate) fn next_number(number: u32) -> Result<u32, Fault>
-    ensures { IfOk result (λ next. next ≡ number + 1) }
+    ensures next { IfOk result (λ next. next ≡ number + 1) }
+    ensures full { result ≡ Err Fault.Full → MAX_INDEX ≤ number }
 {
     match number.checked_add(1) {
         Some(next) => Ok(next),
@@ -44,6 +48,7 @@ fn placeholder_for_param(
     ensures keeps { Keeps cx.old.entries cx.new.entries }
     ensures held { IfOk result (λ arg. ArgHeld cx.new.entries arg) }
     ensures is { IfOk result (λ arg. arg_trees cx.new.entries arg ≡ leaf (placeholder (sort_of_param kind) place)) }
+    ensures full { result ≡ Err Fault.Full → SomeKindIsFull cx.new.entries cx.new.limit }
 {
     match kind {
         GenericParamKind::Lifetime => Ok(GenericArgKind::Lifetime(Region {
@@ -69,6 +74,7 @@ fn placeholders_for_item(
     ensures keeps { Keeps cx.old.entries cx.new.entries }
     ensures held { IfOk result (λ args. Has cx.new.entries args_lists args.0) }
     ensures are { IfOk result (λ args. trees_at cx.new.entries args.0 ≡ placeholders_from 0 (map sort_of_param params.now)) }
+    ensures full { result ≡ Err Fault.Full → SomeKindIsFull cx.new.entries cx.new.limit ⊎ (MAX_INDEX ≤ length params.now) }
 {
     let mut placeholders = Vec::new(alloc);
     let mut place = 0;
@@ -96,6 +102,7 @@ fn instantiate_trait_ref(
     ensures keeps { Keeps cx.old.entries cx.new.entries }
     ensures held { IfOk result (ReferenceHeld cx.new.entries) }
     ensures is { IfOk result (λ r. reference_in cx.new.entries r ≡ with_args (trees_at cx.old.entries args.0) (reference_in cx.old.entries trait_ref)) }
+    ensures full { result ≡ Err Fault.Full → SomeKindIsFull cx.new.entries cx.new.limit }
 {
     closed_arguments_are_in_range();
     match EarlyBinder::bind(trait_ref).instantiate(alloc, cx, args) {
@@ -120,6 +127,7 @@ fn instantiate_trait_refs(
     ensures keeps { Keeps cx.old.entries cx.new.entries }
     ensures held { IfOk result (λ v. AllHeld cx.new.entries v.items) }
     ensures are { IfOk result (λ v. references_in cx.new.entries v.items ≡ all_with_args (trees_at cx.old.entries args.0) (references_in cx.old.entries references.now)) }
+    ensures full { result ≡ Err Fault.Full → SomeKindIsFull cx.new.entries cx.new.limit }
 {
     let mut found = Vec::new(alloc);
     let mut left = references;
@@ -151,6 +159,7 @@ pub(crate) fn opaque_impl(
     requires written { IsWrittenWell cx.old.entries def.now }
     ensures keeps { Keeps cx.old.entries cx.new.entries }
     ensures is { IfOk result (IsOpaqueOf cx.old.entries def.now cx.new.entries) }
+    ensures full { result ≡ Err Fault.Full → SomeKindIsFull cx.new.entries cx.new.limit ⊎ HasManyParams def.now }
 {
     cx.lawful();
     let args = placeholders_for_item(alloc, cx, &def.params)?;

@@ -1,7 +1,9 @@
 //! Questions whether a reference has a proof by what the asking crate sees.
 
-ghost use Rattle.std.specs.Prelude.{◌≡◌, map, IfOk};
+ghost use Rattle.std.specs.Prelude.{◌≡◌, ◌≤◌, ◌⊎◌, length, map, IfOk, Err};
+ghost use Rattle.type_terms.specs.Failures.{SomeKindIsFull};
 ghost use Rattle.type_terms.specs.Trees.{some_node};
+ghost use Rattle.type_terms.specs.declared.TheConstants.{MAX_INDEX};
 ghost use Rattle.type_terms.specs.Kinds.{ArgsHeld, arg_trees};
 ghost use Rattle.type_terms.specs.Terms.{Has, Keeps, args_lists, trees_at};
 ghost use Rattle.term_folds.specs.Arguments.{arg_sort};
@@ -23,6 +25,7 @@ ghost use Rattle.sessions.specs.Proving.{AreReadOff, ClausesApply, IsAnswered, I
 ghost use Rattle.sessions.specs.Questions.{where_clauses};
 ghost use Rattle.sessions.specs.Resting.{AreAtRest};
 ghost use Rattle.sessions.specs.Sessions.{SolverRests};
+ghost use Rattle.sessions.specs.Shortages.{IsShort, HasManyVariables};
 ghost use Rattle.sessions.specs.Tables.{table_of};
 
 use crate::answers::ProveAnswer;
@@ -85,6 +88,7 @@ fn read_values(
     ensures keeps { Keeps cx.old.entries cx.new.entries }
     ensures held { IfOk result (AnswerHeld cx.new.entries) }
     ensures read { IfOk result (AreReadOff cx.old.entries table.now (trees_at cx.old.entries asked.args.0) unknowns.now cx.new.entries) }
+    ensures full { result ≡ Err Fault.Full → SomeKindIsFull cx.new.entries cx.new.limit }
 {
     let proved = table.eager_resolve_vars(cx, asked.args)?;
     if has_bound_terms(cx, proved) {
@@ -108,6 +112,7 @@ fn read_values_in<H: GoalHandler>(
     ensures advances { Advances H.meaning.IsReady cx.old cx.new }
     ensures held { IfOk result (AnswerHeld cx.new.interner.entries) }
     ensures read { IfOk result (AreReadOff cx.old.interner.entries table.now (trees_at cx.old.interner.entries asked.args.0) unknowns.now cx.new.interner.entries) }
+    ensures full { result ≡ Err Fault.Full → SomeKindIsFull cx.new.interner.entries cx.new.interner.limit }
 {
     rest_laws::<H>();
     let read = read_values(cx.alloc, &mut cx.interner, table, asked, unknowns);
@@ -124,6 +129,7 @@ pub(crate) fn question_table_in<H: GoalHandler>(
     ensures advances { Advances H.meaning.IsReady cx.old cx.new }
     ensures ready { IfOk result (λ table. Ready cx.new.interner.entries table) }
     ensures is { IfOk result (λ table. table ≡ table_of (map arg_sort unknowns.now)) }
+    ensures full { result ≡ Err Fault.Full → SomeKindIsFull cx.new.interner.entries cx.new.interner.limit ⊎ (MAX_INDEX ≤ length unknowns.now) }
 {
     rest_laws::<H>();
     let table = question_table(cx.alloc, &mut cx.interner, unknowns);
@@ -155,6 +161,7 @@ fn ask_for<H: GoalHandler>(
         (map arg_sort unknowns.now) (goal_trees cx.old.interner.entries goal.now) (map (arg_trees cx.old.interner.entries) unknowns.now) cx.new.interner.entries) }
     ensures frames { SettlesInFrames H.meaning (H.meaning.world cx.old.handler cx.old.interner.entries) graph.old.root_depth
         (map arg_sort unknowns.now) (goal_trees cx.old.interner.entries goal.now) graph.old graph.new }
+    ensures full { result ≡ Err Fault.Full → IsShort H.meaning cx.new }
 {
     rest_laws::<H>();
     match ask_until_settled(graph, cache, cx, table, goal)? {
@@ -173,6 +180,7 @@ fn elaborate_in(cx: &mut SolverCx<Solver>, references: &[TraitRef]) -> Result<Ve
     ensures held { IfOk result (λ v. AllHeld cx.new.interner.entries v.items) }
     ensures are { IfOk result (λ v. references_in cx.new.interner.entries v.items
         ≡ elaborate (written cx.old.interner.entries cx.old.handler.declarations) (references_in cx.old.interner.entries references.now)) }
+    ensures full { result ≡ Err Fault.Full → SomeKindIsFull cx.new.interner.entries cx.new.interner.limit }
 {
     rest_laws::<Solver>();
     let declarations = &cx.handler.declarations;
@@ -215,6 +223,7 @@ pub(crate) fn prove_under(
         (goal_of (references_in cx.old.interner.entries clauses.now) (reference_in cx.old.interner.entries asked)) (map (arg_trees cx.old.interner.entries) unknowns.now) cx.new.interner.entries) }
     ensures frames { SettlesInFrames solver_by_view (solving_of cx.old.interner.entries cx.old.handler.declarations) graph.old.root_depth (map arg_sort unknowns.now)
         (goal_of (references_in cx.old.interner.entries clauses.now) (reference_in cx.old.interner.entries asked)) graph.old graph.new }
+    ensures full { result ≡ Err Fault.Full → IsShort solver_by_view cx.new ⊎ (MAX_INDEX ≤ length unknowns.now) }
 {
     rest_laws::<Solver>();
     references_are_goals();
@@ -241,6 +250,7 @@ fn prove_lowered(
         → IsAnsweredBySolver (solving_of cx.old.interner.entries cx.old.handler.declarations) graph.old.root_depth q cx.new.interner.entries a) }
     ensures frames { (q : Question) → IsLowered cx.old.interner.entries q lowered.now
         → QuestionInFrames (solving_of cx.old.interner.entries cx.old.handler.declarations) graph.old.root_depth q graph.old graph.new }
+    ensures full { (q : Question) → IsLowered cx.old.interner.entries q lowered.now → result ≡ Err Fault.Full → IsShort solver_by_view cx.new ⊎ HasManyVariables q }
 {
     rest_laws::<Solver>();
     let clauses = elaborate_in(cx, &lowered.clauses)?;
@@ -269,6 +279,7 @@ pub(crate) fn prove_question(
         → IsAnsweredBySolver (solving_of cx.old.interner.entries cx.old.handler.declarations) graph.old.root_depth q cx.new.interner.entries a) }
     ensures frames { (q : Question) → IsQuestion workspace.now number q
         → QuestionInFrames (solving_of cx.old.interner.entries cx.old.handler.declarations) graph.old.root_depth q graph.old graph.new }
+    ensures full { (q : Question) → IsQuestion workspace.now number q → result ≡ Err Fault.Full → IsShort solver_by_view cx.new ⊎ HasManyVariables q }
 {
     rest_laws::<Solver>();
     let lowered = lower_in(cx, workspace, number)?;

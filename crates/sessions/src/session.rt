@@ -1,6 +1,6 @@
 //! Sessions.
 
-ghost use Rattle.std.specs.Prelude.{◌≡◌, ◌<◌, ◌≤◌, ◌+◌, ℕ, true, length, IfOk, IfSome, Ok, Err};
+ghost use Rattle.std.specs.Prelude.{◌≡◌, ◌⊎◌, ◌<◌, ◌≤◌, ◌+◌, ℕ, true, length, IfOk, IfSome, Ok, Err};
 ghost use Rattle.type_terms.specs.Failures.{SomeKindIsFull};
 ghost use Rattle.type_terms.specs.Kinds.{ArgsHeld};
 ghost use Rattle.type_terms.specs.declared.TheConstants.{MAX_INDEX};
@@ -19,6 +19,7 @@ ghost use Rattle.sessions.specs.Given.{AnswerHeld, VerdictHeld, answer_in, later
 ghost use Rattle.sessions.specs.Promises.{IsProved, IsRefutation, IsVerdictOf};
 ghost use Rattle.sessions.specs.Releases.{AddedImplsBreakNoUser, IsSectionOf, IsLaterAnswer, IsSupersAnswer};
 ghost use Rattle.sessions.specs.Shown.{AreProofOfQuestion};
+ghost use Rattle.sessions.specs.Shortages.{IsAtLimit, HasManyVariables};
 ghost use Rattle.sessions.specs.Supertraits.{IsCheckedAt};
 ghost use Rattle.sessions.specs.Subjects.{IsOfText, AsksProof, AsksRefutation, StaysOn};
 
@@ -44,7 +45,7 @@ use overlap_check::{accepted_sets_have_one_impl, held_sets_have_one_impl};
 use proof_checker::steps::Step;
 use search_graph::{GlobalCache, SearchGraph};
 use solver_context::{SolverCx, SolverGraph};
-use std::alloc::Global;
+use std::alloc::{AllocError, Global};
 use std::marker::Model;
 use type_terms::interner::Interner;
 use type_terms::kinds::{GenericArgKind, Ty};
@@ -88,6 +89,8 @@ impl<'w> Model for Session<'w> {
 
     ghost coded = { subject_code };
 
+    ghost use Rattle.std.specs.Prelude.{length};
+    ghost use Rattle.goal_frames.specs.Stores.{kept_inputs, kept_responses, limit_of};
     ghost use Rattle.sessions.specs.Sessions.{IsSession};
 
     ghost view = { λ s. record {
@@ -97,6 +100,9 @@ impl<'w> Model for Session<'w> {
       handles = s.limits.handles;
       terms = s.cx.interner.entries;
       term_limit = s.cx.interner.limit;
+      goals = length (kept_inputs s.cx.store);
+      answers = length (kept_responses s.cx.store);
+      goal_limit = limit_of s.cx.store;
       frames = s.graph.frames;
     } };
 
@@ -121,6 +127,7 @@ impl<'w> Session<'w> {
         ensures depth { IfOk result (λ session. session.depth ≡ limits.depth) }
         ensures handles { IfOk result (λ session. session.handles ≡ limits.handles) }
         ensures term_limit { IfOk result (λ session. session.term_limit ≡ limits.handles) }
+        ensures goal_limit { IfOk result (λ session. session.goal_limit ≡ limits.handles) }
         ensures frames { IfOk result (λ session. session.frames ≡ 0) }
     {
         let mut interner = Interner::new(alloc, limits.handles);
@@ -154,6 +161,9 @@ impl<'w> Session<'w> {
         ensures verdict { IfOk result (λ verdict. IsVerdictOf self.old.depth self.old.declarations self.old.of_crate (verdict_in self.new.terms verdict)) }
         ensures held { IfOk result (VerdictHeld self.new.terms) }
         ensures stays { StaysOn self.old self.new }
+
+        // `Full` comes only where a limit of the session is reached.
+        ensures full { result ≡ Err Fault.Full → IsAtLimit self.new }
     {
         accepted_sets_have_one_impl();
         let end = self.impl_end();
@@ -184,6 +194,7 @@ impl<'w> Session<'w> {
         ensures first { IfOk result (HasOrphan self.old self.new.terms) }
         ensures held { IfOk result (λ found. IfSome found (λ x. ErrorHeld self.new.terms x.1)) }
         ensures stays { StaysOn self.old self.new }
+        ensures full { result ≡ Err Fault.Full → IsAtLimit self.new }
     {
         rest_laws::<Solver>();
         first_broken_header(&mut self.cx, end)
@@ -197,6 +208,7 @@ impl<'w> Session<'w> {
         requires numbered { IsNumbered self.old.declarations }
         ensures found { IfOk result (HasOverlap self.old end) }
         ensures stays { StaysOn self.old self.new }
+        ensures full { result ≡ Err Fault.Full → IsAtLimit self.new }
     {
         let impls = self.impls_by_trait(end)?;
         for index in 0..end {
@@ -209,7 +221,7 @@ impl<'w> Session<'w> {
     }
 
     /// The impls that the crate sees, by their traits and headers; their numbers are below `end`.
-    fn impls_by_trait(&self, end: u32) -> Result<ImplsByTrait, Fault>
+    fn impls_by_trait(&self, end: u32) -> Result<ImplsByTrait, AllocError>
         requires end { end ≡ length self.now.declarations.impls }
         requires in_range { end ≤ MAX_INDEX + 1 }
         requires numbered { IsNumbered self.now.declarations }
@@ -225,7 +237,7 @@ impl<'w> Session<'w> {
 
     /// The impls that the crate brings together with an impl of its own, and with which that may have a common instance, by rising number;
     /// none for an impl of another crate.
-    fn partners_of(&self, impls: &ImplsByTrait, later: ImplId) -> Result<Vec<ImplId>, Fault>
+    fn partners_of(&self, impls: &ImplsByTrait, later: ImplId) -> Result<Vec<ImplId>, AllocError>
         requires { ListsSeen self.now impls.now }
         ensures { IfOk result (λ ids. HavePartnersSeen self.now later.index ids.items) }
     {
@@ -247,6 +259,7 @@ impl<'w> Session<'w> {
         requires numbered { IsNumbered self.old.declarations }
         ensures found { (end : ℕ) → IfOk result (HasPartner self.old end later.index) }
         ensures stays { StaysOn self.old self.new }
+        ensures full { result ≡ Err Fault.Full → IsAtLimit self.new }
     {
         let partners = self.partners_of(impls, later)?;
         for earlier in &partners {
@@ -262,6 +275,7 @@ impl<'w> Session<'w> {
         requires numbered { IsNumbered self.old.declarations }
         ensures judged { IfOk result (HasJudged self.old later.index earlier.index) }
         ensures stays { StaysOn self.old self.new }
+        ensures full { result ≡ Err Fault.Full → IsAtLimit self.new }
     {
         overlap_at(
             &mut self.graph,
@@ -333,6 +347,9 @@ impl<'w> Session<'w> {
         ensures coherent { HeldTextsAreCoherent }
         ensures answer { IfOk result (λ a. IsSupersAnswer self.old.depth self.old.declarations self.old.of_crate (supers_of a)) }
         ensures stays { StaysOn self.old self.new }
+
+        // `Full` comes only where a limit of the session is reached.
+        ensures full { result ≡ Err Fault.Full → IsAtLimit self.new }
     {
         held_sets_are_linked();
         held_sets_have_one_impl();
@@ -353,6 +370,7 @@ impl<'w> Session<'w> {
     fn header_answer(&mut self, id: ImplId) -> Result<HeaderAnswer, Fault>
         ensures checked { IfOk result (IsCheckedAt self.old.depth self.old.declarations self.old.of_crate id.index) }
         ensures stays { StaysOn self.old self.new }
+        ensures full { result ≡ Err Fault.Full → IsAtLimit self.new }
     {
         impls_apply();
         header_answer_at(&mut self.graph, &mut self.cache, &mut self.cx, id)
@@ -380,6 +398,10 @@ impl<'w> Session<'w> {
 
         // The frames are those of eight askings at most, after a fault too.
         ensures frames { (q : Question) → AsksProof self.old.declarations self.old.of_crate number q → ProvesInFrames self.old q self.new }
+
+        // `Full` comes only where a limit of the session is reached, or the question has more variables than there are numbers for.
+        ensures full { (q : Question) → AsksProof self.old.declarations self.old.of_crate number q
+            → result ≡ Err Fault.Full → IsAtLimit self.new ⊎ HasManyVariables q }
     {
         clauses_apply();
         yes_is_proved();
@@ -434,6 +456,10 @@ impl<'w> Session<'w> {
 
         // The frames are those of one asking, after a fault too.
         ensures frames { (q : Question) → AsksRefutation self.old.declarations self.old.of_crate number q → RefutesInFrames self.old q self.new }
+
+        // `Full` comes only where a limit of the session is reached, or the question has more variables than there are numbers for.
+        ensures full { (q : Question) → AsksRefutation self.old.declarations self.old.of_crate number q
+            → result ≡ Err Fault.Full → IsAtLimit self.new ⊎ HasManyVariables q }
     {
         refutations_have_variables_alone();
         refute_question(

@@ -100,7 +100,7 @@ fn ask_again<H: GoalHandler>(
         → IsProvedBy H.meaning (H.meaning.world cx.old.handler cx.old.interner.entries) cx.old table.old cx.new table.new goal.now }
     ensures not_unproved { result ≡ Ok Outcome.Unproved → ⊥ }
     ensures full { result ≡ Err Fault.Full → IsFull H.meaning cx.new
-        ⊎ SomeAskingRunsOut H.meaning graph.old cache.old cx.old table.old goal.now }
+        ⊎ SomeAskingRunsOut H.meaning graph.old cache.old cx.old table.old goal.now cx.new }
     ensures frames { AskingsOf H.meaning (MAX_ASKINGS - 1) cx.old graph.old table.old goal.now graph.new }
 {
     for _asking in 1..MAX_ASKINGS {
@@ -139,7 +139,7 @@ pub fn ask_until_settled<H: GoalHandler>(
     ensures unproved { result ≡ Ok Outcome.Unproved → IsRefused H.meaning cx.old graph.old table.old goal.now }
     ensures maybe { result ≡ Ok Outcome.Maybe → IsUnsettled H.meaning cx.old graph.old table.old goal.now }
     ensures full { result ≡ Err Fault.Full → IsFull H.meaning cx.new
-        ⊎ SomeAskingRunsOut H.meaning graph.old cache.old cx.old table.old goal.now }
+        ⊎ SomeAskingRunsOut H.meaning graph.old cache.old cx.old table.old goal.now cx.new }
     ensures frames { AskingsOf H.meaning MAX_ASKINGS cx.old graph.old table.old goal.now graph.new }
 {
     match ask_once(graph, cache, cx, table, goal)? {

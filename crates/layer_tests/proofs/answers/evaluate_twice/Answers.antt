@@ -1,8 +1,8 @@
 use Rattle.infer_table.proofs.Numbers.{goal-held-later}
 use Rattle.layer_tests.proofs.answers.evaluate_twice.Goals as goal
 
-pub evaluate-2-requires-clause-goal : goal.evaluate-2-requires-clause-goal
-evaluate-2-requires-clause-goal _ c = goal-held-later c.args.solving.now.cx.interner.entries c.evaluate.new.solving.cx.interner.entries c.evaluate.ensures.keeps c.args.posed.now.goal c.requires.goal
+pub evaluate-requires-2-clause-goal : goal.evaluate-requires-2-clause-goal
+evaluate-requires-2-clause-goal _ c = goal-held-later c.args.solving.now.cx.interner.entries c.evaluate.new.solving.cx.interner.entries c.evaluate.ensures.keeps c.args.posed.now.goal c.requires.goal
 
 pub is_as_wanted-requires-clause-goal : goal.is_as_wanted-requires-clause-goal
 is_as_wanted-requires-clause-goal _ c =

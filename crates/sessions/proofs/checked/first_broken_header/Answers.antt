@@ -1,4 +1,9 @@
 use Rattle.std.proofs.Common.{refl}
+use Rattle.sessions.specs.Shortages.{in_header}
+use Rattle.candidate_assembly.specs.SolverMeaning.{solver_by_view}
+use Rattle.sessions.proofs.ShortCalls.{either, short-of-terms}
+use Rattle.candidate_assembly.specs.declared.solver.Solver.{Solver}
+use Rattle.solver_context.specs.declared.context.SolverCx.{SolverCx}
 use Rattle.sessions.proofs.checked.first_broken_header.Goals as goal
 
 pub first_orphan-found-requires-clause-held : goal.first_orphan-found-requires-clause-held
@@ -17,3 +22,8 @@ returns-clause-held c = c.first_orphan-found.ensures.held
 
 pub returns-clause-first : goal.returns-clause-first
 returns-clause-first c = c.first_orphan-found.ensures.first
+
+pub returns-clause-full : goal.returns-clause-full
+returns-clause-full c = λ q.
+    let new : SolverCx Solver = record { alloc = c.args.cx.now.alloc; interner = c.first_orphan-found.new.cx; handler = c.args.cx.now.handler; store = c.args.cx.now.store } in
+    either (c.first_orphan-found.ensures.full q) (short-of-terms solver_by_view new) in_header

@@ -1,8 +1,11 @@
-use Rattle.std.proofs.Common.{rules, ◌≡◌, Ok, None, sym, subst}
+use Rattle.std.proofs.Common.{rules, ◌≡◌, Ok, None, sym, subst, ap, Err, inl, inr}
 use Rattle.std.specs.Prelude.{IfSome}
 use Rattle.sessions.specs.Checking.{IsFoundAt, IsJudgedAt, solving_in}
 use Rattle.sessions.specs.Promises.{view_in}
 use Rattle.sessions.proofs.PairChecks.{apart-passes, judged}
+use Rattle.infer_table.proofs.FullFacts.{handed-on}
+use Rattle.sessions.specs.Shortages.{in_clause}
+use Rattle.sessions.proofs.ShortCalls.{either}
 use Rattle.sessions.proofs.checked.overlap_at.Goals as goal
 
 pub returns-in_err-found-clause-rest : goal.returns-in_err-found-clause-rest
@@ -32,3 +35,11 @@ returns-clause-judged c = λ d n depth s.
     (judged d n depth c.args.cx.now c.args.graph.now c.args.cache.now s c.args.later c.args.earlier new c.in-Some.found at c.intersection_at.ensures.advances.ready.lawful c.ready_impls_are_written_well.ensures
     c.open_pair_goals_are_possible.ensures c.requires.rest.ready.lawful (solving_in c.intersection_at.new.cx) (c.rest_laws.ensures.meaning c.args.cx.now c.intersection_at.new.cx c.requires.rest.ready c.intersection_at.ensures.advances)
     c.requires.numbers c.in_ok-refused.refused c.in_ok-refused.ensures.impossible c.in_ok-refused.ensures.left_open)
+
+pub returns-in_err-found-clause-full : goal.returns-in_err-found-clause-full
+returns-in_err-found-clause-full c = handed-on c.from_residual.result c.from_residual.ensures.1 (λ p. c.in_err-found.ensures.full (ap Err p))
+
+pub returns-in_err-refused-clause-full : goal.returns-in_err-refused-clause-full
+returns-in_err-refused-clause-full c = λ q.
+    either (handed-on c.from_residual-in_err-refused.result c.from_residual-in_err-refused.ensures.1 (λ p. c.in_err-refused.ensures.full (ap Err p)) q)
+    inl (λ h. in_clause c.intersection_at.new.cx c.args.graph.now c.in-Some.found.table h.0 c.in_err-refused.ensures.entries h.2)

@@ -1,9 +1,11 @@
-use Rattle.std.proofs.Common.{ap, ◌∙◌, [], ◌∷◌}
+use Rattle.std.proofs.Common.{ap, ◌∙◌, [], ◌∷◌, rules, ◌≡◌, Err}
 use Rattle.type_terms.specs.Trees.{instantiate}
 use Rattle.type_terms.specs.Pieces.{each_piece, one_piece}
 use Rattle.type_terms.specs.Terms.{trees_at}
 use Rattle.term_folds.specs.declared.predicate.TraitRef.{TraitRef}
 use Rattle.declarations.proofs.Bounded.{one-instantiated}
+use Rattle.type_terms.specs.declared.Fault.TheVariants.{Full}
+use Rattle.term_folds.specs.declared.instantiate.InstantiateError.TheVariants as wrong
 use Rattle.sessions.proofs.placeholders.instantiate_trait_ref.Goals as goal
 
 pub returns-in-Ok-clause-is : goal.returns-in-Ok-clause-is
@@ -13,3 +15,8 @@ returns-in-Ok-clause-is c =
     let value = c.bind.ensures in
     one-instantiated old new (trees_at old c.args.args.0) c.args.trait_ref c.in-Ok.instance (c.in-Ok.ensures.outline ∙ ap (λ (b : TraitRef). b.def_id.index ∷ []) value)
     (c.in-Ok.ensures.instantiated ∙ ap (λ (b : TraitRef). each_piece (λ d t. instantiate d (trees_at old c.args.args.0) t) (one_piece (trees_at old b.args.0))) value)
+
+pub returns-in-Err-Fault-clause-full : goal.returns-in-Err-Fault-clause-full
+returns-in-Err-Fault-clause-full c = λ e.
+    let is : c.instantiate.result ≡ Err (wrong.Fault Full) = search rules in
+    c.instantiate.ensures.full is

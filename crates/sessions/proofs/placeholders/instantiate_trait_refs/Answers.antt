@@ -1,4 +1,4 @@
-use Rattle.std.proofs.Common.{◌≡◌, ◌++◌, ap, sym, ◌∙◌, subst, None}
+use Rattle.std.proofs.Common.{◌≡◌, ◌++◌, ap, sym, ◌∙◌, subst, None, Err, inl}
 use Rattle.type_terms.specs.Worlds.{with_args, all_with_args}
 use Rattle.type_terms.specs.Terms.{args_lists, trees_at}
 use Rattle.term_folds.specs.Arguments.{first_misfit}
@@ -8,6 +8,7 @@ use Rattle.declarations.specs.Merges.{Each}
 use Rattle.declarations.specs.Applied.{references_in, AllHeld}
 use Rattle.declarations.proofs.Growth.{reference-same}
 use Rattle.declarations.proofs.Bounded.{held-more, one-more}
+use Rattle.infer_table.proofs.FullFacts.{handed-on}
 use Rattle.sessions.proofs.placeholders.instantiate_trait_refs.Goals as goal
 
 pub references-preserved : goal.references-preserved
@@ -39,3 +40,6 @@ references-preserved c =
       found_held = subst (AllHeld next) (sym put) (held-more now next k found r inv.found_held c.in_ok-instance.ensures.held);
       are = subst (λ l. references_in next l ++ ys ≡ all) (sym put) (one-more now next k found r y ys all inv.found_held is before);
     }
+
+pub returns-in_err-instance-clause-full : goal.returns-in_err-instance-clause-full
+returns-in_err-instance-clause-full c = handed-on c.from_residual.result c.from_residual.ensures.1 (λ p. c.in_err-instance.ensures.full (ap Err p))

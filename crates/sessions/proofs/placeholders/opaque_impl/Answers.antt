@@ -1,4 +1,4 @@
-use Rattle.std.proofs.Common.{◌≡◌, ◌∙◌, ap, map, sym, subst}
+use Rattle.std.proofs.Common.{◌≡◌, ◌∙◌, ap, map, sym, subst, Err, inl, ◌≤◌, length}
 use Rattle.type_terms.specs.Trees.{outer_binder}
 use Rattle.type_terms.specs.Worlds.{with_args, all_with_args}
 use Rattle.type_terms.specs.Kept.{has-later, trees-later}
@@ -10,6 +10,9 @@ use Rattle.declarations.proofs.Growth.{reference-kept, references-kept, referenc
 use Rattle.sessions.specs.Placeholders.{placeholders_from}
 use Rattle.sessions.proofs.OpaqueTerms.{placeholders-closed}
 use Rattle.sessions.proofs.OpaqueFound.{header-fits, clauses-fit, header-is, clauses-are}
+use Rattle.infer_table.proofs.FullFacts.{handed-on}
+use Rattle.type_terms.specs.declared.TheConstants.{MAX_INDEX}
+use Rattle.sessions.proofs.ShortCalls.{either}
 use Rattle.sessions.proofs.placeholders.opaque_impl.Goals as goal
 
 pub instantiate_trait_ref-requires-clause-held : goal.instantiate_trait_ref-requires-clause-held
@@ -80,3 +83,14 @@ returns-clause-is c =
       header_held = reference-kept two new k3 r held;
       clauses_held = c.in_ok-clauses.ensures.held;
     }
+
+pub returns-in_err-args-clause-full : goal.returns-in_err-args-clause-full
+returns-in_err-args-clause-full c = λ q.
+    either (handed-on c.from_residual.result c.from_residual.ensures.1 (λ p. c.in_err-args.ensures.full (ap Err p)) q)
+    (λ s. s) (λ m. subst (λ (ps : _). MAX_INDEX ≤ length ps) c.deref.ensures.value m)
+
+pub returns-in_err-header-clause-full : goal.returns-in_err-header-clause-full
+returns-in_err-header-clause-full c = handed-on c.from_residual-in_err-header.result c.from_residual-in_err-header.ensures.1 (λ p. inl (c.in_err-header.ensures.full (ap Err p)))
+
+pub returns-in_err-clauses-clause-full : goal.returns-in_err-clauses-clause-full
+returns-in_err-clauses-clause-full c = handed-on c.from_residual-in_err-clauses.result c.from_residual-in_err-clauses.ensures.1 (λ p. inl (c.in_err-clauses.ensures.full (ap Err p)))

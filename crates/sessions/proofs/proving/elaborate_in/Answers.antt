@@ -23,3 +23,6 @@ returns-clause-held c = c.elaborate-elaborated.ensures.held
 
 pub returns-clause-are : goal.returns-clause-are
 returns-clause-are c = c.elaborate-elaborated.ensures.are
+
+pub returns-clause-full : goal.returns-clause-full
+returns-clause-full c = c.elaborate-elaborated.ensures.full

@@ -1,4 +1,4 @@
-use Rattle.std.proofs.Common.{rules, ◌≡◌, ◌∙◌, map, ap, sym, subst}
+use Rattle.std.proofs.Common.{rules, ◌≡◌, ◌∙◌, map, ap, sym, subst, Err, inl, length, ◌≤◌}
 use Rattle.type_terms.specs.Kinds.{arg_trees, ArgsHeld}
 use Rattle.term_folds.specs.Arguments.{arg_sort}
 use Rattle.type_terms.specs.Kept.{args-held-later}
@@ -13,6 +13,9 @@ use Rattle.sessions.proofs.Posing.{over-ok, args-later, answer-is, same-asked}
 use Rattle.sessions.proofs.VariableKinds.{kinds-are}
 use Rattle.candidate_assembly.specs.SolverMeaning.{solver_by_view}
 use Rattle.sessions.proofs.FramesStarted.{asked-none, settles-same}
+use Rattle.type_terms.specs.declared.TheConstants.{MAX_INDEX}
+use Rattle.infer_table.proofs.FullFacts.{handed-on}
+use Rattle.sessions.proofs.ShortCalls.{either, short-of-terms, many-variables}
 use Rattle.sessions.proofs.proving.prove_lowered.Goals as goal
 
 pub elaborate_in-requires-clause-ready : goal.elaborate_in-requires-clause-ready
@@ -110,3 +113,14 @@ returns-clause-frames c = λ q low.
     (same-asked (references_in new c.deref-2.result.now) (elaborate V (unbound_references q.clauses)) (reference_in new l.asked) (unbound_reference q.asked)
     (ap (references_in new) cs ∙ c.in_ok-clauses.ensures.are ∙ ap (λ (rs : _). elaborate V (references_in old rs)) given ∙ ap (elaborate V) low.clauses) (reference-is q old new c.requires.rest.ready.lawful k l low))
     c.prove_under.ensures.frames
+
+pub returns-in_err-clauses-clause-full : goal.returns-in_err-clauses-clause-full
+returns-in_err-clauses-clause-full c = λ q low e.
+    inl (short-of-terms solver_by_view c.elaborate_in.new.cx (handed-on c.from_residual.result c.from_residual.ensures.1 (λ p. c.in_err-clauses.ensures.full (ap Err p)) e))
+
+pub returns-clause-full : goal.returns-clause-full
+returns-clause-full c = λ q low e.
+    let us = c.args.lowered.now.unknowns.items in
+    let vs : c.deref-3.result.now ≡ us = search rules in
+    either (c.prove_under.ensures.full e) (λ s. s)
+    (λ m. many-variables c.args.cx.now.interner.entries c.requires.rest.ready.lawful us q low.unknowns_held low.unknowns (subst (λ (xs : _). MAX_INDEX ≤ length xs) vs m))

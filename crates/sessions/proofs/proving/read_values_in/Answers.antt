@@ -8,3 +8,6 @@ returns-clause-advances g c =
 
 pub returns-clause-held : goal.returns-clause-held
 returns-clause-held g c = c.read_values-read.ensures.held
+
+pub returns-clause-full : goal.returns-clause-full
+returns-clause-full g c = c.read_values-read.ensures.full

@@ -21,8 +21,8 @@ returns-in-IsUnsure-clause-asked g c =
 pub returns-in_err-ask_once-clause-full : goal.returns-in_err-ask_once-clause-full
 returns-in_err-ask_once-clause-full g c = λ q.
     or-else (handed-on c.from_residual.result c.from_residual.ensures.1 (λ p. c.in_err-ask_once.ensures.full (ap Err p)) q)
-    (λ h. later-out g.H.GoalHandler.meaning c.args.graph.now c.loop-asking.graph c.args.cache.now c.loop-asking.cache c.args.cx.now c.loop-asking.cx c.args.table.now c.loop-asking.table c.args.goal.now c.loop-asking.invariant.asked
-    (first-out g.H.GoalHandler.meaning c.loop-asking.graph c.loop-asking.cache c.loop-asking.cx c.loop-asking.table c.args.goal.now h))
+    (λ h. later-out g.H.GoalHandler.meaning c.args.graph.now c.loop-asking.graph c.args.cache.now c.loop-asking.cache c.args.cx.now c.loop-asking.cx c.ask_once.new.cx c.args.table.now c.loop-asking.table c.args.goal.now c.loop-asking.invariant.asked
+    (first-out g.H.GoalHandler.meaning c.loop-asking.graph c.loop-asking.cache c.loop-asking.cx c.ask_once.new.cx c.loop-asking.table c.args.goal.now c.ask_once.ensures.asked.entries h))
 
 pub returns-in-Holds-clause-proved : goal.returns-in-Holds-clause-proved
 returns-in-Holds-clause-proved g c = λ _.

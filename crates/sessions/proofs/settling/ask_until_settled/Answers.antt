@@ -9,7 +9,7 @@ use Rattle.sessions.proofs.settling.ask_until_settled.Goals as goal
 pub returns-in_err-ask_once-clause-full : goal.returns-in_err-ask_once-clause-full
 returns-in_err-ask_once-clause-full g c = λ q.
     or-else (handed-on c.from_residual.result c.from_residual.ensures.1 (λ p. c.in_err-ask_once.ensures.full (ap Err p)) q)
-    (λ h. first-out g.H.GoalHandler.meaning c.args.graph.now c.args.cache.now c.args.cx.now c.args.table.now c.args.goal.now h)
+    (λ h. first-out g.H.GoalHandler.meaning c.args.graph.now c.args.cache.now c.args.cx.now c.ask_once.new.cx c.args.table.now c.args.goal.now c.ask_once.ensures.asked.entries h)
 
 pub returns-in-Changes-clause-asked : goal.returns-in-Changes-clause-asked
 returns-in-Changes-clause-asked g c =
@@ -25,7 +25,7 @@ returns-in-Changes-clause-proved g c = λ e.
 pub returns-in-Changes-clause-full : goal.returns-in-Changes-clause-full
 returns-in-Changes-clause-full g c = λ e.
     or-else (c.ask_again.ensures.full e)
-    (λ h. later-out g.H.GoalHandler.meaning c.args.graph.now c.ask_once.new.graph c.args.cache.now c.ask_once.new.cache c.args.cx.now c.ask_once.new.cx c.args.table.now c.ask_once.new.table c.args.goal.now c.ask_once.ensures.asked h)
+    (λ h. later-out g.H.GoalHandler.meaning c.args.graph.now c.ask_once.new.graph c.args.cache.now c.ask_once.new.cache c.args.cx.now c.ask_once.new.cx c.ask_again.new.cx c.args.table.now c.ask_once.new.table c.args.goal.now c.ask_once.ensures.asked h)
 
 pub returns-in_err-ask_once-clause-frames : goal.returns-in_err-ask_once-clause-frames
 returns-in_err-ask_once-clause-frames g c =

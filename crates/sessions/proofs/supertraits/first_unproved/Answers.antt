@@ -1,4 +1,4 @@
-use Rattle.std.proofs.Common.{◌+◌, ap, ◌∙◌, sym, subst}
+use Rattle.std.proofs.Common.{◌+◌, ap, ◌∙◌, sym, subst, Err, inl, arith, inr, length, ◌≤◌}
 use Rattle.declarations.specs.Applied.{AllHeld, references_in}
 use Rattle.declarations.specs.Held.{ReferenceHeld}
 use Rattle.declarations.specs.Items.{reference_in}
@@ -10,6 +10,8 @@ use Rattle.sessions.specs.Supertraits.{IsFirstTold, IsTold}
 use Rattle.sessions.specs.declared.settling.Outcome.TheVariants.{Proved, Unproved, Maybe}
 use Rattle.sessions.proofs.HeaderChecks.{first-told, more-told, told-of}
 use Rattle.sessions.proofs.Lists.{each-here}
+use Rattle.infer_table.proofs.FullFacts.{handed-on}
+use Rattle.type_terms.specs.declared.TheConstants.{MAX_INDEX}
 use Rattle.sessions.proofs.supertraits.first_unproved.Goals as goal
 
 pub ask_under-requires-clause-clauses : goal.ask_under-requires-clause-clauses
@@ -43,7 +45,7 @@ returns-in-Unproved-clause-told c =
     (ap (references_in now) c.deref.ensures.value ∙ all-same old now inv.keeps c.args.goals.now.clauses.items c.requires.clauses) (reference-same old now inv.keeps item held)
     (subst (IsTold (solving_of now c.loop-supertrait.cx.handler.declarations) c.loop-supertrait.graph.root_depth (references_in now c.deref.result.now) (reference_in now item)) c.in-Unproved.is c.in_ok-ask_under.ensures.told) in
     subst (λ ys. IsFirstTold s depth F (references_in old ys) c.in_ok-place.place Unproved) c.deref-supertrait-items.ensures.value
-    (first-told s depth F old xs c.loop-supertrait.supertrait-index item c.supertrait-item.is c.loop-supertrait-test.true c.in_ok-place.place (c.in_ok-place.ensures ∙ ap (λ n. n + 1) inv.place) Unproved inv.told told)
+    (first-told s depth F old xs c.loop-supertrait.supertrait-index item c.supertrait-item.is c.loop-supertrait-test.true c.in_ok-place.place (c.in_ok-place.ensures.next ∙ ap (λ n. n + 1) inv.place) Unproved inv.told told)
 
 pub returns-in-Maybe-clause-told : goal.returns-in-Maybe-clause-told
 returns-in-Maybe-clause-told c =
@@ -61,7 +63,7 @@ returns-in-Maybe-clause-told c =
     (ap (references_in now) c.deref.ensures.value ∙ all-same old now inv.keeps c.args.goals.now.clauses.items c.requires.clauses) (reference-same old now inv.keeps item held)
     (subst (IsTold (solving_of now c.loop-supertrait.cx.handler.declarations) c.loop-supertrait.graph.root_depth (references_in now c.deref.result.now) (reference_in now item)) c.in-Maybe.is c.in_ok-ask_under.ensures.told) in
     subst (λ ys. IsFirstTold s depth F (references_in old ys) c.in_ok-place.place Maybe) c.deref-supertrait-items.ensures.value
-    (first-told s depth F old xs c.loop-supertrait.supertrait-index item c.supertrait-item.is c.loop-supertrait-test.true c.in_ok-place.place (c.in_ok-place.ensures ∙ ap (λ n. n + 1) inv.place) Maybe inv.told told)
+    (first-told s depth F old xs c.loop-supertrait.supertrait-index item c.supertrait-item.is c.loop-supertrait-test.true c.in_ok-place.place (c.in_ok-place.ensures.next ∙ ap (λ n. n + 1) inv.place) Maybe inv.told told)
 
 pub loop-supertrait-preserved : goal.loop-supertrait-preserved
 loop-supertrait-preserved c =
@@ -82,6 +84,14 @@ loop-supertrait-preserved c =
       rest = subst (λ n. SolverRests n c.ask_under.new.cx c.ask_under.new.graph c.ask_under.new.cache) inv.rest.depth c.ask_under.ensures.rest;
       solving = c.ask_under.ensures.solving ∙ inv.solving;
       keeps = λ i e h. c.ask_under.ensures.keeps i e (inv.keeps i e h);
-      place = c.in_ok-place.ensures ∙ ap (λ n. n + 1) inv.place;
+      place = c.in_ok-place.ensures.next ∙ ap (λ n. n + 1) inv.place;
       told = more-told s depth F old xs c.loop-supertrait.supertrait-index item c.supertrait-item.is c.loop-supertrait-test.true inv.told told;
     }
+
+pub returns-in_err-place-clause-full : goal.returns-in_err-place-clause-full
+returns-in_err-place-clause-full c =
+    handed-on c.from_residual.result c.from_residual.ensures.1
+    (λ p. inr (subst (λ (rs : _). MAX_INDEX ≤ length rs) c.deref-supertrait-items.ensures.value (omega (arith, c.in_err-place.ensures.full (ap Err p), c.loop-supertrait.invariant.place, c.loop-supertrait-test.true))))
+
+pub returns-in_err-ask_under-clause-full : goal.returns-in_err-ask_under-clause-full
+returns-in_err-ask_under-clause-full c = handed-on c.from_residual-in_err-ask_under.result c.from_residual-in_err-ask_under.ensures.1 (λ p. inl (c.in_err-ask_under.ensures.full (ap Err p)))

@@ -1,4 +1,4 @@
-use Rattle.std.proofs.Common.{◌∙◌, ap, sym, subst}
+use Rattle.std.proofs.Common.{◌∙◌, ap, sym, subst, Err, inl}
 use Rattle.type_terms.specs.Worlds.{World}
 use Rattle.declarations.specs.Applied.{AllHeld, AreApplied, references_in}
 use Rattle.declarations.specs.Elaboration.{elaborate, supertraits}
@@ -7,6 +7,7 @@ use Rattle.declarations.proofs.Bounded.{all-same}
 use Rattle.declarations.proofs.Elaborating.{have-bounds-later}
 use Rattle.declarations.proofs.Growth.{all-held, all-written, references-kept}
 use Rattle.sessions.proofs.OpaqueFound.{header-applies, clauses-apply}
+use Rattle.infer_table.proofs.FullFacts.{handed-on}
 use Rattle.sessions.proofs.supertraits.goals_of.Goals as goal
 
 pub supertraits-requires-clause-held : goal.supertraits-requires-clause-held
@@ -79,3 +80,12 @@ returns-clause-are c =
       supertraits_held = references-kept two new k3 supers c.in_ok-supertraits.ensures.held;
       clauses_held = c.in_ok-clauses.ensures.held;
     }
+
+pub returns-in_err-opaque-clause-full : goal.returns-in_err-opaque-clause-full
+returns-in_err-opaque-clause-full c = handed-on c.from_residual.result c.from_residual.ensures.1 (λ p. c.in_err-opaque.ensures.full (ap Err p))
+
+pub returns-in_err-supertraits-clause-full : goal.returns-in_err-supertraits-clause-full
+returns-in_err-supertraits-clause-full c = handed-on c.from_residual-in_err-supertraits.result c.from_residual-in_err-supertraits.ensures.1 (λ p. inl (c.in_err-supertraits.ensures.full (ap Err p)))
+
+pub returns-in_err-clauses-clause-full : goal.returns-in_err-clauses-clause-full
+returns-in_err-clauses-clause-full c = handed-on c.from_residual-in_err-clauses.result c.from_residual-in_err-clauses.ensures.1 (λ p. inl (c.in_err-clauses.ensures.full (ap Err p)))

@@ -1,4 +1,9 @@
 use Rattle.std.proofs.Common.{refl}
+use Rattle.sessions.specs.Shortages.{in_params}
+use Rattle.candidate_assembly.specs.SolverMeaning.{solver_by_view}
+use Rattle.sessions.proofs.ShortCalls.{either, short-of-terms}
+use Rattle.candidate_assembly.specs.declared.solver.Solver.{Solver}
+use Rattle.solver_context.specs.declared.context.SolverCx.{SolverCx}
 use Rattle.sessions.proofs.supertraits.own_goals_in.Goals as goal
 
 pub own_goals-goals-requires-clause-ready : goal.own_goals-goals-requires-clause-ready
@@ -14,3 +19,8 @@ returns-clause-advances c =
 
 pub returns-clause-goals : goal.returns-clause-goals
 returns-clause-goals c = c.own_goals-goals.ensures.goals
+
+pub returns-clause-full : goal.returns-clause-full
+returns-clause-full c = λ q.
+    let new : SolverCx Solver = record { alloc = c.args.cx.now.alloc; interner = c.own_goals-goals.new.cx; handler = c.args.cx.now.handler; store = c.args.cx.now.store } in
+    either (c.own_goals-goals.ensures.full q) (short-of-terms solver_by_view new) (in_params c.args.id.index)

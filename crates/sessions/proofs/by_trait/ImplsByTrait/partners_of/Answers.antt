@@ -6,11 +6,10 @@ use Rattle.declarations.specs.Heads.{head_of, label_of}
 use Rattle.declarations.specs.Items.{declared}
 use Rattle.declarations.specs.Relevant.{names_of, relevant_in}
 use Rattle.declarations.proofs.Pushed.{head-of-first}
-use Rattle.overlap_check.proofs.Judged.{ok-then}
 use Rattle.sessions.specs.ByTrait.{listed, HaveNumbers, HavePartners}
 use Rattle.sessions.specs.declared.by_trait.ImplGroup.TheVariants.{Open, Closed}
 use Rattle.sessions.proofs.ByTrait.{none-partners, foreign-partners, own-partners}
-use Rattle.sessions.proofs.ClosedPartners.{ok-of-three, closed-partners}
+use Rattle.sessions.proofs.ClosedPartners.{ok-after, ok-of-three, closed-partners}
 use Rattle.sessions.proofs.Relevant.{rigid-partners}
 use Rattle.sessions.proofs.by_trait.ImplsByTrait.partners_of.Goals as goal
 
@@ -53,7 +52,7 @@ returns-in-Some-2 c =
     let d = c.args.declarations.now in
     let def = c.in-Some.def.now in
     let S = trees_at es c.self_ty-self_ty.result.0 in
-    ok-then (λ ids. HaveNumbers (relevant_in es d def.header.def_id.index S) ids.items) (λ ids. HavePartners (declared es d) d.local c.args.later.index ids.items) c.relevant_impls.result
+    ok-after (λ ids. HaveNumbers (relevant_in es d def.header.def_id.index S) ids.items) (λ ids. HavePartners (declared es d) d.local c.args.later.index ids.items) c.relevant_impls.result
     (λ ids. rigid-partners es d c.requires.held c.args.later def (c.in-Some.ensures.found es) S (label_of c.in-Some-simplify_type.head) c.in-Some-simplify_type.ensures
     (trees-is es types c.self_ty-self_ty.result.0 (nth (trees_at es def.header.args.0) 0) c.self_ty-self_ty.ensures.is) (c.in-Some.ensures.held es c.requires.held).begins ids.items)
     c.relevant_impls.ensures

@@ -1,4 +1,5 @@
-use Rattle.std.proofs.Common.{refl, sym, subst}
+use Rattle.std.proofs.Common.{refl, sym, subst, length}
+use Rattle.goal_frames.specs.Stores.{kept_inputs, kept_responses, limit_of}
 use Rattle.std.specs.Prelude.{IfOk}
 use Rattle.sessions.specs.Given.{later_of}
 use Rattle.sessions.specs.Releases.{IsSectionOf, IsLaterAnswer}
@@ -34,5 +35,5 @@ returns-clause-answer c =
 pub returns-clause-stays : goal.returns-clause-stays
 returns-clause-stays c =
     let i = c.self.inside in
-    subst (λ (s : Subject). StaysOn s (record { declarations = i.workspace.now; of_crate = i.crate_id.index; depth = i.limits.depth; handles = i.limits.handles; terms = c.later_answer.new.cx.interner.entries; term_limit = c.later_answer.new.cx.interner.limit; frames = i.graph.frames })) c.self.view_is
+    subst (λ (s : Subject). StaysOn s (record { declarations = i.workspace.now; of_crate = i.crate_id.index; depth = i.limits.depth; handles = i.limits.handles; terms = c.later_answer.new.cx.interner.entries; term_limit = c.later_answer.new.cx.interner.limit; goals = length (kept_inputs c.later_answer.new.cx.store); answers = length (kept_responses c.later_answer.new.cx.store); goal_limit = limit_of c.later_answer.new.cx.store; frames = i.graph.frames })) c.self.view_is
     (record { declarations = refl; of_crate = refl; depth = refl; handles = refl; terms = c.later_answer.ensures.advances.entries })

@@ -1,4 +1,5 @@
 use Rattle.std.proofs.Common.{◌≡◌, refl, sym, subst, length}
+use Rattle.goal_frames.specs.Stores.{kept_inputs, kept_responses, limit_of}
 use Rattle.std.specs.Prelude.{IfOk}
 use Rattle.declarations.specs.Items.{IsAbove}
 use Rattle.sessions.specs.Checking.{HasOrphan}
@@ -7,6 +8,7 @@ use Rattle.workspace.specs.Numbered.{IsNumbered}
 use Rattle.sessions.proofs.CratesAside.{orphan-ok}
 use Rattle.sessions.proofs.ImplNumbers.{numbers-below}
 use Rattle.sessions.proofs.Keeping.{session-kept, session-rests}
+use Rattle.sessions.proofs.ShortCalls.{at-limit}
 use Rattle.sessions.proofs.session.Session.first_orphan.Goals as goal
 
 pub first_broken_header-requires-clause-ready : goal.first_broken_header-requires-clause-ready
@@ -39,5 +41,12 @@ returns-clause-held c = c.first_broken_header.ensures.held
 pub returns-clause-stays : goal.returns-clause-stays
 returns-clause-stays c =
     let i = c.self.inside in
-    subst (λ (s : Subject). StaysOn s (record { declarations = i.workspace.now; of_crate = i.crate_id.index; depth = i.limits.depth; handles = i.limits.handles; terms = c.first_broken_header.new.cx.interner.entries; term_limit = c.first_broken_header.new.cx.interner.limit; frames = i.graph.frames })) c.self.view_is
+    subst (λ (s : Subject). StaysOn s (record { declarations = i.workspace.now; of_crate = i.crate_id.index; depth = i.limits.depth; handles = i.limits.handles; terms = c.first_broken_header.new.cx.interner.entries; term_limit = c.first_broken_header.new.cx.interner.limit; goals = length (kept_inputs c.first_broken_header.new.cx.store); answers = length (kept_responses c.first_broken_header.new.cx.store); goal_limit = limit_of c.first_broken_header.new.cx.store; frames = i.graph.frames })) c.self.view_is
     (record { declarations = refl; of_crate = refl; depth = refl; handles = refl; terms = c.first_broken_header.ensures.advances.entries })
+
+pub returns-clause-full : goal.returns-clause-full
+returns-clause-full c = λ q.
+    let i = c.self.inside in
+    let x = c.first_broken_header.new.cx in
+    let new : Subject = record { declarations = i.workspace.now; of_crate = i.crate_id.index; depth = i.limits.depth; handles = i.limits.handles; terms = x.interner.entries; term_limit = x.interner.limit; goals = length (kept_inputs x.store); answers = length (kept_responses x.store); goal_limit = limit_of x.store; frames = i.graph.frames } in
+    at-limit new x (record { terms = refl; term_limit = refl; goals = refl; answers = refl; goal_limit = refl }) (c.first_broken_header.ensures.full q)

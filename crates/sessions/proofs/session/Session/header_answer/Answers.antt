@@ -1,8 +1,10 @@
-use Rattle.std.proofs.Common.{refl, subst}
+use Rattle.std.proofs.Common.{refl, subst, length}
+use Rattle.goal_frames.specs.Stores.{kept_inputs, kept_responses, limit_of}
 use Rattle.std.specs.Prelude.{IfOk}
 use Rattle.sessions.specs.Subjects.{Subject, StaysOn}
 use Rattle.sessions.specs.Supertraits.{IsCheckedAt}
 use Rattle.sessions.proofs.Keeping.{session-kept, session-rests}
+use Rattle.sessions.proofs.ShortCalls.{at-limit}
 use Rattle.sessions.proofs.session.Session.header_answer.Goals as goal
 
 pub header_answer_at-requires-clause-rest : goal.header_answer_at-requires-clause-rest
@@ -30,5 +32,12 @@ returns-clause-checked c =
 pub returns-clause-stays : goal.returns-clause-stays
 returns-clause-stays c =
     let i = c.self.inside in
-    subst (λ (s : Subject). StaysOn s (record { declarations = i.workspace.now; of_crate = i.crate_id.index; depth = i.limits.depth; handles = i.limits.handles; terms = c.header_answer_at.new.cx.interner.entries; term_limit = c.header_answer_at.new.cx.interner.limit; frames = c.header_answer_at.new.graph.frames })) c.self.view_is
+    subst (λ (s : Subject). StaysOn s (record { declarations = i.workspace.now; of_crate = i.crate_id.index; depth = i.limits.depth; handles = i.limits.handles; terms = c.header_answer_at.new.cx.interner.entries; term_limit = c.header_answer_at.new.cx.interner.limit; goals = length (kept_inputs c.header_answer_at.new.cx.store); answers = length (kept_responses c.header_answer_at.new.cx.store); goal_limit = limit_of c.header_answer_at.new.cx.store; frames = c.header_answer_at.new.graph.frames })) c.self.view_is
     (record { declarations = refl; of_crate = refl; depth = refl; handles = refl; terms = c.header_answer_at.ensures.keeps })
+
+pub returns-clause-full : goal.returns-clause-full
+returns-clause-full c = λ q.
+    let i = c.self.inside in
+    let x = c.header_answer_at.new.cx in
+    let new : Subject = record { declarations = i.workspace.now; of_crate = i.crate_id.index; depth = i.limits.depth; handles = i.limits.handles; terms = x.interner.entries; term_limit = x.interner.limit; goals = length (kept_inputs x.store); answers = length (kept_responses x.store); goal_limit = limit_of x.store; frames = c.header_answer_at.new.graph.frames } in
+    at-limit new x (record { terms = refl; term_limit = refl; goals = refl; answers = refl; goal_limit = refl }) (c.header_answer_at.ensures.full q)

@@ -1,4 +1,5 @@
-use Rattle.std.proofs.Common.{◌≡◌, ◌∙◌, true, refl, sym, ap, subst}
+use Rattle.std.proofs.Common.{◌≡◌, ◌∙◌, true, refl, sym, ap, subst, length}
+use Rattle.goal_frames.specs.Stores.{kept_inputs, kept_responses, limit_of}
 use Rattle.std.specs.Prelude.{IfOk}
 use Rattle.type_terms.specs.Kinds.{ArgsHeld}
 use Rattle.declarations.specs.Merges.{Each}
@@ -57,5 +58,5 @@ returns-clause-proof c =
 pub returns-clause-stays : goal.returns-clause-stays
 returns-clause-stays c =
     let i = c.self.inside in
-    subst (λ (s : Subject). StaysOn s (record { declarations = i.workspace.now; of_crate = i.crate_id.index; depth = i.limits.depth; handles = i.limits.handles; terms = c.is_proof_of_question.new.cx.interner.entries; term_limit = c.is_proof_of_question.new.cx.interner.limit; frames = i.graph.frames })) c.self.view_is
+    subst (λ (s : Subject). StaysOn s (record { declarations = i.workspace.now; of_crate = i.crate_id.index; depth = i.limits.depth; handles = i.limits.handles; terms = c.is_proof_of_question.new.cx.interner.entries; term_limit = c.is_proof_of_question.new.cx.interner.limit; goals = length (kept_inputs c.is_proof_of_question.new.cx.store); answers = length (kept_responses c.is_proof_of_question.new.cx.store); goal_limit = limit_of c.is_proof_of_question.new.cx.store; frames = i.graph.frames })) c.self.view_is
     (record { declarations = refl; of_crate = refl; depth = refl; handles = refl; terms = c.is_proof_of_question.ensures.advances.entries })

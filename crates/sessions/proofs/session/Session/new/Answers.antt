@@ -25,3 +25,6 @@ invariant_of-result c =
 
 pub returns-clause-term_limit : goal.returns-clause-term_limit
 returns-clause-term_limit c = ap (λ (t : Terms). t.limit) c.new-cx.ensures.interner ∙ c.lower_view.ensures.limit ∙ c.new-interner.ensures.limit
+
+pub returns-clause-goal_limit : goal.returns-clause-goal_limit
+returns-clause-goal_limit c = c.new-cx.ensures.limit

@@ -1,4 +1,5 @@
-use Rattle.std.proofs.Common.{[], refl, sym, subst}
+use Rattle.std.proofs.Common.{[], refl, sym, subst, length, ◌≡◌, ◌⊎◌, Err}
+use Rattle.goal_frames.specs.Stores.{kept_inputs, kept_responses, limit_of}
 use Rattle.std.specs.Prelude.{IfOk}
 use Rattle.sessions.specs.Given.{answer_in}
 use Rattle.sessions.specs.Promises.{IsProved, view_in}
@@ -16,6 +17,9 @@ use Rattle.sessions.proofs.FrameBounds.{seen-erased-world, question-within}
 use Rattle.sessions.specs.Proving.{goal_asking}
 use Rattle.sessions.specs.Tables.{table_of}
 use Rattle.sessions.specs.declared.settling.TheConstants.{MAX_ASKINGS}
+use Rattle.type_terms.specs.declared.Fault.TheVariants.{Full}
+use Rattle.sessions.specs.Shortages.{IsAtLimit, HasManyVariables}
+use Rattle.sessions.proofs.ShortCalls.{either, short-at-limit}
 use Rattle.sessions.proofs.session.Session.prove.Goals as goal
 
 pub prove_question-requires-clause-rest : goal.prove_question-requires-clause-rest
@@ -55,17 +59,27 @@ returns-clause-held c = c.prove_question.ensures.held
 pub returns-clause-stays : goal.returns-clause-stays
 returns-clause-stays c =
     let i = c.self.inside in
-    subst (λ (s : Subject). StaysOn s (record { declarations = i.workspace.now; of_crate = i.crate_id.index; depth = i.limits.depth; handles = i.limits.handles; terms = c.prove_question.new.cx.interner.entries; term_limit = c.prove_question.new.cx.interner.limit; frames = c.prove_question.new.graph.frames })) c.self.view_is
+    subst (λ (s : Subject). StaysOn s (record { declarations = i.workspace.now; of_crate = i.crate_id.index; depth = i.limits.depth; handles = i.limits.handles; terms = c.prove_question.new.cx.interner.entries; term_limit = c.prove_question.new.cx.interner.limit; goals = length (kept_inputs c.prove_question.new.cx.store); answers = length (kept_responses c.prove_question.new.cx.store); goal_limit = limit_of c.prove_question.new.cx.store; frames = c.prove_question.new.graph.frames })) c.self.view_is
     (record { declarations = refl; of_crate = refl; depth = refl; handles = refl; terms = c.prove_question.ensures.keeps })
 
 pub returns-clause-frames : goal.returns-clause-frames
 returns-clause-frames c =
     let i = c.self.inside in
     let x = c.prove_question.new in
-    let new : Subject = record { declarations = i.workspace.now; of_crate = i.crate_id.index; depth = i.limits.depth; handles = i.limits.handles; terms = x.cx.interner.entries; term_limit = x.cx.interner.limit; frames = x.graph.frames } in
+    let new : Subject = record { declarations = i.workspace.now; of_crate = i.crate_id.index; depth = i.limits.depth; handles = i.limits.handles; terms = x.cx.interner.entries; term_limit = x.cx.interner.limit; goals = length (kept_inputs x.cx.store); answers = length (kept_responses x.cx.store); goal_limit = limit_of x.cx.store; frames = x.graph.frames } in
     let s = solving_of i.cx.interner.entries i.cx.handler.declarations in
     subst (λ (old : Subject). (q : Question) → AsksProof old.declarations old.of_crate c.args.number q → ProvesInFrames old q new) c.self.view_is
     (λ q asks.
     question-within s (view_in i.workspace.now i.crate_id.index) (seen-erased-world i.cx.interner.entries i.cx.handler.declarations i.workspace.now i.crate_id.index c.self.invariant.view.written) i.limits.depth q i.graph.frames x.graph.frames
     (subst (λ n. AskingsStartFrames solver_by_view s n (goal_asking s.view q) MAX_ASKINGS (table_trees [] (table_of (variable_kinds q))) i.graph.frames x.graph.frames) c.self.invariant.rest.depth
     (c.prove_question.ensures.frames q asks.asks.question)))
+
+pub returns-clause-full : goal.returns-clause-full
+returns-clause-full c =
+    let i = c.self.inside in
+    let x = c.prove_question.new in
+    let new : Subject = record { declarations = i.workspace.now; of_crate = i.crate_id.index; depth = i.limits.depth; handles = i.limits.handles; terms = x.cx.interner.entries; term_limit = x.cx.interner.limit; goals = length (kept_inputs x.cx.store); answers = length (kept_responses x.cx.store); goal_limit = limit_of x.cx.store; frames = x.graph.frames } in
+    subst (λ (old : Subject). (q : Question) → AsksProof old.declarations old.of_crate c.args.number q → c.prove_question.result ≡ Err Full → IsAtLimit new ⊎ HasManyVariables q) c.self.view_is
+    (λ q asks e.
+    either (c.prove_question.ensures.full q asks.asks.question e)
+    (short-at-limit new x.cx (record { terms = refl; term_limit = refl; goals = refl; answers = refl; goal_limit = refl })) (λ m. m))
