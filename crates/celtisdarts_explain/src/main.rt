@@ -18,6 +18,8 @@ use crate::printed::{Shown, Told, write_answers, write_note};
 use crate::words::{ColorConfig, Options, read_words};
 use coherence::{Limits, RunFault, Status, run};
 use diagnostics::{Diagnostic, SourceFile};
+use refusal_texts::explain_refusals;
+use std::alloc::Global;
 use std::fs::File;
 use std::io::IsTerminal;
 use std::process::ExitCode;
@@ -91,10 +93,27 @@ fn has_colors(rt: &HostRuntime, options: Options<'_>) -> bool {
     }
 }
 
+/// What is found for the lines of the answer, each at its place, and whether that is all: a refused request for memory or a full table
+/// ends it.
+fn explanations_of(
+    alloc: Global,
+    file: Option<&SourceFile<'_>>,
+    text: &[u8],
+    limits: Limits,
+) -> (Vec<Option<Diagnostic>>, bool) {
+    let mut found = Vec::new(alloc);
+    let is_whole = match file {
+        None => false,
+        Some(file) => explain_refusals(alloc, file, text, limits, &mut found).is_ok(),
+    };
+    (found, is_whole)
+}
+
 /// Writes the lines of the answer, each with what is said of it.
 fn tell(
     rt: &HostRuntime,
     options: Options<'_>,
+    limits: Limits,
     text: &[u8],
     lines: &[u8],
 ) -> Result<Told, io::Error> {
@@ -105,10 +124,10 @@ fn tell(
     let alloc = rt.alloc();
     let name = options.name.or(options.file).unwrap_or("<stdin>");
     let file = SourceFile::new(alloc, name, text).ok();
-    let found: Vec<Option<Diagnostic>> = Vec::new(alloc);
+    let (found, is_whole) = explanations_of(alloc, file.as_ref(), text, limits);
     let mut writer = rt.stdout();
     let told = write_answers(alloc, &mut writer, shown, file.as_ref(), lines, &found)?;
-    if told.is_cut {
+    if told.is_cut || !is_whole {
         write_note(&mut writer, shown)?;
     }
     Ok(told)
@@ -122,7 +141,7 @@ fn answer_text(rt: &HostRuntime, options: Options<'_>, text: &[u8]) -> Result<En
     let mut reader = text;
     let mut lines = Vec::new(rt.alloc());
     let ran = run(rt.alloc(), &mut reader, &mut lines, limits);
-    let Ok(told) = tell(rt, options, text, &lines) else {
+    let Ok(told) = tell(rt, options, limits, text, &lines) else {
         return Err(Failure::Run(RunFault::Write));
     };
     match ran {

@@ -1,0 +1,52 @@
+-- What a walk needs, and what it keeps.
+use Rattle.std.specs.Prelude.{◌≡◌, List, Option}
+use Rattle.type_terms.specs.Terms.{Entry, Has, Keeps, args_lists}
+use Rattle.term_folds.specs.declared.predicate.TraitRef.{TraitRef}
+use Rattle.infer_table.specs.Content.{Table, Ready, Grows}
+use Rattle.infer_table.specs.Goals.{GoalHeld}
+use Rattle.infer_table.specs.declared.goal.Goal.{Goal}
+use Rattle.search_graph.specs.Cache.{KnownResult, AreJustified}
+use Rattle.search_graph.specs.Meaning as Search
+use Rattle.search_graph.specs.SearchState.{SearchState}
+use Rattle.evaluation.specs.Lists.{Every}
+use Rattle.goal_frames.specs.Meanings.{HandlerMeaning}
+use Rattle.goal_frames.specs.declared.store.InputId.{InputId}
+use Rattle.goal_frames.specs.declared.store.ResponseId.{ResponseId}
+use Rattle.solver_context.specs.Contexts.{entries_of, IsReady}
+use Rattle.solver_context.specs.Searching.{solver_meaning}
+use Rattle.solver_context.specs.declared.context.SolverCx.{SolverCx}
+
+abbrev pub Known : Type 0
+Known = List (KnownResult InputId (Option ResponseId))
+
+-- The references' arguments are the interner's.
+abbrev pub ReferencesHeld : List Entry → List TraitRef → Type 0
+ReferencesHeld es rs = Every (λ (r : TraitRef). Has es args_lists r.args.0) rs
+
+-- So are the goals.
+abbrev pub GoalsHeld : List Entry → List Goal → Type 0
+GoalsHeld es gs = Every (GoalHeld es) gs
+
+module _ {Handler : Type 0} (handler : HandlerMeaning Handler) where
+  -- A search can be asked: none runs, the cache is justified, and all handles are the interner's.
+  pub record IsAskable (graph : SearchState) (ks : Known) (c : SolverCx Handler) : Type 0 where
+    pub empty : graph.current_depth ≡ 0
+    pub cache : AreJustified (solver_meaning handler) c ks
+    pub ready : IsReady handler.IsReady c
+
+  -- What asking keeps: the depth of the graph, and of the context all that it had.
+  pub record HasAsked (graph : SearchState) (c : SolverCx Handler) (graph_left : SearchState) (d : SolverCx Handler) : Type 0 where
+    pub depth : graph_left.root_depth ≡ graph.root_depth
+    pub keeps : Search.Keeps (solver_meaning handler) c d
+    pub entries : Keeps (entries_of c) (entries_of d)
+
+  -- Goals of a table can be walked.
+  pub record IsWalkable (graph : SearchState) (ks : Known) (c : SolverCx Handler) (t : Table) (rs : List TraitRef) : Type 0 where
+    pub askable : IsAskable graph ks c
+    pub table : Ready (entries_of c) t
+    pub references : ReferencesHeld (entries_of c) rs
+
+  -- What a walk keeps: what asking does, and of the table all that it had.
+  pub record HasWalked (graph : SearchState) (c : SolverCx Handler) (t : Table) (graph_left : SearchState) (d : SolverCx Handler) (u : Table) : Type 0 where
+    pub asked : HasAsked graph c graph_left d
+    pub grows : Grows t u

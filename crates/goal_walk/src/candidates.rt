@@ -1,0 +1,180 @@
+//! Candidates, one after the other.
+
+ghost use Rattle.std.specs.Prelude.{◌≡◌, List, IfOk, IfSome};
+ghost use Rattle.type_terms.specs.Kinds.{ArgsHeld};
+ghost use Rattle.type_terms.specs.Terms.{Entry};
+ghost use Rattle.infer_table.specs.Content.{Ready, Grows};
+ghost use Rattle.solver_context.specs.Contexts.{IsReady, Advances};
+ghost use Rattle.goal_walk.specs.Frames.{IsWalked};
+ghost use Rattle.goal_walk.specs.Walking.{GoalsHeld, IsAskable, HasAsked};
+
+use crate::asking::result_of;
+use crate::frames::{FrameWalk, Turn};
+use crate::nodes::GoalWalk;
+use crate::opening::open_candidate;
+use evaluation::{CandidateSource, Certainty, Goal};
+use goal_frames::GoalHandler;
+use infer_table::infer_ctxt::InferCtxt;
+use search_graph::{GlobalCache, SearchGraph};
+use solver_context::{SolverCx, SolverGraph, context_laws};
+use type_terms::Fault;
+use type_terms::kinds::GenericArgKind;
+
+/// Goes on with the open candidate of a frame, up to its end: each goal that it asks has the answer of the search. `None` where the
+/// search gives no answer.
+fn run_candidate<H: GoalHandler>(
+    graph: &mut SearchGraph<SolverGraph<H>>,
+    cache: &mut GlobalCache<SolverGraph<H>>,
+    cx: &mut SolverCx<H>,
+    frame: FrameWalk,
+) -> Result<Option<FrameWalk>, Fault>
+    requires askable { IsAskable H.meaning graph.old cache.old cx.old }
+    requires walked { IsWalked H.meaning cx.old frame }
+    ensures again { IsAskable H.meaning graph.new cache.new cx.new }
+    ensures asked { HasAsked H.meaning graph.old cx.old graph.new cx.new }
+    ensures walked { IfOk result (λ o. IfSome o (IsWalked H.meaning cx.new)) }
+{
+    let mut walk = frame;
+    while let Turn::Ask(input) = walk.turn() {
+        let Some(answer) = result_of(graph, cache, cx, input)? else {
+            return Ok(None);
+        };
+        walk = walk.hear(cx, input, answer)?;
+    }
+    Ok(Some(walk))
+}
+
+/// Enters the next candidate of a frame, and goes on up to its end.
+fn try_candidate<H: GoalHandler>(
+    graph: &mut SearchGraph<SolverGraph<H>>,
+    cache: &mut GlobalCache<SolverGraph<H>>,
+    cx: &mut SolverCx<H>,
+    frame: FrameWalk,
+) -> Result<Option<FrameWalk>, Fault>
+    requires askable { IsAskable H.meaning graph.old cache.old cx.old }
+    requires walked { IsWalked H.meaning cx.old frame }
+    ensures again { IsAskable H.meaning graph.new cache.new cx.new }
+    ensures asked { HasAsked H.meaning graph.old cx.old graph.new cx.new }
+    ensures walked { IfOk result (λ o. IfSome o (IsWalked H.meaning cx.new)) }
+{
+    match frame.enter(cx)? {
+        Some(entered) => run_candidate(graph, cache, cx, entered),
+        None => Ok(None),
+    }
+}
+
+/// Opens the candidate that a frame is to enter over the table of the one who asks, and answers the goals that it asks; none where it
+/// does not fit.
+fn open_next<H: GoalHandler>(
+    cx: &mut SolverCx<H>,
+    table: &mut InferCtxt,
+    values: &[GenericArgKind],
+    frame: &FrameWalk,
+) -> Result<Option<Vec<Goal>>, Fault>
+    requires ready { IsReady H.meaning.IsReady cx.old }
+    requires walked { IsWalked H.meaning cx.old frame.now }
+    requires table { Ready cx.old.interner.entries table.old }
+    requires values { ArgsHeld cx.old.interner.entries values.now }
+    ensures advances { Advances H.meaning.IsReady cx.old cx.new }
+    ensures table { Ready cx.new.interner.entries table.new }
+    ensures grows { Grows table.old table.new }
+    ensures held { IfOk result (λ o. IfSome o (λ gs. GoalsHeld cx.new.interner.entries gs.items)) }
+{
+    context_laws::<H>();
+    let Some(spec) = frame.candidate(cx) else {
+        return Ok(None);
+    };
+    let opened = open_candidate(cx.alloc, &mut cx.interner, table, values, spec);
+    cx.interner.lawful();
+    opened
+}
+
+/// A candidate that was tried.
+pub(crate) struct Tried {
+    /// The frame, in which the candidate is to be finished.
+    pub(crate) frame: FrameWalk,
+    /// The goals that it asks; none where it does not fit.
+    pub(crate) opened: Option<Vec<Goal>>,
+}
+
+/// Tries the next candidate of a frame, and opens it over the table of the one who asks. `None` where the search gives no answer.
+pub(crate) fn try_next<H: GoalHandler>(
+    graph: &mut SearchGraph<SolverGraph<H>>,
+    cache: &mut GlobalCache<SolverGraph<H>>,
+    cx: &mut SolverCx<H>,
+    table: &mut InferCtxt,
+    values: &[GenericArgKind],
+    frame: FrameWalk,
+) -> Result<Option<Tried>, Fault>
+    requires askable { IsAskable H.meaning graph.old cache.old cx.old }
+    requires walked { IsWalked H.meaning cx.old frame }
+    requires table { Ready cx.old.interner.entries table.old }
+    requires values { ArgsHeld cx.old.interner.entries values.now }
+    ensures again { IsAskable H.meaning graph.new cache.new cx.new }
+    ensures asked { HasAsked H.meaning graph.old cx.old graph.new cx.new }
+    ensures table { Ready cx.new.interner.entries table.new }
+    ensures grows { Grows table.old table.new }
+    ensures walked { IfOk result (λ o. IfSome o (λ t. IsWalked H.meaning cx.new t.frame)) }
+    ensures held { IfOk result (λ o. IfSome o (λ t. IfSome t.opened (λ gs. GoalsHeld cx.new.interner.entries gs.items))) }
+{
+    context_laws::<H>();
+    let opened = open_next(cx, table, values, &frame)?;
+    let tried = try_candidate(graph, cache, cx, frame)?;
+    match tried {
+        Some(frame) => Ok(Some(Tried { frame, opened })),
+        None => Ok(None),
+    }
+}
+
+/// A candidate that tells why its goal is answered so.
+pub(crate) struct Telling {
+    pub(crate) source: CandidateSource,
+    pub(crate) certainty: Option<Certainty>,
+    /// The goals that it asks.
+    pub(crate) goals: Vec<Goal>,
+}
+
+/// The candidate with the goals that it asks, if it tells why the goal at a place is answered so; none where it does not fit, which is
+/// noted.
+pub(crate) fn note_opened(
+    walk: &mut GoalWalk,
+    frame: &FrameWalk,
+    opened: Option<Vec<Goal>>,
+    place: usize,
+) -> Option<Telling>
+    ensures references { walk.new.references ≡ walk.old.references }
+    ensures held { (es : List Entry) → IfSome opened (λ gs. GoalsHeld es gs.items) → IfSome result (λ t. GoalsHeld es t.goals.items) }
+{
+    let Some(goals) = opened else {
+        walk.note_misfit(place);
+        return None;
+    };
+    let outcome = frame.outcome()?;
+    let (source, certainty) = outcome;
+    if !walk.tells(place, certainty) {
+        return None;
+    }
+    Some(Telling {
+        source,
+        certainty,
+        goals,
+    })
+}
+
+/// Whether no more candidates of the goal at a place are walked, when its frame wants this. If all were looked at, it is noted.
+pub(crate) fn is_over(walk: &mut GoalWalk, place: usize, turn: Turn) -> bool
+    ensures { walk.new.references ≡ walk.old.references }
+{
+    if walk.is_told(place) {
+        return true;
+    }
+    match turn {
+        Turn::Enter => false,
+        Turn::End => {
+            walk.note_whole(place);
+            true
+        }
+        Turn::Ask(_) => true,
+        Turn::Finish => true,
+    }
+}

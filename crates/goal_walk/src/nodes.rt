@@ -1,0 +1,284 @@
+//! What a walk finds: goals, each with its answer and the candidates that tell why it is answered so.
+
+ghost use Rattle.std.specs.Prelude.{◌≡◌, [], ◌∷◌, ◌++◌, ◌⊎◌};
+
+use evaluation::{CandidateSource, Certainty, MaybeCause};
+use goal_frames::store::InputId;
+use std::alloc::Global;
+use term_folds::predicate::TraitRef;
+use type_terms::Fault;
+
+/// How many goals are opened at most.
+pub const GOAL_LIMIT: usize = 64;
+
+/// How many goals are named at most, opened or not.
+pub const NAME_LIMIT: usize = 512;
+
+/// How many candidates of a goal are looked at, at most.
+pub const CANDIDATE_LIMIT: usize = 256;
+
+/// How a search answers a goal.
+#[derive(Clone, Copy, PartialEq, Eq)]
+pub enum Answer {
+    /// It holds, maybe with values for its unknowns.
+    Yes,
+    /// It is not known.
+    Maybe(MaybeCause),
+    /// It is refused.
+    Refused,
+    /// The search gave no answer.
+    Nothing,
+}
+
+/// Whether the candidates of a goal are shown.
+#[derive(Clone, Copy, PartialEq, Eq)]
+pub enum Standing {
+    /// They are.
+    Opened,
+    /// They are shown at this place, where the same goal stands.
+    Same(usize),
+    /// The same goal is the one at this place, and this one is asked in the course of it.
+    Cycle(usize),
+    /// The goal is deeper, or one more, than is shown.
+    Cut,
+}
+
+/// A candidate whose header fits, with the goals that it asks, up to the first that is refused.
+#[derive(Drop)]
+pub struct CandidateNode {
+    pub source: CandidateSource,
+    /// How sure its response is; none if it was refused.
+    pub certainty: Option<Certainty>,
+    /// The places of the goals.
+    pub premises: Vec<usize>,
+}
+
+/// A goal, and why it is answered so.
+#[derive(Drop)]
+pub struct Node {
+    input: InputId,
+    pub answer: Answer,
+    pub standing: Standing,
+    /// Whether its trait holds of a reference that needs nothing but itself.
+    pub is_coinductive: bool,
+    /// Whether the goals that it asks are being walked.
+    is_open: bool,
+    /// Whether a proof of it is shown: no goal in it needs itself but by coinductive steps alone. Of goals that hold.
+    pub is_founded: bool,
+    /// Whether all its candidates were looked at.
+    pub is_whole: bool,
+    /// The candidates that tell why it is answered so; of a goal that holds, one that proves it.
+    pub candidates: Vec<CandidateNode>,
+    /// How many candidates have headers that cannot be made equal to the goal.
+    pub misfits: u32,
+}
+
+/// The goals that were walked. Each has its place, in the order in which they were met.
+#[derive(Drop)]
+pub struct GoalWalk {
+    /// The reference of the goal at each place, as the table resolved it when it was met.
+    pub references: Vec<TraitRef>,
+    pub nodes: Vec<Node>,
+}
+
+/// Whether a candidate tells why the goal is answered so.
+pub(crate) fn is_telling(answer: Answer, certainty: Option<Certainty>) -> bool {
+    match (answer, certainty) {
+        (Answer::Yes, Some(Certainty::Yes)) => true,
+        (Answer::Yes, _) => false,
+        (Answer::Maybe(_), None) => false,
+        (Answer::Maybe(_), Some(_)) => true,
+        (Answer::Refused, _) => true,
+        (Answer::Nothing, _) => false,
+    }
+}
+
+impl GoalWalk {
+    /// Nothing was walked yet.
+    pub fn new(alloc: Global) -> GoalWalk
+        ensures references { result.references.items ≡ [] }
+        ensures nodes { result.nodes.items ≡ [] }
+    {
+        GoalWalk {
+            references: Vec::new(alloc),
+            nodes: Vec::new(alloc),
+        }
+    }
+
+    /// The goal at a place.
+    pub fn node(&self, place: usize) -> Option<&Node> {
+        self.nodes.get(place)
+    }
+
+    /// Where the same goal stands with its candidates.
+    fn earlier(&self, input: InputId) -> Option<usize> {
+        for (place, node) in self.nodes.iter().enumerate() {
+            if node.input == input && node.standing == Standing::Opened {
+                return Some(place);
+            }
+        }
+        None
+    }
+
+    /// Whether the goal at a place, and all that are open behind it, are of coinductive traits.
+    fn is_coinductive_from(&self, place: usize) -> bool {
+        for (other, node) in self.nodes.iter().enumerate() {
+            if other >= place && node.is_open && !node.is_coinductive {
+                return false;
+            }
+        }
+        true
+    }
+
+    fn is_open(&self, place: usize) -> bool {
+        match self.nodes.get(place) {
+            Some(node) => node.is_open,
+            None => false,
+        }
+    }
+
+    /// Whether the goal at a place holds, and a proof of it is shown.
+    pub fn is_founded(&self, place: usize) -> bool {
+        match self.nodes.get(place) {
+            Some(node) => node.is_founded,
+            None => false,
+        }
+    }
+
+    /// How a goal that is met now stands to those that were met, and whether a proof of it is shown or taken for granted.
+    fn standing(&self, input: InputId, depth: u32) -> (Standing, bool) {
+        match self.earlier(input) {
+            Some(place) if self.is_open(place) => {
+                (Standing::Cycle(place), self.is_coinductive_from(place))
+            }
+            Some(place) => (Standing::Same(place), self.is_founded(place)),
+            None => {
+                if depth == 0 || self.nodes.len() >= GOAL_LIMIT {
+                    (Standing::Cut, true)
+                } else {
+                    (Standing::Opened, false)
+                }
+            }
+        }
+    }
+
+    /// Adds a goal that is met now, and answers its place.
+    pub(crate) fn meet(
+        &mut self,
+        alloc: Global,
+        input: InputId,
+        reference: TraitRef,
+        answer: Answer,
+        is_coinductive: bool,
+        depth: u32,
+    ) -> Result<usize, Fault>
+        ensures { (self.new.references.items ≡ self.old.references.items)
+            ⊎ (self.new.references.items ≡ self.old.references.items ++ reference ∷ []) }
+    {
+        let place = self.nodes.len();
+        let (standing, is_founded) = self.standing(input, depth);
+        self.references.push(reference)?;
+        self.nodes.push(Node {
+            input,
+            answer,
+            standing,
+            is_coinductive,
+            is_open: standing == Standing::Opened,
+            is_founded: is_founded && answer == Answer::Yes,
+            is_whole: false,
+            candidates: Vec::new(alloc),
+            misfits: 0,
+        })?;
+        Ok(place)
+    }
+
+    /// Ends the walk of the goal at a place.
+    pub(crate) fn close(&mut self, place: usize)
+        ensures { self.new.references ≡ self.old.references }
+    {
+        if let Some(node) = self.nodes.get_mut(place) {
+            node.is_open = false;
+        }
+    }
+
+    /// Notes that all candidates of the goal at a place were looked at.
+    pub(crate) fn note_whole(&mut self, place: usize)
+        ensures { self.new.references ≡ self.old.references }
+    {
+        if let Some(node) = self.nodes.get_mut(place) {
+            node.is_whole = true;
+        }
+    }
+
+    /// Notes a candidate whose header cannot be made equal to the goal at a place.
+    pub(crate) fn note_misfit(&mut self, place: usize)
+        ensures { self.new.references ≡ self.old.references }
+    {
+        if let Some(node) = self.nodes.get_mut(place) {
+            node.misfits = node.misfits.saturating_add(1);
+        }
+    }
+
+    /// Whether each goal that a candidate asks has a proof that is shown or taken for granted.
+    fn are_founded(&self, premises: &[usize]) -> bool {
+        for place in premises {
+            if !self.is_founded(*place) {
+                return false;
+            }
+        }
+        true
+    }
+
+    /// Adds a candidate that tells why the goal at a place is answered so. Of a goal that holds only one that proves it is kept.
+    pub(crate) fn note_candidate(
+        &mut self,
+        place: usize,
+        candidate: CandidateNode,
+    ) -> Result<(), Fault>
+        ensures { self.new.references ≡ self.old.references }
+    {
+        let proves = self.are_founded(&candidate.premises);
+        if let Some(node) = self.nodes.get_mut(place) {
+            if node.answer == Answer::Yes {
+                if !proves {
+                    return Ok(());
+                }
+                node.is_founded = true;
+            }
+            node.candidates.push(candidate)?;
+        }
+        Ok(())
+    }
+
+    /// Whether no more candidates of the goal at a place have to be looked at.
+    pub(crate) fn is_told(&self, place: usize) -> bool {
+        match self.nodes.get(place) {
+            Some(node) => node.answer == Answer::Nothing || node.is_founded,
+            None => true,
+        }
+    }
+
+    /// Whether a candidate with this certainty tells why the goal at a place is answered so.
+    pub(crate) fn tells(&self, place: usize, certainty: Option<Certainty>) -> bool {
+        match self.nodes.get(place) {
+            Some(node) => { is_telling(node.answer, certainty) && self.nodes.len() < NAME_LIMIT }
+            None => false,
+        }
+    }
+
+    /// Whether the goal at a place is one whose candidates are shown.
+    pub(crate) fn is_opened(&self, place: usize) -> bool {
+        match self.nodes.get(place) {
+            Some(node) => node.standing == Standing::Opened,
+            None => false,
+        }
+    }
+
+    /// Whether the goal at a place is refused.
+    pub(crate) fn is_refused(&self, place: usize) -> bool {
+        match self.nodes.get(place) {
+            Some(node) => node.answer == Answer::Refused,
+            None => true,
+        }
+    }
+}

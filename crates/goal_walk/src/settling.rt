@@ -1,0 +1,75 @@
+//! A goal of a table, asked until its answer brings no values.
+
+ghost use Rattle.infer_table.specs.Content.{Ready, Grows};
+ghost use Rattle.infer_table.specs.Goals.{GoalHeld};
+ghost use Rattle.goal_walk.specs.Walking.{IsAskable, HasAsked};
+
+use evaluation::{Goal, HasChanged, TypingMode};
+use goal_frames::GoalHandler;
+use infer_table::infer_ctxt::InferCtxt;
+use search_graph::{GlobalCache, SearchGraph};
+use solver_context::{GoalEvaluation, RootError, SolverCx, SolverGraph, evaluate_root_goal};
+use type_terms::Fault;
+
+/// How often a goal is asked at most.
+const MAX_ASKINGS: u32 = 8;
+
+/// Whether a goal is to be asked again, by what it came to: its answer brought values.
+fn brings_values(evaluated: Result<GoalEvaluation, RootError>) -> Result<bool, Fault> {
+    match evaluated {
+        Ok(evaluation) => match evaluation.has_changed {
+            HasChanged::Yes => Ok(true),
+            HasChanged::No => Ok(false),
+        },
+        Err(RootError::NoSolution) => Ok(false),
+        Err(RootError::Conflict) => Ok(false),
+        Err(RootError::Fault(fault)) => Err(fault),
+    }
+}
+
+/// Asks a goal once, and puts its answer into the table; whether that brought values.
+fn ask_once<H: GoalHandler>(
+    graph: &mut SearchGraph<SolverGraph<H>>,
+    cache: &mut GlobalCache<SolverGraph<H>>,
+    cx: &mut SolverCx<H>,
+    table: &mut InferCtxt,
+    mode: TypingMode,
+    goal: &Goal,
+) -> Result<bool, Fault>
+    requires askable { IsAskable H.meaning graph.old cache.old cx.old }
+    requires table { Ready cx.old.interner.entries table.old }
+    requires goal { GoalHeld cx.old.interner.entries goal.now }
+    ensures again { IsAskable H.meaning graph.new cache.new cx.new }
+    ensures asked { HasAsked H.meaning graph.old cx.old graph.new cx.new }
+    ensures table { Ready cx.new.interner.entries table.new }
+    ensures grows { Grows table.old table.new }
+{
+    let evaluated = evaluate_root_goal(graph, cache, cx, table, mode, goal);
+    brings_values(evaluated)
+}
+
+/// Puts the values that the search gives a goal into the table: it is asked until an answer brings none, eight times at most. A goal that
+/// is refused, or of which nothing is known, leaves the table as it is.
+pub fn settle<H: GoalHandler>(
+    graph: &mut SearchGraph<SolverGraph<H>>,
+    cache: &mut GlobalCache<SolverGraph<H>>,
+    cx: &mut SolverCx<H>,
+    table: &mut InferCtxt,
+    mode: TypingMode,
+    goal: &Goal,
+) -> Result<(), Fault>
+    requires askable { IsAskable H.meaning graph.old cache.old cx.old }
+    requires table { Ready cx.old.interner.entries table.old }
+    requires goal { GoalHeld cx.old.interner.entries goal.now }
+    ensures again { IsAskable H.meaning graph.new cache.new cx.new }
+    ensures asked { HasAsked H.meaning graph.old cx.old graph.new cx.new }
+    ensures table { Ready cx.new.interner.entries table.new }
+    ensures grows { Grows table.old table.new }
+{
+    for _asking in 0..MAX_ASKINGS {
+        if !ask_once(graph, cache, cx, table, mode, goal)? {
+            return Ok(());
+        }
+    }
+    Ok(())
+}
