@@ -12,7 +12,7 @@ use Rattle.type_terms.specs.declared.TraitId.{TraitId}
 use Rattle.type_terms.specs.declared.kinds.GenericArgKind.{GenericArgKind}
 use Rattle.answer_lines.specs.declared.piece.Piece.{Piece}
 use Rattle.answer_lines.specs.declared.piece.Piece.TheVariants.{Ty as PTy, Const as PConst, Text, Types, Args, Autos}
-use Rattle.answer_lines.specs.Pieces.{behind, load, PushesTypes, PushesOutput, PrintsPrincipal, PrintsAutos, PrintsTrees}
+use Rattle.answer_lines.specs.Pieces.{text_behind, load, PushesTypes, PushesOutput, PrintsPrincipal, PrintsAutos, PrintsTrees}
 use Rattle.answer_lines.proofs.Texts.{texts-append, load-append, type-one, const-one}
 use Rattle.answer_lines.proofs.Steps.{nothing, one, before, both, list-text, single-text, inputs-of, last-of}
 
@@ -109,7 +109,7 @@ pub principal-step : (N : Names) (es : List Entry) (so s1 s2 : List Piece) (oo o
 principal-step N es so s1 s2 oo om on t xs autos h a b c d =
     let w : List ℕ = codes "dyn " ++ N.of_trait t in
     let g : List ℕ = angled (texts N (args_trees es xs.now)) in
-    let r : List ℕ = behind (codes " + ") (texts N (autos_trees autos.now)) in
+    let r : List ℕ = text_behind (codes " + ") (texts N (autos_trees autos.now)) in
     before (Autos autos) w (b ∙ ap (λ y. y ++ N.of_trait t) a ∙ append_assoc oo (codes "dyn ") (N.of_trait t)) c
     (one {t = g} {l = 2 + load (args_trees es xs.now)} (Args xs false) [] (sym (append-nil on)) d refl h (omega arith))
     (ap (λ y. codes "dyn " ++ y) (sym (append_assoc (N.of_trait t) g r) ∙ list-text (codes " + ") (N.of_trait t ++ g) (texts N (autos_trees autos.now)) ((N.of_trait t ++ g) ∷ texts N (autos_trees autos.now)) refl))

@@ -12,7 +12,7 @@ use Rattle.type_terms.specs.declared.kinds.Ty.{Ty}
 use Rattle.type_terms.specs.declared.kinds.GenericArgKind.{GenericArgKind}
 use Rattle.answer_lines.specs.declared.piece.Piece.{Piece}
 use Rattle.answer_lines.specs.declared.piece.Piece.TheVariants.{Types, Args, Autos}
-use Rattle.answer_lines.specs.Pieces.{behind, more_args, arg_sign, pending, PiecesHeld, PieceHeld, load, pieces_load, PrintsTrees, PrintsPiece, PrintsTypes, PrintsArgs, PrintsMoreAutos}
+use Rattle.answer_lines.specs.Pieces.{text_behind, more_args, arg_sign, pending, PiecesHeld, PieceHeld, load, pieces_load, PrintsTrees, PrintsPiece, PrintsTypes, PrintsArgs, PrintsMoreAutos}
 use Rattle.answer_lines.proofs.Texts.{texts-append, load-append, type-one, const-one, between-behind, pending-append, load-pieces, held-append, held-front, held-back}
 use Rattle.answer_lines.proofs.Steps.{nothing, one, before}
 use Rattle.answer_lines.proofs.Lists.{is-type, is-const, first-texts}
@@ -37,12 +37,12 @@ next-types N es L so s1 s2 oo om on ts first rest h e a s P =
     let k : TysHeld es (first ∷ rest.now) = subst (TysHeld es) e h in
     let q : load (tys_trees es (first ∷ rest.now)) ≡ load (trees_at es first.0) + load (tys_trees es rest.now) = load-append (trees_at es first.0) (tys_trees es rest.now) in
     subst (λ x. PrintsTypes N es (tys_trees es x) so s2 oo on) (sym e)
-    (before (Types rest) (codes ", ") a s P (sym (ap (behind (codes ", ")) (first-texts N es L first rest.now k.0))) k.1 (omega (arith, q)))
+    (before (Types rest) (codes ", ") a s P (sym (ap (text_behind (codes ", ")) (first-texts N es L first rest.now k.0))) k.1 (omega (arith, q)))
 
 -- ---- arguments
 first-more : (b : Bool) (t : List ℕ) (ts : List (List ℕ)) → arg_sign b ++ (t ++ more_args true ts) ≡ more_args b (t ∷ ts)
-first-more false t ts = ap (λ y. codes "<" ++ y) (sym (append_assoc t (behind (codes ", ") ts) (codes ">")) ∙ ap (λ y. y ++ codes ">") (sym (between-behind (codes ", ") t ts)))
-first-more true t ts = ap (λ y. codes ", " ++ y) (sym (append_assoc t (behind (codes ", ") ts) (codes ">")))
+first-more false t ts = ap (λ y. codes "<" ++ y) (sym (append_assoc t (text_behind (codes ", ") ts) (codes ">")) ∙ ap (λ y. y ++ codes ">") (sym (between-behind (codes ", ") t ts)))
+first-more true t ts = ap (λ y. codes ", " ++ y) (sym (append_assoc t (text_behind (codes ", ") ts) (codes ">")))
 
 arg-step : (N : Names) (es : List Entry) (so s1 s2 : List Piece) (oo om on : List ℕ) (b : Bool) (t : Trees) (rest : Bor (List GenericArgKind)) → texts N t ≡ type_text N t ∷ [] → ArgsHeld es rest.now
     → om ≡ oo ++ arg_sign b → s1 ≡ so ++ Args rest true ∷ [] → PrintsTrees N es t s1 s2 om on → PrintsArgs N es b (t +++ args_trees es rest.now) so s2 oo on
@@ -92,7 +92,7 @@ pub some-more-autos : (N : Names) (es : List Entry) (so sn : List Piece) (oo om 
 some-more-autos N es so sn oo om on ts first rest a b e s =
     subst (λ x. PrintsMoreAutos N es (autos_trees x) so sn oo on) (sym e)
     (one (Autos rest) (codes " + " ++ N.of_trait first.index) (b ∙ ap (λ y. y ++ N.of_trait first.index) a ∙ append_assoc oo (codes " + ") (N.of_trait first.index)) s
-    (append_assoc (codes " + ") (N.of_trait first.index) (behind (codes " + ") (texts N (autos_trees rest.now))))
+    (append_assoc (codes " + ") (N.of_trait first.index) (text_behind (codes " + ") (texts N (autos_trees rest.now))))
     tt (omega arith))
 
 -- ---- a turn of the loop: the last piece is taken from the stack

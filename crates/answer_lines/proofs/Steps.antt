@@ -3,7 +3,7 @@ use Rattle.std.proofs.Common.{◌≡◌, ℕ, ◌+◌, ◌<◌, ◌≤◌, List,
 use Rattle.text_definitions.specs.Output.{Names, between, tuple_text, inputs, last_text}
 use Rattle.type_terms.specs.Terms.{Entry}
 use Rattle.answer_lines.specs.declared.piece.Piece.{Piece}
-use Rattle.answer_lines.specs.Pieces.{behind, pending, piece_text, PieceHeld, piece_load, Prints}
+use Rattle.answer_lines.specs.Pieces.{text_behind, pending, piece_text, PieceHeld, piece_load, Prints}
 use Rattle.answer_lines.proofs.Texts.{pending-append, load-pieces, held-append, between-behind}
 
 -- nothing is left
@@ -47,7 +47,7 @@ both {N} {es} {so} {sm} {sn} {oo} {on} {t} {u} {v} {k} {l} {m} w e P Q x h = rec
 }
 
 -- ---- texts
-pub list-text : (c u : List ℕ) (ts vs : List (List ℕ)) → vs ≡ u ∷ ts → u ++ behind c ts ≡ between c vs
+pub list-text : (c u : List ℕ) (ts vs : List (List ℕ)) → vs ≡ u ∷ ts → u ++ text_behind c ts ≡ between c vs
 list-text c u ts vs e = rw e (sym (between-behind c u ts))
 
 pub single-text : (u : List ℕ) (vs : List (List ℕ)) → vs ≡ u ∷ [] → codes "(" ++ (between (codes ", ") vs ++ codes ",)") ≡ tuple_text vs

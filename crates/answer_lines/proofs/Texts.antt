@@ -5,7 +5,7 @@ use Rattle.type_terms.specs.Trees.{Trees, none, tree, ◌+++◌, sort_of, is_sor
 use Rattle.text_definitions.specs.Output.{Names, texts, type_text, node_text, between}
 use Rattle.type_terms.specs.Terms.{Entry}
 use Rattle.answer_lines.specs.declared.piece.Piece.{Piece}
-use Rattle.answer_lines.specs.Pieces.{behind, pending, piece_text, PiecesHeld, load, pieces_load}
+use Rattle.answer_lines.specs.Pieces.{text_behind, pending, piece_text, PiecesHeld, load, pieces_load}
 
 -- ---- texts of trees
 pub texts-append : (N : Names) (x y : Trees) → texts N (x +++ y) ≡ texts N x ++ texts N y
@@ -31,9 +31,9 @@ pub const-one : (N : Names) (t : Trees) → IsA of_const t → texts N t ≡ typ
 const-one N t h = not-lifetime of_const N t (λ e. cc) h
 
 -- a list with something between, by its first text
-pub between-behind : (c t : List ℕ) (ts : List (List ℕ)) → between c (t ∷ ts) ≡ t ++ behind c ts
+pub between-behind : (c t : List ℕ) (ts : List (List ℕ)) → between c (t ∷ ts) ≡ t ++ text_behind c ts
 between-behind c t [] = sym (append-nil t)
-between-behind c t (u ∷ ts) = rw (between-behind c u ts) (append_assoc t c (u ++ behind c ts))
+between-behind c t (u ∷ ts) = rw (between-behind c u ts) (append_assoc t c (u ++ text_behind c ts))
 
 -- ---- stacks
 pub pending-append : (N : Names) (es : List Entry) (ps qs : List Piece) → pending N es (ps ++ qs) ≡ pending N es qs ++ pending N es ps

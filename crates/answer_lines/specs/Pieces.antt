@@ -14,22 +14,22 @@ use Rattle.answer_lines.specs.declared.piece.Piece.TheVariants.{Ty as PTy, Const
 
 -- ---- texts
 -- the texts with this before each
-abbrev pub behind : List ℕ → List (List ℕ) → List ℕ
-behind c [] = []
-behind c (t ∷ ts) = c ++ (t ++ behind c ts)
+abbrev pub text_behind : List ℕ → List (List ℕ) → List ℕ
+text_behind c [] = []
+text_behind c (t ∷ ts) = c ++ (t ++ text_behind c ts)
 
 -- arguments, of which some are printed or none
 abbrev pub more_args : Bool → List (List ℕ) → List ℕ
 more_args false ts = angled ts
-more_args true ts = behind (codes ", ") ts ++ codes ">"
+more_args true ts = text_behind (codes ", ") ts ++ codes ">"
 
 abbrev pub piece_text : Names → List Entry → Piece → List ℕ
 piece_text N es (PTy t) = type_text N (trees_at es t.0)
 piece_text N es (PConst c) = type_text N (trees_at es c.0)
 piece_text N es (Text b) = b.now
-piece_text N es (Types ts) = behind (codes ", ") (texts N (tys_trees es ts.now))
+piece_text N es (Types ts) = text_behind (codes ", ") (texts N (tys_trees es ts.now))
 piece_text N es (Args xs is_open) = more_args is_open (texts N (args_trees es xs.now))
-piece_text N es (Autos ts) = behind (codes " + ") (texts N (autos_trees ts.now))
+piece_text N es (Autos ts) = text_behind (codes " + ") (texts N (autos_trees ts.now))
 
 -- of all pieces of a stack: the last one comes first
 abbrev pub pending : Names → List Entry → List Piece → List ℕ
@@ -114,13 +114,13 @@ PrintsAutos N es autos so sn oo on = Prints N es (codes "dyn " ++ between (codes
 
 -- ---- the next of types, of arguments and of auto traits behind those that are printed
 abbrev pub PrintsTypes : Names → List Entry → Trees → List Piece → List Piece → List ℕ → List ℕ → Type 0
-PrintsTypes N es t so sn oo on = Prints N es (behind (codes ", ") (texts N t)) (1 + load t) so sn oo on
+PrintsTypes N es t so sn oo on = Prints N es (text_behind (codes ", ") (texts N t)) (1 + load t) so sn oo on
 
 abbrev pub PrintsArgs : Names → List Entry → Bool → Trees → List Piece → List Piece → List ℕ → List ℕ → Type 0
 PrintsArgs N es is_open t so sn oo on = Prints N es (more_args is_open (texts N t)) (1 + load t) so sn oo on
 
 abbrev pub PrintsMoreAutos : Names → List Entry → Trees → List Piece → List Piece → List ℕ → List ℕ → Type 0
-PrintsMoreAutos N es t so sn oo on = Prints N es (behind (codes " + ") (texts N t)) (1 + load t) so sn oo on
+PrintsMoreAutos N es t so sn oo on = Prints N es (text_behind (codes " + ") (texts N t)) (1 + load t) so sn oo on
 
 -- ---- the text of a kind, of a struct with its arguments, of a tuple and of a fn by their types, of a principal trait by its arguments and the auto
 -- traits, and of arguments by the first one's tree

@@ -14,8 +14,8 @@ use Rattle.infer_table.specs.declared.canonical.CanonicalVarKind.{CanonicalVarKi
 use Rattle.evaluation.specs.Lists.{Every}
 use Rattle.evaluation.specs.FrameTables.{is_open_label}
 use Rattle.assembly_laws.specs.Facts.{clauses_of}
-use Rattle.assembly_laws.specs.Meaning.{Meaning}
-use Rattle.assembly_laws.specs.Asking.{Asked, all_known, are_clauses}
+use Rattle.assembly_laws.specs.Meaning.{ViewMeaning}
+use Rattle.assembly_laws.specs.Asking.{GoalOverKinds, all_known, are_clauses}
 use Rattle.evaluation.specs.Variables.{is_variable_over}
 use Rattle.assembly_laws.specs.Declared.{is_declared, are_terms, are_references, is_declared_view, is_counted, is_lifetime_parameter, BoundsAreErased}
 use Rattle.assembly_laws.specs.Cover.{BoundsAreTerms}
@@ -160,14 +160,14 @@ module _ (V : World) (declared : is_declared_view V ≡ true) (erased : BoundsAr
       let own = member-each (λ (y : TraitDecl). are_references y.bounds) V.traits x all i in
       left (is_made is_declared terms b.args) (not (some_node is_counted b.args)) (member-each (λ (r : Reference). are_terms r.args) x.bounds b own j)
 
-  bounds-are-terms : (a : Asked) → is_made (is_variable_over a.kinds) terms a.reference.args ≡ true → BoundsAreTerms V a
+  bounds-are-terms : (a : GoalOverKinds) → is_made (is_variable_over a.kinds) terms a.reference.args ≡ true → BoundsAreTerms V a
   bounds-are-terms a over bs others e =
       let self = subst IsOpenTerms e (plain-made a.reference.args (made-open a.kinds terms a.reference.args over)) in
       let own = left (is_made is_open_label bounds bs) (is_made is_open_label terms others) self in
       elaborated-so V (λ r. IsOpenTerms r.args) (λ r h x i b j. instance-made r.args h zero terms b.args (bound-declared x i b j) (erased x b i j)) (principal_with (tree dynamic bs none) bs)
       (principal-terms (tree dynamic bs none) bs (first-made dynamic bs others self) own)
 
-pub equations-are-terms : (m : Meaning) → is_declared_view m.view ≡ true → BoundsAreErased m.view → EquationsAreTerms m
+pub equations-are-terms : (m : ViewMeaning) → is_declared_view m.view ≡ true → BoundsAreErased m.view → EquationsAreTerms m
 equations-are-terms m declared erased f a is =
     let parts = asked-by m.view f.goal.environment f.goal.predicate (all_known f.kinds) a is in
     all-are-terms m.view declared a parts.over (clauses-open a.kinds a.environment (asked-clauses m.view f.goal.environment f.goal.predicate (all_known f.kinds) a is)) (bounds-are-terms m.view declared erased a parts.over)

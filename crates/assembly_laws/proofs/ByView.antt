@@ -19,10 +19,10 @@ use Rattle.evaluation.specs.declared.candidate.BuiltinImplSource.TheVariants.{Tr
 use Rattle.evaluation.specs.Instances.{read_with}
 use Rattle.evaluation.specs.Content.{Values, given}
 use Rattle.assembly_laws.specs.Declared.{is_declared_view}
-use Rattle.assembly_laws.specs.Asking.{Asked, clauses, is_rigid, with_plain_head, self_of}
+use Rattle.assembly_laws.specs.Asking.{GoalOverKinds, clauses, is_rigid, with_plain_head, self_of}
 use Rattle.assembly_laws.specs.Candidates.{Candidate, premise, by_rule, as_written, unsure, misc, if_so, by_clauses, built_in, by_sized, by_copy, by_auto, by_tuple, by_fn_ptr, by_call, by_unsize, by_impls, by_objects}
 use Rattle.assembly_laws.specs.Solver.{IsSolution}
-use Rattle.assembly_laws.specs.Cover.{slots, nested_at, Gives, all_candidates}
+use Rattle.assembly_laws.specs.Cover.{slots, nested_at, SolvesEquations, all_candidates}
 use Rattle.assembly_laws.proofs.Reading.{read_reference, true-false}
 use Rattle.assembly_laws.proofs.Supers.{Proved, open-none}
 use Rattle.assembly_laws.proofs.HavingViews.{ProvesBy}
@@ -62,14 +62,14 @@ pub premises-proved : (V : World) (crate : ℕ) (H : Reference → Type 0) → P
 premises-proved V crate H l r u z i [] among e = tt
 premises-proved V crate H l r u z i (p ∷ ps) among e = ((l.shut r u z i p (among p (here p ps)), e.0), premises-proved V crate H l r u z i ps (λ q j. among q (there q p ps j)) e.1)
 
-module _ (H : Reference → Type 0) (V : World) (declared : is_declared_view V ≡ true) (a : Asked) (v : Values) where
+module _ (H : Reference → Type 0) (V : World) (declared : is_declared_view V ≡ true) (a : GoalOverKinds) (v : Values) where
   abbrev xs : List Trees
   xs = slots a.kinds v []
 
   abbrev Given : List Candidate → Type 0
-  Given cs = SomeOf (Gives H a.kinds v) cs
+  Given cs = SomeOf (SolvesEquations H a.kinds v) cs
 
-  gives-rule : (source : CandidateSource) (ps : List Reference) → Every (Proved H) (map (read_reference xs) ps) → Gives H a.kinds v (by_rule V a source [] ps)
+  gives-rule : (source : CandidateSource) (ps : List Reference) → Every (Proved H) (map (read_reference xs) ps) → SolvesEquations H a.kinds v (by_rule V a source [] ps)
   gives-rule source ps e = record { own = []; sorted = refl; equal = tt; solves = each ps e }
     where
       each : (qs : List Reference) → Every (Proved H) (map (read_reference xs) qs) → Every (λ n. IsSolution H (nested_at xs n)) (map (premise a (Rattle.type_terms.specs.Rules.is_coinductive V a.reference.trait)) qs)
@@ -97,7 +97,7 @@ module _ (H : Reference → Type 0) (V : World) (declared : is_declared_view V �
     pub unsizes : (u : Rule) → In u (if a.reference.trait == unsize then unsize_rules V (read_with (given xs) a.reference.args) else []) → Every (Proved H) u.premises → Given (by_unsize V a)
     pub objects : (u : Rule) → In u (object_rules V (read_reference xs a.reference) (read_with (given xs) a.reference.args)) → Every (Proved H) u.premises → Given (by_objects V a)
 
-  pub unsure-gives : Gives H a.kinds v unsure
+  pub unsure-gives : SolvesEquations H a.kinds v unsure
   unsure-gives = record { own = []; sorted = refl; equal = tt; solves = tt }
 
   module _ (l : Label) (c o : Trees) (args_are : a.reference.args ≡ tree l c o) (rigid : is_rigid l ≡ true) (closed : is_closed (read_with (given xs) a.reference.args) ≡ true) (other : OtherRows) where
@@ -136,31 +136,31 @@ module _ (H : Reference → Type 0) (V : World) (declared : is_declared_view V �
         calls = row_list (is_fn_trait a.reference.trait) call_rules
 
         after-sized : Given (by_copy V a ++ (by_auto V a ++ (by_tuple V a ++ (by_fn_ptr V a ++ (by_call V a ++ by_unsize V a))))) → Given (built_in V a)
-        after-sized s = some-right (Gives H a.kinds v) (by_sized V a) (by_copy V a ++ (by_auto V a ++ (by_tuple V a ++ (by_fn_ptr V a ++ (by_call V a ++ by_unsize V a))))) s
+        after-sized s = some-right (SolvesEquations H a.kinds v) (by_sized V a) (by_copy V a ++ (by_auto V a ++ (by_tuple V a ++ (by_fn_ptr V a ++ (by_call V a ++ by_unsize V a))))) s
 
         after-auto : Given (by_tuple V a ++ (by_fn_ptr V a ++ (by_call V a ++ by_unsize V a))) → Given (built_in V a)
         after-auto s =
-            after-sized (some-right (Gives H a.kinds v) (by_copy V a) (by_auto V a ++ (by_tuple V a ++ (by_fn_ptr V a ++ (by_call V a ++ by_unsize V a))))
-            (some-right (Gives H a.kinds v) (by_auto V a) (by_tuple V a ++ (by_fn_ptr V a ++ (by_call V a ++ by_unsize V a))) s))
+            after-sized (some-right (SolvesEquations H a.kinds v) (by_copy V a) (by_auto V a ++ (by_tuple V a ++ (by_fn_ptr V a ++ (by_call V a ++ by_unsize V a))))
+            (some-right (SolvesEquations H a.kinds v) (by_auto V a) (by_tuple V a ++ (by_fn_ptr V a ++ (by_call V a ++ by_unsize V a))) s))
 
         third : In u fn_ptrs ⊎ In u calls → Given (built_in V a)
         third (inl j) =
-            after-auto (some-right (Gives H a.kinds v) (by_tuple V a) (by_fn_ptr V a ++ (by_call V a ++ by_unsize V a))
-            (some-left (Gives H a.kinds v) (by_fn_ptr V a) (by_call V a ++ by_unsize V a)
+            after-auto (some-right (SolvesEquations H a.kinds v) (by_tuple V a) (by_fn_ptr V a ++ (by_call V a ++ by_unsize V a))
+            (some-left (SolvesEquations H a.kinds v) (by_fn_ptr V a) (by_call V a ++ by_unsize V a)
             (under (a.reference.trait == fn_ptr_trait) misc (fn_ptr_rules (read_with (given xs) a.reference.args)) (fn_ptr_rules (self_of a)) u (at-self fn_ptr_rules (fn-ptr-natural V declared xs (erase_label l) c o)) j e)))
         third (inr j) =
-            after-auto (some-right (Gives H a.kinds v) (by_tuple V a) (by_fn_ptr V a ++ (by_call V a ++ by_unsize V a))
-            (some-right (Gives H a.kinds v) (by_fn_ptr V a) (by_call V a ++ by_unsize V a) (some-left (Gives H a.kinds v) (by_call V a) (by_unsize V a) (other.calls u j e))))
+            after-auto (some-right (SolvesEquations H a.kinds v) (by_tuple V a) (by_fn_ptr V a ++ (by_call V a ++ by_unsize V a))
+            (some-right (SolvesEquations H a.kinds v) (by_fn_ptr V a) (by_call V a ++ by_unsize V a) (some-left (SolvesEquations H a.kinds v) (by_call V a) (by_unsize V a) (other.calls u j e))))
 
         second : In u tuples ⊎ In u (fn_ptrs ++ calls) → Given (built_in V a)
         second (inl j) =
-            after-auto (some-left (Gives H a.kinds v) (by_tuple V a) (by_fn_ptr V a ++ (by_call V a ++ by_unsize V a))
+            after-auto (some-left (SolvesEquations H a.kinds v) (by_tuple V a) (by_fn_ptr V a ++ (by_call V a ++ by_unsize V a))
             (under (a.reference.trait == tuple_trait) misc (tuple_rules (read_with (given xs) a.reference.args)) (tuple_rules (self_of a)) u (at-self tuple_rules (tuple-natural V declared xs (erase_label l) c o)) j e))
         second (inr j) = third (in-append u fn_ptrs calls j)
 
         first : In u copies ⊎ In u (tuples ++ (fn_ptrs ++ calls)) → Given (built_in V a)
         first (inl j) =
-            after-sized (some-left (Gives H a.kinds v) (by_copy V a) (by_auto V a ++ (by_tuple V a ++ (by_fn_ptr V a ++ (by_call V a ++ by_unsize V a))))
+            after-sized (some-left (SolvesEquations H a.kinds v) (by_copy V a) (by_auto V a ++ (by_tuple V a ++ (by_fn_ptr V a ++ (by_call V a ++ by_unsize V a))))
             (under ((a.reference.trait == copy) || (a.reference.trait == clone)) misc (copy_rules a.reference.trait (read_with (given xs) a.reference.args)) (copy_rules a.reference.trait (self_of a)) u
             (at-self (copy_rules a.reference.trait) (copy-natural V declared xs a.reference.trait (erase_label l) c o)) j e))
         first (inr j) = second (in-append u tuples (fn_ptrs ++ calls) j)
@@ -182,25 +182,25 @@ module _ (H : Reference → Type 0) (V : World) (declared : is_declared_view V �
 
         fourth : In u unsizes ⊎ In u objects → Given (built_in V a) ⊎ Given (by_objects V a)
         fourth (inl j) =
-            inl (some-right (Gives H a.kinds v) (by_sized V a) (by_copy V a ++ (by_auto V a ++ (by_tuple V a ++ (by_fn_ptr V a ++ (by_call V a ++ by_unsize V a)))))
-            (some-right (Gives H a.kinds v) (by_copy V a) (by_auto V a ++ (by_tuple V a ++ (by_fn_ptr V a ++ (by_call V a ++ by_unsize V a))))
-            (some-right (Gives H a.kinds v) (by_auto V a) (by_tuple V a ++ (by_fn_ptr V a ++ (by_call V a ++ by_unsize V a)))
-            (some-right (Gives H a.kinds v) (by_tuple V a) (by_fn_ptr V a ++ (by_call V a ++ by_unsize V a))
-            (some-right (Gives H a.kinds v) (by_fn_ptr V a) (by_call V a ++ by_unsize V a) (some-right (Gives H a.kinds v) (by_call V a) (by_unsize V a) (other.unsizes u j e)))))))
+            inl (some-right (SolvesEquations H a.kinds v) (by_sized V a) (by_copy V a ++ (by_auto V a ++ (by_tuple V a ++ (by_fn_ptr V a ++ (by_call V a ++ by_unsize V a)))))
+            (some-right (SolvesEquations H a.kinds v) (by_copy V a) (by_auto V a ++ (by_tuple V a ++ (by_fn_ptr V a ++ (by_call V a ++ by_unsize V a))))
+            (some-right (SolvesEquations H a.kinds v) (by_auto V a) (by_tuple V a ++ (by_fn_ptr V a ++ (by_call V a ++ by_unsize V a)))
+            (some-right (SolvesEquations H a.kinds v) (by_tuple V a) (by_fn_ptr V a ++ (by_call V a ++ by_unsize V a))
+            (some-right (SolvesEquations H a.kinds v) (by_fn_ptr V a) (by_call V a ++ by_unsize V a) (some-right (SolvesEquations H a.kinds v) (by_call V a) (by_unsize V a) (other.unsizes u j e)))))))
         fourth (inr j) = inr (other.objects u j e)
 
         third : In u autos ⊎ In u (unsizes ++ objects) → Given (built_in V a) ⊎ Given (by_objects V a)
         third (inl j) =
-            inl (some-right (Gives H a.kinds v) (by_sized V a) (by_copy V a ++ (by_auto V a ++ (by_tuple V a ++ (by_fn_ptr V a ++ (by_call V a ++ by_unsize V a)))))
-            (some-right (Gives H a.kinds v) (by_copy V a) (by_auto V a ++ (by_tuple V a ++ (by_fn_ptr V a ++ (by_call V a ++ by_unsize V a))))
-            (some-left (Gives H a.kinds v) (by_auto V a) (by_tuple V a ++ (by_fn_ptr V a ++ (by_call V a ++ by_unsize V a)))
+            inl (some-right (SolvesEquations H a.kinds v) (by_sized V a) (by_copy V a ++ (by_auto V a ++ (by_tuple V a ++ (by_fn_ptr V a ++ (by_call V a ++ by_unsize V a)))))
+            (some-right (SolvesEquations H a.kinds v) (by_copy V a) (by_auto V a ++ (by_tuple V a ++ (by_fn_ptr V a ++ (by_call V a ++ by_unsize V a))))
+            (some-left (SolvesEquations H a.kinds v) (by_auto V a) (by_tuple V a ++ (by_fn_ptr V a ++ (by_call V a ++ by_unsize V a)))
             (under (is_auto V a.reference.trait) misc (auto_rules V a.reference.trait (read_with (given xs) a.reference.args)) (auto_rules V a.reference.trait (self_of a)) u
             (at-self (auto_rules V a.reference.trait) (auto-natural V declared xs a.reference.trait (erase_label l) c o (rigid-head l rigid) inner)) j e))))
         third (inr j) = fourth (in-append u unsizes objects j)
 
         second : In u sizeds ⊎ In u (autos ++ (unsizes ++ objects)) → Given (built_in V a) ⊎ Given (by_objects V a)
         second (inl j) =
-            inl (some-left (Gives H a.kinds v) (by_sized V a) (by_copy V a ++ (by_auto V a ++ (by_tuple V a ++ (by_fn_ptr V a ++ (by_call V a ++ by_unsize V a)))))
+            inl (some-left (SolvesEquations H a.kinds v) (by_sized V a) (by_copy V a ++ (by_auto V a ++ (by_tuple V a ++ (by_fn_ptr V a ++ (by_call V a ++ by_unsize V a)))))
             (under (a.reference.trait == sized) (BuiltinImpl Trivial) (sized_rules V (read_with (given xs) a.reference.args)) (sized_rules V (self_of a)) u
             (at-self (sized_rules V) (sized-natural V declared xs (erase_label l) c o (rigid-head l rigid) inner)) j e))
         second (inr j) = third (in-append u autos (unsizes ++ objects) j)
@@ -217,11 +217,11 @@ module _ (H : Reference → Type 0) (V : World) (declared : is_declared_view V �
         impls = flat_map (impl_rules (read_reference xs a.reference)) V.impls
 
         after : Given (built_in V a ++ (by_impls V a V.impls ++ by_objects V a)) → Given (all_candidates V a)
-        after s = some-right (Gives H a.kinds v) (by_clauses V a (clauses a)) (built_in V a ++ (by_impls V a V.impls ++ by_objects V a)) s
+        after s = some-right (SolvesEquations H a.kinds v) (by_clauses V a (clauses a)) (built_in V a ++ (by_impls V a V.impls ++ by_objects V a)) s
 
         third : Given (built_in V a) ⊎ Given (by_objects V a) → Given (all_candidates V a)
-        third (inl s) = after (some-left (Gives H a.kinds v) (built_in V a) (by_impls V a V.impls ++ by_objects V a) s)
-        third (inr s) = after (some-right (Gives H a.kinds v) (built_in V a) (by_impls V a V.impls ++ by_objects V a) (some-right (Gives H a.kinds v) (by_impls V a V.impls) (by_objects V a) s))
+        third (inl s) = after (some-left (SolvesEquations H a.kinds v) (built_in V a) (by_impls V a V.impls ++ by_objects V a) s)
+        third (inr s) = after (some-right (SolvesEquations H a.kinds v) (built_in V a) (by_impls V a V.impls ++ by_objects V a) (some-right (SolvesEquations H a.kinds v) (by_impls V a V.impls) (by_objects V a) s))
 
         second : In u (built_in_rules V (read_reference xs a.reference)) ⊎ In u [] → Given (all_candidates V a)
         second (inl j) = third (by-built-in u j e)
@@ -229,5 +229,5 @@ module _ (H : Reference → Type 0) (V : World) (declared : is_declared_view V �
 
         first : In u impls ⊎ In u (built_in_rules V (read_reference xs a.reference) ++ []) → Given (all_candidates V a)
         first (inl j) =
-            after (some-right (Gives H a.kinds v) (built_in V a) (by_impls V a V.impls ++ by_objects V a) (some-left (Gives H a.kinds v) (by_impls V a V.impls) (by_objects V a) (other.impls u j e)))
+            after (some-right (SolvesEquations H a.kinds v) (built_in V a) (by_impls V a V.impls ++ by_objects V a) (some-left (SolvesEquations H a.kinds v) (by_impls V a V.impls) (by_objects V a) (other.impls u j e)))
         first (inr j) = second (in-append u (built_in_rules V (read_reference xs a.reference)) [] j)

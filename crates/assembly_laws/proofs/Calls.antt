@@ -14,10 +14,10 @@ use Rattle.evaluation.specs.declared.candidate.CandidateSource.{CandidateSource}
 use Rattle.evaluation.specs.Instances.{read_with}
 use Rattle.evaluation.specs.Content.{Values, given}
 use Rattle.evaluation.specs.FrameTables.{Equation}
-use Rattle.assembly_laws.specs.Asking.{Asked}
+use Rattle.assembly_laws.specs.Asking.{GoalOverKinds}
 use Rattle.assembly_laws.specs.Candidates.{premise, by_rule, all_equal, misc, if_so, call_of, unsize_array_of}
 use Rattle.assembly_laws.specs.Solver.{IsSolution}
-use Rattle.assembly_laws.specs.Cover.{slots, nested_at, Gives, Proved, read_reference}
+use Rattle.assembly_laws.specs.Cover.{slots, nested_at, SolvesEquations, Proved, read_reference}
 use Rattle.assembly_laws.proofs.Reading.{Begins, begins, read-last-asked}
 
 pub but-last-read : (xs : List Trees) (t : Trees) → read_with (given xs) (but_last t) ≡ but_last (read_with (given xs) t)
@@ -30,14 +30,14 @@ but-last-read xs (tree l c (tree m d o)) =
     a.before ∙ ap (λ z. z +++ read_with (given xs) (but_last (tree m d o))) (sym a.alone ∙ b.alone) ∙ ap (λ z. tree b.label b.children z) (but-last-read xs (tree m d o) ∙ ap but_last n.before)
     ∙ sym (ap but_last (b.before ∙ ap (λ z. tree b.label b.children z) n.before))
 
-module _ (H : Reference → Type 0) (V : World) (a : Asked) (v : Values) where
+module _ (H : Reference → Type 0) (V : World) (a : GoalOverKinds) (v : Values) where
   abbrev xs : List Trees
   xs = slots a.kinds v []
 
   abbrev read : Trees → Trees
   read t = read_with (given xs) t
 
-  pub gives-equal : (source : CandidateSource) (es : List Equation) (ps : List Reference) → Every (λ (e : Equation). read e.left.trees ≡ read e.right.trees) es → Every (Proved H) (map (read_reference xs) ps) → Gives H a.kinds v (by_rule V a source es ps)
+  pub gives-equal : (source : CandidateSource) (es : List Equation) (ps : List Reference) → Every (λ (e : Equation). read e.left.trees ≡ read e.right.trees) es → Every (Proved H) (map (read_reference xs) ps) → SolvesEquations H a.kinds v (by_rule V a source es ps)
   gives-equal source es ps q e = record { own = []; sorted = refl; equal = q; solves = each ps e }
     where
       each : (qs : List Reference) → Every (Proved H) (map (read_reference xs) qs) → Every (λ n. IsSolution H (nested_at xs n)) (map (premise a (is_coinductive V a.reference.trait)) qs)
@@ -52,26 +52,26 @@ module _ (H : Reference → Type 0) (V : World) (a : Asked) (v : Values) where
       by (inr j) = absurd (in-nothing u j)
 
   -- ---- calls
-  pub calls-at : (k : Label) (c o : Trees) (u : Rule) → In u (call_rules (tree k (read c) (read o))) → Every (Proved H) u.premises → SomeOf (Gives H a.kinds v) (call_of V a (tree k c o))
+  pub calls-at : (k : Label) (c o : Trees) (u : Rule) → In u (call_rules (tree k (read c) (read o))) → Every (Proved H) u.premises → SomeOf (SolvesEquations H a.kinds v) (call_of V a (tree k c o))
   calls-at (fn_ptr n) c none u i ps = absurd (in-nothing u i)
   calls-at (fn_ptr n) c (tree m d p) u i ps = by b.label refl (subst (λ z. In u (call_rules (tree (fn_ptr n) (read c) z))) b.before i)
     where
       b : Begins xs m d p
       b = begins xs m d p
 
-      given-at : (b.label ≡ tuple) → (but_last (read c) ≡ b.children) → In u (row fn_ptr_call (last_asked sized (read c))) → SomeOf (Gives H a.kinds v) (call_of V a (tree (fn_ptr n) c (tree m d p)))
+      given-at : (b.label ≡ tuple) → (but_last (read c) ≡ b.children) → In u (row fn_ptr_call (last_asked sized (read c))) → SomeOf (SolvesEquations H a.kinds v) (call_of V a (tree (fn_ptr n) c (tree m d p)))
       given-at q e j =
           inl (gives-equal misc (all_equal (tree tuple (but_last c) none) (tree m d none)) (last_asked sized c)
           (ap (λ z. tree tuple z none) (but-last-read xs c ∙ e) ∙ ap (λ z. tree z b.children none) (sym q) ∙ sym b.alone, tt)
           (subst (Every (Proved H)) (sym (ap (λ (z : Rule). z.premises) (the-one _ u j)) ∙ read-last-asked xs sized c) ps))
 
-      by : (l : Label) → b.label ≡ l → In u (call_rules (tree (fn_ptr n) (read c) (tree l b.children (read p)))) → SomeOf (Gives H a.kinds v) (call_of V a (tree (fn_ptr n) c (tree m d p)))
+      by : (l : Label) → b.label ≡ l → In u (call_rules (tree (fn_ptr n) (read c) (tree l b.children (read p)))) → SomeOf (SolvesEquations H a.kinds v) (call_of V a (tree (fn_ptr n) c (tree m d p)))
       by tuple q j = let w = was-true (same (but_last (read c)) b.children) (row fn_ptr_call (last_asked sized (read c))) u j in given-at q (same-sound (but_last (read c)) b.children w.0) w.1
       by l q j = absurd (in-nothing u j)
   calls-at k c o u i ps = absurd (in-nothing u i)
 
   -- ---- arrays
-  pub arrays-at : (k : Label) (c s e q : Trees) (u : Rule) → In u (unsize_array_rules (tree k (read c) (tree slice (read e) (read q)))) → SomeOf (Gives H a.kinds v) (unsize_array_of V a (tree k c (tree slice e q)))
+  pub arrays-at : (k : Label) (c s e q : Trees) (u : Rule) → In u (unsize_array_rules (tree k (read c) (tree slice (read e) (read q)))) → SomeOf (SolvesEquations H a.kinds v) (unsize_array_of V a (tree k c (tree slice e q)))
   arrays-at array none s none q u i = absurd (in-nothing u i)
   arrays-at array none s (tree m d p) q u i = absurd (in-nothing u i)
   arrays-at array (tree l c n) s none q u i = let b = begins xs l c n in absurd (in-nothing u (subst (λ z. In u (unsize_array_rules (tree array z (tree slice none (read q))))) b.before i))
@@ -90,6 +90,6 @@ module _ (H : Reference → Type 0) (V : World) (a : Asked) (v : Values) where
   arrays-other array (tree l c n) m d p u i = absurd (in-nothing u i)
   arrays-other k cc m d p u i = absurd (in-nothing u i)
 
-  pub call-under : (b : Bool) (k : Label) (c o : Trees) (u : Rule) → In u (if b then call_rules (tree k (read c) (read o)) else []) → Every (Proved H) u.premises → SomeOf (Gives H a.kinds v) (if_so b (call_of V a (tree k c o)))
+  pub call-under : (b : Bool) (k : Label) (c o : Trees) (u : Rule) → In u (if b then call_rules (tree k (read c) (read o)) else []) → Every (Proved H) u.premises → SomeOf (SolvesEquations H a.kinds v) (if_so b (call_of V a (tree k c o)))
   call-under true k c o u i ps = calls-at k c o u i ps
   call-under false k c o u i ps = absurd (in-nothing u i)

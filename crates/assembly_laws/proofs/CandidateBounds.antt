@@ -14,11 +14,11 @@ use Rattle.evaluation.specs.Tables.{frame_tables}
 use Rattle.evaluation.specs.Widths.{count, with_self, width, width_of_predicates, number_of}
 use Rattle.evaluation.proofs.Widths.{IsWithin, within}
 use Rattle.assembly_laws.specs.Facts.{clauses_of}
-use Rattle.assembly_laws.specs.Asking.{Asked, asked, all_known, self_of, next_of, begins_unknown, with_plain_head, clauses}
+use Rattle.assembly_laws.specs.Asking.{GoalOverKinds, goal_over_kinds, all_known, self_of, next_of, begins_unknown, with_plain_head, clauses}
 use Rattle.declarations.specs.Elaboration.{elaborate, supertraits}
-use Rattle.assembly_laws.specs.Meaning.{Meaning}
+use Rattle.assembly_laws.specs.Meaning.{ViewMeaning}
 use Rattle.assembly_laws.specs.Declared.{StructsAreOne}
-use Rattle.assembly_laws.specs.Candidates.{Candidate, premise, by_rule, by_the_impl, behind, misc, all_equal, unsure, unknowable, by_clauses, by_impls, can_match, by_sized, by_copy, by_auto, by_tuple, by_fn_ptr, call_of, by_call, unsize_array_of, upcasts_of, unsize_struct_of, unsize_known, unsizing_outlives, unsize_recording, by_unsize, built_in, object_source, written_source, objects_of, by_objects, as_written, clause_source}
+use Rattle.assembly_laws.specs.Candidates.{Candidate, premise, by_rule, by_the_impl, rules_behind, misc, all_equal, unsure, unknowable, by_clauses, by_impls, can_match, by_sized, by_copy, by_auto, by_tuple, by_fn_ptr, call_of, by_call, unsize_array_of, upcasts_of, unsize_struct_of, unsize_known, unsizing_outlives, unsize_recording, by_unsize, built_in, object_source, written_source, objects_of, by_objects, as_written, clause_source}
 use Rattle.assembly_laws.specs.Cover.{all_candidates}
 use Rattle.assembly_laws.specs.Solver.{greatest, width_of, supers_of, declared_width, clauses_in, widest_of, most_candidates, number_at}
 use Rattle.assembly_laws.proofs.Premises.{CandidatesAreFew, PremisesAreFew}
@@ -28,7 +28,7 @@ use Rattle.assembly_laws.proofs.Recording.{length-recorded, nested-recorded}
 use Rattle.assembly_laws.proofs.CandidateNumbers.{length-append, nested-append, map-length, last-few, autos-few, principal-few, sized-few, copy-few, auto-few, tuple-few, fn-ptr-few, to-dyn-few, FewCandidates, none-few, if-few, both-few, written-few, upcasts-few, structs-few, from-bounds-few, asked-supers-few, elaborated-few}
 
 -- ---- where-clauses and impls
-clauses-few : (V : World) (a : Asked) (rs : List Reference) → (length (by_clauses V a rs) ≤ length rs) × (nested_in frame_tables (by_clauses V a rs) ≡ 0)
+clauses-few : (V : World) (a : GoalOverKinds) (rs : List Reference) → (length (by_clauses V a rs) ≤ length rs) × (nested_in frame_tables (by_clauses V a rs) ≡ 0)
 clauses-few V a [] = (omega arith, refl)
 clauses-few V a (r ∷ rs) = by (r.trait == a.reference.trait) (clauses-few V a rs)
   where
@@ -75,7 +75,7 @@ pub plain-count : (t : Trees) → count (with_plain_head t) ≡ count t
 plain-count none = refl
 plain-count (tree l c o) = refl
 
-module _ (V : World) (w : ℕ) (one : StructsAreOne V) (fields : (x : StructDecl) → In x V.structs → count (together x.fields) ≤ w) (supers : (x : TraitDecl) → In x V.traits → supers_of V x ≤ w) (a : Asked) where
+module _ (V : World) (w : ℕ) (one : StructsAreOne V) (fields : (x : StructDecl) → In x V.structs → count (together x.fields) ≤ w) (supers : (x : TraitDecl) → In x V.traits → supers_of V x ≤ w) (a : GoalOverKinds) where
   -- ---- impls
   impls-few : (is : List ImplDecl) → FewCandidates V w supers (by_impls V a is) (length is) (sum_of is)
   impls-few [] = record { few = omega arith; asks = omega arith }
@@ -86,8 +86,8 @@ module _ (V : World) (w : ℕ) (one : StructsAreOne V) (fields : (x : StructDecl
       by true h =
           let l = h.few in
           let n = h.asks in
-          let m = map-length (premise a (is_coinductive V a.reference.trait)) (map (behind (length a.kinds)) i.clauses) in
-          let k = map-length (behind (length a.kinds)) i.clauses in
+          let m = map-length (premise a (is_coinductive V a.reference.trait)) (map (rules_behind (length a.kinds)) i.clauses) in
+          let k = map-length (rules_behind (length a.kinds)) i.clauses in
           record { few = omega (arith, l); asks = omega (arith, n, m, k) }
       by false h = let l = h.few in let n = h.asks in record { few = omega (arith, l); asks = omega (arith, n) }
 
@@ -181,7 +181,7 @@ second-below p q r s t n h = omega (arith, h)
 in-goal : (e p d c k : ℕ) → p ≡ max c (max k 0) → (c ≤ max (max e p) d) × (k ≤ max (max e p) d)
 in-goal e p d c k h = (omega (arith, h), omega (arith, h))
 
-module _ (m : Meaning) (one : StructsAreOne m.view) (f : CanonicalForm) (a : Asked) (is : asked m.view f ≡ Some a) where
+module _ (m : ViewMeaning) (one : StructsAreOne m.view) (f : CanonicalForm) (a : GoalOverKinds) (is : goal_over_kinds m.view f ≡ Some a) where
   abbrev V : World
   V = m.view
 
@@ -260,5 +260,5 @@ module _ (m : Meaning) (one : StructsAreOne m.view) (f : CanonicalForm) (a : Ask
       total : (u s n c b i j w p : ℕ) → u ≡ s → s ≤ w → n ≡ c + b → c ≡ 0 → b ≤ (3 * w + 4) + (j + p) → i ≡ 0 + j → u + n ≤ i + (p + (4 * w + 4))
       total u s n c b i j w p e g h k l q = omega (arith, e, g, h, k, l, q)
 
-pub candidates-are-few : (m : Meaning) → StructsAreOne m.view → CandidatesAreFew m × PremisesAreFew m
+pub candidates-are-few : (m : ViewMeaning) → StructsAreOne m.view → CandidatesAreFew m × PremisesAreFew m
 candidates-are-few m one = (λ f a is. few-candidates m one f a is, λ f a is. few-premises m one f a is)

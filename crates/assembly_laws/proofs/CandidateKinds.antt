@@ -13,7 +13,7 @@ use Rattle.evaluation.specs.declared.candidate.CandidateSource.TheVariants.{Buil
 use Rattle.evaluation.specs.declared.candidate.BuiltinImplSource.TheVariants.{Trivial}
 use Rattle.evaluation.specs.FrameTables.{Equation}
 use Rattle.declarations.specs.Elaboration.{elaborate, supertraits}
-use Rattle.assembly_laws.specs.Asking.{Asked, clauses, self_of, next_of, begins_unknown}
+use Rattle.assembly_laws.specs.Asking.{GoalOverKinds, clauses, self_of, next_of, begins_unknown}
 use Rattle.assembly_laws.specs.Candidates.{Candidate, all_equal, clause_source, by_rule, by_the_impl, unsure, by_clauses, as_written, if_so, misc, by_sized, by_copy, by_auto, by_tuple, by_fn_ptr, call_of, by_call, unsize_array_of, upcast_source, upcasts_from, upcasts_to, upcasts_of, unsize_by_struct, unsize_struct_of, unsize_known, recording, unsizing_outlives, unsize_recording, built_in, by_impls, can_match, bounds_from, object_source, written_source, objects_of}
 use Rattle.assembly_laws.specs.Cover.{all_candidates}
 use Rattle.assembly_laws.proofs.Recording.{every-recorded}
@@ -30,7 +30,7 @@ every-split P (x ∷ xs) ys e = let s = every-split P xs ys e.1 in ((e.0, s.0), 
 abbrev pub with_regions : Trees → Candidate → Candidate
 with_regions r c = record { source = c.source; kinds = c.kinds; equations = c.equations; regions = r; nested = c.nested; certainty = c.certainty }
 
-module _ (V : World) (a : Asked) where
+module _ (V : World) (a : GoalOverKinds) where
   abbrev pub IsMadeAs : Candidate → Type 0
   IsMadeAs c =
       (r : Trees)

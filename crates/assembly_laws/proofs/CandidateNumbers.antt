@@ -12,7 +12,7 @@ use Rattle.evaluation.specs.declared.candidate.CandidateSource.{CandidateSource}
 use Rattle.evaluation.specs.Tables.{frame_tables}
 use Rattle.evaluation.specs.Widths.{count}
 use Rattle.evaluation.proofs.Widths.{IsWithin, count-append}
-use Rattle.assembly_laws.specs.Asking.{Asked}
+use Rattle.assembly_laws.specs.Asking.{GoalOverKinds}
 use Rattle.assembly_laws.specs.Candidates.{Candidate, premise, as_written, if_so, by_rule, all_equal, misc, upcast_source, upcasts_from, upcasts_to, upcasts_of, unsize_by_struct, bounds_from}
 use Rattle.declarations.specs.Elaboration.{all_levels, elaborate, supertraits}
 use Rattle.assembly_laws.specs.Solver.{supers_of}
@@ -177,7 +177,7 @@ to-dyn-few V w (tree l c (tree dynamic b o)) h g = by (not (is_dyn l) && are_dyn
 to-dyn-few V w (tree l c (tree m d o)) h g = no-rules 1 (suc w)
 
 -- ---- candidates of rules
-pub written-length : (V : World) (a : Asked) (source : CandidateSource) (us : List Rule) → length (as_written V a source us) ≡ length us
+pub written-length : (V : World) (a : GoalOverKinds) (source : CandidateSource) (us : List Rule) → length (as_written V a source us) ≡ length us
 written-length V a source [] = refl
 written-length V a source (u ∷ us) = ap suc (written-length V a source us)
 
@@ -185,7 +185,7 @@ pub map-length : {A B : Type 0} (f : A → B) (xs : List A) → length (map f xs
 map-length f [] = refl
 map-length f (x ∷ xs) = ap suc (map-length f xs)
 
-pub written-nested : (V : World) (a : Asked) (source : CandidateSource) (us : List Rule) → nested_in frame_tables (as_written V a source us) ≡ premises_in us
+pub written-nested : (V : World) (a : GoalOverKinds) (source : CandidateSource) (us : List Rule) → nested_in frame_tables (as_written V a source us) ≡ premises_in us
 written-nested V a source [] = refl
 written-nested V a source (u ∷ us) =
     let e = written-nested V a source us in
@@ -229,7 +229,7 @@ module _ (V : World) (w : ℕ) (each : (x : TraitDecl) → In x V.traits → sup
       levels (s ∷ t ∷ ss) g = absurd (omega (arith, g))
 
   -- ---- upcasts and structs
-  upcasts-from-few : (a : Asked) (q : Reference) (i : ℕ) (rs : List Reference) → length (upcasts_from V a q i rs) ≤ length rs
+  upcasts-from-few : (a : GoalOverKinds) (q : Reference) (i : ℕ) (rs : List Reference) → length (upcasts_from V a q i rs) ≤ length rs
   upcasts-from-few a q i [] = omega arith
   upcasts-from-few a q i (r ∷ rs) = by (r.trait == q.trait) (upcasts-from-few a q (suc i) rs)
     where
@@ -238,7 +238,7 @@ module _ (V : World) (w : ℕ) (each : (x : TraitDecl) → In x V.traits → sup
       by true h = omega (arith, h)
       by false h = omega (arith, h)
 
-  upcasts-from-ask : (a : Asked) (q : Reference) (i : ℕ) (rs : List Reference) → nested_in frame_tables (upcasts_from V a q i rs) ≡ 0
+  upcasts-from-ask : (a : GoalOverKinds) (q : Reference) (i : ℕ) (rs : List Reference) → nested_in frame_tables (upcasts_from V a q i rs) ≡ 0
   upcasts-from-ask a q i [] = refl
   upcasts-from-ask a q i (r ∷ rs) = by (r.trait == q.trait) (upcasts-from-ask a q (suc i) rs)
     where
@@ -269,7 +269,7 @@ module _ (V : World) (w : ℕ) (each : (x : TraitDecl) → In x V.traits → sup
       let d = g.asks in
       record { few = omega (arith, p, a, c); asks = omega (arith, q, b, d) }
 
-  pub written-few : (a : Asked) (source : CandidateSource) (us : List Rule) (n m : ℕ) → AreFew us n m → FewCandidates (as_written V a source us) n m
+  pub written-few : (a : GoalOverKinds) (source : CandidateSource) (us : List Rule) (n m : ℕ) → AreFew us n m → FewCandidates (as_written V a source us) n m
   written-few a source us n m h =
       let p = written-length V a source us in
       let q = written-nested V a source us in
@@ -277,7 +277,7 @@ module _ (V : World) (w : ℕ) (each : (x : TraitDecl) → In x V.traits → sup
       let c = h.asks in
       record { few = omega (arith, p, b); asks = omega (arith, q, c) }
 
-  upcasts-to-few : (a : Asked) (ps qs : List Reference) → FewCandidates (upcasts_to V a ps qs) (suc w) 0
+  upcasts-to-few : (a : GoalOverKinds) (ps qs : List Reference) → FewCandidates (upcasts_to V a ps qs) (suc w) 0
   upcasts-to-few a ps [] = record { few = omega arith; asks = omega arith }
   upcasts-to-few a [] (q ∷ qs) = none-few (suc w) 0
   upcasts-to-few a (p ∷ ps) (q ∷ qs) = by (p.trait == q.trait)
@@ -290,7 +290,7 @@ module _ (V : World) (w : ℕ) (each : (x : TraitDecl) → In x V.traits → sup
           let s = asked-supers-few p in
           record { few = omega (arith, l, s); asks = omega (arith, n) }
 
-  pub upcasts-few : (a : Asked) (u : Trees) → FewCandidates (upcasts_of V a u) (suc w) 0
+  pub upcasts-few : (a : GoalOverKinds) (u : Trees) → FewCandidates (upcasts_of V a u) (suc w) 0
   upcasts-few a (tree dynamic b (tree dynamic d o)) =
       let self = tree dynamic b none in
       if-few (are_declared V (principal_with self b) && upcasts_autos V (principal_with self b) (autos_with self b) (autos_with self d)) (upcasts_to V a (principal_with self b) (principal_with self d)) (suc w) 0
@@ -302,14 +302,14 @@ module _ (V : World) (w : ℕ) (each : (x : TraitDecl) → In x V.traits → sup
   last-unsizes-few (f ∷ []) b d = omega arith
   last-unsizes-few (f ∷ g ∷ fs) b d = last-unsizes-few (g ∷ fs) b d
 
-  struct-few : (a : Asked) (b d : Trees) (x : StructDecl) → FewCandidates (unsize_by_struct V a b d x) 1 1
+  struct-few : (a : GoalOverKinds) (b d : Trees) (x : StructDecl) → FewCandidates (unsize_by_struct V a b d x) 1 1
   struct-few a b d x =
       let l = last-unsizes-few x.fields b d in
       let m = map-length (premise a (is_coinductive V a.reference.trait)) (last_unsizes x.fields b d) in
       if-few (some_unsizing x.fields 0 b) (by_rule V a misc (all_equal (with_unsizing x.fields 0 b d) d) (last_unsizes x.fields b d) ∷ []) 1 1
       (record { few = omega arith; asks = omega (arith, l, m) })
 
-  pub structs-few : (a : Asked) (b d : Trees) (xs : List StructDecl) → length xs ≤ 1 → FewCandidates (flat_map (unsize_by_struct V a b d) xs) 1 1
+  pub structs-few : (a : GoalOverKinds) (b d : Trees) (xs : List StructDecl) → length xs ≤ 1 → FewCandidates (flat_map (unsize_by_struct V a b d) xs) 1 1
   structs-few a b d [] h = none-few 1 1
   structs-few a b d (x ∷ []) h =
       let s = struct-few a b d x in
@@ -321,7 +321,7 @@ module _ (V : World) (w : ℕ) (each : (x : TraitDecl) → In x V.traits → sup
   structs-few a b d (x ∷ y ∷ xs) h = absurd (omega (arith, h))
 
   -- ---- object bounds
-  pub from-bounds-few : (a : Asked) (source : ℕ → CandidateSource) (i : ℕ) (rs : List Reference) → FewCandidates (bounds_from V a source i rs) (length rs) (length rs * w)
+  pub from-bounds-few : (a : GoalOverKinds) (source : ℕ → CandidateSource) (i : ℕ) (rs : List Reference) → FewCandidates (bounds_from V a source i rs) (length rs) (length rs * w)
   from-bounds-few a source i [] = record { few = omega arith; asks = omega arith }
   from-bounds-few a source i (r ∷ rs) = by (r.trait == a.reference.trait) (from-bounds-few a source (suc i) rs)
     where

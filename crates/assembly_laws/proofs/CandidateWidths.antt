@@ -7,8 +7,8 @@ use Rattle.type_terms.specs.Worlds.{Reference}
 use Rattle.evaluation.specs.Lists.{Every}
 use Rattle.evaluation.specs.Widths.{count, with_self, width, width_of_predicates, NestedWithin, EquationWithin}
 use Rattle.evaluation.proofs.Widths.{IsWithin, IsOneIf, IsOne, leaf-one, count-put, within-put, within, width-within, count-append, within-append}
-use Rattle.assembly_laws.specs.Asking.{Asked}
-use Rattle.assembly_laws.specs.Candidates.{premise, all_equal, moved, behind}
+use Rattle.assembly_laws.specs.Asking.{GoalOverKinds}
+use Rattle.assembly_laws.specs.Candidates.{premise, all_equal, moved, rules_behind}
 use Rattle.assembly_laws.specs.Solver.{width_of}
 
 -- ---- equations
@@ -22,7 +22,7 @@ equal-within n (tree l c o) (tree m d e) p q = ((one (with_self l (count c)) (wi
     one x y z h = omega (arith, h)
 
 -- ---- premises
-pub premises-within : (n : ℕ) (a : Asked) (kind : Bool) → width_of_predicates a.environment ≤ n → (rs : List Reference) → Every (λ r. width_of r ≤ n) rs → Every (NestedWithin n) (map (premise a kind) rs)
+pub premises-within : (n : ℕ) (a : GoalOverKinds) (kind : Bool) → width_of_predicates a.environment ≤ n → (rs : List Reference) → Every (λ r. width_of r ≤ n) rs → Every (NestedWithin n) (map (premise a kind) rs)
 premises-within n a kind h [] e = tt
 premises-within n a kind h (r ∷ rs) e = let w = e.0 in ((h, omega (arith, w)), premises-within n a kind h rs e.1)
 
@@ -31,13 +31,13 @@ moved-one : (m n : ℕ) (l : Label) → IsOneIf m (moved n l)
 moved-one m n (param k i) = leaf-one m (canonical k (n + i))
 moved-one m n l = tt
 
-pub behind-within : (m n : ℕ) (r : Reference) → width_of r ≤ m → width_of (behind n r) ≤ m
+pub behind-within : (m n : ℕ) (r : Reference) → width_of r ≤ m → width_of (rules_behind n r) ≤ m
 behind-within m n r h =
-    let many : count (behind n r).args ≤ m = subst (λ z. z ≤ m) (sym (count-put m (moved n) (moved-one m n) r.args)) (omega (arith, h)) in
-    let wide = width-within m (behind n r).args (within-put m (moved n) (moved-one m n) r.args (within m r.args (omega (arith, h)))) in
+    let many : count (rules_behind n r).args ≤ m = subst (λ z. z ≤ m) (sym (count-put m (moved n) (moved-one m n) r.args)) (omega (arith, h)) in
+    let wide = width-within m (rules_behind n r).args (within-put m (moved n) (moved-one m n) r.args (within m r.args (omega (arith, h)))) in
     omega (arith, many, wide)
 
-pub behind-all-within : (m n : ℕ) (rs : List Reference) → Every (λ r. width_of r ≤ m) rs → Every (λ r. width_of r ≤ m) (map (behind n) rs)
+pub behind-all-within : (m n : ℕ) (rs : List Reference) → Every (λ r. width_of r ≤ m) rs → Every (λ r. width_of r ≤ m) (map (rules_behind n) rs)
 behind-all-within m n [] e = tt
 behind-all-within m n (r ∷ rs) e = (behind-within m n r e.0, behind-all-within m n rs e.1)
 

@@ -17,14 +17,14 @@ use Rattle.evaluation.specs.Content.{given, trait_of}
 use Rattle.evaluation.specs.FrameTables.{kinds_known}
 use Rattle.assembly_laws.specs.Facts.{reference_in, children_of, trait_or_first}
 use Rattle.declarations.specs.Elaboration.{supertraits}
-use Rattle.assembly_laws.specs.Meaning.{Meaning}
+use Rattle.assembly_laws.specs.Meaning.{ViewMeaning}
 use Rattle.assembly_laws.specs.Knowing.{is_knowable}
 use Rattle.assembly_laws.specs.Declared.{is_declared_view}
-use Rattle.assembly_laws.specs.Asking.{Asked, asked_if, asked_with, with_first, all_known, are_clauses, begins_with_type, next_of}
+use Rattle.assembly_laws.specs.Asking.{GoalOverKinds, asked_if, asked_with, with_first, all_known, are_clauses, begins_with_type, next_of}
 use Rattle.evaluation.specs.Variables.{is_variable_over}
 use Rattle.assembly_laws.specs.Candidates.{premise, unknowable}
 use Rattle.assembly_laws.specs.Solver.{IsSolution}
-use Rattle.assembly_laws.specs.Cover.{slots, nested_at, Gives, all_candidates, goal_fact}
+use Rattle.assembly_laws.specs.Cover.{slots, nested_at, SolvesEquations, all_candidates, goal_fact}
 use Rattle.assembly_laws.proofs.HavingViews.{ViewRulesAreCandidates, ThereAreCandidates}
 use Rattle.assembly_laws.proofs.Knowing.{instances-are-known}
 use Rattle.assembly_laws.proofs.Reading.{read_reference}
@@ -32,7 +32,7 @@ use Rattle.assembly_laws.proofs.Agreeing.{own-read}
 use Rattle.assembly_laws.proofs.Supers.{Proved, supertraits-proved}
 
 -- ---- what is asked
-pub record IsAsked (V : World) (environment asks : Trees) (kinds : Option (List CanonicalVarKind)) (a : Asked) : Type 0 where
+pub record IsAsked (V : World) (environment asks : Trees) (kinds : Option (List CanonicalVarKind)) (a : GoalOverKinds) : Type 0 where
   pub predicate_is : asks ≡ tree (predicate (of_trait a.reference.trait)) a.reference.args none
   pub environment_is : environment ≡ a.environment
   pub kinds_are : kinds ≡ Some a.kinds
@@ -41,16 +41,16 @@ pub record IsAsked (V : World) (environment asks : Trees) (kinds : Option (List 
   pub begins : begins_with_type a.reference.args ≡ true
   pub target : (not (a.reference.trait == unsize) || begins_with_type (next_of a.reference.args)) ≡ true
 
-if-asked : (b : Bool) (a c : Asked) → asked_if b a ≡ Some c → (b ≡ true) × (a ≡ c)
+if-asked : (b : Bool) (a c : GoalOverKinds) → asked_if b a ≡ Some c → (b ≡ true) × (a ≡ c)
 if-asked true a c e = (refl, some-is e)
   where
     some-is : Some a ≡ Some c → a ≡ c
     some-is f = cc
 if-asked false a c e = absurd (cc)
 
-pub asked-by : (V : World) (environment asks : Trees) (kinds : Option (List CanonicalVarKind)) (a : Asked) → asked_with V environment asks kinds ≡ Some a → IsAsked V environment asks kinds a
+pub asked-by : (V : World) (environment asks : Trees) (kinds : Option (List CanonicalVarKind)) (a : GoalOverKinds) → asked_with V environment asks kinds ≡ Some a → IsAsked V environment asks kinds a
 asked-by V environment (tree (predicate (of_trait t)) args none) (Some ks) a e =
-    let own : Asked = record { kinds = ks; environment = environment; reference = record { trait = t; args = args } } in
+    let own : GoalOverKinds = record { kinds = ks; environment = environment; reference = record { trait = t; args = args } } in
     let x = if-asked (written_in V own.reference && (is_made (is_variable_over ks) terms args && ((begins_with_type args && (not (t == unsize) || begins_with_type (next_of args))) && are_clauses ks environment))) own a e in
     let q = right (written_in V own.reference) (is_made (is_variable_over ks) terms args && ((begins_with_type args && (not (t == unsize) || begins_with_type (next_of args))) && are_clauses ks environment)) x.0 in
     let heads = left (begins_with_type args && (not (t == unsize) || begins_with_type (next_of args))) (are_clauses ks environment) (right (is_made (is_variable_over ks) terms args) ((begins_with_type args && (not (t == unsize) || begins_with_type (next_of args))) && are_clauses ks environment) q) in
@@ -76,7 +76,7 @@ known-kinds (Some k ∷ os) ks e = by (all_known os) e (λ js f. known-kinds os 
     by (Some js) f go g = let h = go js g in cc
 
 -- ---- solutions
-module _ (m : Meaning) (declared : is_declared_view m.view ≡ true) (complete : ViewRulesAreCandidates m) where
+module _ (m : ViewMeaning) (declared : is_declared_view m.view ≡ true) (complete : ViewRulesAreCandidates m) where
   pub solutions-are-candidates : ThereAreCandidates m
   solutions-are-candidates H f a e known w v s = (by-view, by-others)
     where
@@ -86,7 +86,7 @@ module _ (m : Meaning) (declared : is_declared_view m.view ≡ true) (complete :
       reference-is : reference_in (goal_fact f v) ≡ read_reference v.terms a.reference
       reference-is = ap (λ p. record { trait = trait_or_first (trait_of p); args = children_of (read_with (given v.terms) p) }) is.predicate_is
 
-      by-view : is_knowable m.view m.crate a.reference ≡ true → SomeOf (Gives H a.kinds v) (all_candidates m.view a)
+      by-view : is_knowable m.view m.crate a.reference ≡ true → SomeOf (SolvesEquations H a.kinds v) (all_candidates m.view a)
       by-view k =
           let r = subst (λ z. is_known_in m.view m.crate z ≡ true) (sym reference-is) (instances-are-known (is_variable_over a.kinds) m.view m.crate a.reference is.over k v.terms) in
           let u = w.linked.rule (reference_in (goal_fact f v)) s.closed r s.proof in
@@ -102,7 +102,7 @@ module _ (m : Meaning) (declared : is_declared_view m.view ≡ true) (complete :
       solution : (r : Reference) → Proved H (read_reference (slots a.kinds v []) r) → IsSolution H (nested_at (slots a.kinds v []) (premise a false r))
       solution r p = record { asks = refl; proper = refl; closed = p.0; proof = p.1 }
 
-      by-others : Gives H a.kinds v (unknowable m.view a)
+      by-others : SolvesEquations H a.kinds v (unknowable m.view a)
       by-others = record {
         own = [];
         sorted = refl;

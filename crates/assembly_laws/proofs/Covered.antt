@@ -16,19 +16,19 @@ use Rattle.evaluation.specs.TableOperations.{begin}
 use Rattle.evaluation.proofs.OperationLaws.{begins-free, begins-within}
 use Rattle.evaluation.specs.Tables.{frame_tables}
 use Rattle.evaluation.proofs.FrameTableLaws.{tables_are_lawful}
-use Rattle.evaluation.specs.Handler.{IsLawful}
-use Rattle.evaluation.specs.Plans.{Keeps, each_of, first_alone, Goes}
-use Rattle.evaluation.specs.Merge.{IsTest, TellsApart}
+use Rattle.evaluation.specs.Handler.{CandidateIsLawful}
+use Rattle.evaluation.specs.Plans.{KeepsLaws, each_of, first_alone, GoesByConsidering}
+use Rattle.evaluation.specs.Merge.{IsTest, TellsResponsesApart}
 use Rattle.evaluation.proofs.Plans.{plan_is_lawful, keeps_more, keeps_each, goes_on, goes_through}
 use Rattle.evaluation.proofs.PlanAnswers.{all_merged_keeps}
-use Rattle.assembly_laws.specs.Meaning.{Meaning, proved_at}
+use Rattle.assembly_laws.specs.Meaning.{ViewMeaning, proved_at}
 use Rattle.assembly_laws.specs.Lifetimes.{GivesLifetimes}
 use Rattle.assembly_laws.specs.Knowing.{is_knowable}
-use Rattle.assembly_laws.specs.Asking.{Asked, asked, self_of, begins_unknown}
+use Rattle.assembly_laws.specs.Asking.{GoalOverKinds, goal_over_kinds, self_of, begins_unknown}
 use Rattle.assembly_laws.specs.Candidates.{Candidate, unsure, unknowable}
-use Rattle.assembly_laws.specs.Solver.{Past, everything, in_coherence, by_mode, plan_for, Searched, IsSolution, solver_planned, solver_handled}
+use Rattle.assembly_laws.specs.Solver.{SolverPast, everything, in_coherence, by_mode, plan_for, Searched, IsSolution, solver_planned, solver_handled}
 use Rattle.assembly_laws.specs.Cover.{all_candidates, goal_fact, SolutionsAreCandidates}
-use Rattle.assembly_laws.specs.CoverLaw.{AnswersCover, IsAsMeant, CandidatesAreLawful, CoherenceIsCovered, CoherenceIsLawful}
+use Rattle.assembly_laws.specs.CoverLaw.{AnswersCover, IsAsMeant, DecidedCandidatesAreLawful, CoherenceIsCovered, CoherenceIsLawful}
 use Rattle.assembly_laws.proofs.ErasedViews.{solutions-by}
 use Rattle.assembly_laws.proofs.Plans.{coherence_keeps}
 use Rattle.assembly_laws.proofs.Covering.{Holds, answered, each-holds, first-holds}
@@ -47,7 +47,7 @@ is-true : (x : Bool) → not x ≡ false → x ≡ true
 is-true true e = refl
 is-true false e = absurd (cc)
 
-module _ (applicable : AnswerTrees → Bool) (same : AnswerTrees → AnswerTrees → Bool) (m : Meaning) (sound : m.is_sound ≡ true → IsAsMeant m) (f : CanonicalForm) (fits : GivesLifetimes m f) where
+module _ (applicable : AnswerTrees → Bool) (same : AnswerTrees → AnswerTrees → Bool) (m : ViewMeaning) (sound : m.is_sound ≡ true → IsAsMeant m) (f : CanonicalForm) (fits : GivesLifetimes m f) where
   abbrev h : Handled frame_tables
   h = solver_handled applicable same m Coherence f
 
@@ -70,10 +70,10 @@ module _ (applicable : AnswerTrees → Bool) (same : AnswerTrees → AnswerTrees
         each-holds frame_tables Q (unsure ∷ []) (everything applicable same start) []
         (λ later g. goes_through frame_tables P (unsure ∷ []) [] later g (inl (unsure-realizes (proved_at w.place) (kinds_known f.kinds) v w.no_placeholders)))
 
-    asked-holds : IsAsMeant m → m.is_sound ≡ true → (a : Asked) → asked m.view f ≡ Some a → begins_unknown a.kinds (self_of a) ≡ false → Holds frame_tables Q [] (in_coherence applicable same start m.view m.crate a)
+    asked-holds : IsAsMeant m → m.is_sound ≡ true → (a : GoalOverKinds) → goal_over_kinds m.view f ≡ Some a → begins_unknown a.kinds (self_of a) ≡ false → Holds frame_tables Q [] (in_coherence applicable same start m.view m.crate a)
     asked-holds x is_yes a e known = by (is_knowable m.view m.crate a.reference) refl
       where
-        alone : (seen : Past) → Goes frame_tables (unknowable m.view a ∷ []) [] seen → SomeOf Q seen
+        alone : (seen : SolverPast) → GoesByConsidering frame_tables (unknowable m.view a ∷ []) [] seen → SomeOf Q seen
         alone seen g = goes_through frame_tables P (unknowable m.view a ∷ []) [] seen g (inl (by-unknowable m (complete x) f a e known (fits is_yes a e) w v s (asked-terms m x.declared f a e (x.bounds f a e) w)))
 
         by : (b : Bool) → is_knowable m.view m.crate a.reference ≡ b
@@ -87,7 +87,7 @@ module _ (applicable : AnswerTrees → Bool) (same : AnswerTrees → AnswerTrees
             (λ seen g. each-holds frame_tables Q (all_candidates m.view a) (everything applicable same start) seen (λ later i. goes_on frame_tables Q (all_candidates m.view a) seen later i (alone seen g)))
             (λ seen g. alone seen g)
 
-    plan-holds : (o : Option Asked) → asked m.view f ≡ o → Holds frame_tables Q [] (plan_for applicable same start m Coherence o)
+    plan-holds : (o : Option GoalOverKinds) → goal_over_kinds m.view f ≡ o → Holds frame_tables Q [] (plan_for applicable same start m Coherence o)
     plan-holds None e = unsure-holds
     plan-holds (Some a) e = by (not m.is_sound || begins_unknown a.kinds (self_of a)) refl
       where
@@ -98,20 +98,20 @@ module _ (applicable : AnswerTrees → Bool) (same : AnswerTrees → AnswerTrees
 
   answers-cover : AnswersCover h
   answers-cover seen a ignored hist e w v s =
-      answered frame_tables (Q w v s) (plan_for applicable same start m Coherence (asked m.view f)) (plan-holds w v s (asked m.view f) refl) seen a ignored hist e
+      answered frame_tables (Q w v s) (plan_for applicable same start m Coherence (goal_over_kinds m.view f)) (plan-holds w v s (goal_over_kinds m.view f) refl) seen a ignored hist e
 
   -- ---- all laws, where the candidates are lawful
-  module _ (is_test : IsTest frame_tables applicable) (is_same : TellsApart same) (lawful : (a : Asked) → asked m.view f ≡ Some a → CandidatesAreLawful h m.view a) where
+  module _ (is_test : IsTest frame_tables applicable) (is_same : TellsResponsesApart same) (lawful : (a : GoalOverKinds) → goal_over_kinds m.view f ≡ Some a → DecidedCandidatesAreLawful h m.view a) where
     says : (c : Certainty) → frame_tables.has_values (frame_tables.respond h.begin c) ≡ false
     says c = begin-says-nothing (kinds_known f.kinds) c
 
-    unsure-lawful : IsLawful frame_tables h unsure
+    unsure-lawful : CandidateIsLawful frame_tables h unsure
     unsure-lawful = record { sound = λ y s l e. absurd (not-yes y); steps = λ y T. tt; determined = λ s r l k e d o. tt; equations_within = tt; nested_within = tt }
       where
         not-yes : unsure.certainty ≡ Yes → ⊥
         not-yes e = cc
 
-    unsure-keeps : Keeps frame_tables h h.candidates h.number [] (each_of frame_tables (unsure ∷ []) (everything applicable same start) [])
+    unsure-keeps : KeepsLaws frame_tables h h.candidates h.number [] (each_of frame_tables (unsure ∷ []) (everything applicable same start) [])
     unsure-keeps =
         keeps_more frame_tables h (1 + 0) h.candidates (0 + 0) h.number [] (each_of frame_tables (unsure ∷ []) (everything applicable same start) [])
         (omega arith) (omega arith)
@@ -119,7 +119,7 @@ module _ (applicable : AnswerTrees → Bool) (same : AnswerTrees → AnswerTrees
         (λ later g. all_merged_keeps frame_tables tables_are_lawful applicable is_test same is_same h says (begins-within h.widest (kinds_known f.kinds)) 0 0 later
         (λ w v s. goes_through frame_tables (P w v s) (unsure ∷ []) [] later g (inl (unsure-realizes (proved_at w.place) (kinds_known f.kinds) v w.no_placeholders)))))
 
-    asked-keeps : IsAsMeant m → m.is_sound ≡ true → (a : Asked) → asked m.view f ≡ Some a → begins_unknown a.kinds (self_of a) ≡ false → Keeps frame_tables h h.candidates h.number [] (in_coherence applicable same start m.view m.crate a)
+    asked-keeps : IsAsMeant m → m.is_sound ≡ true → (a : GoalOverKinds) → goal_over_kinds m.view f ≡ Some a → begins_unknown a.kinds (self_of a) ≡ false → KeepsLaws frame_tables h h.candidates h.number [] (in_coherence applicable same start m.view m.crate a)
     asked-keeps x is_yes a e known =
         let l = lawful a e in
         coherence_keeps tables_are_lawful applicable is_test same is_same h says (begins-within h.widest (kinds_known f.kinds)) m.view m.crate a l.each
@@ -128,12 +128,12 @@ module _ (applicable : AnswerTrees → Bool) (same : AnswerTrees → AnswerTrees
           by_others = λ w v s. by-unknowable m (complete x) f a e known (fits is_yes a e) w v s (asked-terms m x.declared f a e (x.bounds f a e) w);
         }) l.few l.asks
 
-    plan-keeps : (o : Option Asked) → asked m.view f ≡ o → Keeps frame_tables h h.candidates h.number [] (plan_for applicable same start m Coherence o)
+    plan-keeps : (o : Option GoalOverKinds) → goal_over_kinds m.view f ≡ o → KeepsLaws frame_tables h h.candidates h.number [] (plan_for applicable same start m Coherence o)
     plan-keeps None e = unsure-keeps
     plan-keeps (Some a) e = by (not m.is_sound || begins_unknown a.kinds (self_of a)) refl
       where
         by : (b : Bool) → (not m.is_sound || begins_unknown a.kinds (self_of a)) ≡ b
-            → Keeps frame_tables h h.candidates h.number [] (if b then each_of frame_tables (unsure ∷ []) (everything applicable same start) [] else by_mode applicable same start m Coherence a)
+            → KeepsLaws frame_tables h h.candidates h.number [] (if b then each_of frame_tables (unsure ∷ []) (everything applicable same start) [] else by_mode applicable same start m Coherence a)
         by true k = unsure-keeps
         by false k = asked-keeps (sound (is-true m.is_sound (first-no (not m.is_sound) (begins_unknown a.kinds (self_of a)) k))) (is-true m.is_sound (first-no (not m.is_sound) (begins_unknown a.kinds (self_of a)) k)) a e (no-first (not m.is_sound) (begins_unknown a.kinds (self_of a)) k)
 
@@ -147,5 +147,5 @@ coherence-is-lawful applicable same is_test is_same m sound f fits lawful =
       begins = λ v. begins-free (kinds_known f.kinds) v;
       says_nothing = λ c. begin-says-nothing (kinds_known f.kinds) c;
       begins_within = begins-within _ (kinds_known f.kinds);
-      keeps = plan-keeps applicable same m sound f fits is_test is_same lawful (asked m.view f) refl;
+      keeps = plan-keeps applicable same m sound f fits is_test is_same lawful (goal_over_kinds m.view f) refl;
     })

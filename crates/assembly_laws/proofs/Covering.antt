@@ -3,7 +3,7 @@ use Rattle.std.proofs.Common.{◌≡◌, ℕ, List, [], ◌∷◌, refl, ap, sub
 use Rattle.evaluation.specs.Lists.{SomeOf}
 use Rattle.evaluation.specs.Table.{Tables, workings}
 use Rattle.evaluation.specs.Candidate.{Spec, Considered, Next, consider, answer, IsHistory}
-use Rattle.evaluation.specs.Plans.{Plan, considers, answers, told, after, wanted, came, each_of, if_refused, first_alone, Goes}
+use Rattle.evaluation.specs.Plans.{Plan, considers, answers, told, after, wanted, came, each_of, if_refused, first_alone, GoesByConsidering}
 
 module _ {Question Response : Type 0} (t : Tables Question Response) (Q : Considered (workings t) → Type 0) where
   -- after these each answer of the plan comes when some considered candidate is so
@@ -36,7 +36,7 @@ module _ {Question Response : Type 0} (t : Tables Question Response) (Q : Consid
   answered p h seen a ignored hist e = ends seen (after t p seen) a ignored e (walk p h seen hist)
 
   pub each-holds : (specs : List (Spec (workings t))) (go : List (Considered (workings t)) → Plan t) (seen : List (Considered (workings t)))
-      → ((later : List (Considered (workings t))) → Goes t specs seen later → Holds later (go later)) → Holds seen (each_of t specs go seen)
+      → ((later : List (Considered (workings t))) → GoesByConsidering t specs seen later → Holds later (go later)) → Holds seen (each_of t specs go seen)
   each-holds [] go seen k = k seen refl
   each-holds (s ∷ specs) go seen k = λ a n. each-holds specs go (came t s a n ∷ seen) (λ later g. k later (a, n, g))
 
@@ -45,7 +45,7 @@ module _ {Question Response : Type 0} (t : Tables Question Response) (Q : Consid
   holds-if seen refused held (Some r) h g = g
 
   pub first-holds : (s : Spec (workings t)) (refused held : List (Considered (workings t)) → Plan t) (seen : List (Considered (workings t)))
-      → ((later : List (Considered (workings t))) → Goes t (s ∷ []) seen later → Holds later (refused later))
-      → ((later : List (Considered (workings t))) → Goes t (s ∷ []) seen later → Holds later (held later))
+      → ((later : List (Considered (workings t))) → GoesByConsidering t (s ∷ []) seen later → Holds later (refused later))
+      → ((later : List (Considered (workings t))) → GoesByConsidering t (s ∷ []) seen later → Holds later (held later))
       → Holds seen (first_alone t s refused held seen)
   first-holds s refused held seen h g = λ a n. holds-if (came t s a n ∷ seen) (refused (came t s a n ∷ seen)) (held (came t s a n ∷ seen)) a (h (came t s a n ∷ seen) (a, n, refl)) (g (came t s a n ∷ seen) (a, n, refl))

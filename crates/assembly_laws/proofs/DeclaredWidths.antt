@@ -7,8 +7,8 @@ use Rattle.type_terms.specs.Proofs.{In}
 use Rattle.type_terms.proofs.Members.{here, there, in-cases, in-nothing}
 use Rattle.evaluation.specs.Lists.{Every}
 use Rattle.evaluation.specs.Widths.{width, width_of_predicates}
-use Rattle.assembly_laws.specs.Asking.{Asked}
-use Rattle.assembly_laws.specs.Candidates.{by_the_impl, behind}
+use Rattle.assembly_laws.specs.Asking.{GoalOverKinds}
+use Rattle.assembly_laws.specs.Candidates.{by_the_impl, rules_behind}
 use Rattle.assembly_laws.specs.Solver.{greatest, width_of, declared_width}
 use Rattle.assembly_laws.proofs.Premises.{IsNarrow}
 use Rattle.assembly_laws.proofs.CandidateWidths.{equal-within, premises-within, behind-within, behind-all-within}
@@ -48,7 +48,7 @@ each-greatest xs n h = each-in xs xs n (λ r j. j) h
 args-width : (r : Reference) (n : ℕ) → width_of r ≤ n → width r.args ≤ n
 args-width r n h = omega (arith, h)
 
-module _ (V : World) (a : Asked) (n : ℕ) (declared : declared_width V ≤ n) (goal : width a.reference.args ≤ n) (environment : width_of_predicates a.environment ≤ n) where
+module _ (V : World) (a : GoalOverKinds) (n : ℕ) (declared : declared_width V ≤ n) (goal : width a.reference.args ≤ n) (environment : width_of_predicates a.environment ≤ n) where
   impl-width : (i : ImplDecl) → In i V.impls → max (width_of i.header) (greatest width_of i.clauses) ≤ n
   impl-width i j = let g = greatest-at (λ (x : ImplDecl). max (width_of x.header) (greatest width_of x.clauses)) V.impls i j in omega (arith, g, declared)
 
@@ -56,6 +56,6 @@ module _ (V : World) (a : Asked) (n : ℕ) (declared : declared_width V ≤ n) (
   impl-narrow i j =
       let w = impl-width i j in
       let b = behind-within n (length a.kinds) i.header (omega (arith, w)) in (
-        equal-within n a.reference.args (behind (length a.kinds) i.header).args goal (args-width (behind (length a.kinds) i.header) n b),
-        premises-within n a (is_coinductive V a.reference.trait) environment (map (behind (length a.kinds)) i.clauses) (behind-all-within n (length a.kinds) i.clauses (each-greatest i.clauses n (omega (arith, w)))),
+        equal-within n a.reference.args (rules_behind (length a.kinds) i.header).args goal (args-width (rules_behind (length a.kinds) i.header) n b),
+        premises-within n a (is_coinductive V a.reference.trait) environment (map (rules_behind (length a.kinds)) i.clauses) (behind-all-within n (length a.kinds) i.clauses (each-greatest i.clauses n (omega (arith, w)))),
       )

@@ -11,18 +11,18 @@ use Rattle.infer_table.specs.declared.canonical.CanonicalVarKind.{CanonicalVarKi
 use Rattle.infer_table.specs.declared.canonical.CanonicalVarKind.TheVariants.{Ty, PlaceholderTy, Const, PlaceholderConst, Region}
 use Rattle.evaluation.specs.Lists.{Every}
 use Rattle.evaluation.specs.Instances.{read_with, goal_read, put_in, of_sort, term_at}
-use Rattle.evaluation.specs.Content.{Values, fits, given, Fact, Terms, trait_of}
-use Rattle.evaluation.specs.FrameTables.{kind_at, FrameTable, Allows, Nested, fact, Meets, is_open_label}
+use Rattle.evaluation.specs.Content.{Values, fits, given, Fact, ChosenTerms, trait_of}
+use Rattle.evaluation.specs.FrameTables.{kind_at, FrameTable, Allows, Nested, fact, EquationIsMet, is_open_label}
 use Rattle.type_terms.proofs.Made.{false-true}
 use Rattle.type_terms.proofs.Walking.{left, right}
 use Rattle.evaluation.proofs.Labels.{made-labels, IsGoodLabel, made-more}
 use Rattle.evaluation.specs.TableOperations.{begin}
 use Rattle.evaluation.specs.FrameTables.{labels_from}
 use Rattle.evaluation.specs.TableOperations.{fresh}
-use Rattle.assembly_laws.specs.Asking.{Asked, are_clauses}
+use Rattle.assembly_laws.specs.Asking.{GoalOverKinds, are_clauses}
 use Rattle.evaluation.specs.Variables.{is_variable_over}
 use Rattle.assembly_laws.specs.Declared.{is_declared}
-use Rattle.assembly_laws.specs.Candidates.{premise, behind, is_param, moved, all_equal}
+use Rattle.assembly_laws.specs.Candidates.{premise, rules_behind, is_param, moved, all_equal}
 use Rattle.evaluation.proofs.Readings.{Agree, AgreeIn, made-leaves, reads-agree, reads-determine}
 use Rattle.evaluation.proofs.Slots.{own_slot, slot-is, slots-agree, each-stands}
 use Rattle.assembly_laws.proofs.Moving.{made-moved, stands-back, stands-on, met-reads, Came}
@@ -31,7 +31,7 @@ pub same-fact : (trait : Option ℕ) (g k : GoalTrees) (p q : Bool) → g ≡ k 
 same-fact trait g k p q e f = cc
 
 -- ---- steps
-pub premises-step : (a : Asked) (kind : Bool) (rs : List Reference) → Every (λ (n : Nested). n.coinductive ≡ kind) (map (premise a kind) rs)
+pub premises-step : (a : GoalOverKinds) (kind : Bool) (rs : List Reference) → Every (λ (n : Nested). n.coinductive ≡ kind) (map (premise a kind) rs)
 premises-step a kind [] = tt
 premises-step a kind (r ∷ rs) = (refl, premises-step a kind rs)
 
@@ -49,10 +49,10 @@ past-end f a b c p (Region ∷ ks) (suc i) e = past-end f a b (suc c) (suc p) ks
 past-end f a b c p (PlaceholderTy ∷ ks) (suc i) e = past-end f a b c (suc p) ks i e
 past-end f a b c p (PlaceholderConst ∷ ks) (suc i) e = past-end f a b c (suc p) ks i e
 
-same-proper : (t : FrameTable) (s r : Terms) → Allows t s → Allows t r → s.own ≡ r.own → s.proper ≡ r.proper
+same-proper : (t : FrameTable) (s r : ChosenTerms) → Allows t s → Allows t r → s.own ≡ r.own → s.proper ≡ r.proper
 same-proper t s r l k e = l.proper ∙ ap (λ (v : Values). v.proper && fits (map Some t.kinds) v.terms) e ∙ sym k.proper
 
-module _ (ks : List CanonicalVarKind) (s r : Terms) (l : Allows (fresh (begin ks) []) s) (k : Allows (fresh (begin ks) []) r) (e : s.own ≡ r.own) where
+module _ (ks : List CanonicalVarKind) (s r : ChosenTerms) (l : Allows (fresh (begin ks) []) s) (k : Allows (fresh (begin ks) []) r) (e : s.own ≡ r.own) where
   same-at : (i : ℕ) → term_at s.slots i ≡ term_at r.slots i
   same-at i = by (kind_at ks i) refl
     where
@@ -72,7 +72,7 @@ module _ (ks : List CanonicalVarKind) (s r : Terms) (l : Allows (fresh (begin ks
       goals p q = cc
 
 -- ---- unknowns that stand in the header
-module _ (a : Asked) (over : is_made (is_variable_over a.kinds) terms a.reference.args ≡ true) (clauses : are_clauses a.kinds a.environment ≡ true) (own : List CanonicalVarKind) where
+module _ (a : GoalOverKinds) (over : is_made (is_variable_over a.kinds) terms a.reference.args ≡ true) (clauses : are_clauses a.kinds a.environment ≡ true) (own : List CanonicalVarKind) where
   abbrev table : FrameTable
   table = fresh (begin a.kinds) own
 
@@ -88,7 +88,7 @@ module _ (a : Asked) (over : is_made (is_variable_over a.kinds) terms a.referenc
       by (placeholder k v) g = absurd (false-true g)
       by l g = refl
 
-  clauses-agree : (s r : Terms) → Allows table s → Allows table r → s.own ≡ r.own → (E : Trees) → are_clauses a.kinds E ≡ true → AgreeIn s.slots r.slots E
+  clauses-agree : (s r : ChosenTerms) → Allows table s → Allows table r → s.own ≡ r.own → (E : Trees) → are_clauses a.kinds E ≡ true → AgreeIn s.slots r.slots E
   clauses-agree s r l k e none h sort i v st = absurd st
   clauses-agree s r l k e (tree m c o) h sort i v (inl q) = absurd (false-true (subst (λ z. not (is_open z) ≡ true) q (left (not (is_open m)) _ h)))
   clauses-agree s r l k e (tree m c o) h sort i v (inr (inl st)) =
@@ -96,12 +96,12 @@ module _ (a : Asked) (over : is_made (is_variable_over a.kinds) terms a.referenc
   clauses-agree s r l k e (tree m c o) h sort i v (inr (inr st)) = clauses-agree s r l k e o (right (is_made (is_variable_over a.kinds) terms c) (are_clauses a.kinds o) (right (not (is_open m)) _ h)) sort i v st
 
   -- the goal's arguments are the header's
-  pub heads : (s : Terms) (header : Trees) → is_made is_declared terms header ≡ true → Every (λ e. Meets e s) (all_equal a.reference.args (put_in (moved n) header))
+  pub heads : (s : ChosenTerms) (header : Trees) → is_made is_declared terms header ≡ true → Every (λ e. EquationIsMet e s) (all_equal a.reference.args (put_in (moved n) header))
       → read_with (given s.slots) a.reference.args ≡ read_with (given s.slots) (put_in (moved n) header)
   heads s header d m = met-reads s.slots a.reference.args (put_in (moved n) header) open-over (made-moved n header d) m
 
-  module _ (header : Trees) (declared : is_made is_declared terms header ≡ true) (s r : Terms) (l : Allows table s) (k : Allows table r)
-      (meets : Every (λ e. Meets e s) (all_equal a.reference.args (put_in (moved n) header))) (too : Every (λ e. Meets e r) (all_equal a.reference.args (put_in (moved n) header))) (e : s.own ≡ r.own) where
+  module _ (header : Trees) (declared : is_made is_declared terms header ≡ true) (s r : ChosenTerms) (l : Allows table s) (k : Allows table r)
+      (meets : Every (λ e. EquationIsMet e s) (all_equal a.reference.args (put_in (moved n) header))) (too : Every (λ e. EquationIsMet e r) (all_equal a.reference.args (put_in (moved n) header))) (e : s.own ≡ r.own) where
     header-agrees : AgreeIn s.slots r.slots (put_in (moved n) header)
     header-agrees =
         reads-determine s.slots r.slots (put_in (moved n) header) (made-leaves is_open_label terms (put_in (moved n) header) (made-moved n header declared))
@@ -116,7 +116,7 @@ module _ (a : Asked) (over : is_made (is_variable_over a.kinds) terms a.referenc
 
     -- each clause whose parameters stand in the header has one fact
     pub clause-fact : (kind : Bool) (c : Reference) → is_made is_declared terms c.args ≡ true → ((q : Sort) (j : ℕ) → some_node (is_param q j) c.args ≡ true → some_node (is_param q j) header ≡ true)
-        → fact (premise a kind (behind n c)) s ≡ fact (premise a kind (behind n c)) r
+        → fact (premise a kind (rules_behind n c)) s ≡ fact (premise a kind (rules_behind n c)) r
     clause-fact kind c d stands =
         same-fact (Some c.trait) _ _ s.proper r.proper
         (goals (reads-agree s.slots r.slots a.environment (clauses-agree s r l k e a.environment clauses)) (ap (λ z. tree (predicate (of_trait c.trait)) z none) (reads-agree s.slots r.slots (put_in (moved n) c.args) (clause-agrees c.args d stands))))

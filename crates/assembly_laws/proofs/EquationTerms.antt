@@ -22,7 +22,7 @@ use Rattle.type_terms.proofs.Made.{is_ordinary, made-append}
 use Rattle.evaluation.proofs.Labels.{IsLeafFor, PutsLeaves, made-put-in, made-more}
 use Rattle.declarations.specs.Elaboration.{elaborate, supertraits, rest_of}
 use Rattle.assembly_laws.specs.Declared.{is_declared, is_counted, are_terms, are_references, is_declared_view}
-use Rattle.assembly_laws.specs.Asking.{Asked, clauses, self_of, with_plain_head}
+use Rattle.assembly_laws.specs.Asking.{GoalOverKinds, clauses, self_of, with_plain_head}
 use Rattle.evaluation.specs.Variables.{is_variable_over}
 use Rattle.assembly_laws.specs.Candidates.{first_value, all_equal, moved}
 use Rattle.assembly_laws.specs.Cover.{AreTermsOf, BoundsAreTerms, all_candidates}
@@ -191,7 +191,7 @@ autos-terms self none args h g = tt
 autos-terms self (tree (auto_trait t) c o) args h g = (all-terms args self h g, autos-terms self o args h g)
 autos-terms self (tree l c o) args h g = autos-terms self o args h g
 
-module _ (V : World) (declared : is_declared_view V ≡ true) (a : Asked) (over : is_made (is_variable_over a.kinds) terms a.reference.args ≡ true) (clauses_are : Every (λ (r : Reference). IsOpenTerms r.args) (clauses a)) (bounds_are : BoundsAreTerms V a) where
+module _ (V : World) (declared : is_declared_view V ≡ true) (a : GoalOverKinds) (over : is_made (is_variable_over a.kinds) terms a.reference.args ≡ true) (clauses_are : Every (λ (r : Reference). IsOpenTerms r.args) (clauses a)) (bounds_are : BoundsAreTerms V a) where
   args_made : IsOpenTerms a.reference.args
   args_made = made-open a.kinds terms a.reference.args over
 

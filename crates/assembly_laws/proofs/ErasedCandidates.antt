@@ -18,10 +18,10 @@ use Rattle.evaluation.specs.Content.{Fact, Values, given}
 use Rattle.evaluation.specs.FrameTables.{Equation}
 use Rattle.assembly_laws.specs.Facts.{tree_of_reference}
 use Rattle.assembly_laws.specs.Lifetimes.{lacks_lifetime, are_given}
-use Rattle.assembly_laws.specs.Asking.{Asked}
+use Rattle.assembly_laws.specs.Asking.{GoalOverKinds}
 use Rattle.assembly_laws.specs.Candidates.{Candidate, premise, clause_source, by_rule, by_clauses, as_written, misc, if_so, all_equal, kinds_of_params, kind_of_param, is_param, call_of, unsize_array_of, upcasts_of, upcasts_to, upcasts_from, upcast_source, unsize_by_struct, bounds_from, object_source, written_source, objects_of, unknowable}
 use Rattle.assembly_laws.specs.Solver.{IsSolution}
-use Rattle.assembly_laws.specs.Cover.{slots, nested_at, Gives}
+use Rattle.assembly_laws.specs.Cover.{slots, nested_at, SolvesEquations}
 use Rattle.assembly_laws.proofs.Reading.{true-false, read_reference, read-append}
 use Rattle.assembly_laws.proofs.ErasedReading.{instance-erased}
 
@@ -124,12 +124,12 @@ not-true false e = refl
 abbrev pub without_lifetimes : World → List CrateDecl → World
 without_lifetimes V cs = record { crates = cs; structs = map erased_struct V.structs; traits = V.traits; impls = map erased_impl V.impls }
 
-module _ (H : Reference → Type 0) (V : World) (cs : List CrateDecl) (a : Asked) (v : Values) where
+module _ (H : Reference → Type 0) (V : World) (cs : List CrateDecl) (a : GoalOverKinds) (v : Values) where
   abbrev U : World
   U = without_lifetimes V cs
 
   abbrev P : Candidate → Type 0
-  P c = Gives H a.kinds v c
+  P c = SolvesEquations H a.kinds v c
 
   -- ---- premises that are read alike
   abbrev fact-of : List Trees → Reference → Fact

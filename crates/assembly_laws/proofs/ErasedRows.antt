@@ -22,10 +22,10 @@ use Rattle.evaluation.specs.Content.{Values, given}
 use Rattle.evaluation.specs.FrameTables.{Equation}
 use Rattle.assembly_laws.specs.Declared.{are_terms, is_lifetime_parameter}
 use Rattle.assembly_laws.specs.Lifetimes.{are_given, gives_lifetimes, goal_gives_lifetimes}
-use Rattle.assembly_laws.specs.Asking.{Asked, clauses, self_of, next_of, begins_unknown, with_plain_head}
-use Rattle.assembly_laws.specs.Candidates.{Candidate, by_clauses, by_the_impl, by_impls, as_written, misc, if_so, unsure, is_relevant_to, can_match, all_equal, behind, by_sized, by_copy, by_auto, by_tuple, by_fn_ptr, by_call, by_unsize, unsize_known, unsizing_outlives, unsize_recording, unsize_array_of, upcasts_of, unsize_struct_of, unsize_by_struct, built_in, by_objects}
+use Rattle.assembly_laws.specs.Asking.{GoalOverKinds, clauses, self_of, next_of, begins_unknown, with_plain_head}
+use Rattle.assembly_laws.specs.Candidates.{Candidate, by_clauses, by_the_impl, by_impls, as_written, misc, if_so, unsure, is_relevant_to, can_match, all_equal, rules_behind, by_sized, by_copy, by_auto, by_tuple, by_fn_ptr, by_call, by_unsize, unsize_known, unsizing_outlives, unsize_recording, unsize_array_of, upcasts_of, unsize_struct_of, unsize_by_struct, built_in, by_objects}
 use Rattle.assembly_laws.specs.Slots.{as_slots}
-use Rattle.assembly_laws.specs.Cover.{slots, Gives, all_candidates}
+use Rattle.assembly_laws.specs.Cover.{slots, SolvesEquations, all_candidates}
 use Rattle.assembly_laws.proofs.Reading.{true-false, begins, read_reference, read-each-asked, read-last-asked}
 use Rattle.assembly_laws.proofs.Impls.{pairwise}
 use Rattle.assembly_laws.proofs.Apart.{erased-apart}
@@ -146,12 +146,12 @@ joined ts (tree l c o) (tree m d p) e =
 abbrev pub HeadsStay : World → Type 0
 HeadsStay V = (i : ImplDecl) → In i V.impls → is_auto V i.header.trait ≡ true → (l : Label) → same_head l (erase i.header.args) ≡ same_head l i.header.args
 
-module _ (H : Reference → Type 0) (V : World) (cs : List CrateDecl) (a : Asked) (v : Values) where
+module _ (H : Reference → Type 0) (V : World) (cs : List CrateDecl) (a : GoalOverKinds) (v : Values) where
   abbrev U : World
   U = without_lifetimes V cs
 
   abbrev P : Candidate → Type 0
-  P c = Gives H a.kinds v c
+  P c = SolvesEquations H a.kinds v c
 
   under : (b : Bool) (xs ys : List Candidate) → (b ≡ true → SomeOf P xs → SomeOf P ys) → SomeOf P (if_so b xs) → SomeOf P (if_so b ys)
   under true xs ys f s = f refl s
@@ -224,8 +224,8 @@ module _ (H : Reference → Type 0) (V : World) (cs : List CrateDecl) (a : Asked
   impl-so i g = record {
     own = g.own;
     sorted = subst (λ ks. as_slots ks g.own ≡ g.own) (kinds-same i.header.args zero i.params) g.sorted;
-    equal = pairwise ts a.reference.args (behind n i.header).args (joined ts a.reference.args (behind n (erased_reference i.header)).args g.equal ∙ moved-erased ts n i.header.args);
-    solves = solved H V cs a v (is_coinductive V a.reference.trait) ts (map (behind n) (map erased_reference i.clauses)) (map (behind n) i.clauses) (clauses-read i.clauses) g.solves;
+    equal = pairwise ts a.reference.args (rules_behind n i.header).args (joined ts a.reference.args (rules_behind n (erased_reference i.header)).args g.equal ∙ moved-erased ts n i.header.args);
+    solves = solved H V cs a v (is_coinductive V a.reference.trait) ts (map (rules_behind n) (map erased_reference i.clauses)) (map (rules_behind n) i.clauses) (clauses-read i.clauses) g.solves;
   }
     where
       ts : List Trees
@@ -234,11 +234,11 @@ module _ (H : Reference → Type 0) (V : World) (cs : List CrateDecl) (a : Asked
       n : ℕ
       n = length a.kinds
 
-      clauses-read : (rs : List Reference) → map (read_reference ts) (map (behind n) (map erased_reference rs)) ≡ map (read_reference ts) (map (behind n) rs)
+      clauses-read : (rs : List Reference) → map (read_reference ts) (map (rules_behind n) (map erased_reference rs)) ≡ map (read_reference ts) (map (rules_behind n) rs)
       clauses-read [] = refl
       clauses-read (r ∷ rs) =
-          ap (λ z. record { trait = r.trait; args = z } ∷ map (read_reference ts) (map (behind n) (map erased_reference rs))) (moved-erased ts n r.args)
-          ∙ ap (λ z. read_reference ts (behind n r) ∷ z) (clauses-read rs)
+          ap (λ z. record { trait = r.trait; args = z } ∷ map (read_reference ts) (map (rules_behind n) (map erased_reference rs))) (moved-erased ts n r.args)
+          ∙ ap (λ z. read_reference ts (rules_behind n r) ∷ z) (clauses-read rs)
 
   relevant-so : (t h : Trees) → are_terms h ≡ true → is_relevant_to t (erase h) ≡ true → is_relevant_to t h ≡ true
   relevant-so none h d e = e

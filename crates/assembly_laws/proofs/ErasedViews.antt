@@ -29,13 +29,13 @@ use Rattle.evaluation.specs.FrameTables.{kinds_known}
 use Rattle.evaluation.specs.Variables.{is_variable_over}
 use Rattle.assembly_laws.specs.Declared.{are_terms, are_references, is_declared_view, is_lifetime_parameter, BoundsAreErased}
 use Rattle.assembly_laws.specs.Determined.{ImplsAreDetermined}
-use Rattle.assembly_laws.specs.Meaning.{Meaning, Place, by_view, in_set, proved_in, proved_at}
+use Rattle.assembly_laws.specs.Meaning.{ViewMeaning, SolutionPlace, by_view, in_set, proved_in, proved_at}
 use Rattle.assembly_laws.specs.Knowing.{is_knowable}
 use Rattle.assembly_laws.specs.Lifetimes.{goal_gives_lifetimes}
 use Rattle.assembly_laws.specs.Solver.{has_placeholder, IsSolution}
-use Rattle.assembly_laws.specs.Asking.{Asked, asked, asked_if, asked_with, all_known, are_clauses, begins_with_type, next_of, self_of, begins_unknown}
+use Rattle.assembly_laws.specs.Asking.{GoalOverKinds, goal_over_kinds, asked_if, asked_with, all_known, are_clauses, begins_with_type, next_of, self_of, begins_unknown}
 use Rattle.assembly_laws.specs.Candidates.{is_param, unknowable}
-use Rattle.assembly_laws.specs.Cover.{SolutionsAreByCandidates, Gives, all_candidates, goal_fact}
+use Rattle.assembly_laws.specs.Cover.{SolutionsAreByCandidates, SolvesEquations, all_candidates, goal_fact}
 use Rattle.assembly_laws.proofs.Reading.{true-false}
 use Rattle.assembly_laws.proofs.DeclaredParts.{header-declared, bound-declared}
 use Rattle.assembly_laws.proofs.Instances.{none-either}
@@ -108,12 +108,12 @@ module _ (V : World) (cs : List CrateDecl) where
 
   with-same : (environment asks : Trees) (kinds : Option (List CanonicalVarKind)) → asked_with U environment asks kinds ≡ asked_with V environment asks kinds
   with-same environment (tree (predicate (of_trait t)) args none) (Some ks) =
-      let own : Asked = record { kinds = ks; environment = environment; reference = record { trait = t; args = args } } in
+      let own : GoalOverKinds = record { kinds = ks; environment = environment; reference = record { trait = t; args = args } } in
       ap (λ b. asked_if (b && (is_made (is_variable_over ks) terms args && ((begins_with_type args && (not (t == unsize) || begins_with_type (next_of args))) && are_clauses ks environment))) own) (written-same own.reference)
   with-same environment (tree (predicate (of_trait t)) args none) None = refl
   with-same environment asks kinds = refl
 
-  asked-same : (f : CanonicalForm) → asked U f ≡ asked V f
+  asked-same : (f : CanonicalForm) → goal_over_kinds U f ≡ goal_over_kinds V f
   asked-same f = with-same f.goal.environment f.goal.predicate (all_known f.kinds)
 
   dyn-same : (d : Option ℕ) (c : Trees) → dyn_met U d c ≡ dyn_met V d c
@@ -228,15 +228,15 @@ module _ (V : World) (cs : List CrateDecl) where
       one i r j k of_lifetime f = absurd (true-false (sym f ∙ no-lifetime n (erase r.args) (erased-lifetimes r.args)))
 
 -- the same meaning without lifetimes
-abbrev meaning_there : Meaning → List CrateDecl → Meaning
+abbrev meaning_there : ViewMeaning → List CrateDecl → ViewMeaning
 meaning_there m cs = record { view = without_lifetimes m.view cs; crate = m.crate; is_sound = m.is_sound }
 
 -- where what has a proof follows by the view up to lifetimes
-module _ (m : Meaning) (declared : is_declared_view m.view ≡ true) (determined : ImplsAreDetermined m.view) (cs : List CrateDecl) (H : Reference → Type 0)
+module _ (m : ViewMeaning) (declared : is_declared_view m.view ≡ true) (determined : ImplsAreDetermined m.view) (cs : List CrateDecl) (H : Reference → Type 0)
     (proves : ProvesBy (without_lifetimes m.view cs) m.crate H) (heads : HeadsStay m.view)
-    (f : CanonicalForm) (a : Asked) (e : asked m.view f ≡ Some a) (known : begins_unknown a.kinds (self_of a) ≡ false) (fits : goal_gives_lifetimes m.view a ≡ true) where
+    (f : CanonicalForm) (a : GoalOverKinds) (e : goal_over_kinds m.view f ≡ Some a) (known : begins_unknown a.kinds (self_of a) ≡ false) (fits : goal_gives_lifetimes m.view a ≡ true) where
   abbrev Given : Values → Type 0
-  Given v = (is_knowable m.view m.crate a.reference ≡ true → SomeOf (Gives H a.kinds v) (all_candidates m.view a)) × Gives H a.kinds v (unknowable m.view a)
+  Given v = (is_knowable m.view m.crate a.reference ≡ true → SomeOf (SolvesEquations H a.kinds v) (all_candidates m.view a)) × SolvesEquations H a.kinds v (unknowable m.view a)
 
   given-by : f.goal.environment ≡ none → has_placeholder (kinds_known f.kinds) ≡ false → (v : Values) → IsSolution H (goal_fact f v) → Given v
   given-by no_clauses no_placeholders v s =
@@ -249,8 +249,8 @@ module _ (m : Meaning) (declared : is_declared_view m.view ≡ true) (determined
 pub solutions-by : SolutionsAreByCandidates
 solutions-by m declared determined erased rank down f a e known fits w v s = by w.place s
   where
-    by : (p : Place m) → IsSolution (proved_at p) (goal_fact f v)
-        → (is_knowable m.view m.crate a.reference ≡ true → SomeOf (Gives (proved_at p) a.kinds v) (all_candidates m.view a)) × Gives (proved_at p) a.kinds v (unknowable m.view a)
+    by : (p : SolutionPlace m) → IsSolution (proved_at p) (goal_fact f v)
+        → (is_knowable m.view m.crate a.reference ≡ true → SomeOf (SolvesEquations (proved_at p) a.kinds v) (all_candidates m.view a)) × SolvesEquations (proved_at p) a.kinds v (unknowable m.view a)
     by (by_view cs begin) s =
         let V = without_lifetimes m.view cs in
         given-by m declared determined cs (HasElaboratedProof (record (erased_world m.view) { crates = cs }) [])

@@ -6,7 +6,7 @@ use Rattle.type_terms.specs.Worlds.{World, Reference}
 use Rattle.type_terms.specs.Rules.{rules, is_coinductive}
 use Rattle.type_terms.specs.Proofs.{In}
 use Rattle.evaluation.specs.Lists.{Every, IsAmong}
-use Rattle.evaluation.specs.Proof.{HasProof, facts, Continues}
+use Rattle.evaluation.specs.Proof.{FactHasProof, facts, EntriesContinue}
 use Rattle.evaluation.proofs.ListLaws.{Every-mono, Every-at, both-left, both-right}
 use Rattle.type_terms.proofs.Matching.{same-sound}
 use Rattle.type_terms.proofs.Members.{self-number}
@@ -34,7 +34,7 @@ module _ (V : World) (E : Trees) where
   references fs = map reference_in (filter counts fs)
 
   abbrev Goes : List Reference → List Reference → List (Reference × List Reference) → Type 0
-  Goes all earlier es = Continues Reference (HasRule V (clauses_of E)) (λ s. is_coinductive V s.trait) all earlier es
+  Goes all earlier es = EntriesContinue Reference (HasRule V (clauses_of E)) (λ s. is_coinductive V s.trait) all earlier es
 
   parts : (p : Fact) → counts p ≡ true → (p.proper ≡ true) × (is_plain p ≡ true) × (p.goal.environment ≡ E)
   parts p c =
@@ -67,7 +67,7 @@ module _ (V : World) (E : Trees) where
   entry-at f ps law true q rest = let p = parts f q in (reference_in f, (law p.0 p.1).references) ∷ rest
   entry-at f ps law false q rest = rest
 
-  abbrev entries : (all earlier : List Fact) (es : List Entry) → Continues Fact (FollowsByView V) (is_coinductive_fact V) all earlier es → List (Reference × List Reference)
+  abbrev entries : (all earlier : List Fact) (es : List Entry) → EntriesContinue Fact (FollowsByView V) (is_coinductive_fact V) all earlier es → List (Reference × List Reference)
   entries all earlier [] c = []
   entries all earlier (e ∷ es) c = entry-at e.0 e.1 c.0 (counts e.0) refl (entries all (e.0 ∷ earlier) es c.2)
 
@@ -94,7 +94,7 @@ module _ (V : World) (E : Trees) where
         g,
       )
 
-  continues : (all earlier : List Fact) (es : List Entry) (c : Continues Fact (FollowsByView V) (is_coinductive_fact V) all earlier es) → Goes (references all) (references earlier) (entries all earlier es c)
+  continues : (all earlier : List Fact) (es : List Entry) (c : EntriesContinue Fact (FollowsByView V) (is_coinductive_fact V) all earlier es) → Goes (references all) (references earlier) (entries all earlier es c)
   continues all earlier [] c = tt
   continues all earlier (e ∷ es) c = goes-at all earlier e.0 e.1 c.0 (counts e.0) refl (entries all (e.0 ∷ earlier) es c.2) c.1 (continues all (e.0 ∷ earlier) es c.2)
 
@@ -103,12 +103,12 @@ module _ (V : World) (E : Trees) where
   concluded-at f ps law true q rest fs e = ap (λ z. reference_in f ∷ z) e
   concluded-at f ps law false q rest fs e = e
 
-  concluded : (all earlier : List Fact) (es : List Entry) (c : Continues Fact (FollowsByView V) (is_coinductive_fact V) all earlier es)
+  concluded : (all earlier : List Fact) (es : List Entry) (c : EntriesContinue Fact (FollowsByView V) (is_coinductive_fact V) all earlier es)
       → map (λ (x : Reference × List Reference). x.0) (entries all earlier es c) ≡ references (map (λ (e : Entry). e.0) es)
   concluded all earlier [] c = refl
   concluded all earlier (e ∷ es) c = concluded-at e.0 e.1 c.0 (counts e.0) refl (entries all (e.0 ∷ earlier) es c.2) (map (λ (x : Entry). x.0) es) (concluded all (e.0 ∷ earlier) es c.2)
 
-  pub proof-of-references : (f : Fact) → counts f ≡ true → HasProof Fact (FollowsByView V) (is_coinductive_fact V) f → HasProofByRules V (clauses_of E) (reference_in f)
+  pub proof-of-references : (f : Fact) → counts f ≡ true → FactHasProof Fact (FollowsByView V) (is_coinductive_fact V) f → HasProofByRules V (clauses_of E) (reference_in f)
   proof-of-references f c p =
       let all = facts Fact (FollowsByView V) (is_coinductive_fact V) p.0 in (
         entries all [] p.0 p.1,

@@ -5,7 +5,7 @@ use Rattle.infer_table.specs.declared.canonical.CanonicalVarKind.{CanonicalVarKi
 use Rattle.infer_table.specs.declared.canonical.CanonicalVarKind.TheVariants.{Ty, PlaceholderTy, Const, PlaceholderConst, Region}
 use Rattle.evaluation.specs.Lists.{Every}
 use Rattle.evaluation.specs.Instances.{first_term, other_terms}
-use Rattle.evaluation.specs.Content.{Values, Terms, reading_of}
+use Rattle.evaluation.specs.Content.{Values, ChosenTerms, reading_of}
 use Rattle.evaluation.specs.FrameTables.{HaveValues, AllowsApart}
 use Rattle.type_terms.proofs.Made.{false-true}
 use Rattle.evaluation.specs.FrameTables.{labels_from}
@@ -28,7 +28,7 @@ no-placeholder (PlaceholderConst ∷ ks) e = absurd (false-true (sym e))
 
 -- ---- slots
 -- the unknowns with these values are read as slots have them
-slots-from : (s : Terms) (a b c i : ℕ) (ks : List CanonicalVarKind) → Every IsNotPlace ks → (ts : List Trees) → HaveValues ks ts (map (reading_of s) (labels_from a b c i ks))
+slots-from : (s : ChosenTerms) (a b c i : ℕ) (ks : List CanonicalVarKind) → Every IsNotPlace ks → (ts : List Trees) → HaveValues ks ts (map (reading_of s) (labels_from a b c i ks))
     → map (reading_of s) (labels_from a b c i ks) ≡ as_slots ks ts
 slots-from s a b c i [] h ts v = refl
 slots-from s a b c i (Ty ∷ ks) h ts v = cons _ _ _ _ (sym v.0) (slots-from s (suc a) b c (suc i) ks h.1 (other_terms ts) v.1)
@@ -52,7 +52,7 @@ first-values (PlaceholderConst ∷ ks) js ts xs slots h = first-values ks js (ot
 -- ---- the terms
 module _ (ks js : List CanonicalVarKind) (h : Every IsNotPlace ks) (g : Every IsNotPlace js) (v : Values) (xs : List Trees) where
   -- the values v for the goal's variables, and behind them these terms for the candidate's
-  abbrev pub filled : Terms
+  abbrev pub filled : ChosenTerms
   filled = filled_with ks js h g v (padded ks v.terms ++ xs)
 
   pub filled-allowed : AllowsApart (fresh (begin ks) js) filled

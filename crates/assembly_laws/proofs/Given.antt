@@ -3,11 +3,11 @@ use Rattle.std.proofs.Common.{◌≡◌, Bool, true, List, [], ◌∷◌, ◌++�
 use Rattle.type_terms.specs.Trees.{Trees}
 use Rattle.infer_table.specs.declared.canonical.CanonicalVarKind.{CanonicalVarKind}
 use Rattle.evaluation.specs.Lists.{Every}
-use Rattle.evaluation.specs.Law.{Solves}
+use Rattle.evaluation.specs.Law.{NestedIsSolved}
 use Rattle.evaluation.proofs.ListLaws.{Every-mono, Every-both}
 use Rattle.evaluation.specs.Instances.{read_with, goal_read, first_term, other_terms}
-use Rattle.evaluation.specs.Content.{Fact, given, trait_of, Terms}
-use Rattle.evaluation.specs.FrameTables.{Nested, Equation, term_of, Meets}
+use Rattle.evaluation.specs.Content.{Fact, given, trait_of, ChosenTerms}
+use Rattle.evaluation.specs.FrameTables.{Nested, Equation, term_of, EquationIsMet}
 use Rattle.evaluation.specs.TableOperations.{begin}
 use Rattle.evaluation.specs.TableOperations.{fresh}
 use Rattle.evaluation.specs.Tables.{frame_tables}
@@ -36,9 +36,9 @@ given-is-realized m w ks v c are h g p gives = record {
   own = refl;
   meets =
       Every-both (λ (e : Equation). read_with (given (slots ks (with_slots ks v) gives.own)) e.left.trees ≡ read_with (given (slots ks (with_slots ks v) gives.own)) e.right.trees)
-      (λ (e : Equation). (term_of e.left ≡ e.left.trees) × (term_of e.right ≡ e.right.trees)) (λ e. Meets e terms_of) (λ e q r. meets e q r) c.equations gives.equal are;
+      (λ (e : Equation). (term_of e.left ≡ e.left.trees) × (term_of e.right ≡ e.right.trees)) (λ e. EquationIsMet e terms_of) (λ e q r. meets e q r) c.equations gives.equal are;
   solves =
-      Every-mono (λ n. IsSolution (proved_at w) (nested_at (slots ks (with_slots ks v) gives.own) n)) (Solves frame_tables (IsSolution (proved_at w)) (fresh (begin ks) c.kinds) terms_of)
+      Every-mono (λ n. IsSolution (proved_at w) (nested_at (slots ks (with_slots ks v) gives.own) n)) (NestedIsSolved frame_tables (IsSolution (proved_at w)) (fresh (begin ks) c.kinds) terms_of)
       (λ n s. (tt, subst (IsSolution (proved_at w)) (sym (same-fact terms_of.slots (slots ks (with_slots ks v) gives.own) n terms_of.proper slots-are p)) s)) c.nested gives.solves;
 }
   where
@@ -48,7 +48,7 @@ given-is-realized m w ks v c are h g p gives = record {
     own_places : Every IsNotPlace c.kinds
     own_places = no-placeholder c.kinds g
 
-    terms_of : Terms
+    terms_of : ChosenTerms
     terms_of = filled ks c.kinds no_places own_places v gives.own
 
     slots-are : terms_of.slots ≡ slots ks (with_slots ks v) gives.own
@@ -57,7 +57,7 @@ given-is-realized m w ks v c are h g p gives = record {
         ∙ ap (λ z. as_slots ks v.terms ++ z) gives.sorted ∙ ap (λ z. z ++ gives.own) (sym (padded-slots ks v.terms))
 
     meets : (e : Equation) → read_with (given (slots ks (with_slots ks v) gives.own)) e.left.trees ≡ read_with (given (slots ks (with_slots ks v) gives.own)) e.right.trees
-        → (term_of e.left ≡ e.left.trees) × (term_of e.right ≡ e.right.trees) → Meets e terms_of
+        → (term_of e.left ≡ e.left.trees) × (term_of e.right ≡ e.right.trees) → EquationIsMet e terms_of
     meets e q r =
         ap (read_with (given terms_of.slots)) r.0 ∙ ap (λ z. read_with (given z) e.left.trees) slots-are ∙ q
         ∙ ap (λ z. read_with (given z) e.right.trees) (sym slots-are) ∙ ap (read_with (given terms_of.slots)) (sym r.1)

@@ -13,13 +13,13 @@ use Rattle.evaluation.specs.Lists.{SomeOf}
 use Rattle.evaluation.specs.Content.{Values}
 use Rattle.evaluation.specs.FrameTables.{kinds_known}
 use Rattle.assembly_laws.specs.Declared.{LeadDown}
-use Rattle.assembly_laws.specs.Meaning.{Meaning}
+use Rattle.assembly_laws.specs.Meaning.{ViewMeaning}
 use Rattle.assembly_laws.specs.Knowing.{is_knowable}
 use Rattle.assembly_laws.specs.Facts.{reference_in}
-use Rattle.assembly_laws.specs.Asking.{Asked, asked, self_of, begins_unknown}
+use Rattle.assembly_laws.specs.Asking.{GoalOverKinds, goal_over_kinds, self_of, begins_unknown}
 use Rattle.assembly_laws.specs.Candidates.{unknowable}
 use Rattle.assembly_laws.specs.Solver.{IsSolution, has_placeholder}
-use Rattle.assembly_laws.specs.Cover.{Gives, all_candidates, goal_fact}
+use Rattle.assembly_laws.specs.Cover.{SolvesEquations, all_candidates, goal_fact}
 
 pub record ProvesBy (V : World) (crate : ℕ) (H : Reference → Type 0) : Type 0 where
   pub rule : (r : Reference) → is_closed r.args ≡ true → is_known_in V crate r ≡ true → H r → (u : Rule) × In u (rules V [] r) × Model.Every H u.premises
@@ -31,20 +31,20 @@ pub record ProvesBy (V : World) (crate : ℕ) (H : Reference → Type 0) : Type 
   pub down : LeadDown V trait_rank
   pub plain : (x : TraitDecl) (b : Reference) → In x V.traits → In b x.bounds → some_node is_stray b.args ≡ false
 
-pub record SearchedThere (m : Meaning) (H : Reference → Type 0) (f : CanonicalForm) : Type 0 where
+pub record SearchedThere (m : ViewMeaning) (H : Reference → Type 0) (f : CanonicalForm) : Type 0 where
   pub linked : ProvesBy m.view m.crate H
   pub no_clauses : f.goal.environment ≡ none
   pub no_placeholders : has_placeholder (kinds_known f.kinds) ≡ false
 
 -- a rule of the view that concludes a closed instance, with proved premises, is a candidate
-abbrev pub ViewRulesAreCandidates : Meaning → Type 1
+abbrev pub ViewRulesAreCandidates : ViewMeaning → Type 1
 ViewRulesAreCandidates m =
-    (H : Reference → Type 0) (f : CanonicalForm) (a : Asked) → asked m.view f ≡ Some a → begins_unknown a.kinds (self_of a) ≡ false → (w : SearchedThere m H f) (v : Values) → IsSolution H (goal_fact f v)
+    (H : Reference → Type 0) (f : CanonicalForm) (a : GoalOverKinds) → goal_over_kinds m.view f ≡ Some a → begins_unknown a.kinds (self_of a) ≡ false → (w : SearchedThere m H f) (v : Values) → IsSolution H (goal_fact f v)
     → (u : Rule) → In u (rules m.view [] (reference_in (goal_fact f v))) → Model.Every H u.premises
-    → SomeOf (Gives H a.kinds v) (all_candidates m.view a)
+    → SomeOf (SolvesEquations H a.kinds v) (all_candidates m.view a)
 
 -- each solution is one by a candidate
-abbrev pub ThereAreCandidates : Meaning → Type 1
+abbrev pub ThereAreCandidates : ViewMeaning → Type 1
 ThereAreCandidates m =
-    (H : Reference → Type 0) (f : CanonicalForm) (a : Asked) → asked m.view f ≡ Some a → begins_unknown a.kinds (self_of a) ≡ false → (w : SearchedThere m H f) (v : Values) → IsSolution H (goal_fact f v)
-    → (is_knowable m.view m.crate a.reference ≡ true → SomeOf (Gives H a.kinds v) (all_candidates m.view a)) × Gives H a.kinds v (unknowable m.view a)
+    (H : Reference → Type 0) (f : CanonicalForm) (a : GoalOverKinds) → goal_over_kinds m.view f ≡ Some a → begins_unknown a.kinds (self_of a) ≡ false → (w : SearchedThere m H f) (v : Values) → IsSolution H (goal_fact f v)
+    → (is_knowable m.view m.crate a.reference ≡ true → SomeOf (SolvesEquations H a.kinds v) (all_candidates m.view a)) × SolvesEquations H a.kinds v (unknowable m.view a)

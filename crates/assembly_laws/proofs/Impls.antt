@@ -23,13 +23,13 @@ use Rattle.evaluation.specs.FrameTables.{Equation}
 use Rattle.assembly_laws.specs.Declared.{is_declared, is_counted, IsDeclared, are_terms, are_references, is_declared_view}
 use Rattle.assembly_laws.specs.Slots.{as_slots}
 use Rattle.assembly_laws.specs.Determined.{ImplsAreDetermined}
-use Rattle.assembly_laws.specs.Asking.{Asked, self_of}
+use Rattle.assembly_laws.specs.Asking.{GoalOverKinds, self_of}
 use Rattle.assembly_laws.specs.Apart.{are_apart}
 use Rattle.assembly_laws.proofs.Apart.{instances-meet}
 use Rattle.evaluation.specs.Variables.{is_variable_over}
-use Rattle.assembly_laws.specs.Candidates.{Candidate, premise, all_equal, is_param, kind_of_param, kinds_of_params, moved, behind, by_the_impl, is_relevant_to, can_match, by_impls}
+use Rattle.assembly_laws.specs.Candidates.{Candidate, premise, all_equal, is_param, kind_of_param, kinds_of_params, moved, rules_behind, by_the_impl, is_relevant_to, can_match, by_impls}
 use Rattle.assembly_laws.specs.Solver.{IsSolution}
-use Rattle.assembly_laws.specs.Cover.{slots, nested_at, Gives}
+use Rattle.assembly_laws.specs.Cover.{slots, nested_at, SolvesEquations}
 use Rattle.assembly_laws.proofs.Reading.{true-false, IsOne, begins, read_reference}
 use Rattle.assembly_laws.proofs.Agreeing.{own-read}
 use Rattle.assembly_laws.proofs.Headers.{as_list, behind-read}
@@ -178,7 +178,7 @@ pairwise xs (tree l c o) (tree m d p) e =
     second : (i : Label) (u w : Trees) (j : Label) (v z : Trees) → tree i u w ≡ tree j v z → w ≡ z
     second i u w j v z q = cc
 
-module _ (H : Reference → Type 0) (V : World) (declared : is_declared_view V ≡ true) (determined : ImplsAreDetermined V) (a : Asked) (v : Values) (over : is_made (is_variable_over a.kinds) terms a.reference.args ≡ true) where
+module _ (H : Reference → Type 0) (V : World) (declared : is_declared_view V ≡ true) (determined : ImplsAreDetermined V) (a : GoalOverKinds) (v : Values) (over : is_made (is_variable_over a.kinds) terms a.reference.args ≡ true) where
   abbrev xs : List Trees
   xs = slots a.kinds v []
 
@@ -192,11 +192,11 @@ module _ (H : Reference → Type 0) (V : World) (declared : is_declared_view V �
       let one = member-each (λ (x : ImplDecl). are_terms x.header.args && are_references x.clauses) V.impls i impls j in
       (left (are_terms i.header.args) (are_references i.clauses) one, right (are_terms i.header.args) (are_references i.clauses) one)
 
-  impl-gives : (i : ImplDecl) (u : Rule) → In i V.impls → is_closed rx.args ≡ true → ByImpl rx i u → Every (Proved H) u.premises → Gives H a.kinds v (by_the_impl V a i)
+  impl-gives : (i : ImplDecl) (u : Rule) → In i V.impls → is_closed rx.args ≡ true → ByImpl rx i u → Every (Proved H) u.premises → SolvesEquations H a.kinds v (by_the_impl V a i)
   impl-gives i u j closed b ps = record {
     own = own;
     sorted = slots-again (kinds_of_params i.header.args zero i.params) (as_list A);
-    equal = pairwise (slots a.kinds v own) a.reference.args (behind (length a.kinds) i.header).args same_args;
+    equal = pairwise (slots a.kinds v own) a.reference.args (rules_behind (length a.kinds) i.header).args same_args;
     solves = each i.clauses (λ r k. k) (subst (λ (z : Rule). Every (Proved H) z.premises) (sym b.is-rule) ps);
   }
     where
@@ -231,7 +231,7 @@ module _ (H : Reference → Type 0) (V : World) (declared : is_declared_view V �
           ∙ sym (read-as i.header.args (impl-declared i j).0 (λ s k e. e))
 
       each : (rs : List Reference) → ((r : Reference) → In r rs → In r i.clauses) → Every (Proved H) (all_with_args A rs)
-          → Every (λ n. IsSolution H (nested_at (slots a.kinds v own) n)) (map (premise a (is_coinductive V a.reference.trait)) (map (behind (length a.kinds)) rs))
+          → Every (λ n. IsSolution H (nested_at (slots a.kinds v own) n)) (map (premise a (is_coinductive V a.reference.trait)) (map (rules_behind (length a.kinds)) rs))
       each [] among e = tt
       each (r ∷ rs) among e =
           let is = read-as r.args (member-each (λ (q : Reference). are_terms q.args) i.clauses r (impl-declared i j).1 (among r (here r rs))) (λ s k f. determined i r j (among r (here r rs)) s k f) in
@@ -271,8 +271,8 @@ module _ (H : Reference → Type 0) (V : World) (declared : is_declared_view V �
 
   -- the row of impls
   pub impl-row : (l : Label) (c o : Trees) → self_of a ≡ tree (erase_label l) c o → rx.args ≡ tree (erase_label l) (read_with (given xs) c) (read_with (given xs) o) → is_closed rx.args ≡ true
-      → (u : Rule) → In u (flat_map (impl_rules rx) V.impls) → Every (Proved H) u.premises → SomeOf (Gives H a.kinds v) (by_impls V a V.impls)
+      → (u : Rule) → In u (flat_map (impl_rules rx) V.impls) → Every (Proved H) u.premises → SomeOf (SolvesEquations H a.kinds v) (by_impls V a V.impls)
   impl-row l c o self read closed u i ps =
       let m = in-flat (impl_rules rx) V.impls u i in
       let b = impl-rule rx m.0 u m.2 in
-      among-impls m.0 V.impls m.1 (relevant l c o m.0 self read (arguments m.0.params m.0.header.args rx.args) b.is-instance) (Gives H a.kinds v) (impl-gives m.0 u m.1 closed b ps)
+      among-impls m.0 V.impls m.1 (relevant l c o m.0 self read (arguments m.0.params m.0.header.args rx.args) b.is-instance) (SolvesEquations H a.kinds v) (impl-gives m.0 u m.1 closed b ps)

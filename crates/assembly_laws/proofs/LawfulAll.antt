@@ -3,9 +3,9 @@ use Rattle.std.proofs.Common.{◌≡◌, ◌==◌, Bool, true, false, if◌then�
 use Rattle.type_terms.specs.Rules.{unsize, unsize_to_dyn_rules}
 use Rattle.infer_table.specs.Canonical.{CanonicalForm}
 use Rattle.evaluation.specs.Lists.{Every}
-use Rattle.assembly_laws.specs.Meaning.{Meaning}
+use Rattle.assembly_laws.specs.Meaning.{ViewMeaning}
 use Rattle.assembly_laws.specs.Declared.{is_declared_view}
-use Rattle.assembly_laws.specs.Asking.{Asked, asked, self_of, next_of, begins_unknown}
+use Rattle.assembly_laws.specs.Asking.{GoalOverKinds, goal_over_kinds, self_of, next_of, begins_unknown}
 use Rattle.assembly_laws.specs.Candidates.{Candidate, built_in, by_sized, by_copy, by_auto, by_tuple, by_fn_ptr, by_call, by_unsize, by_impls, by_objects, unsure, misc, if_so, as_written, unsize_array_of, upcasts_of, unsize_struct_of, unsize_known, unsizing_outlives, unsize_recording}
 use Rattle.assembly_laws.specs.Lawful.{IsSoundFor}
 use Rattle.assembly_laws.proofs.Premises.{other_candidates, premised_candidates, SoundAndNarrowIsLawful}
@@ -16,7 +16,7 @@ use Rattle.assembly_laws.proofs.SoundRows.{sized-sound, copy-sound, auto-sound, 
 use Rattle.assembly_laws.proofs.SoundCalls.{call-sound}
 use Rattle.assembly_laws.proofs.SoundUnsizing.{unsizing-is-sound}
 
-module _ (m : Meaning) (declared : is_declared_view m.view ≡ true) (f : CanonicalForm) (a : Asked) (is : asked m.view f ≡ Some a) where
+module _ (m : ViewMeaning) (declared : is_declared_view m.view ≡ true) (f : CanonicalForm) (a : GoalOverKinds) (is : goal_over_kinds m.view f ≡ Some a) where
   abbrev Sound : Candidate → Type 0
   Sound c = IsSoundFor m f a c
 

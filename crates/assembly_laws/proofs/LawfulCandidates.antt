@@ -21,19 +21,19 @@ use Rattle.evaluation.specs.Lists.{Every}
 use Rattle.evaluation.specs.Handler.{Handled}
 use Rattle.evaluation.specs.declared.candidate.CandidateSource.TheVariants.{ParamEnv}
 use Rattle.evaluation.proofs.ListLaws.{Every-both, among-all}
-use Rattle.evaluation.specs.Content.{Terms, trait_of}
-use Rattle.evaluation.specs.FrameTables.{kinds_known, Allows, Meets, Nested, fact}
+use Rattle.evaluation.specs.Content.{ChosenTerms, trait_of}
+use Rattle.evaluation.specs.FrameTables.{kinds_known, Allows, EquationIsMet, Nested, fact}
 use Rattle.evaluation.specs.Widths.{width, count, width_of_predicates}
 use Rattle.assembly_laws.proofs.CandidateKinds.{every-append}
 use Rattle.evaluation.specs.TableOperations.{begin}
 use Rattle.evaluation.specs.TableOperations.{fresh}
 use Rattle.evaluation.specs.Tables.{frame_tables}
-use Rattle.evaluation.specs.Handler.{IsLawful}
+use Rattle.evaluation.specs.Handler.{CandidateIsLawful}
 use Rattle.assembly_laws.specs.Facts.{is_coinductive_trait, clauses_of}
-use Rattle.assembly_laws.specs.Meaning.{Meaning}
-use Rattle.assembly_laws.specs.Asking.{Asked, asked, asked_if, asked_with, all_known, are_clauses, begins_with_type, next_of, clauses}
+use Rattle.assembly_laws.specs.Meaning.{ViewMeaning}
+use Rattle.assembly_laws.specs.Asking.{GoalOverKinds, goal_over_kinds, asked_if, asked_with, all_known, are_clauses, begins_with_type, next_of, clauses}
 use Rattle.evaluation.specs.Variables.{is_variable_over}
-use Rattle.assembly_laws.specs.Candidates.{Candidate, premise, by_rule, by_the_impl, unknowable, by_clauses, behind, clause_source, all_equal}
+use Rattle.assembly_laws.specs.Candidates.{Candidate, premise, by_rule, by_the_impl, unknowable, by_clauses, rules_behind, clause_source, all_equal}
 use Rattle.assembly_laws.specs.Declared.{are_terms, are_references, is_declared_view, is_declared, is_counted}
 use Rattle.assembly_laws.specs.Determined.{ImplsAreDetermined}
 use Rattle.assembly_laws.specs.Solver.{solver_handled, declared_width}
@@ -47,25 +47,25 @@ use Rattle.assembly_laws.proofs.CandidateKinds.{IsMadeAs, all-made}
 use Rattle.assembly_laws.proofs.LawfulClauses.{clause-sound}
 
 -- ---- what is asked has where-clauses over its variables
-if-asked : (b : Bool) (a c : Asked) → asked_if b a ≡ Some c → (b ≡ true) × (a ≡ c)
+if-asked : (b : Bool) (a c : GoalOverKinds) → asked_if b a ≡ Some c → (b ≡ true) × (a ≡ c)
 if-asked true a c e = (refl, some-is e)
   where
     some-is : Some a ≡ Some c → a ≡ c
     some-is f = cc
 if-asked false a c e = absurd (cc)
 
-pub asked-clauses : (V : World) (environment asks : Trees) (kinds : Option (List CanonicalVarKind)) (a : Asked) → asked_with V environment asks kinds ≡ Some a → are_clauses a.kinds a.environment ≡ true
+pub asked-clauses : (V : World) (environment asks : Trees) (kinds : Option (List CanonicalVarKind)) (a : GoalOverKinds) → asked_with V environment asks kinds ≡ Some a → are_clauses a.kinds a.environment ≡ true
 asked-clauses V environment (tree (predicate (of_trait t)) args none) (Some ks) a e =
-    let own : Asked = record { kinds = ks; environment = environment; reference = record { trait = t; args = args } } in
+    let own : GoalOverKinds = record { kinds = ks; environment = environment; reference = record { trait = t; args = args } } in
     let x = if-asked (written_in V own.reference && (is_made (is_variable_over ks) terms args && ((begins_with_type args && (not (t == unsize) || begins_with_type (next_of args))) && are_clauses ks environment))) own a e in
     let q = right (written_in V own.reference) (is_made (is_variable_over ks) terms args && ((begins_with_type args && (not (t == unsize) || begins_with_type (next_of args))) && are_clauses ks environment)) x.0 in
-    subst (λ (z : Asked). are_clauses z.kinds z.environment ≡ true) x.1
+    subst (λ (z : GoalOverKinds). are_clauses z.kinds z.environment ≡ true) x.1
     (right (begins_with_type args && (not (t == unsize) || begins_with_type (next_of args))) (are_clauses ks environment) (right (is_made (is_variable_over ks) terms args) ((begins_with_type args && (not (t == unsize) || begins_with_type (next_of args))) && are_clauses ks environment) q))
 asked-clauses V environment (tree (predicate (of_trait t)) args none) None a e = absurd (cc)
 asked-clauses V environment asks kinds a e = absurd (cc)
 
-module _ (applicable : AnswerTrees → Bool) (same : AnswerTrees → AnswerTrees → Bool) (m : Meaning) (declared : is_declared_view m.view ≡ true) (determined : ImplsAreDetermined m.view) (mode : TypingMode) (f : CanonicalForm) (a : Asked)
-    (is : asked m.view f ≡ Some a) where
+module _ (applicable : AnswerTrees → Bool) (same : AnswerTrees → AnswerTrees → Bool) (m : ViewMeaning) (declared : is_declared_view m.view ≡ true) (determined : ImplsAreDetermined m.view) (mode : TypingMode) (f : CanonicalForm) (a : GoalOverKinds)
+    (is : goal_over_kinds m.view f ≡ Some a) where
   abbrev V : World
   V = m.view
 
@@ -81,7 +81,7 @@ module _ (applicable : AnswerTrees → Bool) (same : AnswerTrees → AnswerTrees
   kinds-are : kinds_known f.kinds ≡ a.kinds
   kinds-are = known-kinds f.kinds a.kinds parts.kinds_are
 
-  allowed : (own : List CanonicalVarKind) (s : Terms) → Allows (fresh h.begin own) s → Allows (fresh (begin a.kinds) own) s
+  allowed : (own : List CanonicalVarKind) (s : ChosenTerms) → Allows (fresh h.begin own) s → Allows (fresh (begin a.kinds) own) s
   allowed own s l = subst (λ ks. Allows (fresh (begin ks) own) s) kinds-are l
 
   coinductive-is : is_coinductive V a.reference.trait ≡ h.coinductive
@@ -103,7 +103,7 @@ module _ (applicable : AnswerTrees → Bool) (same : AnswerTrees → AnswerTrees
 
   abbrev Determines : Candidate → Type 0
   Determines c =
-      (s r : Terms) → Allows (fresh (begin a.kinds) c.kinds) s → Allows (fresh (begin a.kinds) c.kinds) r → Every (λ e. Meets e s) c.equations → Every (λ e. Meets e r) c.equations → s.own ≡ r.own → Every (λ n. fact n s ≡ fact n r) c.nested
+      (s r : ChosenTerms) → Allows (fresh (begin a.kinds) c.kinds) s → Allows (fresh (begin a.kinds) c.kinds) r → Every (λ e. EquationIsMet e s) c.equations → Every (λ e. EquationIsMet e r) c.equations → s.own ≡ r.own → Every (λ n. fact n s ≡ fact n r) c.nested
 
   steps-of : (rs : List Reference) → Every (λ (n : Nested). n.coinductive ≡ h.coinductive) (map (premise a (is_coinductive V a.reference.trait)) rs)
   steps-of rs = subst (λ k. Every (λ (n : Nested). n.coinductive ≡ k) (map (premise a (is_coinductive V a.reference.trait)) rs)) coinductive-is (premises-step a (is_coinductive V a.reference.trait) rs)
@@ -111,12 +111,12 @@ module _ (applicable : AnswerTrees → Bool) (same : AnswerTrees → AnswerTrees
   steps : (c : Candidate) → IsMadeAs V a c → Steps c
   steps c (r, inl x) = subst Steps (sym x.3) (λ y. steps-of x.2)
   steps c (r, inr (inl e)) = subst Steps (sym e) (λ y. tt)
-  steps c (r, inr (inr x)) = subst Steps (sym x.2) (λ y. steps-of (map (behind (length a.kinds)) x.0.clauses))
+  steps c (r, inr (inr x)) = subst Steps (sym x.2) (λ y. steps-of (map (rules_behind (length a.kinds)) x.0.clauses))
 
   impl-determines : (i : ImplDecl) → In i V.impls → Determines (by_the_impl V a i)
   impl-determines i j s r l k p q e = each i.clauses (λ c u. u)
     where
-      each : (cs : List Reference) → ((c : Reference) → In c cs → In c i.clauses) → Every (λ n. fact n s ≡ fact n r) (map (premise a (is_coinductive V a.reference.trait)) (map (behind (length a.kinds)) cs))
+      each : (cs : List Reference) → ((c : Reference) → In c cs → In c i.clauses) → Every (λ n. fact n s ≡ fact n r) (map (premise a (is_coinductive V a.reference.trait)) (map (rules_behind (length a.kinds)) cs))
       each [] g = tt
       each (c ∷ cs) g = (
         clause-fact a parts.over are (by_the_impl V a i).kinds i.header.args (made i.header.args (impl-declared i j).0) s r l k p q e (is_coinductive V a.reference.trait) c
@@ -131,7 +131,7 @@ module _ (applicable : AnswerTrees → Bool) (same : AnswerTrees → AnswerTrees
   determines c (k, inr (inr x)) = subst Determines (sym x.2) (impl-determines x.0 x.1)
 
   -- ---- laws
-  lawful : (c : Candidate) → IsMadeAs V a c → IsSoundFor m f a c → IsNarrow h.widest c → IsLawful frame_tables h c
+  lawful : (c : Candidate) → IsMadeAs V a c → IsSoundFor m f a c → IsNarrow h.widest c → CandidateIsLawful frame_tables h c
   lawful c made sound narrow = record {
     sound = λ y s l e. record { premises = map (λ n. fact n s) c.nested; rule = sound y s (allowed c.kinds s l) e; each = among-all (map (λ n. fact n s) c.nested) };
     steps = λ y T. steps c made y;
@@ -140,7 +140,7 @@ module _ (applicable : AnswerTrees → Bool) (same : AnswerTrees → AnswerTrees
     nested_within = narrow.1;
   }
 
-  unknowable-lawful : IsNarrow h.widest (unknowable V a) → IsLawful frame_tables h (unknowable V a)
+  unknowable-lawful : IsNarrow h.widest (unknowable V a) → CandidateIsLawful frame_tables h (unknowable V a)
   unknowable-lawful narrow = record { sound = λ y. absurd (cc); steps = λ y T. absurd (cc); determined = λ s r l k p q e. facts-same a.kinds s r (allowed (unknowable V a).kinds s l) (allowed (unknowable V a).kinds r k) e (unknowable V a).nested; equations_within = narrow.0; nested_within = narrow.1 }
 
   -- ---- where-clauses are sound and narrow
@@ -192,10 +192,10 @@ module _ (applicable : AnswerTrees → Bool) (same : AnswerTrees → AnswerTrees
       by true q e = ((clause-is-sound r (g r (here r rs)) q, (equal-within h.widest a.reference.args r.args goal-width (clause-width r (g r (here r rs))), tt)), e)
       by false q e = e
 
-  pub each-lawful : Every (IsSoundFor m f a) (other_candidates m a) → Every (IsNarrow h.widest) (unknowable V a ∷ other_candidates m a) → Every (IsLawful frame_tables h) (unknowable V a ∷ all_candidates V a)
+  pub each-lawful : Every (IsSoundFor m f a) (other_candidates m a) → Every (IsNarrow h.widest) (unknowable V a ∷ other_candidates m a) → Every (CandidateIsLawful frame_tables h) (unknowable V a ∷ all_candidates V a)
   each-lawful sound narrow = (
     unknowable-lawful narrow.0,
-    Every-both (IsMadeAs V a) (λ c. IsSoundFor m f a c × IsNarrow h.widest c) (IsLawful frame_tables h) (λ c x y. lawful c x y.0 y.1) (all_candidates V a) (all-made V a)
+    Every-both (IsMadeAs V a) (λ c. IsSoundFor m f a c × IsNarrow h.widest c) (CandidateIsLawful frame_tables h) (λ c x y. lawful c x y.0 y.1) (all_candidates V a) (all-made V a)
         (every-append (λ c. IsSoundFor m f a c × IsNarrow h.widest c) (by_clauses V a (clauses a)) (other_candidates m a) (each-clause (clauses a) (λ r k. k))
         (Every-both (IsSoundFor m f a) (IsNarrow h.widest) (λ c. IsSoundFor m f a c × IsNarrow h.widest c) (λ c x y. (x, y)) (other_candidates m a) sound narrow.1)),
   )

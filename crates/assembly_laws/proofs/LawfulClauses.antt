@@ -14,15 +14,15 @@ use Rattle.infer_table.specs.Canonical.{CanonicalForm}
 use Rattle.infer_table.specs.declared.canonical.CanonicalVarKind.{CanonicalVarKind}
 use Rattle.evaluation.specs.Lists.{Every}
 use Rattle.evaluation.specs.Instances.{read_with}
-use Rattle.evaluation.specs.Content.{fits, given, Terms}
-use Rattle.evaluation.specs.FrameTables.{Allows, Meets, is_open_label}
+use Rattle.evaluation.specs.Content.{fits, given, ChosenTerms}
+use Rattle.evaluation.specs.FrameTables.{Allows, EquationIsMet, is_open_label}
 use Rattle.type_terms.proofs.Made.{false-true}
 use Rattle.type_terms.proofs.Walking.{left, right}
 use Rattle.evaluation.proofs.Labels.{made-more}
 use Rattle.evaluation.specs.TableOperations.{begin}
 use Rattle.evaluation.specs.TableOperations.{fresh}
-use Rattle.assembly_laws.specs.Facts.{Follows, clauses_of}
-use Rattle.assembly_laws.specs.Asking.{Asked, all_known, are_clauses}
+use Rattle.assembly_laws.specs.Facts.{FactFollows, clauses_of}
+use Rattle.assembly_laws.specs.Asking.{GoalOverKinds, all_known, are_clauses}
 use Rattle.evaluation.specs.Variables.{is_variable_over}
 use Rattle.assembly_laws.specs.Candidates.{all_equal}
 use Rattle.assembly_laws.specs.Cover.{goal_fact, read_reference}
@@ -86,7 +86,7 @@ clause-rule V r k (s ∷ E) i = by (in-cases r s E i) (λ j. clause-rule V r (su
               (in-right (alone x.0) (super_rules r k 0 (strict_supertraits V s)) (clause_rules V r (suc k) E) x.1),
         )
 
-module _ (V : World) (f : CanonicalForm) (a : Asked) (is : IsAsked V f.goal.environment f.goal.predicate (all_known f.kinds) a) (are : are_clauses a.kinds a.environment ≡ true) where
+module _ (V : World) (f : CanonicalForm) (a : GoalOverKinds) (is : IsAsked V f.goal.environment f.goal.predicate (all_known f.kinds) a) (are : are_clauses a.kinds a.environment ≡ true) where
   open-over : (t : Trees) → is_made (is_variable_over a.kinds) terms t ≡ true → is_made is_open_label terms t ≡ true
   open-over t h = made-more (is_variable_over a.kinds) is_open_label by terms t h
     where
@@ -97,8 +97,8 @@ module _ (V : World) (f : CanonicalForm) (a : Asked) (is : IsAsked V f.goal.envi
       by l g = refl
 
   -- where the goal's arguments are those of a where-clause, it follows by the clause
-  pub clause-sound : (r : Reference) → In r (clauses_of a.environment) → (r.trait == a.reference.trait) ≡ true → (s : Terms) → Allows (fresh (begin a.kinds) []) s → (s.own.proper && fits f.kinds s.own.terms) ≡ true
-      → Every (λ e. Meets e s) (all_equal a.reference.args r.args) → Follows V (goal_fact f s.own) []
+  pub clause-sound : (r : Reference) → In r (clauses_of a.environment) → (r.trait == a.reference.trait) ≡ true → (s : ChosenTerms) → Allows (fresh (begin a.kinds) []) s → (s.own.proper && fits f.kinds s.own.terms) ≡ true
+      → Every (λ e. EquationIsMet e s) (all_equal a.reference.args r.args) → FactFollows V (goal_fact f s.own) []
   clause-sound r i q s l proper m = by (clause-rule V (read_reference s.slots a.reference) 0 (clauses_of (read_with (given s.slots) a.environment)) stands)
     where
       args-are : read_with (given s.slots) a.reference.args ≡ read_with (given s.slots) r.args
@@ -112,7 +112,7 @@ module _ (V : World) (f : CanonicalForm) (a : Asked) (is : IsAsked V f.goal.envi
           subst (λ z. In z (clauses_of (read_with (given s.slots) a.environment))) (same-references r.trait a.reference.trait _ _ (same-number r.trait a.reference.trait q) (sym args-are))
           (clause-in s.slots a.kinds a.environment are r i)
 
-      by : (w : Way) × In (alone w) (clause_rules V (read_reference s.slots a.reference) 0 (clauses_of (read_with (given s.slots) a.environment))) → Follows V (goal_fact f s.own) []
+      by : (w : Way) × In (alone w) (clause_rules V (read_reference s.slots a.reference) 0 (clauses_of (read_with (given s.slots) a.environment))) → FactFollows V (goal_fact f s.own) []
       by x =
           follows-by V f a is are [] s l proper true x.0 []
           (in-right (alone x.0) (flat_map (impl_rules (read_reference s.slots a.reference)) V.impls) (built_in_rules V (read_reference s.slots a.reference) ++ clause_rules V (read_reference s.slots a.reference) 0 (clauses_of (read_with (given s.slots) a.environment)))

@@ -14,14 +14,14 @@ use Rattle.evaluation.specs.FrameTables.{kinds_known}
 use Rattle.evaluation.proofs.OperationLaws.{begins-free, begins-within}
 use Rattle.evaluation.specs.Tables.{frame_tables}
 use Rattle.evaluation.proofs.FrameTableLaws.{tables_are_lawful}
-use Rattle.evaluation.specs.Handler.{IsLawful}
-use Rattle.evaluation.specs.Plans.{Keeps, nested_in, each_of}
-use Rattle.evaluation.specs.Merge.{IsTest, TellsApart}
+use Rattle.evaluation.specs.Handler.{CandidateIsLawful}
+use Rattle.evaluation.specs.Plans.{KeepsLaws, nested_in, each_of}
+use Rattle.evaluation.specs.Merge.{IsTest, TellsResponsesApart}
 use Rattle.evaluation.proofs.Plans.{plan_is_lawful}
 use Rattle.evaluation.proofs.PlanAnswers.{list_keeps}
-use Rattle.assembly_laws.specs.Meaning.{Meaning, proved_at}
+use Rattle.assembly_laws.specs.Meaning.{ViewMeaning, proved_at}
 use Rattle.assembly_laws.specs.Lifetimes.{GivesLifetimes, goal_gives_lifetimes}
-use Rattle.assembly_laws.specs.Asking.{Asked, asked, clauses, self_of, begins_unknown, all_known}
+use Rattle.assembly_laws.specs.Asking.{GoalOverKinds, goal_over_kinds, clauses, self_of, begins_unknown, all_known}
 use Rattle.assembly_laws.specs.Candidates.{Candidate, unsure, unknowable, by_clauses, built_in, by_impls, by_objects}
 use Rattle.assembly_laws.specs.Solver.{solver_planned, solver_handled, most_candidates, number_at, widest_of, plan_for, by_mode, everything, in_coherence, outside_coherence}
 use Rattle.assembly_laws.proofs.CandidateKinds.{every-split}
@@ -34,10 +34,10 @@ use Rattle.assembly_laws.proofs.Cover.{asked-by, known-kinds}
 use Rattle.assembly_laws.proofs.Plans.{coherence_keeps, outside_keeps, Realized}
 
 -- an unsure candidate says nothing
-pub unsure-lawful : (h : Handled frame_tables) → IsLawful frame_tables h unsure
+pub unsure-lawful : (h : Handled frame_tables) → CandidateIsLawful frame_tables h unsure
 unsure-lawful h = record { sound = λ y. absurd (cc); steps = λ y T. tt; determined = λ s r k l e g i. tt; equations_within = tt; nested_within = tt }
 
-module _ (applicable : AnswerTrees → Bool) (is_test : IsTest frame_tables applicable) (same : AnswerTrees → AnswerTrees → Bool) (is_same : TellsApart same) (m : Meaning) where
+module _ (applicable : AnswerTrees → Bool) (is_test : IsTest frame_tables applicable) (same : AnswerTrees → AnswerTrees → Bool) (is_same : TellsResponsesApart same) (m : ViewMeaning) where
   module _ (realized : GivenIsRealized) (mode : TypingMode) (f : CanonicalForm) where
     abbrev h : Handled frame_tables
     h = solver_handled applicable same m mode f
@@ -61,14 +61,14 @@ module _ (applicable : AnswerTrees → Bool) (is_test : IsTest frame_tables appl
             unsure-realizes (proved_at w.place) (kinds_known f.kinds) v w.no_placeholders
         by PostAnalysis e w s = absurd w
 
-    unsure-keeps : Keeps frame_tables h h.candidates h.number [] (plan_for applicable same h.begin m mode None)
+    unsure-keeps : KeepsLaws frame_tables h h.candidates h.number [] (plan_for applicable same h.begin m mode None)
     unsure-keeps = list_keeps frame_tables tables_are_lawful applicable is_test same is_same h says_nothing begins_within (unsure ∷ []) (unsure-lawful h, tt) (λ w v p. inl (unsure-realized w v p)) (few) (omega arith)
       where
         few : 1 ≤ most_candidates m.view f
         few = omega arith
 
     -- ---- goals that are decided
-    module _ (a : Asked) (is : asked m.view f ≡ Some a) (known : begins_unknown a.kinds (self_of a) ≡ false) (given : goal_gives_lifetimes m.view a ≡ true) (covers : SolutionsAreCandidates m) (terms : Every AreTermsOf (all_candidates m.view a)) where
+    module _ (a : GoalOverKinds) (is : goal_over_kinds m.view f ≡ Some a) (known : begins_unknown a.kinds (self_of a) ≡ false) (given : goal_gives_lifetimes m.view a ≡ true) (covers : SolutionsAreCandidates m) (terms : Every AreTermsOf (all_candidates m.view a)) where
       kinds-are : kinds_known f.kinds ≡ a.kinds
       kinds-are = known-kinds f.kinds a.kinds (asked-by m.view f.goal.environment f.goal.predicate (all_known f.kinds) a is).kinds_are
 
@@ -85,8 +85,8 @@ module _ (applicable : AnswerTrees → Bool) (is_test : IsTest frame_tables appl
       }
 
       module _ (few : suc (length (all_candidates m.view a)) ≤ most_candidates m.view f) (asks : nested_in frame_tables (unknowable m.view a ∷ all_candidates m.view a) ≤ number_at m.view (widest_of m.view f)) where
-        inside-keeps : Every (IsLawful frame_tables inside) (unknowable m.view a ∷ all_candidates m.view a)
-            → Keeps frame_tables inside inside.candidates inside.number [] (in_coherence applicable same inside.begin m.view m.crate a)
+        inside-keeps : Every (CandidateIsLawful frame_tables inside) (unknowable m.view a ∷ all_candidates m.view a)
+            → KeepsLaws frame_tables inside inside.candidates inside.number [] (in_coherence applicable same inside.begin m.view m.crate a)
         inside-keeps each = coherence_keeps tables_are_lawful applicable is_test same is_same inside says_nothing begins_within m.view m.crate a each are-realized few asks
 
         abbrev early : List Candidate
@@ -110,11 +110,11 @@ module _ (applicable : AnswerTrees → Bool) (is_test : IsTest frame_tables appl
         all-is : all_candidates m.view a ≡ early ++ late
         all-is = append-assoc (by_clauses m.view a (clauses a)) (built_in m.view a) late
 
-        outside-keeps : Every (IsLawful frame_tables outside) (unknowable m.view a ∷ all_candidates m.view a)
-            → Keeps frame_tables outside outside.candidates outside.number [] (outside_coherence applicable same outside.begin m.view a)
+        outside-keeps : Every (CandidateIsLawful frame_tables outside) (unknowable m.view a ∷ all_candidates m.view a)
+            → KeepsLaws frame_tables outside outside.candidates outside.number [] (outside_coherence applicable same outside.begin m.view a)
         outside-keeps each =
-            let e = subst (Every (IsLawful frame_tables outside)) all-is each.1 in
-            outside_keeps tables_are_lawful applicable is_test same is_same outside says_nothing begins_within m.view m.crate a (λ w. w) (every-split (IsLawful frame_tables outside) early late e).0 (every-split (IsLawful frame_tables outside) early late e).1
+            let e = subst (Every (CandidateIsLawful frame_tables outside)) all-is each.1 in
+            outside_keeps tables_are_lawful applicable is_test same is_same outside says_nothing begins_within m.view m.crate a (λ w. w) (every-split (CandidateIsLawful frame_tables outside) early late e).0 (every-split (CandidateIsLawful frame_tables outside) early late e).1
             (let l = length-append early late in let q : suc (length (early ++ late)) ≤ most_candidates m.view f = subst (λ (cs : List Candidate). suc (length cs) ≤ most_candidates m.view f) all-is few in omega (arith, l, q))
             (let l = nested-append early late in let q : nested_in frame_tables (unknowable m.view a ∷ (early ++ late)) ≤ number_at m.view (widest_of m.view f) = subst (λ (cs : List Candidate). nested_in frame_tables (unknowable m.view a ∷ cs) ≤ number_at m.view (widest_of m.view f)) all-is asks in omega (arith, l, q))
 
@@ -124,17 +124,17 @@ module _ (applicable : AnswerTrees → Bool) (is_test : IsTest frame_tables appl
     not-either false c e = absurd (true-false e)
 
     module _ (p : SolverPremises m) (fits : GivesLifetimes m f) where
-      decided-keeps : (a : Asked) → asked m.view f ≡ Some a → m.is_sound ≡ true → begins_unknown a.kinds (self_of a) ≡ false → (mo : TypingMode) → mode ≡ mo
-          → Keeps frame_tables (solver_handled applicable same m mo f) h.candidates h.number [] (by_mode applicable same h.begin m mo a)
+      decided-keeps : (a : GoalOverKinds) → goal_over_kinds m.view f ≡ Some a → m.is_sound ≡ true → begins_unknown a.kinds (self_of a) ≡ false → (mo : TypingMode) → mode ≡ mo
+          → KeepsLaws frame_tables (solver_handled applicable same m mo f) h.candidates h.number [] (by_mode applicable same h.begin m mo a)
       decided-keeps a is sound known Coherence e = inside-keeps a is known (fits sound a is) (p.covers sound) (p.terms sound f a is) (p.few sound f a is) (p.asks sound f a is) (p.lawful sound applicable same Coherence f a is known)
       decided-keeps a is sound known PostAnalysis e = outside-keeps a is known (fits sound a is) (p.covers sound) (p.terms sound f a is) (p.few sound f a is) (p.asks sound f a is) (p.lawful sound applicable same PostAnalysis f a is known)
 
-      plan-keeps : (o : Option Asked) → asked m.view f ≡ o → Keeps frame_tables h h.candidates h.number [] (plan_for applicable same h.begin m mode o)
+      plan-keeps : (o : Option GoalOverKinds) → goal_over_kinds m.view f ≡ o → KeepsLaws frame_tables h h.candidates h.number [] (plan_for applicable same h.begin m mode o)
       plan-keeps None e = unsure-keeps
       plan-keeps (Some a) e = by (not m.is_sound || begins_unknown a.kinds (self_of a)) refl
         where
           by : (b : Bool) → (not m.is_sound || begins_unknown a.kinds (self_of a)) ≡ b
-              → Keeps frame_tables h h.candidates h.number [] (if b then each_of frame_tables (unsure ∷ []) (everything applicable same h.begin) [] else by_mode applicable same h.begin m mode a)
+              → KeepsLaws frame_tables h h.candidates h.number [] (if b then each_of frame_tables (unsure ∷ []) (everything applicable same h.begin) [] else by_mode applicable same h.begin m mode a)
           by true q = unsure-keeps
           by false q = let x = not-either m.is_sound (begins_unknown a.kinds (self_of a)) q in decided-keeps a e x.0 x.1 mode refl
 
@@ -143,7 +143,7 @@ module _ (applicable : AnswerTrees → Bool) (is_test : IsTest frame_tables appl
         begins = λ v. begins-free (kinds_known f.kinds) v;
         says_nothing = says_nothing;
         begins_within = begins_within;
-        keeps = plan-keeps (asked m.view f) refl;
+        keeps = plan-keeps (goal_over_kinds m.view f) refl;
       })
 
 pub solver-is-lawful : SolverIsLawful

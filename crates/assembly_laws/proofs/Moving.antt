@@ -20,7 +20,7 @@ use Rattle.assembly_laws.specs.Declared.{is_declared}
 use Rattle.assembly_laws.specs.Candidates.{moved, first_value, all_equal, is_param}
 use Rattle.assembly_laws.proofs.Reading.{begins}
 use Rattle.evaluation.proofs.Readings.{HasLeaves}
-use Rattle.evaluation.specs.Variables.{StandsIn}
+use Rattle.evaluation.specs.Variables.{LabelStandsIn}
 
 -- ---- how they are made
 open-behind : (n : ℕ) → PutsLeaves is_declared is_open_label (moved n)
@@ -78,7 +78,7 @@ or-third x y false e = absurd (false-true e)
 
 -- the variable is one that stood there, or stands for a parameter
 abbrev pub Came : ℕ → Sort → ℕ → Trees → Type 0
-Came n k i t = StandsIn (canonical k i) t ⊎ ((j : ℕ) × (n + j ≡ i) × (some_node (is_param k j) t ≡ true))
+Came n k i t = LabelStandsIn (canonical k i) t ⊎ ((j : ℕ) × (n + j ≡ i) × (some_node (is_param k j) t ≡ true))
 
 from-child : (n : ℕ) (k : Sort) (i : ℕ) (l : Label) (c o : Trees) → Came n k i c → Came n k i (tree l c o)
 from-child n k i l c o (inl s) = inl (inr (inl s))
@@ -88,20 +88,20 @@ from-next : (n : ℕ) (k : Sort) (i : ℕ) (l : Label) (c o : Trees) → Came n 
 from-next n k i l c o (inl s) = inl (inr (inr s))
 from-next n k i l c o (inr x) = inr (x.0, x.1, or-third (is_param k x.0 l) (some_node (is_param k x.0) c) (some_node (is_param k x.0) o) x.2)
 
-node-back : (n : ℕ) (k : Sort) (i : ℕ) (l : Label) (c o : Trees) → (StandsIn (canonical k i) (put_in (moved n) c) → Came n k i c) → (StandsIn (canonical k i) (put_in (moved n) o) → Came n k i o)
-    → StandsIn (canonical k i) (tree l (put_in (moved n) c) (put_in (moved n) o)) → Came n k i (tree l c o)
+node-back : (n : ℕ) (k : Sort) (i : ℕ) (l : Label) (c o : Trees) → (LabelStandsIn (canonical k i) (put_in (moved n) c) → Came n k i c) → (LabelStandsIn (canonical k i) (put_in (moved n) o) → Came n k i o)
+    → LabelStandsIn (canonical k i) (tree l (put_in (moved n) c) (put_in (moved n) o)) → Came n k i (tree l c o)
 node-back n k i l c o f g (inl e) = inl (inl e)
 node-back n k i l c o f g (inr (inl x)) = from-child n k i l c o (f x)
 node-back n k i l c o f g (inr (inr x)) = from-next n k i l c o (g x)
 
-param-back : (n : ℕ) (k : Sort) (i : ℕ) (s : Sort) (j : ℕ) (c o : Trees) → (StandsIn (canonical k i) (put_in (moved n) o) → Came n k i o) → StandsIn (canonical k i) (tree (canonical s (n + j)) none (put_in (moved n) o)) → Came n k i (tree (param s j) c o)
+param-back : (n : ℕ) (k : Sort) (i : ℕ) (s : Sort) (j : ℕ) (c o : Trees) → (LabelStandsIn (canonical k i) (put_in (moved n) o) → Came n k i o) → LabelStandsIn (canonical k i) (tree (canonical s (n + j)) none (put_in (moved n) o)) → Came n k i (tree (param s j) c o)
 param-back n k i s j c o g (inl e) =
     let x = same-sort s k (n + j) i e in
     inr (j, x.1, or-first (is_sort k s && (j == j)) (some_node (is_param k j) c) (some_node (is_param k j) o) (and-true (is_sort k s) (j == j) (ap (is_sort k) x.0 ∙ sort-self k) (number-self j)))
 param-back n k i s j c o g (inr (inl x)) = absurd x
 param-back n k i s j c o g (inr (inr x)) = from-next n k i (param s j) c o (g x)
 
-pub stands-back : (n : ℕ) (k : Sort) (i : ℕ) (t : Trees) → StandsIn (canonical k i) (put_in (moved n) t) → Came n k i t
+pub stands-back : (n : ℕ) (k : Sort) (i : ℕ) (t : Trees) → LabelStandsIn (canonical k i) (put_in (moved n) t) → Came n k i t
 stands-back n k i none s = absurd s
 stands-back n k i (tree (param s j) c o) x = param-back n k i s j c o (λ y. stands-back n k i o y) x
 stands-back n k i (tree l c o) x = node-back n k i l c o (λ y. stands-back n k i c y) (λ y. stands-back n k i o y) x
@@ -111,8 +111,8 @@ or-cases true y z e = inl refl
 or-cases false true z e = inr (inl refl)
 or-cases false false z e = inr (inr e)
 
-param-on : (n : ℕ) (k : Sort) (j : ℕ) (s : Sort) (m : ℕ) (c o : Trees) → c ≡ none → (some_node (is_param k j) o ≡ true → StandsIn (canonical k (n + j)) (put_in (moved n) o))
-    → ((is_sort k s && (j == m)) ≡ true) ⊎ ((some_node (is_param k j) c ≡ true) ⊎ (some_node (is_param k j) o ≡ true)) → StandsIn (canonical k (n + j)) (tree (canonical s (n + m)) none (put_in (moved n) o))
+param-on : (n : ℕ) (k : Sort) (j : ℕ) (s : Sort) (m : ℕ) (c o : Trees) → c ≡ none → (some_node (is_param k j) o ≡ true → LabelStandsIn (canonical k (n + j)) (put_in (moved n) o))
+    → ((is_sort k s && (j == m)) ≡ true) ⊎ ((some_node (is_param k j) c ≡ true) ⊎ (some_node (is_param k j) o ≡ true)) → LabelStandsIn (canonical k (n + j)) (tree (canonical s (n + m)) none (put_in (moved n) o))
 param-on n k j s m c o h go (inl x) =
     let p : k ≡ s = is-sort k s (left (is_sort k s) (j == m) x) in
     let q = number-is j m (right (is_sort k s) (j == m) x) in
@@ -120,13 +120,13 @@ param-on n k j s m c o h go (inl x) =
 param-on n k j s m c o h go (inr (inl x)) = absurd (false-true (subst (λ z. some_node (is_param k j) z ≡ true) h x))
 param-on n k j s m c o h go (inr (inr x)) = inr (inr (go x))
 
-node-on : (n : ℕ) (k : Sort) (j : ℕ) (l : Label) (c o : Trees) → (some_node (is_param k j) c ≡ true → StandsIn (canonical k (n + j)) (put_in (moved n) c)) → (some_node (is_param k j) o ≡ true → StandsIn (canonical k (n + j)) (put_in (moved n) o))
-    → (false ≡ true) ⊎ ((some_node (is_param k j) c ≡ true) ⊎ (some_node (is_param k j) o ≡ true)) → StandsIn (canonical k (n + j)) (tree l (put_in (moved n) c) (put_in (moved n) o))
+node-on : (n : ℕ) (k : Sort) (j : ℕ) (l : Label) (c o : Trees) → (some_node (is_param k j) c ≡ true → LabelStandsIn (canonical k (n + j)) (put_in (moved n) c)) → (some_node (is_param k j) o ≡ true → LabelStandsIn (canonical k (n + j)) (put_in (moved n) o))
+    → (false ≡ true) ⊎ ((some_node (is_param k j) c ≡ true) ⊎ (some_node (is_param k j) o ≡ true)) → LabelStandsIn (canonical k (n + j)) (tree l (put_in (moved n) c) (put_in (moved n) o))
 node-on n k j l c o f g (inl x) = absurd (false-true x)
 node-on n k j l c o f g (inr (inl x)) = inr (inl (f x))
 node-on n k j l c o f g (inr (inr x)) = inr (inr (g x))
 
-pub stands-on : (n : ℕ) (k : Sort) (j : ℕ) (t : Trees) → HasLeaves t → some_node (is_param k j) t ≡ true → StandsIn (canonical k (n + j)) (put_in (moved n) t)
+pub stands-on : (n : ℕ) (k : Sort) (j : ℕ) (t : Trees) → HasLeaves t → some_node (is_param k j) t ≡ true → LabelStandsIn (canonical k (n + j)) (put_in (moved n) t)
 stands-on n k j none h e = absurd (false-true e)
 stands-on n k j (tree (param s m) c o) h e = param-on n k j s m c o (h.0 refl) (λ x. stands-on n k j o h.2 x) (or-cases (is_sort k s && (j == m)) (some_node (is_param k j) c) (some_node (is_param k j) o) e)
 stands-on n k j (tree l c o) h e = node-on n k j l c o (λ x. stands-on n k j c h.1 x) (λ x. stands-on n k j o h.2 x) (or-cases false (some_node (is_param k j) c) (some_node (is_param k j) o) e)

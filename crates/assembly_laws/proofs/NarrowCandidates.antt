@@ -14,9 +14,9 @@ use Rattle.evaluation.specs.declared.candidate.BuiltinImplSource.TheVariants.{Tr
 use Rattle.evaluation.specs.FrameTables.{Equation}
 use Rattle.evaluation.specs.Widths.{count, width, width_of_predicates, EquationWithin, number_of}
 use Rattle.evaluation.proofs.Widths.{IsWithin, within, width-within, single-count}
-use Rattle.assembly_laws.specs.Asking.{Asked, all_known, self_of, next_of, begins_unknown}
+use Rattle.assembly_laws.specs.Asking.{GoalOverKinds, all_known, self_of, next_of, begins_unknown}
 use Rattle.declarations.specs.Elaboration.{elaborate, supertraits}
-use Rattle.assembly_laws.specs.Meaning.{Meaning}
+use Rattle.assembly_laws.specs.Meaning.{ViewMeaning}
 use Rattle.assembly_laws.specs.Declared.{FieldsAreOne}
 use Rattle.assembly_laws.specs.Candidates.{Candidate, all_equal, by_rule, unsure, unknowable, by_the_impl, can_match, by_impls, as_written, misc, if_so, by_sized, by_copy, by_auto, by_tuple, by_fn_ptr, call_of, by_call, unsize_array_of, upcast_source, upcasts_from, upcasts_to, upcasts_of, unsize_by_struct, unsize_struct_of, unsize_known, unsizing_outlives, unsize_recording, by_unsize, built_in, bounds_from, object_source, written_source, objects_of, by_objects}
 use Rattle.assembly_laws.specs.Solver.{greatest, width_of, supers_of, declared_width, widest_of}
@@ -30,7 +30,7 @@ use Rattle.assembly_laws.proofs.DeclaredWidths.{greatest-at, impl-narrow}
 use Rattle.assembly_laws.proofs.Elaborating.{every-in}
 use Rattle.assembly_laws.proofs.NarrowRows.{IsField, args-within, AskShort, sized-short, copy-short, auto-short, tuple-short, fn-ptr-short, to-dyn-short, last-short, last-unsizes-short, principal-short, autos-short, elaborated-short, supertraits-short, but-last-within, but-last-count, unsizing-within}
 
-module _ (V : World) (n : ℕ) (fields : (x : StructDecl) → In x V.structs → Every (IsField n) x.fields) (bounds : (x : TraitDecl) → In x V.traits → (b : Reference) → In b x.bounds → width_of b ≤ n) (a : Asked) (environment : width_of_predicates a.environment ≤ n)
+module _ (V : World) (n : ℕ) (fields : (x : StructDecl) → In x V.structs → Every (IsField n) x.fields) (bounds : (x : TraitDecl) → In x V.traits → (b : Reference) → In b x.bounds → width_of b ≤ n) (a : GoalOverKinds) (environment : width_of_predicates a.environment ≤ n)
     (count_is : count a.reference.args ≤ n) (goal : IsWithin n a.reference.args) where
   abbrev Narrow : Candidate → Type 0
   Narrow c = IsNarrow n c
@@ -207,7 +207,7 @@ module _ (V : World) (n : ℕ) (h : declared_width V ≤ n) where
       by : (p q r w s t u : ℕ) → w ≤ r → max p (max q r) ≤ t → max s (max t u) ≤ n → w ≤ n
       by p q r w s t u f g k = omega (arith, f, g, k)
 
-pub candidates-are-narrow : (m : Meaning) → FieldsAreOne m.view → CandidatesAreNarrow m
+pub candidates-are-narrow : (m : ViewMeaning) → FieldsAreOne m.view → CandidatesAreNarrow m
 candidates-are-narrow m one f a is =
     all-narrow m.view n (fields-within m.view n declared one) (bounds-within m.view n declared) a environment goal.0 (within n a.reference.args goal.1) declared
   where

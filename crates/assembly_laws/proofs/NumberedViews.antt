@@ -18,7 +18,7 @@ use Rattle.type_terms.proofs.SupersProved.{supers-proved-for-all}
 use Rattle.type_terms.proofs.ViewLaws.{view-gives-or-unknown, known-in-set, rule-in-view, super-in-set}
 use Rattle.type_terms.proofs.RenumberedTrees.{over-some, over-closed}
 use Rattle.type_terms.proofs.RenumberedRules.{auto-same}
-use Rattle.assembly_laws.specs.Meaning.{Meaning, LinkedWith, proved_in}
+use Rattle.assembly_laws.specs.Meaning.{ViewMeaning, LinkedWith, proved_in}
 use Rattle.assembly_laws.proofs.HavingViews.{ProvesBy}
 
 stray-same : (ρ : Renumbering) (l : Label) → is_stray (renumbered_label ρ l) ≡ is_stray l
@@ -46,7 +46,7 @@ begins-struct ρ (tree l c o) s ks os e = let x = struct-label ρ l s (label e) 
     same : {k : ℕ} → l ≡ adt k → tree l c o ≡ tree (adt k) c o
     same f = cc
 
-module _ (m : Meaning) (w : LinkedWith m) (V : World) (holds : HoldsView w.set (record { numbers = w.numbers; asker = m.crate; world = V })) where
+module _ (m : ViewMeaning) (w : LinkedWith m) (V : World) (holds : HoldsView w.set (record { numbers = w.numbers; asker = m.crate; world = V })) where
   abbrev W : World
   W = w.set
 

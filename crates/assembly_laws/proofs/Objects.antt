@@ -23,9 +23,9 @@ use Rattle.evaluation.specs.Instances.{read_with}
 use Rattle.evaluation.specs.Content.{Values, given}
 use Rattle.assembly_laws.specs.Declared.{are_terms, are_references, is_declared_view}
 use Rattle.declarations.specs.Elaboration.{supertraits, elaborate}
-use Rattle.assembly_laws.specs.Asking.{Asked}
+use Rattle.assembly_laws.specs.Asking.{GoalOverKinds}
 use Rattle.assembly_laws.specs.Candidates.{by_rule, all_equal, if_so, bounds_from, object_source, written_source, objects_of}
-use Rattle.assembly_laws.specs.Cover.{slots, Gives, Proved, read_reference}
+use Rattle.assembly_laws.specs.Cover.{slots, SolvesEquations, Proved, read_reference}
 use Rattle.assembly_laws.proofs.Reading.{true-false}
 use Rattle.assembly_laws.proofs.Instances.{Shut, read-declared}
 use Rattle.assembly_laws.proofs.Supers.{plain-shut}
@@ -116,7 +116,7 @@ pub dyn-shut : (c o : Trees) → Shut (tree dynamic c o) → Shut (tree dynamic 
 dyn-shut c o h = or-no (is_open dynamic || some_node is_open c) false (child-shut is_open dynamic c o h) refl
 
 -- ---- rows
-module _ (H : Reference → Type 0) (V : World) (declared : is_declared_view V ≡ true) (plain : BoundsArePlain V) (rank : ℕ → ℕ) (down : LeadDown V rank) (a : Asked) (v : Values) where
+module _ (H : Reference → Type 0) (V : World) (declared : is_declared_view V ≡ true) (plain : BoundsArePlain V) (rank : ℕ → ℕ) (down : LeadDown V rank) (a : GoalOverKinds) (v : Values) where
   abbrev ys : List Trees
   ys = slots a.kinds v []
 
@@ -125,12 +125,12 @@ module _ (H : Reference → Type 0) (V : World) (declared : is_declared_view V �
 
   module _ (supers : Every (Proved H) (map (read_reference ys) (supertraits V a.reference))) where
     -- a bound that is read as what is asked gives the candidate
-    from-bound : (source : ℕ → CandidateSource) (i : ℕ) (rs : List Reference) (t : Reference) → In t rs → read_reference ys t ≡ asks → SomeOf (Gives H a.kinds v) (bounds_from V a source i rs)
+    from-bound : (source : ℕ → CandidateSource) (i : ℕ) (rs : List Reference) (t : Reference) → In t rs → read_reference ys t ≡ asks → SomeOf (SolvesEquations H a.kinds v) (bounds_from V a source i rs)
     from-bound source i [] t j e = absurd (in-nothing t j)
     from-bound source i (r ∷ rs) t j e = by (r.trait == a.reference.trait) refl (in-cases t r rs j) (λ k g. from-bound source k rs t g e)
       where
-        by : (b : Bool) → (r.trait == a.reference.trait) ≡ b → (r ≡ t) ⊎ In t rs → ((k : ℕ) → In t rs → SomeOf (Gives H a.kinds v) (bounds_from V a source k rs))
-            → SomeOf (Gives H a.kinds v) (if b then by_rule V a (source i) (all_equal a.reference.args r.args) (supertraits V a.reference) ∷ bounds_from V a source (suc i) rs else bounds_from V a source (suc i) rs)
+        by : (b : Bool) → (r.trait == a.reference.trait) ≡ b → (r ≡ t) ⊎ In t rs → ((k : ℕ) → In t rs → SomeOf (SolvesEquations H a.kinds v) (bounds_from V a source k rs))
+            → SomeOf (SolvesEquations H a.kinds v) (if b then by_rule V a (source i) (all_equal a.reference.args r.args) (supertraits V a.reference) ∷ bounds_from V a source (suc i) rs else bounds_from V a source (suc i) rs)
         by true q (inl g) go =
             inl (gives-equal H V a v (source i) (all_equal a.reference.args r.args) (supertraits V a.reference)
             (pairwise ys a.reference.args r.args (sym (ap (λ (z : Reference). z.args) (ap (read_reference ys) g ∙ e)))) supers)
@@ -143,7 +143,7 @@ module _ (H : Reference → Type 0) (V : World) (declared : is_declared_view V �
     read-as-asked rs s i e = let m = map-in (read_reference ys) rs s i in (m.0, m.1, m.2 ∙ sym (same-reference-sound asks s e))
 
     at-dyn : (good : Label → Bool) (c o : Trees) → is_made good bounds c ≡ true → Shut (tree dynamic (read_with (given ys) c) (read_with (given ys) o)) → (u : Rule)
-        → In u (object_rules V asks (tree dynamic (read_with (given ys) c) (read_with (given ys) o))) → SomeOf (Gives H a.kinds v) (objects_of V a (tree dynamic c o))
+        → In u (object_rules V asks (tree dynamic (read_with (given ys) c) (read_with (given ys) o))) → SomeOf (SolvesEquations H a.kinds v) (objects_of V a (tree dynamic c o))
     at-dyn good c o made shut u i = by (are_dyn_compatible V ps) compatible (in-append u (if not (asks.trait == sized) && list_any (same_reference asks) (map (read_reference ys) qs) then row object_auto (strict_supertraits V asks) else []) _ (rule.1))
       where
         self : Trees
@@ -185,21 +185,21 @@ module _ (H : Reference → Type 0) (V : World) (declared : is_declared_view V �
         principals = if not (asks.trait == sized) then equal_rows object_principal (strict_supertraits V asks) asks 0 (elaborated V (map (read_reference ys) ps)) else []
 
         by : (b : Bool) → b ≡ true → In u autos ⊎ In u principals
-            → SomeOf (Gives H a.kinds v) (if_so b (if_so (not (a.reference.trait == sized)) (bounds_from V a written_source 0 qs) ++ if_so (not (a.reference.trait == sized)) (bounds_from V a object_source 0 (elaborate V ps))))
+            → SomeOf (SolvesEquations H a.kinds v) (if_so b (if_so (not (a.reference.trait == sized)) (bounds_from V a written_source 0 qs) ++ if_so (not (a.reference.trait == sized)) (bounds_from V a object_source 0 (elaborate V ps))))
         by false e g = absurd (true-false (sym e))
         by true e (inl g) =
             let m = one-row asks (map (read_reference ys) qs) (not (asks.trait == sized)) (row object_auto (strict_supertraits V asks)) u g in
             let t = read-as-asked qs m.1.0 m.1.1 m.1.2 in
-            some-left (Gives H a.kinds v) (if_so (not (a.reference.trait == sized)) (bounds_from V a written_source 0 qs)) _
-            (subst (λ b. SomeOf (Gives H a.kinds v) (if_so b (bounds_from V a written_source 0 qs))) (sym m.0) (from-bound written_source 0 qs t.0 t.1 t.2))
+            some-left (SolvesEquations H a.kinds v) (if_so (not (a.reference.trait == sized)) (bounds_from V a written_source 0 qs)) _
+            (subst (λ b. SomeOf (SolvesEquations H a.kinds v) (if_so b (bounds_from V a written_source 0 qs))) (sym m.0) (from-bound written_source 0 qs t.0 t.1 t.2))
         by true e (inr g) =
             let m = each-row object_principal (strict_supertraits V asks) asks 0 (elaborated V (map (read_reference ys) ps)) (not (asks.trait == sized)) u g in
             let t = in-elaborate m.1.0 m.1.1 m.1.2 in
-            some-right (Gives H a.kinds v) (if_so (not (a.reference.trait == sized)) (bounds_from V a written_source 0 qs)) _
-            (subst (λ b. SomeOf (Gives H a.kinds v) (if_so b (bounds_from V a object_source 0 (elaborate V ps)))) (sym m.0) (from-bound object_source 0 (elaborate V ps) t.0 t.1 t.2))
+            some-right (SolvesEquations H a.kinds v) (if_so (not (a.reference.trait == sized)) (bounds_from V a written_source 0 qs)) _
+            (subst (λ b. SomeOf (SolvesEquations H a.kinds v) (if_so b (bounds_from V a object_source 0 (elaborate V ps)))) (sym m.0) (from-bound object_source 0 (elaborate V ps) t.0 t.1 t.2))
 
     -- the row of object bounds, where the head of Self is known
     pub objects-at : (good : Label → Bool) (k : Label) (c o : Trees) → (k ≡ dynamic → is_made good bounds c ≡ true) → Shut (tree k (read_with (given ys) c) (read_with (given ys) o)) → (u : Rule)
-        → In u (object_rules V asks (tree k (read_with (given ys) c) (read_with (given ys) o))) → SomeOf (Gives H a.kinds v) (objects_of V a (tree k c o))
+        → In u (object_rules V asks (tree k (read_with (given ys) c) (read_with (given ys) o))) → SomeOf (SolvesEquations H a.kinds v) (objects_of V a (tree k c o))
     objects-at good dynamic c o made shut u i = at-dyn good c o (made refl) shut u i
     objects-at good k c o made shut u i = absurd (in-nothing u i)

@@ -9,28 +9,28 @@ use Rattle.evaluation.specs.Candidate.{Considered}
 use Rattle.evaluation.specs.Law.{Realizes}
 use Rattle.evaluation.specs.Handler.{Handled}
 use Rattle.evaluation.specs.Tables.{frame_tables}
-use Rattle.evaluation.specs.Plans.{Plan, Keeps, each_of, first_alone, nested_in}
-use Rattle.evaluation.specs.Handler.{IsLawful}
-use Rattle.evaluation.specs.Merge.{IsTest, TellsApart}
+use Rattle.evaluation.specs.Plans.{Plan, KeepsLaws, each_of, first_alone, nested_in}
+use Rattle.evaluation.specs.Handler.{CandidateIsLawful}
+use Rattle.evaluation.specs.Merge.{IsTest, TellsResponsesApart}
 use Rattle.evaluation.specs.PlanAnswers.{first_taken}
 use Rattle.evaluation.proofs.Plans.{keeps_more, keeps_each, keeps_first, goes_on, goes_through}
 use Rattle.evaluation.proofs.PlanAnswers.{all_merged_keeps, kept_merged_keeps, first_taken_keeps, IsCovered}
 use Rattle.assembly_laws.specs.Knowing.{is_knowable}
-use Rattle.assembly_laws.specs.Asking.{Asked, clauses}
+use Rattle.assembly_laws.specs.Asking.{GoalOverKinds, clauses}
 use Rattle.assembly_laws.specs.Candidates.{Candidate, unknowable, by_clauses, built_in, by_impls, by_objects}
 use Rattle.assembly_laws.specs.Cover.{all_candidates}
-use Rattle.assembly_laws.specs.Solver.{Past, from, is_clause, is_non_global, is_trivial, holds_from, merged, remains, preferred, everything, is_settled, in_coherence, outside_coherence}
+use Rattle.assembly_laws.specs.Solver.{SolverPast, from, is_clause, is_non_global, is_trivial, holds_from, merged, remains, preferred, everything, is_settled, in_coherence, outside_coherence}
 
-module _ (laws : IsTable frame_tables) (applicable : AnswerTrees → Bool) (is_test : IsTest frame_tables applicable) (same : AnswerTrees → AnswerTrees → Bool) (is_same : TellsApart same)
+module _ (laws : IsTable frame_tables) (applicable : AnswerTrees → Bool) (is_test : IsTest frame_tables applicable) (same : AnswerTrees → AnswerTrees → Bool) (is_same : TellsResponsesApart same)
     (h : Handled frame_tables) (says_nothing : (c : Certainty) → frame_tables.has_values (frame_tables.respond h.begin c) ≡ false) (begins_within : frame_tables.TableWithin h.widest h.begin)
-    (V : World) (crate : ℕ) (a : Asked) where
+    (V : World) (crate : ℕ) (a : GoalOverKinds) where
   abbrev Lawful : List Candidate → Type 0
-  Lawful cs = Every (IsLawful frame_tables h) cs
+  Lawful cs = Every (CandidateIsLawful frame_tables h) cs
 
-  abbrev Kept : ℕ → ℕ → Past → Plan frame_tables → Type 0
-  Kept room left seen p = Keeps frame_tables h room left seen p
+  abbrev Kept : ℕ → ℕ → SolverPast → Plan frame_tables → Type 0
+  Kept room left seen p = KeepsLaws frame_tables h room left seen p
 
-  either : (room left : ℕ) (seen : Past) (p q : Plan frame_tables) (b : Bool) → Kept room left seen p → Kept room left seen q → Kept room left seen (if b then p else q)
+  either : (room left : ℕ) (seen : SolverPast) (p q : Plan frame_tables) (b : Bool) → Kept room left seen p → Kept room left seen q → Kept room left seen (if b then p else q)
   either room left seen p q true k l = k
   either room left seen p q false k l = l
 
@@ -43,7 +43,7 @@ module _ (laws : IsTable frame_tables) (applicable : AnswerTrees → Bool) (is_t
     pub by_view : is_knowable V crate a.reference ≡ true → (w : h.World) (v : frame_tables.Values) → h.Proves w (h.goal v) → SomeOf (Realizes frame_tables (h.Proves w) h.begin v) all
     pub by_others : (w : h.World) (v : frame_tables.Values) → h.Proves w (h.goal v) → Realizes frame_tables (h.Proves w) h.begin v (unknowable V a)
 
-  everything_keeps : (room left : ℕ) (later : Past) → IsCovered frame_tables laws applicable is_test same is_same h says_nothing begins_within later → Kept room left later (everything applicable same h.begin later)
+  everything_keeps : (room left : ℕ) (later : SolverPast) → IsCovered frame_tables laws applicable is_test same is_same h says_nothing begins_within later → Kept room left later (everything applicable same h.begin later)
   everything_keeps room left later covered = all_merged_keeps frame_tables laws applicable is_test same is_same h says_nothing begins_within room left later covered
 
   known_keeps : Lawful all → Realized → is_knowable V crate a.reference ≡ true → Kept (length all + 0) (nested_in frame_tables all + 0) [] (each_of frame_tables all (everything applicable same h.begin) [])
@@ -82,7 +82,7 @@ module _ (laws : IsTable frame_tables) (applicable : AnswerTrees → Bool) (is_t
 
   -- ---- outside it
   module _ (no_world : h.World → ⊥) where
-    preferred_keeps : (room left : ℕ) (seen : Past) → Kept room left seen (preferred applicable same h.begin seen)
+    preferred_keeps : (room left : ℕ) (seen : SolverPast) → Kept room left seen (preferred applicable same h.begin seen)
     preferred_keeps room left seen =
         either room left seen (merged applicable same h.begin is_trivial seen)
         (if holds_from is_non_global seen then first_taken frame_tables applicable same h.begin (from is_clause) seen else merged applicable same h.begin (remains seen) seen) (holds_from is_trivial seen)

@@ -9,10 +9,10 @@ use Rattle.evaluation.specs.Handler.{IsHandler}
 use Rattle.evaluation.specs.Widths.{EquationWithin, NestedWithin}
 use Rattle.evaluation.specs.Tables.{frame_tables}
 use Rattle.evaluation.specs.Plans.{nested_in}
-use Rattle.evaluation.specs.Merge.{IsTest, TellsApart}
-use Rattle.assembly_laws.specs.Meaning.{Meaning}
+use Rattle.evaluation.specs.Merge.{IsTest, TellsResponsesApart}
+use Rattle.assembly_laws.specs.Meaning.{ViewMeaning}
 use Rattle.assembly_laws.specs.Lifetimes.{GivesLifetimes}
-use Rattle.assembly_laws.specs.Asking.{Asked, asked, self_of, begins_unknown}
+use Rattle.assembly_laws.specs.Asking.{GoalOverKinds, goal_over_kinds, self_of, begins_unknown}
 use Rattle.assembly_laws.specs.Candidates.{Candidate, unknowable, built_in, misc, if_so, as_written, upcasts_of, by_impls, by_objects}
 use Rattle.assembly_laws.specs.Declared.{is_declared_view}
 use Rattle.assembly_laws.specs.Determined.{ImplsAreDetermined}
@@ -21,41 +21,41 @@ use Rattle.assembly_laws.specs.Cover.{AreTermsOf, GivenIsRealized, all_candidate
 use Rattle.assembly_laws.specs.Lawful.{IsSoundFor, CandidatesAreLawful}
 
 -- the terms of all equations are made terms
-abbrev pub EquationsAreTerms : Meaning → Type 0
-EquationsAreTerms m = (f : CanonicalForm) (a : Asked) → asked m.view f ≡ Some a → Every AreTermsOf (all_candidates m.view a)
+abbrev pub EquationsAreTerms : ViewMeaning → Type 0
+EquationsAreTerms m = (f : CanonicalForm) (a : GoalOverKinds) → goal_over_kinds m.view f ≡ Some a → Every AreTermsOf (all_candidates m.view a)
 
 abbrev pub IsNarrow : ℕ → Candidate → Type 0
 IsNarrow n c = Every (EquationWithin n) c.equations × Every (NestedWithin n) c.nested
 
 -- the candidates but where-clauses, of which it is proved
-abbrev pub other_candidates : Meaning → Asked → List Candidate
+abbrev pub other_candidates : ViewMeaning → GoalOverKinds → List Candidate
 other_candidates m a = built_in m.view a ++ (by_impls m.view a m.view.impls ++ by_objects m.view a)
 
 -- those that are no rows: types that unsize to a `dyn`, upcasts, impls and object bounds
-abbrev pub premised_candidates : Meaning → Asked → List Candidate
+abbrev pub premised_candidates : ViewMeaning → GoalOverKinds → List Candidate
 premised_candidates m a =
     if_so (a.reference.trait == unsize) (as_written m.view a misc (unsize_to_dyn_rules m.view (self_of a)) ++ upcasts_of m.view a (self_of a)) ++ (by_impls m.view a m.view.impls ++ by_objects m.view a)
 
 -- where the self type is an unknown, a `dyn` may stand for it, which does not unsize to another as other types do
-abbrev pub CandidatesAreSound : Meaning → Type 0
-CandidatesAreSound m = (f : CanonicalForm) (a : Asked) → asked m.view f ≡ Some a → begins_unknown a.kinds (self_of a) ≡ false → Every (IsSoundFor m f a) (premised_candidates m a)
+abbrev pub CandidatesAreSound : ViewMeaning → Type 0
+CandidatesAreSound m = (f : CanonicalForm) (a : GoalOverKinds) → goal_over_kinds m.view f ≡ Some a → begins_unknown a.kinds (self_of a) ≡ false → Every (IsSoundFor m f a) (premised_candidates m a)
 
 -- no term of the candidates but where-clauses is wider than the goal and what is declared
-abbrev pub CandidatesAreNarrow : Meaning → Type 0
-CandidatesAreNarrow m = (f : CanonicalForm) (a : Asked) → asked m.view f ≡ Some a → Every (IsNarrow (widest_of m.view f)) (unknowable m.view a ∷ other_candidates m a)
+abbrev pub CandidatesAreNarrow : ViewMeaning → Type 0
+CandidatesAreNarrow m = (f : CanonicalForm) (a : GoalOverKinds) → goal_over_kinds m.view f ≡ Some a → Every (IsNarrow (widest_of m.view f)) (unknowable m.view a ∷ other_candidates m a)
 
 abbrev pub SoundAndNarrowIsLawful : Type 0
-SoundAndNarrowIsLawful = (m : Meaning) → is_declared_view m.view ≡ true → ImplsAreDetermined m.view → CandidatesAreSound m → CandidatesAreNarrow m → CandidatesAreLawful m
+SoundAndNarrowIsLawful = (m : ViewMeaning) → is_declared_view m.view ≡ true → ImplsAreDetermined m.view → CandidatesAreSound m → CandidatesAreNarrow m → CandidatesAreLawful m
 
 -- there are not too many candidates, and they have not too many nested goals together
-abbrev pub CandidatesAreFew : Meaning → Type 0
-CandidatesAreFew m = (f : CanonicalForm) (a : Asked) → asked m.view f ≡ Some a → suc (length (all_candidates m.view a)) ≤ most_candidates m.view f
+abbrev pub CandidatesAreFew : ViewMeaning → Type 0
+CandidatesAreFew m = (f : CanonicalForm) (a : GoalOverKinds) → goal_over_kinds m.view f ≡ Some a → suc (length (all_candidates m.view a)) ≤ most_candidates m.view f
 
-abbrev pub PremisesAreFew : Meaning → Type 0
-PremisesAreFew m = (f : CanonicalForm) (a : Asked) → asked m.view f ≡ Some a → nested_in frame_tables (unknowable m.view a ∷ all_candidates m.view a) ≤ number_at m.view (widest_of m.view f)
+abbrev pub PremisesAreFew : ViewMeaning → Type 0
+PremisesAreFew m = (f : CanonicalForm) (a : GoalOverKinds) → goal_over_kinds m.view f ≡ Some a → nested_in frame_tables (unknowable m.view a ∷ all_candidates m.view a) ≤ number_at m.view (widest_of m.view f)
 
 -- what is premised of what is declared; each is a property of the view alone, but for the first two
-pub record SolverPremises (m : Meaning) : Type 0 where
+pub record SolverPremises (m : ViewMeaning) : Type 0 where
   -- the candidates' values are allowed by tables
   pub realized : GivenIsRealized
   -- solutions are by candidates (`SolutionsAreByCandidates` gives it from a declared view, determined impls and the left rows)
@@ -68,5 +68,5 @@ pub record SolverPremises (m : Meaning) : Type 0 where
 -- the solver is a lawful handler
 abbrev pub SolverIsLawful : Type 0
 SolverIsLawful =
-    (applicable : AnswerTrees → Bool) → IsTest frame_tables applicable → (same : AnswerTrees → AnswerTrees → Bool) → TellsApart same
-    → (m : Meaning) → SolverPremises m → (mode : TypingMode) (f : CanonicalForm) → GivesLifetimes m f → IsHandler frame_tables (solver_handled applicable same m mode f)
+    (applicable : AnswerTrees → Bool) → IsTest frame_tables applicable → (same : AnswerTrees → AnswerTrees → Bool) → TellsResponsesApart same
+    → (m : ViewMeaning) → SolverPremises m → (mode : TypingMode) (f : CanonicalForm) → GivesLifetimes m f → IsHandler frame_tables (solver_handled applicable same m mode f)

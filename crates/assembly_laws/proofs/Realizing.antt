@@ -17,15 +17,15 @@ use Rattle.evaluation.specs.TableOperations.{begin}
 use Rattle.evaluation.specs.Tables.{frame_tables}
 use Rattle.assembly_laws.specs.Slots.{as_slots, with_slots}
 use Rattle.assembly_laws.specs.Facts.{clauses_of}
-use Rattle.assembly_laws.specs.Meaning.{Meaning, proved_at}
+use Rattle.assembly_laws.specs.Meaning.{ViewMeaning, proved_at}
 use Rattle.assembly_laws.specs.Lifetimes.{goal_gives_lifetimes}
 use Rattle.assembly_laws.specs.Knowing.{is_knowable}
 use Rattle.assembly_laws.specs.Declared.{is_declared_view}
-use Rattle.assembly_laws.specs.Asking.{Asked, asked, clauses, self_of, begins_unknown, with_first, all_known}
+use Rattle.assembly_laws.specs.Asking.{GoalOverKinds, goal_over_kinds, clauses, self_of, begins_unknown, with_first, all_known}
 use Rattle.evaluation.specs.Variables.{is_variable_over}
 use Rattle.assembly_laws.specs.Candidates.{Candidate, unsure, unknowable}
 use Rattle.assembly_laws.specs.Solver.{has_placeholder, Searched, IsSolution}
-use Rattle.assembly_laws.specs.Cover.{AreTermsOf, BoundsAreTerms, Gives, all_candidates, goal_fact, SolutionsAreCandidates}
+use Rattle.assembly_laws.specs.Cover.{AreTermsOf, BoundsAreTerms, SolvesEquations, all_candidates, goal_fact, SolutionsAreCandidates}
 use Rattle.assembly_laws.proofs.Reading.{true-false}
 use Rattle.assembly_laws.proofs.Agreeing.{agree-terms}
 use Rattle.assembly_laws.proofs.Cover.{IsAsked, asked-by, known-kinds}
@@ -49,7 +49,7 @@ every-unit : {A : Type 0} (xs : List A) → Every (λ x. Unit {0}) xs
 every-unit [] = tt
 every-unit (x ∷ xs) = (tt, every-unit xs)
 
-none-own : (V : World) (a : Asked) → Every HasNone (all_candidates V a)
+none-own : (V : World) (a : GoalOverKinds) → Every HasNone (all_candidates V a)
 none-own V a = all-so V a HasNone (λ es. Unit {0}) rows
   where
     rows : AreRows V a HasNone (λ es. Unit {0})
@@ -139,11 +139,11 @@ same-fact : (f : CanonicalForm) (v : Values) (xs : List Trees) (p q : Bool) → 
 same-fact f v xs p q e d g = cc
 
 -- the equations of a goal that is decided have made terms
-pub asked-terms : (m : Meaning) → is_declared_view m.view ≡ true → (f : CanonicalForm) (a : Asked) → asked m.view f ≡ Some a → BoundsAreTerms m.view a → Searched m f → Every AreTermsOf (all_candidates m.view a)
+pub asked-terms : (m : ViewMeaning) → is_declared_view m.view ≡ true → (f : CanonicalForm) (a : GoalOverKinds) → goal_over_kinds m.view f ≡ Some a → BoundsAreTerms m.view a → Searched m f → Every AreTermsOf (all_candidates m.view a)
 asked-terms m declared f a e bounds_are w =
     all-are-terms m.view declared a (asked-by m.view f.goal.environment f.goal.predicate (all_known f.kinds) a e).over (subst (λ (rs : List Reference). Every (λ (r : Reference). IsOpenTerms r.args) rs) (sym (ap clauses_of (asked-bare m f w.no_clauses a e))) tt) bounds_are
 
-module _ (m : Meaning) (complete : SolutionsAreCandidates m) (f : CanonicalForm) (a : Asked) (e : asked m.view f ≡ Some a)
+module _ (m : ViewMeaning) (complete : SolutionsAreCandidates m) (f : CanonicalForm) (a : GoalOverKinds) (e : goal_over_kinds m.view f ≡ Some a)
     (known : begins_unknown a.kinds (self_of a) ≡ false) (given-lifetimes : goal_gives_lifetimes m.view a ≡ true) (w : Searched m f) (v : Values) (s : IsSolution (proved_at w.place) (goal_fact f v)) (are : Every AreTermsOf (all_candidates m.view a)) where
   abbrev pub H : Reference → Type 0
   H = proved_at w.place
@@ -178,12 +178,12 @@ module _ (m : Meaning) (complete : SolutionsAreCandidates m) (f : CanonicalForm)
   solution : IsSolution H (goal_fact f (with_slots a.kinds v))
   solution = subst (IsSolution H) (sym same-goal) s
 
-  realized : (c : Candidate) → AreTermsOf c → has_placeholder c.kinds ≡ false → Gives H a.kinds (with_slots a.kinds v) c → Realizes frame_tables (IsSolution H) (begin (kinds_known f.kinds)) v c
+  realized : (c : Candidate) → AreTermsOf c → has_placeholder c.kinds ≡ false → SolvesEquations H a.kinds (with_slots a.kinds v) c → Realizes frame_tables (IsSolution H) (begin (kinds_known f.kinds)) v c
   realized c are own gives = subst (λ ks. Realizes frame_tables (IsSolution H) (begin ks) v c) (sym kinds-are) (given-is-realized m w.place a.kinds v c are no_placeholders own proper-is gives)
 
   pub by-candidates : is_knowable m.view m.crate a.reference ≡ true → SomeOf (Realizes frame_tables (IsSolution H) (begin (kinds_known f.kinds)) v) (all_candidates m.view a)
   by-candidates k =
-      SomeOf-both (λ c. AreTermsOf c × HasNone c) (Gives H a.kinds (with_slots a.kinds v)) (Realizes frame_tables (IsSolution H) (begin (kinds_known f.kinds)) v)
+      SomeOf-both (λ c. AreTermsOf c × HasNone c) (SolvesEquations H a.kinds (with_slots a.kinds v)) (Realizes frame_tables (IsSolution H) (begin (kinds_known f.kinds)) v)
       (λ c h g. realized c h.0 h.1 g) (all_candidates m.view a)
       (Every-both AreTermsOf HasNone (λ c. AreTermsOf c × HasNone c) (λ c x y. (x, y)) (all_candidates m.view a)
       are (none-own m.view a))

@@ -8,7 +8,7 @@ use Rattle.evaluation.specs.Lists.{Every, SomeOf}
 use Rattle.evaluation.specs.Plans.{nested_in}
 use Rattle.evaluation.specs.Tables.{frame_tables}
 use Rattle.assembly_laws.specs.Candidates.{Candidate, recording}
-use Rattle.assembly_laws.specs.Cover.{Gives}
+use Rattle.assembly_laws.specs.Cover.{SolvesEquations}
 
 module _ (r : Trees) where
   pub every-recorded : (P : Candidate → Type 0) → ((c : Candidate) → P c → P (recording r c)) → (cs : List Candidate) → Every P cs → Every P (map (recording r) cs)
@@ -34,8 +34,8 @@ module _ (r : Trees) where
   nested-recorded (c ∷ cs) = ap (λ n. length c.nested + n) (nested-recorded cs)
 
   module _ (H : Reference → Type 0) (kinds : List CanonicalVarKind) (v : Values) where
-    pub gives-recorded : (c : Candidate) → Gives H kinds v c → Gives H kinds v (recording r c)
+    pub gives-recorded : (c : Candidate) → SolvesEquations H kinds v c → SolvesEquations H kinds v (recording r c)
     gives-recorded c g = record { own = g.own; sorted = g.sorted; equal = g.equal; solves = g.solves }
 
-    pub gives-unrecorded : (c : Candidate) → Gives H kinds v (recording r c) → Gives H kinds v c
+    pub gives-unrecorded : (c : Candidate) → SolvesEquations H kinds v (recording r c) → SolvesEquations H kinds v c
     gives-unrecorded c g = record { own = g.own; sorted = g.sorted; equal = g.equal; solves = g.solves }

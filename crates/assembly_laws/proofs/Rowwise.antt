@@ -12,7 +12,7 @@ use Rattle.evaluation.specs.declared.candidate.CandidateSource.TheVariants.{Para
 use Rattle.evaluation.specs.Lists.{Every}
 use Rattle.evaluation.specs.FrameTables.{Equation}
 use Rattle.declarations.specs.Elaboration.{elaborate, supertraits}
-use Rattle.assembly_laws.specs.Asking.{Asked, clauses, self_of, next_of, begins_unknown}
+use Rattle.assembly_laws.specs.Asking.{GoalOverKinds, clauses, self_of, next_of, begins_unknown}
 use Rattle.assembly_laws.specs.Candidates.{Candidate, all_equal, by_rule, unsure, clause_source, by_clauses, by_the_impl, can_match, by_impls, as_written, misc, if_so, by_sized, by_copy, by_auto, by_tuple, by_fn_ptr, call_of, by_call, unsize_array_of, upcast_source, upcasts_from, upcasts_to, upcasts_of, unsize_by_struct, unsize_struct_of, unsize_known, recording, unsizing_outlives, unsize_recording, by_unsize, built_in, bounds_from, object_source, written_source, objects_of, by_objects}
 use Rattle.assembly_laws.specs.Cover.{all_candidates}
 use Rattle.assembly_laws.proofs.Recording.{every-recorded}
@@ -21,7 +21,7 @@ pub both-lists : {A : Type 0} (P : A → Type 0) (xs ys : List A) → Every P xs
 both-lists P [] ys h g = g
 both-lists P (x ∷ xs) ys h g = (h.0, both-lists P xs ys h.1 g)
 
-module _ (V : World) (a : Asked) (P : Candidate → Type 0) (E : List Equation → Type 0) where
+module _ (V : World) (a : GoalOverKinds) (P : Candidate → Type 0) (E : List Equation → Type 0) where
   -- candidates of rules are so where their equations are; the equations of each row; impls; what is not decided; and what is recorded does
   -- not count
   pub record AreRows : Type 0 where

@@ -19,14 +19,14 @@ use Rattle.evaluation.specs.Content.{given, trait_of}
 use Rattle.evaluation.specs.FrameTables.{kind_at}
 use Rattle.evaluation.specs.TableAnswers.{is_kind_of}
 use Rattle.assembly_laws.specs.Facts.{reference_in, children_of, trait_or_first}
-use Rattle.assembly_laws.specs.Meaning.{Meaning}
+use Rattle.assembly_laws.specs.Meaning.{ViewMeaning}
 use Rattle.assembly_laws.specs.Declared.{is_declared_view}
 use Rattle.assembly_laws.specs.Determined.{ImplsAreDetermined}
 use Rattle.assembly_laws.specs.Asking.{all_known, is_rigid, begins_with_type, with_plain_head, next_of, self_of, is_unknown_kind, begins_unknown}
 use Rattle.evaluation.specs.Variables.{is_variable_over}
 use Rattle.assembly_laws.specs.Candidates.{Candidate, by_unsize, call_of, unsize_array_of, upcasts_of, unsize_struct_of, unsize_known, recording, unsizing_outlives, unsize_recording, as_written, misc, unsure, if_so, by_objects, objects_of}
 use Rattle.assembly_laws.specs.Solver.{has_placeholder}
-use Rattle.assembly_laws.specs.Cover.{slots, Gives, goal_fact}
+use Rattle.assembly_laws.specs.Cover.{slots, SolvesEquations, goal_fact}
 use Rattle.assembly_laws.proofs.HavingViews.{ViewRulesAreCandidates, ThereAreCandidates}
 use Rattle.assembly_laws.proofs.Reading.{read_reference, true-false}
 use Rattle.assembly_laws.proofs.Agreeing.{own-read}
@@ -169,7 +169,7 @@ natural-target V d xs good l c o r m h =
     by (bound of_const i j) b p n = refl
     by k b p n = refl
 
-module _ (m : Meaning) (declared : is_declared_view m.view ≡ true) (determined : ImplsAreDetermined m.view) where
+module _ (m : ViewMeaning) (declared : is_declared_view m.view ≡ true) (determined : ImplsAreDetermined m.view) where
   pub view-rules : ViewRulesAreCandidates m
   view-rules H f a e known w v s u i ps = by-view H m.view declared a v head.label head.children head.others head.is head.rigid closed other u in_rules proved
     where
@@ -231,28 +231,28 @@ module _ (m : Meaning) (declared : is_declared_view m.view ≡ true) (determined
       all-dyns : List Candidate
       all-dyns = as_written m.view a misc (unsize_to_dyn_rules m.view plain)
 
-      array-given : SomeOf (Gives H a.kinds v) (unsize_array_of m.view a plain) → SomeOf (Gives H a.kinds v) (unsize_known m.view a plain)
-      array-given g = some-left (Gives H a.kinds v) (unsize_array_of m.view a plain) (all-dyns ++ (upcasts_of m.view a plain ++ unsize_struct_of m.view a plain)) g
+      array-given : SomeOf (SolvesEquations H a.kinds v) (unsize_array_of m.view a plain) → SomeOf (SolvesEquations H a.kinds v) (unsize_known m.view a plain)
+      array-given g = some-left (SolvesEquations H a.kinds v) (unsize_array_of m.view a plain) (all-dyns ++ (upcasts_of m.view a plain ++ unsize_struct_of m.view a plain)) g
 
-      dyn-given : SomeOf (Gives H a.kinds v) all-dyns → SomeOf (Gives H a.kinds v) (unsize_known m.view a plain)
+      dyn-given : SomeOf (SolvesEquations H a.kinds v) all-dyns → SomeOf (SolvesEquations H a.kinds v) (unsize_known m.view a plain)
       dyn-given g =
-          some-right (Gives H a.kinds v) (unsize_array_of m.view a plain) (all-dyns ++ (upcasts_of m.view a plain ++ unsize_struct_of m.view a plain))
-          (some-left (Gives H a.kinds v) all-dyns (upcasts_of m.view a plain ++ unsize_struct_of m.view a plain) g)
+          some-right (SolvesEquations H a.kinds v) (unsize_array_of m.view a plain) (all-dyns ++ (upcasts_of m.view a plain ++ unsize_struct_of m.view a plain))
+          (some-left (SolvesEquations H a.kinds v) all-dyns (upcasts_of m.view a plain ++ unsize_struct_of m.view a plain) g)
 
-      upcast-given : SomeOf (Gives H a.kinds v) (upcasts_of m.view a plain) → SomeOf (Gives H a.kinds v) (unsize_known m.view a plain)
+      upcast-given : SomeOf (SolvesEquations H a.kinds v) (upcasts_of m.view a plain) → SomeOf (SolvesEquations H a.kinds v) (unsize_known m.view a plain)
       upcast-given g =
-          some-right (Gives H a.kinds v) (unsize_array_of m.view a plain) (all-dyns ++ (upcasts_of m.view a plain ++ unsize_struct_of m.view a plain))
-          (some-right (Gives H a.kinds v) all-dyns (upcasts_of m.view a plain ++ unsize_struct_of m.view a plain)
-          (some-left (Gives H a.kinds v) (upcasts_of m.view a plain) (unsize_struct_of m.view a plain) g))
+          some-right (SolvesEquations H a.kinds v) (unsize_array_of m.view a plain) (all-dyns ++ (upcasts_of m.view a plain ++ unsize_struct_of m.view a plain))
+          (some-right (SolvesEquations H a.kinds v) all-dyns (upcasts_of m.view a plain ++ unsize_struct_of m.view a plain)
+          (some-left (SolvesEquations H a.kinds v) (upcasts_of m.view a plain) (unsize_struct_of m.view a plain) g))
 
-      struct-given : SomeOf (Gives H a.kinds v) (unsize_struct_of m.view a plain) → SomeOf (Gives H a.kinds v) (unsize_known m.view a plain)
+      struct-given : SomeOf (SolvesEquations H a.kinds v) (unsize_struct_of m.view a plain) → SomeOf (SolvesEquations H a.kinds v) (unsize_known m.view a plain)
       struct-given g =
-          some-right (Gives H a.kinds v) (unsize_array_of m.view a plain) (all-dyns ++ (upcasts_of m.view a plain ++ unsize_struct_of m.view a plain))
-          (some-right (Gives H a.kinds v) all-dyns (upcasts_of m.view a plain ++ unsize_struct_of m.view a plain)
-          (some-right (Gives H a.kinds v) (upcasts_of m.view a plain) (unsize_struct_of m.view a plain) g))
+          some-right (SolvesEquations H a.kinds v) (unsize_array_of m.view a plain) (all-dyns ++ (upcasts_of m.view a plain ++ unsize_struct_of m.view a plain))
+          (some-right (SolvesEquations H a.kinds v) all-dyns (upcasts_of m.view a plain ++ unsize_struct_of m.view a plain)
+          (some-right (SolvesEquations H a.kinds v) (upcasts_of m.view a plain) (unsize_struct_of m.view a plain) g))
 
       -- a row whose target is known
-      to-dyn : (target : Head head.others) (x : Rule) → In x (unsize_to_dyn_rules m.view (tree (erase_label head.label) (read head.children) (read head.others))) → Every (Proved H) x.premises → SomeOf (Gives H a.kinds v) (unsize_known m.view a plain)
+      to-dyn : (target : Head head.others) (x : Rule) → In x (unsize_to_dyn_rules m.view (tree (erase_label head.label) (read head.children) (read head.others))) → Every (Proved H) x.premises → SomeOf (SolvesEquations H a.kinds v) (unsize_known m.view a plain)
       to-dyn target x j y =
           dyn-given (written H m.view declared a v misc (unsize_to_dyn_rules m.view plain) x
           (subst (In x) (natural-target m.view declared xs (is_variable_over a.kinds) head.label head.children head.others head.rigid over-others target) j) y)
@@ -260,37 +260,37 @@ module _ (m : Meaning) (declared : is_declared_view m.view ≡ true) (determined
       others-read : (target : Head head.others) → read head.others ≡ tree (erase_label target.label) (read target.children) (read target.others)
       others-read target = ap (read_with (given xs)) target.is ∙ rigid-read xs target.label target.children target.others target.rigid
 
-      to-array : (target : Head head.others) (x : Rule) → In x (unsize_array_rules (tree (erase_label head.label) (read head.children) (read head.others))) → SomeOf (Gives H a.kinds v) (unsize_known m.view a plain)
+      to-array : (target : Head head.others) (x : Rule) → In x (unsize_array_rules (tree (erase_label head.label) (read head.children) (read head.others))) → SomeOf (SolvesEquations H a.kinds v) (unsize_known m.view a plain)
       to-array target x j =
           let k = subst (λ t. In x (unsize_array_rules (tree (erase_label head.label) (read head.children) t))) (others-read target) j in
           let same : erase_label target.label ≡ slice = arrays-other H m.view a v (erase_label head.label) (read head.children) (erase_label target.label) (read target.children) (read target.others) x k in
           let o_is : head.others ≡ tree slice target.children target.others = target.is ∙ ap (λ l. tree l target.children target.others) (erased-slice target.label same) in
-          array-given (subst (λ o. SomeOf (Gives H a.kinds v) (unsize_array_of m.view a (tree (erase_label head.label) head.children o))) (sym o_is)
+          array-given (subst (λ o. SomeOf (SolvesEquations H a.kinds v) (unsize_array_of m.view a (tree (erase_label head.label) head.children o))) (sym o_is)
           (arrays-at H m.view a v (erase_label head.label) head.children none target.children target.others x (subst (λ l. In x (unsize_array_rules (tree (erase_label head.label) (read head.children) (tree l (read target.children) (read target.others))))) same k)))
 
-      to-upcast : (target : Head head.others) (x : Rule) → In x (unsize_upcast_rules m.view (tree (erase_label head.label) (read head.children) (read head.others))) → SomeOf (Gives H a.kinds v) (unsize_known m.view a plain)
+      to-upcast : (target : Head head.others) (x : Rule) → In x (unsize_upcast_rules m.view (tree (erase_label head.label) (read head.children) (read head.others))) → SomeOf (SolvesEquations H a.kinds v) (unsize_known m.view a plain)
       to-upcast target x j =
           let k = subst (λ t. In x (unsize_upcast_rules m.view (tree (erase_label head.label) (read head.children) t))) (others-read target) j in
           let same : erase_label target.label ≡ dynamic = upcasts-other H m.view declared w.linked.plain w.linked.trait_rank w.linked.down a v (erase_label head.label) (read head.children) (erase_label target.label) (read target.children) (read target.others) x k in
           let o_is : head.others ≡ tree dynamic target.children target.others = target.is ∙ ap (λ l. tree l target.children target.others) (erased-dynamic target.label same) in
           let made = left (is_made (is_variable_over a.kinds) bounds target.children) (is_made (is_variable_over a.kinds) terms target.others) (subst (λ t. is_made (is_variable_over a.kinds) terms t ≡ true) o_is over-others) in
-          upcast-given (subst (λ o. SomeOf (Gives H a.kinds v) (upcasts_of m.view a (tree (erase_label head.label) head.children o))) (sym o_is)
+          upcast-given (subst (λ o. SomeOf (SolvesEquations H a.kinds v) (upcasts_of m.view a (tree (erase_label head.label) head.children o))) (sym o_is)
           (upcasts-at H m.view declared w.linked.plain w.linked.trait_rank w.linked.down a v (is_variable_over a.kinds) (erase_label head.label) head.children target.children target.others
           bounds-made made (subst (λ t. some_node is_open (tree (erase_label head.label) (read head.children) (read t)) ≡ false) o_is shut) x
           (subst (λ l. In x (unsize_upcast_rules m.view (tree (erase_label head.label) (read head.children) (tree l (read target.children) (read target.others))))) same k)))
 
-      to-struct : (target : Head head.others) (x : Rule) → In x (unsize_struct_rules m.view (tree (erase_label head.label) (read head.children) (read head.others))) → Every (Proved H) x.premises → SomeOf (Gives H a.kinds v) (unsize_known m.view a plain)
+      to-struct : (target : Head head.others) (x : Rule) → In x (unsize_struct_rules m.view (tree (erase_label head.label) (read head.children) (read head.others))) → Every (Proved H) x.premises → SomeOf (SolvesEquations H a.kinds v) (unsize_known m.view a plain)
       to-struct target x j y =
           let k = subst (λ t. In x (unsize_struct_rules m.view (tree (erase_label head.label) (read head.children) t))) (others-read target) j in
           let same = structs-other H m.view declared a v (erase_label head.label) (read head.children) (erase_label target.label) (read target.children) (read target.others) x k in
           let o_is : head.others ≡ tree (adt same.0) target.children target.others = target.is ∙ ap (λ l. tree l target.children target.others) (erased-struct target.label same.0 same.1) in
           let others_shut : some_node is_open (read (tree (adt same.0) target.children target.others)) ≡ false = subst (λ t. some_node is_open (read t) ≡ false) o_is (next-shut is_open (erase_label head.label) (read head.children) (read head.others) shut) in
-          struct-given (subst (λ o. SomeOf (Gives H a.kinds v) (unsize_struct_of m.view a (tree (erase_label head.label) head.children o))) (sym o_is)
+          struct-given (subst (λ o. SomeOf (SolvesEquations H a.kinds v) (unsize_struct_of m.view a (tree (erase_label head.label) head.children o))) (sym o_is)
           (structs-at H m.view declared a v (erase_label head.label) head.children same.0 target.children target.others
           (child-shut is_open (erase_label head.label) (read head.children) (read head.others) shut) (child-shut is_open (adt same.0) (read target.children) (read target.others) others_shut) x
           (subst (λ l. In x (unsize_struct_rules m.view (tree (erase_label head.label) (read head.children) (tree l (read target.children) (read target.others))))) same.1 k) y))
 
-      known-row : (x : Rule) → Head head.others → In x (unsize_rules m.view (tree (erase_label head.label) (read head.children) (read head.others))) → Every (Proved H) x.premises → SomeOf (Gives H a.kinds v) (unsize_known m.view a plain)
+      known-row : (x : Rule) → Head head.others → In x (unsize_rules m.view (tree (erase_label head.label) (read head.children) (read head.others))) → Every (Proved H) x.premises → SomeOf (SolvesEquations H a.kinds v) (unsize_known m.view a plain)
       known-row x target j y = first (in-append x arrays (dyns ++ (upcasts ++ structs)) j)
         where
           at : Trees
@@ -308,38 +308,38 @@ module _ (m : Meaning) (declared : is_declared_view m.view ≡ true) (determined
           structs : List Rule
           structs = unsize_struct_rules m.view at
 
-          third : In x upcasts ⊎ In x structs → SomeOf (Gives H a.kinds v) (unsize_known m.view a plain)
+          third : In x upcasts ⊎ In x structs → SomeOf (SolvesEquations H a.kinds v) (unsize_known m.view a plain)
           third (inl k) = to-upcast target x k
           third (inr k) = to-struct target x k y
 
-          second : In x dyns ⊎ In x (upcasts ++ structs) → SomeOf (Gives H a.kinds v) (unsize_known m.view a plain)
+          second : In x dyns ⊎ In x (upcasts ++ structs) → SomeOf (SolvesEquations H a.kinds v) (unsize_known m.view a plain)
           second (inl k) = to-dyn target x k y
           second (inr k) = third (in-append x upcasts structs k)
 
-          first : In x arrays ⊎ In x (dyns ++ (upcasts ++ structs)) → SomeOf (Gives H a.kinds v) (unsize_known m.view a plain)
+          first : In x arrays ⊎ In x (dyns ++ (upcasts ++ structs)) → SomeOf (SolvesEquations H a.kinds v) (unsize_known m.view a plain)
           first (inl k) = to-array target x k
           first (inr k) = second (in-append x dyns (upcasts ++ structs) k)
 
       known-or-not : (x : Rule) → (a.reference.trait == unsize) ≡ true → (b : Bool) → begins_unknown a.kinds head.others ≡ b → In x (unsize_rules m.view (tree (erase_label head.label) (read head.children) (read head.others))) → Every (Proved H) x.premises
-          → SomeOf (Gives H a.kinds v) (if b then unsure ∷ [] else map (recording (unsizing_outlives a.reference.args)) (unsize_known m.view a plain))
+          → SomeOf (SolvesEquations H a.kinds v) (if b then unsure ∷ [] else map (recording (unsizing_outlives a.reference.args)) (unsize_known m.view a plain))
       known-or-not x q true e j y = inl (unsure-gives H m.view declared a v)
       known-or-not x q false e j y =
           let r = unsizing_outlives a.reference.args in
-          some-recorded r (Gives H a.kinds v) (gives-recorded r H a.kinds v) (unsize_known m.view a plain) (known-row x (target-of a.kinds head.others (target-begins q) over-others e no_place) j y)
+          some-recorded r (SolvesEquations H a.kinds v) (gives-recorded r H a.kinds v) (unsize_known m.view a plain) (known-row x (target-of a.kinds head.others (target-begins q) over-others e no_place) j y)
 
-      unsizes-at : (x : Rule) (b : Bool) → (a.reference.trait == unsize) ≡ b → In x (if b then unsize_rules m.view (read a.reference.args) else []) → Every (Proved H) x.premises → SomeOf (Gives H a.kinds v) (by_unsize m.view a)
+      unsizes-at : (x : Rule) (b : Bool) → (a.reference.trait == unsize) ≡ b → In x (if b then unsize_rules m.view (read a.reference.args) else []) → Every (Proved H) x.premises → SomeOf (SolvesEquations H a.kinds v) (by_unsize m.view a)
       unsizes-at x false q j y = absurd (in-nothing x j)
       unsizes-at x true q j y =
-          subst (λ b. SomeOf (Gives H a.kinds v) (if_so b (if begins_unknown a.kinds (next_of (self_of a)) then unsure ∷ [] else unsize_recording m.view a))) (sym q)
-          (subst (λ t. SomeOf (Gives H a.kinds v) (if begins_unknown a.kinds (next_of t) then unsure ∷ [] else map (recording (unsizing_outlives a.reference.args)) (unsize_known m.view a t))) (sym self-is)
+          subst (λ b. SomeOf (SolvesEquations H a.kinds v) (if_so b (if begins_unknown a.kinds (next_of (self_of a)) then unsure ∷ [] else unsize_recording m.view a))) (sym q)
+          (subst (λ t. SomeOf (SolvesEquations H a.kinds v) (if begins_unknown a.kinds (next_of t) then unsure ∷ [] else map (recording (unsizing_outlives a.reference.args)) (unsize_known m.view a t))) (sym self-is)
           (known-or-not x q (begins_unknown a.kinds head.others) refl (subst (λ t. In x (unsize_rules m.view t)) read-is j) y))
 
       goal-proved : Proved H (read_reference xs a.reference)
       goal-proved = subst (Proved H) reference-is (s.closed, s.proof)
 
-      objects-row : (x : Rule) → In x (object_rules m.view (read_reference xs a.reference) (read a.reference.args)) → SomeOf (Gives H a.kinds v) (by_objects m.view a)
+      objects-row : (x : Rule) → In x (object_rules m.view (read_reference xs a.reference) (read a.reference.args)) → SomeOf (SolvesEquations H a.kinds v) (by_objects m.view a)
       objects-row x j =
-          subst (λ t. SomeOf (Gives H a.kinds v) (objects_of m.view a t)) (sym self-is)
+          subst (λ t. SomeOf (SolvesEquations H a.kinds v) (objects_of m.view a t)) (sym self-is)
           (objects-at H m.view declared w.linked.plain w.linked.trait_rank w.linked.down a v (goal-supers m.view m.crate H w.linked declared xs a.reference goal-proved) (is_variable_over a.kinds)
           (erase_label head.label) head.children head.others bounds-made shut x (subst (λ t. In x (object_rules m.view (read_reference xs a.reference) t)) read-is j))
 
@@ -349,7 +349,7 @@ module _ (m : Meaning) (declared : is_declared_view m.view ≡ true) (determined
             impl-row H m.view declared determined a v is.over head.label head.children head.others (ap with_plain_head head.is)
             (ap (read_with (given xs)) head.is ∙ rigid-read xs head.label head.children head.others head.rigid) closed x j q;
         calls = λ x j q.
-            subst (λ t. SomeOf (Gives H a.kinds v) (if_so (is_fn_trait a.reference.trait) (call_of m.view a t))) (sym self-is)
+            subst (λ t. SomeOf (SolvesEquations H a.kinds v) (if_so (is_fn_trait a.reference.trait) (call_of m.view a t))) (sym self-is)
             (call-under H m.view a v (is_fn_trait a.reference.trait) (erase_label head.label) head.children head.others x
             (subst (λ t. In x (if is_fn_trait a.reference.trait then call_rules t else [])) read-is j) q);
         unsizes = λ x j q. unsizes-at x (a.reference.trait == unsize) refl j q;

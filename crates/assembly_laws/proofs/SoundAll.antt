@@ -2,7 +2,7 @@
 use Rattle.std.proofs.Common.{◌≡◌, ◌==◌, Bool, true, false, List, ◌++◌, refl}
 use Rattle.type_terms.specs.Rules.{unsize, unsize_to_dyn_rules}
 use Rattle.evaluation.specs.Lists.{Every}
-use Rattle.assembly_laws.specs.Meaning.{Meaning}
+use Rattle.assembly_laws.specs.Meaning.{ViewMeaning}
 use Rattle.assembly_laws.specs.DeclaredWell.{IsDeclaredWell}
 use Rattle.assembly_laws.specs.Asking.{self_of}
 use Rattle.assembly_laws.specs.Candidates.{Candidate, misc, if_so, as_written, upcasts_of, by_impls, by_objects}
@@ -18,7 +18,7 @@ under : (P : Candidate → Type 0) (b : Bool) (cs : List Candidate) → (b ≡ t
 under P true cs e = e refl
 under P false cs e = tt
 
-pub candidates-are-sound : (m : Meaning) → IsDeclaredWell m.view → CandidatesAreSound m
+pub candidates-are-sound : (m : ViewMeaning) → IsDeclaredWell m.view → CandidatesAreSound m
 candidates-are-sound m w f a is known =
     every-append (IsSoundFor m f a) (if_so (a.reference.trait == unsize) (to_dyn ++ upcasts)) (by_impls m.view a m.view.impls ++ by_objects m.view a)
     (under (IsSoundFor m f a) (a.reference.trait == unsize) (to_dyn ++ upcasts)

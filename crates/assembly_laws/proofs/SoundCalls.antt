@@ -14,13 +14,13 @@ use Rattle.type_terms.specs.Made.{is_leaf_label, is_made}
 use Rattle.infer_table.specs.Canonical.{CanonicalForm}
 use Rattle.evaluation.specs.Lists.{Every}
 use Rattle.evaluation.specs.Instances.{read_with}
-use Rattle.evaluation.specs.Content.{given, Terms}
-use Rattle.evaluation.specs.FrameTables.{Meets, is_open_label}
+use Rattle.evaluation.specs.Content.{given, ChosenTerms}
+use Rattle.evaluation.specs.FrameTables.{EquationIsMet, is_open_label}
 use Rattle.evaluation.proofs.Labels.{made-more}
 use Rattle.assembly_laws.specs.Facts.{is_unerased}
-use Rattle.assembly_laws.specs.Meaning.{Meaning}
+use Rattle.assembly_laws.specs.Meaning.{ViewMeaning}
 use Rattle.assembly_laws.specs.Declared.{is_declared_view}
-use Rattle.assembly_laws.specs.Asking.{Asked, asked, is_rigid, self_of, with_plain_head}
+use Rattle.assembly_laws.specs.Asking.{GoalOverKinds, goal_over_kinds, is_rigid, self_of, with_plain_head}
 use Rattle.evaluation.specs.Variables.{is_variable_over}
 use Rattle.assembly_laws.specs.Candidates.{all_equal, misc, if_so, call_of, by_sized, by_copy, by_auto, by_tuple, by_fn_ptr, by_call}
 use Rattle.assembly_laws.specs.Cover.{read_reference}
@@ -75,11 +75,11 @@ call-rule true q c o args e =
     u = record { way = built_in fn_ptr_call; premises = last_asked sized c }
 call-rule false q c o args e = absurd (true-false (sym q))
 
-module _ (m : Meaning) (declared : is_declared_view m.view ≡ true) (f : CanonicalForm) (a : Asked) (is_asked : asked m.view f ≡ Some a) where
+module _ (m : ViewMeaning) (declared : is_declared_view m.view ≡ true) (f : CanonicalForm) (a : GoalOverKinds) (is_asked : goal_over_kinds m.view f ≡ Some a) where
   abbrev V : World
   V = m.view
 
-  abbrev Read : Terms → Trees → Trees
+  abbrev Read : ChosenTerms → Trees → Trees
   Read s t = read_with (given s.slots) t
 
   -- the goal's arguments are terms over variables of frames
@@ -93,8 +93,8 @@ module _ (m : Meaning) (declared : is_declared_view m.view ≡ true) (f : Canoni
       by l g = refl
 
   module _ (is_call : is_fn_trait a.reference.trait ≡ true) where
-    at-call : (c : Trees) (k : Label) (d p : Trees) → is_made is_open_label terms c ≡ true → is_made is_open_label terms (tree k d none) ≡ true → ((s : Terms) → Read s a.reference.args ≡ tree (fn_ptr zero) (Read s c) (Read s (tree k d p)))
-        → (s : Terms) → Held m declared f a is_asked s → Every (λ e. Meets e s) (all_equal (tree tuple (but_last c) none) (tree k d none))
+    at-call : (c : Trees) (k : Label) (d p : Trees) → is_made is_open_label terms c ≡ true → is_made is_open_label terms (tree k d none) ≡ true → ((s : ChosenTerms) → Read s a.reference.args ≡ tree (fn_ptr zero) (Read s c) (Read s (tree k d p)))
+        → (s : ChosenTerms) → Held m declared f a is_asked s → Every (λ e. EquationIsMet e s) (all_equal (tree tuple (but_last c) none) (tree k d none))
         → (w : Way) × In (record { way = w; premises = map (read_reference s.slots) (last_asked sized c) }) (built_in_rules V (read_reference s.slots a.reference)) × Every (IsPlainAt m declared f a is_asked s) (last_asked sized c)
     at-call c k d p inputs tuple_made read-is s h e = (
       built_in fn_ptr_call,
@@ -118,7 +118,7 @@ module _ (m : Meaning) (declared : is_declared_view m.view ≡ true) (f : Canoni
         args-are : Read s a.reference.args ≡ tree (fn_ptr zero) (Read s c) (tree tuple (but_last (Read s c)) (Read s p))
         args-are = read-is s ∙ ap (λ z. tree (fn_ptr zero) (Read s c) z) (b.before ∙ ap (λ z. z +++ Read s p) (sym inputs-are))
 
-    calls-at : (l : Label) (c o : Trees) → is_rigid l ≡ true → is_made is_open_label terms (tree l c o) ≡ true → ((s : Terms) → Read s a.reference.args ≡ tree (erase_label l) (Read s c) (Read s o))
+    calls-at : (l : Label) (c o : Trees) → is_rigid l ≡ true → is_made is_open_label terms (tree l c o) ≡ true → ((s : ChosenTerms) → Read s a.reference.args ≡ tree (erase_label l) (Read s c) (Read s o))
         → Every (IsSoundFor m f a) (call_of V a (tree (erase_label l) c o))
     calls-at (fn_ptr n) c none r g q = tt
     calls-at (fn_ptr n) c (tree k d p) r g q = (

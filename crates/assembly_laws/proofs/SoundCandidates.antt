@@ -13,14 +13,14 @@ use Rattle.infer_table.specs.declared.canonical.CanonicalVarKind.{CanonicalVarKi
 use Rattle.evaluation.specs.Lists.{Every, IsAmong}
 use Rattle.evaluation.proofs.ListLaws.{Every-mono}
 use Rattle.evaluation.specs.Instances.{read_with}
-use Rattle.evaluation.specs.Content.{fits, given, Terms, trait_of}
+use Rattle.evaluation.specs.Content.{fits, given, ChosenTerms, trait_of}
 use Rattle.evaluation.specs.FrameTables.{FrameTable, Allows, Nested, fact}
 use Rattle.type_terms.proofs.Made.{false-true}
 use Rattle.type_terms.proofs.Walking.{left, right}
 use Rattle.evaluation.specs.TableOperations.{begin}
 use Rattle.evaluation.specs.TableOperations.{fresh}
-use Rattle.assembly_laws.specs.Facts.{Follows, is_plain, is_unerased, clauses_of, beside}
-use Rattle.assembly_laws.specs.Asking.{Asked, all_known, with_first, are_clauses}
+use Rattle.assembly_laws.specs.Facts.{FactFollows, is_plain, is_unerased, clauses_of, beside}
+use Rattle.assembly_laws.specs.Asking.{GoalOverKinds, all_known, with_first, are_clauses}
 use Rattle.evaluation.specs.Variables.{is_variable_over}
 use Rattle.assembly_laws.specs.Candidates.{premise}
 use Rattle.assembly_laws.specs.Cover.{goal_fact, read_reference}
@@ -45,11 +45,11 @@ kinds-whole (Some k ∷ os) ks e = by (all_known os) refl e (λ js f. kinds-whol
         some-is : {xs ys : List CanonicalVarKind} → Some xs ≡ Some ys → xs ≡ ys
         some-is f = cc
 
-module _ (V : World) (f : CanonicalForm) (a : Asked) (is : IsAsked V f.goal.environment f.goal.predicate (all_known f.kinds) a) (are : are_clauses a.kinds a.environment ≡ true) (own : List CanonicalVarKind) where
+module _ (V : World) (f : CanonicalForm) (a : GoalOverKinds) (is : IsAsked V f.goal.environment f.goal.predicate (all_known f.kinds) a) (are : are_clauses a.kinds a.environment ≡ true) (own : List CanonicalVarKind) where
   abbrev table : FrameTable
   table = fresh (begin a.kinds) own
 
-  module _ (s : Terms) (l : Allows table s) (proper : (s.own.proper && fits f.kinds s.own.terms) ≡ true) where
+  module _ (s : ChosenTerms) (l : Allows table s) (proper : (s.own.proper && fits f.kinds s.own.terms) ≡ true) where
     abbrev read : Trees → Trees
     read t = read_with (given s.slots) t
 
@@ -97,7 +97,7 @@ module _ (V : World) (f : CanonicalForm) (a : Asked) (is : IsAsked V f.goal.envi
 
     -- the instance follows by a rule whose premises are the instances of these
     pub follows-by : (kind : Bool) (way : Way) (ps : List Reference) → In (record { way = way; premises = map (read_reference s.slots) ps }) (rules V (clauses_of (read a.environment)) rx) → Every PlainReference ps
-        → Follows V (goal_fact f s.own) (map (λ (n : Nested). fact n s) (map (premise a kind) ps))
+        → FactFollows V (goal_fact f s.own) (map (λ (n : Nested). fact n s) (map (premise a kind) ps))
     follows-by kind way ps i e =
-        subst (λ g. Follows V g (map (λ (n : Nested). fact n s) (map (premise a kind) ps))) (sym (goal-is kind))
+        subst (λ g. FactFollows V g (map (λ (n : Nested). fact n s) (map (premise a kind) ps))) (sym (goal-is kind))
         (record { asks = refl; way = way; references = map (read_reference s.slots) ps; rule = i; among = each-among kind ps; plain = each-plain kind ps e })

@@ -14,16 +14,16 @@ use Rattle.type_terms.specs.Made.{terms, is_made}
 use Rattle.infer_table.specs.Canonical.{CanonicalForm}
 use Rattle.evaluation.specs.Lists.{Every}
 use Rattle.evaluation.specs.Instances.{read_with}
-use Rattle.evaluation.specs.Content.{fits as fit_values, given, Terms}
-use Rattle.evaluation.specs.FrameTables.{Allows, Nested, fact, Meets}
+use Rattle.evaluation.specs.Content.{fits as fit_values, given, ChosenTerms}
+use Rattle.evaluation.specs.FrameTables.{Allows, Nested, fact, EquationIsMet}
 use Rattle.evaluation.specs.TableOperations.{begin}
 use Rattle.evaluation.specs.TableOperations.{fresh}
-use Rattle.assembly_laws.specs.Facts.{Follows, is_plain, is_unerased, clauses_of}
-use Rattle.assembly_laws.specs.Meaning.{Meaning}
+use Rattle.assembly_laws.specs.Facts.{FactFollows, is_plain, is_unerased, clauses_of}
+use Rattle.assembly_laws.specs.Meaning.{ViewMeaning}
 use Rattle.assembly_laws.specs.Declared.{is_declared, is_counted, are_terms, is_declared_view, is_unsorted, parameters_are_sorted}
 use Rattle.assembly_laws.specs.Determined.{ImplsAreDetermined}
-use Rattle.assembly_laws.specs.Asking.{Asked, asked, all_known, are_clauses}
-use Rattle.assembly_laws.specs.Candidates.{premise, is_param, kinds_of_params, behind, all_equal, by_the_impl, can_match, by_impls}
+use Rattle.assembly_laws.specs.Asking.{GoalOverKinds, goal_over_kinds, all_known, are_clauses}
+use Rattle.assembly_laws.specs.Candidates.{premise, is_param, kinds_of_params, rules_behind, all_equal, by_the_impl, can_match, by_impls}
 use Rattle.assembly_laws.specs.Cover.{goal_fact, read_reference}
 use Rattle.assembly_laws.specs.Lawful.{IsSoundFor, ImplsAreSound}
 use Rattle.assembly_laws.proofs.Cover.{IsAsked, asked-by}
@@ -56,7 +56,7 @@ impl-concludes r i f e = by (fits A i.header.args && same_reference (with_args A
         no : false ≡ true → ⊥
         no q = cc
 
-module _ (m : Meaning) (declared : is_declared_view m.view ≡ true) (determined : ImplsAreDetermined m.view) (sorted : parameters_are_sorted m.view ≡ true) (f : CanonicalForm) (a : Asked) (is_asked : asked m.view f ≡ Some a) where
+module _ (m : ViewMeaning) (declared : is_declared_view m.view ≡ true) (determined : ImplsAreDetermined m.view) (sorted : parameters_are_sorted m.view ≡ true) (f : CanonicalForm) (a : GoalOverKinds) (is_asked : goal_over_kinds m.view f ≡ Some a) where
   abbrev V : World
   V = m.view
 
@@ -69,8 +69,8 @@ module _ (m : Meaning) (declared : is_declared_view m.view ≡ true) (determined
   pub impl-sorted : (i : ImplDecl) → In i V.impls → some_node (is_unsorted i.params i.header.args) i.header.args ≡ false
   impl-sorted i j = not-true (some_node (is_unsorted i.params i.header.args) i.header.args) (member-each (λ (x : ImplDecl). not (some_node (is_unsorted x.params x.header.args) x.header.args)) V.impls i sorted j)
 
-  module _ (i : ImplDecl) (member : In i V.impls) (same_trait : (i.header.trait == a.reference.trait) ≡ true) (s : Terms) (l : Allows (fresh (begin a.kinds) (kinds_of_params i.header.args zero i.params)) s)
-      (meets : Every (λ e. Meets e s) (all_equal a.reference.args (behind (length a.kinds) i.header).args)) (proper : (s.own.proper && fit_values f.kinds s.own.terms) ≡ true) (plain : is_plain (goal_fact f s.own) ≡ true) where
+  module _ (i : ImplDecl) (member : In i V.impls) (same_trait : (i.header.trait == a.reference.trait) ≡ true) (s : ChosenTerms) (l : Allows (fresh (begin a.kinds) (kinds_of_params i.header.args zero i.params)) s)
+      (meets : Every (λ e. EquationIsMet e s) (all_equal a.reference.args (rules_behind (length a.kinds) i.header).args)) (proper : (s.own.proper && fit_values f.kinds s.own.terms) ≡ true) (plain : is_plain (goal_fact f s.own) ≡ true) where
     abbrev n : ℕ
     n = length a.kinds
 
@@ -83,7 +83,7 @@ module _ (m : Meaning) (declared : is_declared_view m.view ≡ true) (determined
     header : are_terms i.header.args ≡ true
     header = header-declared V declared i member
 
-    header-is : rx.args ≡ read_with (given s.slots) (behind n i.header).args
+    header-is : rx.args ≡ read_with (given s.slots) (rules_behind n i.header).args
     header-is = heads a is.over are (kinds_of_params i.header.args zero i.params) s i.header.args (left (is_made is_declared terms i.header.args) (not (some_node is_counted i.header.args)) header) meets
 
     goal-plain : Plain rx.args
@@ -98,7 +98,7 @@ module _ (m : Meaning) (declared : is_declared_view m.view ≡ true) (determined
     header-values = subst (λ t. AreValues n s.slots (arguments i.params i.header.args t) i.header.args) (sym header-is) (arguments-are i.params i.header.args (impl-sorted i member) n s.slots header)
 
     -- what is declared over parameters of the header is read as the instance by what is read off
-    instance : (t : Trees) → are_terms t ≡ true → ((k : Sort) (j : ℕ) → some_node (is_param k j) t ≡ true → some_node (is_param k j) i.header.args ≡ true) → instantiate zero A t ≡ read_with (given s.slots) (behind n (record { trait = 0; args = t })).args
+    instance : (t : Trees) → are_terms t ≡ true → ((k : Sort) (j : ℕ) → some_node (is_param k j) t ≡ true → some_node (is_param k j) i.header.args ≡ true) → instantiate zero A t ≡ read_with (given s.slots) (rules_behind n (record { trait = 0; args = t })).args
     instance t d stands = instance-is n s.slots A (plain-unbound A A-plain) t d zero (λ k j e. header-values k j (stands k j e))
 
     same-references : (t u : ℕ) (x y : Trees) → t ≡ u → x ≡ y → ◌≡◌ {A = Reference} (record { trait = t; args = x }) (record { trait = u; args = y })
@@ -107,16 +107,16 @@ module _ (m : Meaning) (declared : is_declared_view m.view ≡ true) (determined
     concludes : with_args A i.header ≡ rx
     concludes = same-references i.header.trait a.reference.trait _ _ (same-number i.header.trait a.reference.trait same_trait) (instance i.header.args header (λ k j e. e) ∙ sym header-is)
 
-    each-clause : (cs : List Reference) → ((c : Reference) → In c cs → In c i.clauses) → all_with_args A cs ≡ map (read_reference s.slots) (map (behind n) cs)
+    each-clause : (cs : List Reference) → ((c : Reference) → In c cs → In c i.clauses) → all_with_args A cs ≡ map (read_reference s.slots) (map (rules_behind n) cs)
     each-clause [] g = refl
     each-clause (c ∷ cs) g =
         ap (λ z. record { trait = c.trait; args = z } ∷ all_with_args A cs) (instance c.args (clause-declared V declared i c member (g c (here c cs))) (λ k j e. determined i c member (g c (here c cs)) k j e))
-        ∙ ap (λ z. read_reference s.slots (behind n c) ∷ z) (each-clause cs (λ d j. g d (there d c cs j)))
+        ∙ ap (λ z. read_reference s.slots (rules_behind n c) ∷ z) (each-clause cs (λ d j. g d (there d c cs j)))
 
     abbrev IsPlainRead : Reference → Type 0
     IsPlainRead r = Plain (read_with (given s.slots) r.args)
 
-    each-plain : (cs : List Reference) → ((c : Reference) → In c cs → In c i.clauses) → Every IsPlainRead (map (behind n) cs)
+    each-plain : (cs : List Reference) → ((c : Reference) → In c cs → In c i.clauses) → Every IsPlainRead (map (rules_behind n) cs)
     each-plain [] g = tt
     each-plain (c ∷ cs) g = (
       subst Plain (instance c.args (clause-declared V declared i c member (g c (here c cs))) (λ k j e. determined i c member (g c (here c cs)) k j e)) (plain-instance A c.args A-plain (clause-declared V declared i c member (g c (here c cs)))),
@@ -124,16 +124,16 @@ module _ (m : Meaning) (declared : is_declared_view m.view ≡ true) (determined
     )
 
     -- the impl concludes the instance
-    pub own-rule : In (record { way = by_impl i.name; premises = map (read_reference s.slots) (map (behind n) i.clauses) }) (impl_rules rx i)
+    pub own-rule : In (record { way = by_impl i.name; premises = map (read_reference s.slots) (map (rules_behind n) i.clauses) }) (impl_rules rx i)
     own-rule = subst (λ ps. In (record { way = by_impl i.name; premises = ps }) (impl_rules rx i)) (each-clause i.clauses (λ c j. j)) (impl-concludes rx i (values-fit n s.slots A i.header.args header header-values) concludes)
 
-    rule : In (record { way = by_impl i.name; premises = map (read_reference s.slots) (map (behind n) i.clauses) }) (flat_map (impl_rules rx) V.impls)
-    rule = flat-in (impl_rules rx) V.impls i (record { way = by_impl i.name; premises = map (read_reference s.slots) (map (behind n) i.clauses) }) member own-rule
+    rule : In (record { way = by_impl i.name; premises = map (read_reference s.slots) (map (rules_behind n) i.clauses) }) (flat_map (impl_rules rx) V.impls)
+    rule = flat-in (impl_rules rx) V.impls i (record { way = by_impl i.name; premises = map (read_reference s.slots) (map (rules_behind n) i.clauses) }) member own-rule
 
-    follows : Follows V (goal_fact f s.own) (map (λ (x : Nested). fact x s) (map (premise a (is_coinductive V a.reference.trait)) (map (behind n) i.clauses)))
+    follows : FactFollows V (goal_fact f s.own) (map (λ (x : Nested). fact x s) (map (premise a (is_coinductive V a.reference.trait)) (map (rules_behind n) i.clauses)))
     follows =
-        follows-by V f a is are (kinds_of_params i.header.args zero i.params) s l proper (is_coinductive V a.reference.trait) (by_impl i.name) (map (behind n) i.clauses)
-        (in-left (record { way = by_impl i.name; premises = map (read_reference s.slots) (map (behind n) i.clauses) }) (flat_map (impl_rules rx) V.impls)
+        follows-by V f a is are (kinds_of_params i.header.args zero i.params) s l proper (is_coinductive V a.reference.trait) (by_impl i.name) (map (rules_behind n) i.clauses)
+        (in-left (record { way = by_impl i.name; premises = map (read_reference s.slots) (map (rules_behind n) i.clauses) }) (flat_map (impl_rules rx) V.impls)
         (built_in_rules V rx ++ clause_rules V rx 0 (clauses_of (read_with (given s.slots) a.environment))) rule)
         (each-plain i.clauses (λ c j. j))
 

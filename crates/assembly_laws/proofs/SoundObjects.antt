@@ -15,13 +15,13 @@ use Rattle.infer_table.specs.Canonical.{CanonicalForm}
 use Rattle.evaluation.specs.Lists.{Every, IsAmong}
 use Rattle.evaluation.specs.declared.candidate.CandidateSource.{CandidateSource}
 use Rattle.evaluation.specs.Instances.{read_with}
-use Rattle.evaluation.specs.Content.{given, Terms}
-use Rattle.evaluation.specs.FrameTables.{Nested, fact, Equation, Meets, is_open_label}
-use Rattle.assembly_laws.specs.Facts.{Follows, is_plain, is_unerased, clauses_of, beside}
+use Rattle.evaluation.specs.Content.{given, ChosenTerms}
+use Rattle.evaluation.specs.FrameTables.{Nested, fact, Equation, EquationIsMet, is_open_label}
+use Rattle.assembly_laws.specs.Facts.{FactFollows, is_plain, is_unerased, clauses_of, beside}
 use Rattle.declarations.specs.Elaboration.{supertraits, elaborate}
-use Rattle.assembly_laws.specs.Meaning.{Meaning}
+use Rattle.assembly_laws.specs.Meaning.{ViewMeaning}
 use Rattle.assembly_laws.specs.Declared.{is_declared_view, BoundsAreErased}
-use Rattle.assembly_laws.specs.Asking.{Asked, asked, all_known, are_clauses, is_rigid, self_of, with_plain_head}
+use Rattle.assembly_laws.specs.Asking.{GoalOverKinds, goal_over_kinds, all_known, are_clauses, is_rigid, self_of, with_plain_head}
 use Rattle.assembly_laws.specs.Candidates.{premise, by_rule, all_equal, if_so, bounds_from, object_source, written_source, objects_of, by_objects}
 use Rattle.assembly_laws.specs.Cover.{read_reference}
 use Rattle.assembly_laws.specs.Lawful.{IsSoundFor, ObjectBoundsAreSound}
@@ -66,21 +66,21 @@ row-of-equal b ps r k (t ∷ ss) s i e = by (in-cases s t ss i) (λ j. row-of-eq
     )
     by (inr j) go = let x = go j in (x.0, in-right (record { way = x.0; premises = ps }) own (equal_rows b ps r (suc k) ss) x.1)
 
-module _ (m : Meaning) (declared : is_declared_view m.view ≡ true) (f : CanonicalForm) (a : Asked) (is_asked : asked m.view f ≡ Some a) where
+module _ (m : ViewMeaning) (declared : is_declared_view m.view ≡ true) (f : CanonicalForm) (a : GoalOverKinds) (is_asked : goal_over_kinds m.view f ≡ Some a) where
   abbrev V : World
   V = m.view
 
-  abbrev Read : Terms → Trees → Trees
+  abbrev Read : ChosenTerms → Trees → Trees
   Read s t = read_with (given s.slots) t
 
-  abbrev instance : Terms → Reference
+  abbrev instance : ChosenTerms → Reference
   instance s = read_reference s.slots a.reference
 
   are : are_clauses a.kinds a.environment ≡ true
   are = asked-clauses V f.goal.environment f.goal.predicate (all_known f.kinds) a is_asked
 
   -- ---- rules whose premises are among what is asked
-  among : (s : Terms) (kind : Bool) (ps : List Reference) (q : Reference) → In q ps → IsAmong (beside (fact (premise a kind a.reference) s) (read_reference s.slots q)) (map (λ (n : Nested). fact n s) (map (premise a kind) ps))
+  among : (s : ChosenTerms) (kind : Bool) (ps : List Reference) (q : Reference) → In q ps → IsAmong (beside (fact (premise a kind a.reference) s) (read_reference s.slots q)) (map (λ (n : Nested). fact n s) (map (premise a kind) ps))
   among s kind [] q i = absurd (in-nothing q i)
   among s kind (p ∷ ps) q i = by (in-cases q p ps i) (λ j. among s kind ps q j)
     where
@@ -89,28 +89,28 @@ module _ (m : Meaning) (declared : is_declared_view m.view ≡ true) (f : Canoni
       by (inl e) go = inl (ap (λ z. beside (fact (premise a kind a.reference) s) (read_reference s.slots z)) (sym e))
       by (inr j) go = inr (go j)
 
-  each-among : (s : Terms) (kind : Bool) (ps qs : List Reference) → ((q : Reference) → In q qs → In q ps) → Every (λ r. IsAmong (beside (fact (premise a kind a.reference) s) r) (map (λ (n : Nested). fact n s) (map (premise a kind) ps))) (map (read_reference s.slots) qs)
+  each-among : (s : ChosenTerms) (kind : Bool) (ps qs : List Reference) → ((q : Reference) → In q qs → In q ps) → Every (λ r. IsAmong (beside (fact (premise a kind a.reference) s) r) (map (λ (n : Nested). fact n s) (map (premise a kind) ps))) (map (read_reference s.slots) qs)
   each-among s kind ps [] h = tt
   each-among s kind ps (q ∷ qs) h = (among s kind ps q (h q (here q qs)), each-among s kind ps qs (λ x i. h x (there x q qs i)))
 
-  each-plain : (s : Terms) (kind : Bool) (ps : List Reference) → Every (IsPlainAt m declared f a is_asked s) ps → Every (λ p. is_plain p ≡ true) (map (λ (n : Nested). fact n s) (map (premise a kind) ps))
+  each-plain : (s : ChosenTerms) (kind : Bool) (ps : List Reference) → Every (IsPlainAt m declared f a is_asked s) ps → Every (λ p. is_plain p ≡ true) (map (λ (n : Nested). fact n s) (map (premise a kind) ps))
   each-plain s kind [] e = tt
   each-plain s kind (p ∷ ps) e = (rw e.0 refl, each-plain s kind ps e.1)
 
   -- a built-in rule of the instance with premises that are instances of some of these
-  pub record BuiltFrom (s : Terms) (ps : List Reference) : Type 0 where
+  pub record BuiltFrom (s : ChosenTerms) (ps : List Reference) : Type 0 where
     pub way : Way
     pub premises : List Reference
     pub asked : (q : Reference) → In q premises → In q ps
     pub rule : In (record { way = way; premises = map (read_reference s.slots) premises }) (built_in_rules V (read_reference s.slots a.reference))
 
   pub among-sound : (source : CandidateSource) (es : List Equation) (ps : List Reference)
-      → ((s : Terms) → Held m declared f a is_asked s → Every (λ e. Meets e s) es → BuiltFrom s ps × Every (IsPlainAt m declared f a is_asked s) ps) → IsSoundFor m f a (by_rule V a source es ps)
+      → ((s : ChosenTerms) → Held m declared f a is_asked s → Every (λ e. EquationIsMet e s) es → BuiltFrom s ps × Every (IsPlainAt m declared f a is_asked s) ps) → IsSoundFor m f a (by_rule V a source es ps)
   among-sound source es ps go y s l e proper plain =
       let x = go s (held m declared f a is_asked s l proper plain) e in
       let kind = is_coinductive V a.reference.trait in
       let u : Rule = record { way = x.0.way; premises = map (read_reference s.slots) x.0.premises } in
-      subst (λ g. Follows V g (map (λ (n : Nested). fact n s) (map (premise a kind) ps))) (sym (goal-is V f a (is m declared f a is_asked) are [] s l proper kind)) (record {
+      subst (λ g. FactFollows V g (map (λ (n : Nested). fact n s) (map (premise a kind) ps))) (sym (goal-is V f a (is m declared f a is_asked) are [] s l proper kind)) (record {
         asks = refl;
         way = x.0.way;
         references = map (read_reference s.slots) x.0.premises;
@@ -122,7 +122,7 @@ module _ (m : Meaning) (declared : is_declared_view m.view ≡ true) (f : Canoni
       })
 
   -- ---- where the rules stand
-  in-objects : (s : Terms) (u : Rule) → In u (object_rules V (instance s) (Read s a.reference.args)) → In u (built_in_rules V (instance s))
+  in-objects : (s : ChosenTerms) (u : Rule) → In u (object_rules V (instance s) (Read s a.reference.args)) → In u (built_in_rules V (instance s))
   in-objects s u i =
       let sizeds : List Rule = if a.reference.trait == sized then sized_rules V (Read s a.reference.args) else [] in
       let autos : List Rule = if is_auto V a.reference.trait then auto_rules V a.reference.trait (Read s a.reference.args) else [] in
@@ -137,11 +137,11 @@ module _ (m : Meaning) (declared : is_declared_view m.view ≡ true) (f : Canoni
   same-references t u x y e g = cc
 
   -- a bound of the goal's trait whose arguments are equated is read as the goal
-  pub met-bound : (r : Reference) → (r.trait == a.reference.trait) ≡ true → is_made is_open_label terms r.args ≡ true → (s : Terms) → Every (λ e. Meets e s) (all_equal a.reference.args r.args) → read_reference s.slots r ≡ instance s
+  pub met-bound : (r : Reference) → (r.trait == a.reference.trait) ≡ true → is_made is_open_label terms r.args ≡ true → (s : ChosenTerms) → Every (λ e. EquationIsMet e s) (all_equal a.reference.args r.args) → read_reference s.slots r ≡ instance s
   met-bound r q made s e = same-references r.trait a.reference.trait _ _ (same-number r.trait a.reference.trait q) (sym (met-reads s.slots a.reference.args r.args (open-made m declared f a is_asked) made e))
 
   module _ (erased : BoundsAreErased m.view) (rank : ℕ → ℕ) (down : LeadDown m.view rank) where
-    module _ (c o : Trees) (self_is : self_of a ≡ tree dynamic c o) (bounds_made : is_made is_open_label bounds c ≡ true) (read_is : (s : Terms) → Read s a.reference.args ≡ tree dynamic (Read s c) (Read s o)) where
+    module _ (c o : Trees) (self_is : self_of a ≡ tree dynamic c o) (bounds_made : is_made is_open_label bounds c ≡ true) (read_is : (s : ChosenTerms) → Read s a.reference.args ≡ tree dynamic (Read s c) (Read s o)) where
       abbrev self : Trees
       self = tree dynamic c none
 
@@ -151,31 +151,31 @@ module _ (m : Meaning) (declared : is_declared_view m.view ≡ true) (f : Canoni
       abbrev qs : List Reference
       qs = autos_with self c
 
-      dyn-plain : (s : Terms) → Held m declared f a is_asked s → Plain (tree dynamic (Read s c) none)
+      dyn-plain : (s : ChosenTerms) → Held m declared f a is_asked s → Plain (tree dynamic (Read s c) none)
       dyn-plain s h = head-shut is_unerased dynamic (Read s c) (Read s o) (subst Plain (read_is s) h.plain)
 
-      inner-plain : (s : Terms) → Held m declared f a is_asked s → Plain (Read s c)
+      inner-plain : (s : ChosenTerms) → Held m declared f a is_asked s → Plain (Read s c)
       inner-plain s h = child-shut is_unerased dynamic (Read s c) (Read s o) (subst Plain (read_is s) h.plain)
 
-      ps-are : (s : Terms) → principal_with (Read s self) (Read s c) ≡ map (read_reference s.slots) ps
+      ps-are : (s : ChosenTerms) → principal_with (Read s self) (Read s c) ≡ map (read_reference s.slots) ps
       ps-are s = principal-read V declared s.slots is_open_label self c bounds_made
 
-      qs-are : (s : Terms) → autos_with (Read s self) (Read s c) ≡ map (read_reference s.slots) qs
+      qs-are : (s : ChosenTerms) → autos_with (Read s self) (Read s c) ≡ map (read_reference s.slots) qs
       qs-are s = autos-read V declared s.slots is_open_label self c bounds_made
 
-      ps-plain : (s : Terms) → Held m declared f a is_asked s → (p : Reference) → In p ps → PlainRead V declared s.slots p
+      ps-plain : (s : ChosenTerms) → Held m declared f a is_asked s → (p : Reference) → In p ps → PlainRead V declared s.slots p
       ps-plain s h p i =
           member-of IsPlainReference (map (read_reference s.slots) ps) (read_reference s.slots p)
           (subst (Every IsPlainReference) (ps-are s) (principal-plain (Read s self) (Read s c) (dyn-plain s h) (inner-plain s h))) (in-map (read_reference s.slots) ps p i)
 
-      abbrev own_autos : Terms → List Rule
+      abbrev own_autos : ChosenTerms → List Rule
       own_autos s = if not (a.reference.trait == sized) && list_any (same_reference (instance s)) (map (read_reference s.slots) qs) then row object_auto (strict_supertraits V (instance s)) else []
 
-      abbrev own_principals : Terms → List Rule
+      abbrev own_principals : ChosenTerms → List Rule
       own_principals s = if not (a.reference.trait == sized) then equal_rows object_principal (strict_supertraits V (instance s)) (instance s) 0 (elaborated V (map (read_reference s.slots) ps)) else []
 
       module _ (compatible : are_dyn_compatible V ps ≡ true) where
-        here-rule : (s : Terms) (u : Rule) → In u (own_autos s ++ own_principals s) → In u (built_in_rules V (instance s))
+        here-rule : (s : ChosenTerms) (u : Rule) → In u (own_autos s ++ own_principals s) → In u (built_in_rules V (instance s))
         here-rule s u i =
             in-objects s u (subst (λ t. In u (object_rules V (instance s) t)) (sym (read_is s))
             (subst (λ x. In u (object_bound_rules V (instance s) x (autos_with (Read s self) (Read s c)))) (sym (ps-are s))
@@ -186,7 +186,7 @@ module _ (m : Meaning) (declared : is_declared_view m.view ≡ true) (f : Canoni
             tests = both (is_declared V a.reference.trait) (are_dyn_compatible V (map (read_reference s.slots) ps)) trait-declared (compatible-same V (map (read_reference s.slots) ps) ps (traits-stay V declared s.slots ps) ∙ compatible)
 
         -- the supertraits of the goal are asked, each once
-        from-rule : (s : Terms) → Held m declared f a is_asked s → (w : Way) → In (record { way = w; premises = strict_supertraits V (instance s) }) (built_in_rules V (instance s))
+        from-rule : (s : ChosenTerms) → Held m declared f a is_asked s → (w : Way) → In (record { way = w; premises = strict_supertraits V (instance s) }) (built_in_rules V (instance s))
             → BuiltFrom s (supertraits V a.reference) × Every (IsPlainAt m declared f a is_asked s) (supertraits V a.reference)
         from-rule s h w i = (
           record {
@@ -198,7 +198,7 @@ module _ (m : Meaning) (declared : is_declared_view m.view ≡ true) (f : Canoni
           supertraits-plain V declared s.slots a.reference h.plain,
         )
 
-        auto-at : not (a.reference.trait == sized) ≡ true → (r : Reference) → In r qs → is_made is_open_label terms r.args ≡ true → (r.trait == a.reference.trait) ≡ true → (s : Terms) → Held m declared f a is_asked s → Every (λ e. Meets e s) (all_equal a.reference.args r.args)
+        auto-at : not (a.reference.trait == sized) ≡ true → (r : Reference) → In r qs → is_made is_open_label terms r.args ≡ true → (r.trait == a.reference.trait) ≡ true → (s : ChosenTerms) → Held m declared f a is_asked s → Every (λ e. EquationIsMet e s) (all_equal a.reference.args r.args)
             → BuiltFrom s (supertraits V a.reference) × Every (IsPlainAt m declared f a is_asked s) (supertraits V a.reference)
         auto-at unsized r i made q s h e =
             from-rule s h (built_in object_auto) (here-rule s (record { way = built_in object_auto; premises = strict_supertraits V (instance s) })
@@ -209,7 +209,7 @@ module _ (m : Meaning) (declared : is_declared_view m.view ≡ true) (f : Canoni
             (here (record { way = built_in object_auto; premises = strict_supertraits V (instance s) }) []))))
 
         principal-at : not (a.reference.trait == sized) ≡ true → (r : Reference) → In r (elaborate V ps) → is_made is_open_label terms r.args ≡ true → (r.trait == a.reference.trait) ≡ true
-            → (s : Terms) → Held m declared f a is_asked s → Every (λ e. Meets e s) (all_equal a.reference.args r.args)
+            → (s : ChosenTerms) → Held m declared f a is_asked s → Every (λ e. EquationIsMet e s) (all_equal a.reference.args r.args)
             → BuiltFrom s (supertraits V a.reference) × Every (IsPlainAt m declared f a is_asked s) (supertraits V a.reference)
         principal-at unsized r i made q s h e =
             let stands : In (read_reference s.slots r) (elaborated V (map (read_reference s.slots) ps))
@@ -220,7 +220,7 @@ module _ (m : Meaning) (declared : is_declared_view m.view ≡ true) (f : Canoni
             (subst (λ (b : Bool). In (record { way = x.0; premises = strict_supertraits V (instance s) }) (if b then equal_rows object_principal (strict_supertraits V (instance s)) (instance s) 0 (elaborated V (map (read_reference s.slots) ps)) else [])) (sym unsized) x.1)))
 
         each-bound : (source : ℕ → CandidateSource) (n : ℕ) (rs : List Reference)
-            → ((r : Reference) → In r rs → (r.trait == a.reference.trait) ≡ true → (s : Terms) → Held m declared f a is_asked s → Every (λ e. Meets e s) (all_equal a.reference.args r.args)
+            → ((r : Reference) → In r rs → (r.trait == a.reference.trait) ≡ true → (s : ChosenTerms) → Held m declared f a is_asked s → Every (λ e. EquationIsMet e s) (all_equal a.reference.args r.args)
             → BuiltFrom s (supertraits V a.reference) × Every (IsPlainAt m declared f a is_asked s) (supertraits V a.reference))
             → Every (IsSoundFor m f a) (bounds_from V a source n rs)
         each-bound source n [] g = tt
@@ -259,7 +259,7 @@ module _ (m : Meaning) (declared : is_declared_view m.view ≡ true) (f : Canoni
               (principals-sound q (not (a.reference.trait == sized)) refl)
           by false q = tt
 
-    objects-at : (l : Label) (c o : Trees) → is_rigid l ≡ true → self_of a ≡ tree (erase_label l) c o → is_made is_open_label terms (tree l c o) ≡ true → ((s : Terms) → Read s a.reference.args ≡ tree (erase_label l) (Read s c) (Read s o))
+    objects-at : (l : Label) (c o : Trees) → is_rigid l ≡ true → self_of a ≡ tree (erase_label l) c o → is_made is_open_label terms (tree l c o) ≡ true → ((s : ChosenTerms) → Read s a.reference.args ≡ tree (erase_label l) (Read s c) (Read s o))
         → Every (IsSoundFor m f a) (objects_of V a (tree (erase_label l) c o))
     objects-at dynamic c o r e g q = dyn-sound c o e (left (is_made is_open_label bounds c) (is_made is_open_label terms o) g) q
     objects-at (param s i) c o r e g q = absurd (true-false (sym (right (is_sort s of_type) false r)))

@@ -14,14 +14,14 @@ use Rattle.evaluation.specs.declared.candidate.CandidateSource.{CandidateSource}
 use Rattle.evaluation.specs.declared.candidate.CandidateSource.TheVariants.{BuiltinImpl}
 use Rattle.evaluation.specs.declared.candidate.BuiltinImplSource.TheVariants.{Trivial}
 use Rattle.evaluation.specs.Instances.{read_with}
-use Rattle.evaluation.specs.Content.{fits, given, Terms}
-use Rattle.evaluation.specs.FrameTables.{Allows, Equation, Meets}
+use Rattle.evaluation.specs.Content.{fits, given, ChosenTerms}
+use Rattle.evaluation.specs.FrameTables.{Allows, Equation, EquationIsMet}
 use Rattle.evaluation.specs.TableOperations.{begin}
 use Rattle.evaluation.specs.TableOperations.{fresh}
 use Rattle.assembly_laws.specs.Facts.{is_plain, is_unerased, clauses_of}
-use Rattle.assembly_laws.specs.Meaning.{Meaning}
+use Rattle.assembly_laws.specs.Meaning.{ViewMeaning}
 use Rattle.assembly_laws.specs.Declared.{is_declared_view}
-use Rattle.assembly_laws.specs.Asking.{Asked, asked, all_known, are_clauses, begins_with_type, is_rigid, self_of, with_plain_head}
+use Rattle.assembly_laws.specs.Asking.{GoalOverKinds, goal_over_kinds, all_known, are_clauses, begins_with_type, is_rigid, self_of, with_plain_head}
 use Rattle.assembly_laws.specs.Candidates.{by_rule, as_written, misc, if_so, by_sized, by_copy, by_auto, by_tuple, by_fn_ptr}
 use Rattle.assembly_laws.specs.Cover.{goal_fact, read_reference}
 use Rattle.assembly_laws.specs.Lawful.{IsSoundFor}
@@ -58,7 +58,7 @@ not-true-false : (b : Bool) → not b ≡ true → b ≡ false
 not-true-false true e = absurd (true-false (sym e))
 not-true-false false e = refl
 
-module _ (m : Meaning) (declared : is_declared_view m.view ≡ true) (f : CanonicalForm) (a : Asked) (is_asked : asked m.view f ≡ Some a) where
+module _ (m : ViewMeaning) (declared : is_declared_view m.view ≡ true) (f : CanonicalForm) (a : GoalOverKinds) (is_asked : goal_over_kinds m.view f ≡ Some a) where
   abbrev V : World
   V = m.view
 
@@ -68,19 +68,19 @@ module _ (m : Meaning) (declared : is_declared_view m.view ≡ true) (f : Canoni
   are : are_clauses a.kinds a.environment ≡ true
   are = asked-clauses V f.goal.environment f.goal.predicate (all_known f.kinds) a is_asked
 
-  abbrev Read : Terms → Trees → Trees
+  abbrev Read : ChosenTerms → Trees → Trees
   Read s t = read_with (given s.slots) t
 
-  abbrev instance : Terms → Reference
+  abbrev instance : ChosenTerms → Reference
   instance s = read_reference s.slots a.reference
 
   -- terms for which the goal's instance is proper and plain
-  pub record Held (s : Terms) : Type 0 where
+  pub record Held (s : ChosenTerms) : Type 0 where
     pub allowed : Allows (fresh (begin a.kinds) []) s
     pub proper : (s.own.proper && fits f.kinds s.own.terms) ≡ true
     pub plain : Plain (read_with (given s.slots) a.reference.args)
 
-  pub held : (s : Terms) → Allows (fresh (begin a.kinds) []) s → (s.own.proper && fits f.kinds s.own.terms) ≡ true → is_plain (goal_fact f s.own) ≡ true → Held s
+  pub held : (s : ChosenTerms) → Allows (fresh (begin a.kinds) []) s → (s.own.proper && fits f.kinds s.own.terms) ≡ true → is_plain (goal_fact f s.own) ≡ true → Held s
   held s l proper plain = record {
     allowed = l;
     proper = proper;
@@ -89,12 +89,12 @@ module _ (m : Meaning) (declared : is_declared_view m.view ≡ true) (f : Canoni
         (not-true-false (some_node is_unerased (tree (predicate (of_trait a.reference.trait)) (read_with (given s.slots) a.reference.args) none)) (subst (λ z. is_plain z ≡ true) (goal-is V f a is are [] s l proper true) plain));
   }
 
-  abbrev pub IsPlainAt : Terms → Reference → Type 0
+  abbrev pub IsPlainAt : ChosenTerms → Reference → Type 0
   IsPlainAt s r = Plain (read_with (given s.slots) r.args)
 
   -- a candidate that is a built-in rule of each instance for which its equations hold, with plain premises
   pub rule-sound : (source : CandidateSource) (es : List Equation) (ps : List Reference)
-      → ((s : Terms) → Held s → Every (λ e. Meets e s) es → (w : Way) × In (record { way = w; premises = map (read_reference s.slots) ps }) (built_in_rules V (instance s)) × Every (IsPlainAt s) ps)
+      → ((s : ChosenTerms) → Held s → Every (λ e. EquationIsMet e s) es → (w : Way) × In (record { way = w; premises = map (read_reference s.slots) ps }) (built_in_rules V (instance s)) × Every (IsPlainAt s) ps)
       → IsSoundFor m f a (by_rule V a source es ps)
   rule-sound source es ps go y s l e proper plain =
       let x = go s (held s l proper plain) e in
@@ -102,13 +102,13 @@ module _ (m : Meaning) (declared : is_declared_view m.view ≡ true) (f : Canoni
       (in-right (record { way = x.0; premises = map (read_reference s.slots) ps }) (flat_map (impl_rules (instance s)) V.impls) (built_in_rules V (instance s) ++ clause_rules V (instance s) 0 (clauses_of (read_with (given s.slots) a.environment)))
       (in-left (record { way = x.0; premises = map (read_reference s.slots) ps }) (built_in_rules V (instance s)) (clause_rules V (instance s) 0 (clauses_of (read_with (given s.slots) a.environment))) x.1)) x.2
 
-  pub plain-back : (s : Terms) (ps : List Reference) → Every IsPlainReference (map (read_reference s.slots) ps) → Every (IsPlainAt s) ps
+  pub plain-back : (s : ChosenTerms) (ps : List Reference) → Every IsPlainReference (map (read_reference s.slots) ps) → Every (IsPlainAt s) ps
   plain-back s [] e = tt
   plain-back s (p ∷ ps) e = (e.0, plain-back s ps e.1)
 
   -- ---- rules of the goal as it is written
-  pub each-written : (source : CandidateSource) (us : List Rule) → ((s : Terms) → Held s → (u : Rule) → In u us → In (read_rule V declared s.slots u) (built_in_rules V (instance s)))
-      → ((s : Terms) → Held s → HavePlainPremises (map (read_rule V declared s.slots) us)) → Every (IsSoundFor m f a) (as_written V a source us)
+  pub each-written : (source : CandidateSource) (us : List Rule) → ((s : ChosenTerms) → Held s → (u : Rule) → In u us → In (read_rule V declared s.slots u) (built_in_rules V (instance s)))
+      → ((s : ChosenTerms) → Held s → HavePlainPremises (map (read_rule V declared s.slots) us)) → Every (IsSoundFor m f a) (as_written V a source us)
   each-written source [] stands plains = tt
   each-written source (u ∷ us) stands plains = (
     rule-sound source [] u.premises (λ s h e. (u.way, stands s h u (here u us), plain-back s u.premises (plains s h).0)),
@@ -119,17 +119,17 @@ module _ (m : Meaning) (declared : is_declared_view m.view ≡ true) (f : Canoni
   none-written true source us e = subst (λ z. Every (IsSoundFor m f a) (as_written V a source z)) (sym e) tt
   none-written false source us e = tt
 
-  all-written : (b : Bool) (source : CandidateSource) (F : Trees → List Rule) → ((s : Terms) (u : Rule) → In u (if b then F (Read s a.reference.args) else []) → In u (built_in_rules V (instance s)))
-      → ((s : Terms) → Held s → F (Read s a.reference.args) ≡ map (read_rule V declared s.slots) (F (self_of a))) → ((t : Trees) → Plain t → HavePlainPremises (F t)) → Every (IsSoundFor m f a) (if_so b (as_written V a source (F (self_of a))))
+  all-written : (b : Bool) (source : CandidateSource) (F : Trees → List Rule) → ((s : ChosenTerms) (u : Rule) → In u (if b then F (Read s a.reference.args) else []) → In u (built_in_rules V (instance s)))
+      → ((s : ChosenTerms) → Held s → F (Read s a.reference.args) ≡ map (read_rule V declared s.slots) (F (self_of a))) → ((t : Trees) → Plain t → HavePlainPremises (F t)) → Every (IsSoundFor m f a) (if_so b (as_written V a source (F (self_of a))))
   all-written true source F stands natural plains =
       each-written source (F (self_of a)) (λ s h u i. stands s (read_rule V declared s.slots u) (subst (In (read_rule V declared s.slots u)) (sym (natural s h)) (in-map (read_rule V declared s.slots) (F (self_of a)) u i)))
       (λ s h. subst HavePlainPremises (natural s h) (plains (Read s a.reference.args) h.plain))
   all-written false source F stands natural plains = tt
 
   -- a row whose rules read the head of the self type, and are none where it is unknown
-  row-sound : (b : Bool) (source : CandidateSource) (F : Trees → List Rule) → ((s : Terms) (u : Rule) → In u (if b then F (Read s a.reference.args) else []) → In u (built_in_rules V (instance s)))
+  row-sound : (b : Bool) (source : CandidateSource) (F : Trees → List Rule) → ((s : ChosenTerms) (u : Rule) → In u (if b then F (Read s a.reference.args) else []) → In u (built_in_rules V (instance s)))
       → ((i : ℕ) (c o : Trees) → F (tree (canonical of_type i) c o) ≡ [])
-      → ((s : Terms) (l : Label) (c o : Trees) → is_rigid l ≡ true → some_node is_bound (Read s c) ≡ false → F (tree l (Read s c) (Read s o)) ≡ map (read_rule V declared s.slots) (F (tree l c o)))
+      → ((s : ChosenTerms) (l : Label) (c o : Trees) → is_rigid l ≡ true → some_node is_bound (Read s c) ≡ false → F (tree l (Read s c) (Read s o)) ≡ map (read_rule V declared s.slots) (F (tree l c o)))
       → ((t : Trees) → Plain t → HavePlainPremises (F t)) → Every (IsSoundFor m f a) (if_so b (as_written V a source (F (self_of a))))
   row-sound b source F stands unknown natural plains = by (unknown-or-rigid a.reference.args is.begins)
     where
@@ -137,10 +137,10 @@ module _ (m : Meaning) (declared : is_declared_view m.view ≡ true) (f : Canoni
       by (inl x) = none-written b source (F (self_of a)) (ap (λ t. F (with_plain_head t)) x.is ∙ unknown x.number x.children x.others)
       by (inr x) = all-written b source F stands at plains
         where
-          read-is : (s : Terms) → Read s a.reference.args ≡ tree (erase_label x.label) (Read s x.children) (Read s x.others)
+          read-is : (s : ChosenTerms) → Read s a.reference.args ≡ tree (erase_label x.label) (Read s x.children) (Read s x.others)
           read-is s = ap (Read s) x.is ∙ rigid-read s.slots x.label x.children x.others x.rigid
 
-          at : (s : Terms) → Held s → F (Read s a.reference.args) ≡ map (read_rule V declared s.slots) (F (self_of a))
+          at : (s : ChosenTerms) → Held s → F (Read s a.reference.args) ≡ map (read_rule V declared s.slots) (F (self_of a))
           at s h =
               ap F (read-is s)
               ∙ natural s (erase_label x.label) x.children x.others (rigid-head x.label x.rigid)
@@ -148,40 +148,40 @@ module _ (m : Meaning) (declared : is_declared_view m.view ≡ true) (f : Canoni
               ∙ sym (ap (λ t. map (read_rule V declared s.slots) (F (with_plain_head t))) x.is)
 
   -- ---- where the rows stand
-  abbrev row_list : Terms → Bool → (Trees → List Rule) → List Rule
+  abbrev row_list : ChosenTerms → Bool → (Trees → List Rule) → List Rule
   row_list s b F = if b then F (Read s a.reference.args) else []
 
-  abbrev copies : Terms → List Rule
+  abbrev copies : ChosenTerms → List Rule
   copies s = row_list s ((a.reference.trait == copy) || (a.reference.trait == clone)) (copy_rules a.reference.trait)
 
-  abbrev tuples : Terms → List Rule
+  abbrev tuples : ChosenTerms → List Rule
   tuples s = row_list s (a.reference.trait == tuple_trait) tuple_rules
 
-  abbrev fn_ptrs : Terms → List Rule
+  abbrev fn_ptrs : ChosenTerms → List Rule
   fn_ptrs s = row_list s (a.reference.trait == fn_ptr_trait) fn_ptr_rules
 
-  abbrev calls : Terms → List Rule
+  abbrev calls : ChosenTerms → List Rule
   calls s = row_list s (is_fn_trait a.reference.trait) call_rules
 
-  abbrev sizeds : Terms → List Rule
+  abbrev sizeds : ChosenTerms → List Rule
   sizeds s = row_list s (a.reference.trait == sized) (sized_rules V)
 
-  abbrev autos : Terms → List Rule
+  abbrev autos : ChosenTerms → List Rule
   autos s = row_list s (is_auto V a.reference.trait) (auto_rules V a.reference.trait)
 
-  abbrev after_autos : Terms → List Rule
+  abbrev after_autos : ChosenTerms → List Rule
   after_autos s = row_list s (a.reference.trait == unsize) (unsize_rules V) ++ object_rules V (instance s) (Read s a.reference.args)
 
-  abbrev after_plain : Terms → List Rule
+  abbrev after_plain : ChosenTerms → List Rule
   after_plain s = sizeds s ++ (autos s ++ after_autos s)
 
-  in-plain : (s : Terms) (u : Rule) → In u (plain_rules (instance s)) → In u (built_in_rules V (instance s))
+  in-plain : (s : ChosenTerms) (u : Rule) → In u (plain_rules (instance s)) → In u (built_in_rules V (instance s))
   in-plain s u i = in-left u (plain_rules (instance s)) (after_plain s) i
 
-  pub in-calls : (s : Terms) (u : Rule) → In u (calls s) → In u (built_in_rules V (instance s))
+  pub in-calls : (s : ChosenTerms) (u : Rule) → In u (calls s) → In u (built_in_rules V (instance s))
   in-calls s u i = in-plain s u (in-right u (copies s) (tuples s ++ (fn_ptrs s ++ calls s)) (in-right u (tuples s) (fn_ptrs s ++ calls s) (in-right u (fn_ptrs s) (calls s) i)))
 
-  pub in-unsizes : (s : Terms) (u : Rule) → In u (row_list s (a.reference.trait == unsize) (unsize_rules V)) → In u (built_in_rules V (instance s))
+  pub in-unsizes : (s : ChosenTerms) (u : Rule) → In u (row_list s (a.reference.trait == unsize) (unsize_rules V)) → In u (built_in_rules V (instance s))
   in-unsizes s u i =
       in-right u (plain_rules (instance s)) (after_plain s)
       (in-right u (sizeds s) (autos s ++ after_autos s) (in-right u (autos s) (after_autos s) (in-left u (row_list s (a.reference.trait == unsize) (unsize_rules V)) (object_rules V (instance s) (Read s a.reference.args)) i)))

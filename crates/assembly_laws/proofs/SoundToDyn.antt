@@ -15,16 +15,16 @@ use Rattle.infer_table.specs.declared.canonical.CanonicalVarKind.{CanonicalVarKi
 use Rattle.infer_table.specs.declared.canonical.CanonicalVarKind.TheVariants.{Ty, PlaceholderTy, Const, PlaceholderConst, Region}
 use Rattle.evaluation.specs.Lists.{Every}
 use Rattle.evaluation.specs.Instances.{read_with, of_sort, is_place, as_place, term_at}
-use Rattle.evaluation.specs.Content.{given, Terms}
+use Rattle.evaluation.specs.Content.{given, ChosenTerms}
 use Rattle.evaluation.specs.FrameTables.{kind_at, is_open_label}
 use Rattle.evaluation.specs.TableAnswers.{is_kind_of}
 use Rattle.evaluation.specs.TableOperations.{begin}
 use Rattle.evaluation.specs.TableOperations.{fresh}
 use Rattle.assembly_laws.specs.Facts.{is_unerased}
-use Rattle.assembly_laws.specs.Meaning.{Meaning}
+use Rattle.assembly_laws.specs.Meaning.{ViewMeaning}
 use Rattle.assembly_laws.specs.Declared.{is_declared_view}
 use Rattle.evaluation.specs.Variables.{is_variable_over}
-use Rattle.assembly_laws.specs.Asking.{Asked, asked, is_rigid, self_of, with_plain_head, is_unknown_kind, begins_unknown}
+use Rattle.assembly_laws.specs.Asking.{GoalOverKinds, goal_over_kinds, is_rigid, self_of, with_plain_head, is_unknown_kind, begins_unknown}
 use Rattle.assembly_laws.specs.Candidates.{as_written, misc, if_so}
 use Rattle.assembly_laws.specs.Cover.{read_reference}
 use Rattle.assembly_laws.specs.Lawful.{IsSoundFor, ToDynIsSound}
@@ -85,15 +85,15 @@ erased-twice (canonical s i) r = absurd (true-false (sym (right (is_sort s of_ty
 erased-twice (bound s k i) r = absurd (true-false (sym (right (is_sort s of_type) false r)))
 erased-twice l r = refl
 
-module _ (m : Meaning) (declared : is_declared_view m.view ≡ true) (f : CanonicalForm) (a : Asked) (is_asked : asked m.view f ≡ Some a) where
+module _ (m : ViewMeaning) (declared : is_declared_view m.view ≡ true) (f : CanonicalForm) (a : GoalOverKinds) (is_asked : goal_over_kinds m.view f ≡ Some a) where
   abbrev V : World
   V = m.view
 
-  abbrev Read : Terms → Trees → Trees
+  abbrev Read : ChosenTerms → Trees → Trees
   Read s t = read_with (given s.slots) t
 
   module _ (is_unsize : (a.reference.trait == unsize) ≡ true) where
-    of-dyn : (s : Terms) (u : Rule) → In u (unsize_to_dyn_rules V (Read s a.reference.args)) → In u (built_in_rules V (read_reference s.slots a.reference))
+    of-dyn : (s : ChosenTerms) (u : Rule) → In u (unsize_to_dyn_rules V (Read s a.reference.args)) → In u (built_in_rules V (read_reference s.slots a.reference))
     of-dyn s u i =
         let t = Read s a.reference.args in
         in-unsizes m declared f a is_asked s u (subst (λ (b : Bool). In u (if b then unsize_rules V t else [])) (sym is_unsize)
@@ -108,31 +108,31 @@ module _ (m : Meaning) (declared : is_declared_view m.view ≡ true) (f : Canoni
       asks_of x y = principal_with x y ++ (autos_with x y ++ asks_for sized x ∷ [])
 
       -- the type with terms for the goal's variables
-      record Instance (s : Terms) : Type 0 where
+      record Instance (s : ChosenTerms) : Type 0 where
         label : Label
         children : Trees
         alone : Read s self ≡ tree label children none
         whole : Read s a.reference.args ≡ tree label children (tree dynamic (Read s b) (Read s o))
         other : is_dyn label ≡ false
 
-      read-asks : (s : Terms) → asks_of (Read s self) (Read s b) ≡ map (read_reference s.slots) (asks_of self b)
+      read-asks : (s : ChosenTerms) → asks_of (Read s self) (Read s b) ≡ map (read_reference s.slots) (asks_of self b)
       read-asks s =
           ap (λ z. z ++ (autos_with (Read s self) (Read s b) ++ asks_for sized (Read s self) ∷ [])) (principal-read V declared s.slots is_open_label self b target_made)
           ∙ ap (λ z. map (read_reference s.slots) (principal_with self b) ++ (z ++ asks_for sized (Read s self) ∷ [])) (autos-read V declared s.slots is_open_label self b target_made)
           ∙ ap (λ z. map (read_reference s.slots) (principal_with self b) ++ z) (sym (map-append (read_reference s.slots) (autos_with self b) (asks_for sized self ∷ [])))
           ∙ sym (map-append (read_reference s.slots) (principal_with self b) (autos_with self b ++ asks_for sized self ∷ []))
 
-      module _ (compatible : are_dyn_compatible V (principal_with self b) ≡ true) (instance : (s : Terms) → Held m declared f a is_asked s → Instance s) where
+      module _ (compatible : are_dyn_compatible V (principal_with self b) ≡ true) (instance : (s : ChosenTerms) → Held m declared f a is_asked s → Instance s) where
         abbrev Of : List Reference → Rule
         Of ps = record { way = built_in unsize_to_dyn; premises = ps }
 
-        tests : (s : Terms) (k : Label) → is_dyn k ≡ false → not (is_dyn k) && are_dyn_compatible V (principal_with (Read s self) (Read s b)) ≡ true
+        tests : (s : ChosenTerms) (k : Label) → is_dyn k ≡ false → not (is_dyn k) && are_dyn_compatible V (principal_with (Read s self) (Read s b)) ≡ true
         tests s k h =
             both (not (is_dyn k)) (are_dyn_compatible V (principal_with (Read s self) (Read s b))) (ap not h)
             (ap (are_dyn_compatible V) (principal-read V declared s.slots is_open_label self b target_made)
             ∙ compatible-same V (map (read_reference s.slots) (principal_with self b)) (principal_with self b) (traits-stay V declared s.slots (principal_with self b)) ∙ compatible)
 
-        rule : (s : Terms) → Held m declared f a is_asked s → In (Of (map (read_reference s.slots) (asks_of self b))) (unsize_to_dyn_rules V (Read s a.reference.args))
+        rule : (s : ChosenTerms) → Held m declared f a is_asked s → In (Of (map (read_reference s.slots) (asks_of self b))) (unsize_to_dyn_rules V (Read s a.reference.args))
         rule s h =
             let x = instance s h in
             subst (λ t. In (Of (map (read_reference s.slots) (asks_of self b))) (unsize_to_dyn_rules V t)) (sym x.whole)
@@ -140,7 +140,7 @@ module _ (m : Meaning) (declared : is_declared_view m.view ≡ true) (f : Canoni
             (subst (λ (y : Bool). In (Of (map (read_reference s.slots) (asks_of self b))) (if y then row unsize_to_dyn (asks_of (Read s self) (Read s b)) else [])) (sym (tests s x.label x.other))
             (subst (λ ps. In (Of ps) (row unsize_to_dyn (asks_of (Read s self) (Read s b)))) (read-asks s) (here (Of (asks_of (Read s self) (Read s b))) []))))
 
-        plain : (s : Terms) → Held m declared f a is_asked s → Every IsPlainReference (asks_of (Read s self) (Read s b))
+        plain : (s : ChosenTerms) → Held m declared f a is_asked s → Every IsPlainReference (asks_of (Read s self) (Read s b))
         plain s h =
             let x = instance s h in
             let whole = subst Plain x.whole h.plain in
@@ -156,7 +156,7 @@ module _ (m : Meaning) (declared : is_declared_view m.view ≡ true) (f : Canoni
           tt,
         )
 
-      dyn-target : (is_dyn l ≡ false → (s : Terms) → Held m declared f a is_asked s → Instance s) → Every (IsSoundFor m f a) (as_written V a misc (unsize_to_dyn_rules V (tree l c (tree dynamic b o))))
+      dyn-target : (is_dyn l ≡ false → (s : ChosenTerms) → Held m declared f a is_asked s → Instance s) → Every (IsSoundFor m f a) (as_written V a misc (unsize_to_dyn_rules V (tree l c (tree dynamic b o))))
       dyn-target go = by (is_dyn l) refl (are_dyn_compatible V (principal_with self b)) refl
         where
           by : (x : Bool) → is_dyn l ≡ x → (y : Bool) → are_dyn_compatible V (principal_with self b) ≡ y → Every (IsSoundFor m f a) (as_written V a misc (if not x && y then row unsize_to_dyn (asks_of self b) else []))
@@ -185,7 +185,7 @@ module _ (m : Meaning) (declared : is_declared_view m.view ≡ true) (f : Canoni
     place-target i c (tree dynamic b o) e p g =
         dyn-target (canonical of_type i) c b o (left (is_made is_open_label bounds b) (is_made is_open_label terms o) (made-rest is_open_label (canonical of_type i) c (tree dynamic b o) g)) (λ n s h. at s h)
       where
-        at : (s : Terms) → Held m declared f a is_asked s → Instance (canonical of_type i) c b o (left (is_made is_open_label bounds b) (is_made is_open_label terms o) (made-rest is_open_label (canonical of_type i) c (tree dynamic b o) g)) s
+        at : (s : ChosenTerms) → Held m declared f a is_asked s → Instance (canonical of_type i) c b o (left (is_made is_open_label bounds b) (is_made is_open_label terms o) (made-rest is_open_label (canonical of_type i) c (tree dynamic b o) g)) s
         at s h =
             let x = begins s.slots (canonical of_type i) c (tree dynamic b o) in
             record {

@@ -15,12 +15,12 @@ use Rattle.type_terms.specs.Made.{is_made}
 use Rattle.infer_table.specs.Canonical.{CanonicalForm}
 use Rattle.evaluation.specs.Lists.{Every}
 use Rattle.evaluation.specs.Instances.{read_with}
-use Rattle.evaluation.specs.Content.{given, Terms}
-use Rattle.evaluation.specs.FrameTables.{Meets, is_open_label}
+use Rattle.evaluation.specs.Content.{given, ChosenTerms}
+use Rattle.evaluation.specs.FrameTables.{EquationIsMet, is_open_label}
 use Rattle.assembly_laws.specs.Facts.{is_unerased}
-use Rattle.assembly_laws.specs.Meaning.{Meaning}
+use Rattle.assembly_laws.specs.Meaning.{ViewMeaning}
 use Rattle.assembly_laws.specs.Declared.{are_terms, is_declared_view}
-use Rattle.assembly_laws.specs.Asking.{Asked, asked, is_rigid, self_of, with_plain_head}
+use Rattle.assembly_laws.specs.Asking.{GoalOverKinds, goal_over_kinds, is_rigid, self_of, with_plain_head}
 use Rattle.assembly_laws.specs.Candidates.{by_rule, all_equal, misc, if_so, unsize_array_of, unsize_by_struct, unsize_struct_of}
 use Rattle.assembly_laws.specs.Cover.{read_reference}
 use Rattle.assembly_laws.specs.Lawful.{IsSoundFor, unsizing_candidates, UnsizingIsSound}
@@ -79,22 +79,22 @@ struct-rule V r s e x i c d o some equal =
     tests : (some_unsizing x.fields 0 c && same (with_unsizing x.fields 0 c d) d) ≡ true
     tests = ap (λ b. b && same (with_unsizing x.fields 0 c d) d) some ∙ ap (λ z. same z d) equal ∙ same-self d
 
-module _ (m : Meaning) (declared : is_declared_view m.view ≡ true) (f : CanonicalForm) (a : Asked) (is_asked : asked m.view f ≡ Some a) where
+module _ (m : ViewMeaning) (declared : is_declared_view m.view ≡ true) (f : CanonicalForm) (a : GoalOverKinds) (is_asked : goal_over_kinds m.view f ≡ Some a) where
   abbrev V : World
   V = m.view
 
-  abbrev Read : Terms → Trees → Trees
+  abbrev Read : ChosenTerms → Trees → Trees
   Read s t = read_with (given s.slots) t
 
   module _ (is_unsize : (a.reference.trait == unsize) ≡ true) where
     -- ---- where the rules stand
-    at-unsize : (s : Terms) (u : Rule) → In u (unsize_rules V (Read s a.reference.args)) → In u (built_in_rules V (read_reference s.slots a.reference))
+    at-unsize : (s : ChosenTerms) (u : Rule) → In u (unsize_rules V (Read s a.reference.args)) → In u (built_in_rules V (read_reference s.slots a.reference))
     at-unsize s u i = in-unsizes m declared f a is_asked s u (subst (λ (b : Bool). In u (if b then unsize_rules V (Read s a.reference.args) else [])) (sym is_unsize) i)
 
-    of-arrays : (s : Terms) (u : Rule) → In u (unsize_array_rules (Read s a.reference.args)) → In u (built_in_rules V (read_reference s.slots a.reference))
+    of-arrays : (s : ChosenTerms) (u : Rule) → In u (unsize_array_rules (Read s a.reference.args)) → In u (built_in_rules V (read_reference s.slots a.reference))
     of-arrays s u i = let t = Read s a.reference.args in at-unsize s u (in-left u (unsize_array_rules t) (unsize_to_dyn_rules V t ++ (unsize_upcast_rules V t ++ unsize_struct_rules V t)) i)
 
-    of-structs : (s : Terms) (u : Rule) → In u (unsize_struct_rules V (Read s a.reference.args)) → In u (built_in_rules V (read_reference s.slots a.reference))
+    of-structs : (s : ChosenTerms) (u : Rule) → In u (unsize_struct_rules V (Read s a.reference.args)) → In u (built_in_rules V (read_reference s.slots a.reference))
     of-structs s u i =
         let t = Read s a.reference.args in
         at-unsize s u (in-right u (unsize_array_rules t) (unsize_to_dyn_rules V t ++ (unsize_upcast_rules V t ++ unsize_struct_rules V t))
@@ -102,7 +102,7 @@ module _ (m : Meaning) (declared : is_declared_view m.view ≡ true) (f : Canoni
 
     -- ---- arrays
     at-array : (t : Label) (e n : Trees) (k : Label) (d p q : Trees) → is_made is_open_label terms (tree t e n) ≡ true → is_made is_open_label terms (tree k d p) ≡ true
-        → ((s : Terms) → Read s a.reference.args ≡ tree array (Read s (tree t e n)) (tree slice (Read s (tree k d p)) (Read s q))) → (s : Terms) → Held m declared f a is_asked s → Every (λ x. Meets x s) (all_equal (tree t e none) (tree k d none))
+        → ((s : ChosenTerms) → Read s a.reference.args ≡ tree array (Read s (tree t e n)) (tree slice (Read s (tree k d p)) (Read s q))) → (s : ChosenTerms) → Held m declared f a is_asked s → Every (λ x. EquationIsMet x s) (all_equal (tree t e none) (tree k d none))
         → (w : Way) × In (record { way = w; premises = [] }) (built_in_rules V (read_reference s.slots a.reference)) × Every (IsPlainAt m declared f a is_asked s) []
     at-array t e n k d p q g i read-is s h x =
         let b = begins s.slots t e n in
@@ -115,7 +115,7 @@ module _ (m : Meaning) (declared : is_declared_view m.view ≡ true) (f : Canoni
           tt,
         )
 
-    arrays-at : (l : Label) (c o : Trees) → is_rigid l ≡ true → is_made is_open_label terms (tree l c o) ≡ true → ((s : Terms) → Read s a.reference.args ≡ tree (erase_label l) (Read s c) (Read s o))
+    arrays-at : (l : Label) (c o : Trees) → is_rigid l ≡ true → is_made is_open_label terms (tree l c o) ≡ true → ((s : ChosenTerms) → Read s a.reference.args ≡ tree (erase_label l) (Read s c) (Read s o))
         → Every (IsSoundFor m f a) (unsize_array_of V a (tree (erase_label l) c o))
     arrays-at array none o r g q = tt
     arrays-at array (tree t e n) none r g q = tt
@@ -136,8 +136,8 @@ module _ (m : Meaning) (declared : is_declared_view m.view ≡ true) (f : Canoni
 
     -- ---- structs
     module _ (r t : ℕ) (c d o : Trees) (one_name : (r == t) ≡ true) (from_made : is_made is_open_label terms c ≡ true) (to_made : is_made is_open_label terms d ≡ true)
-        (read_is : (s : Terms) → Read s a.reference.args ≡ tree (adt r) (Read s c) (tree (adt t) (Read s d) (Read s o))) where
-      at-struct : (x : StructDecl) → In x (structs_named V r) → some_unsizing x.fields 0 c ≡ true → (s : Terms) → Held m declared f a is_asked s → Every (λ e. Meets e s) (all_equal (with_unsizing x.fields 0 c d) d)
+        (read_is : (s : ChosenTerms) → Read s a.reference.args ≡ tree (adt r) (Read s c) (tree (adt t) (Read s d) (Read s o))) where
+      at-struct : (x : StructDecl) → In x (structs_named V r) → some_unsizing x.fields 0 c ≡ true → (s : ChosenTerms) → Held m declared f a is_asked s → Every (λ e. EquationIsMet e s) (all_equal (with_unsizing x.fields 0 c d) d)
           → (w : Way) × In (record { way = w; premises = map (read_reference s.slots) (last_unsizes x.fields c d) }) (built_in_rules V (read_reference s.slots a.reference)) × Every (IsPlainAt m declared f a is_asked s) (last_unsizes x.fields c d)
       at-struct x i some s h e = (
         built_in unsize_struct,
@@ -173,7 +173,7 @@ module _ (m : Meaning) (declared : is_declared_view m.view ≡ true) (f : Canoni
           by true q = (rule-sound m declared f a is_asked misc (all_equal (with_unsizing x.fields 0 c d) d) (last_unsizes x.fields c d) (at-struct x i q), tt)
           by false q = tt
 
-    structs-at : (l : Label) (c o : Trees) → is_rigid l ≡ true → is_made is_open_label terms (tree l c o) ≡ true → ((s : Terms) → Read s a.reference.args ≡ tree (erase_label l) (Read s c) (Read s o))
+    structs-at : (l : Label) (c o : Trees) → is_rigid l ≡ true → is_made is_open_label terms (tree l c o) ≡ true → ((s : ChosenTerms) → Read s a.reference.args ≡ tree (erase_label l) (Read s c) (Read s o))
         → Every (IsSoundFor m f a) (unsize_struct_of V a (tree (erase_label l) c o))
     structs-at (adt r) c none y g q = tt
     structs-at (adt r) c (tree (adt t) d o) y g q = by (r == t) refl

@@ -14,13 +14,13 @@ use Rattle.infer_table.specs.Canonical.{CanonicalForm}
 use Rattle.evaluation.specs.Lists.{Every}
 use Rattle.evaluation.specs.declared.candidate.CandidateSource.{CandidateSource}
 use Rattle.evaluation.specs.Instances.{read_with}
-use Rattle.evaluation.specs.Content.{given, Terms}
-use Rattle.evaluation.specs.FrameTables.{Equation, Meets, is_open_label}
+use Rattle.evaluation.specs.Content.{given, ChosenTerms}
+use Rattle.evaluation.specs.FrameTables.{Equation, EquationIsMet, is_open_label}
 use Rattle.assembly_laws.specs.Facts.{is_unerased}
 use Rattle.declarations.specs.Elaboration.{supertraits, elaborate}
-use Rattle.assembly_laws.specs.Meaning.{Meaning}
+use Rattle.assembly_laws.specs.Meaning.{ViewMeaning}
 use Rattle.assembly_laws.specs.Declared.{is_declared_view, BoundsAreErased}
-use Rattle.assembly_laws.specs.Asking.{Asked, asked, is_rigid, self_of, with_plain_head}
+use Rattle.assembly_laws.specs.Asking.{GoalOverKinds, goal_over_kinds, is_rigid, self_of, with_plain_head}
 use Rattle.assembly_laws.specs.Candidates.{by_rule, all_equal, misc, if_so, upcast_source, upcasts_from, upcasts_to, upcasts_of}
 use Rattle.assembly_laws.specs.Cover.{read_reference}
 use Rattle.assembly_laws.specs.Lawful.{IsSoundFor, UpcastsAreSound}
@@ -40,11 +40,11 @@ use Rattle.assembly_laws.proofs.SoundImpls.{same-one}
 use Rattle.assembly_laws.proofs.SoundObjects.{member-of, row-of-equal}
 use Rattle.assembly_laws.proofs.OpenLevels.{PlainRead, strict-open, principal-plain}
 
-module _ (m : Meaning) (declared : is_declared_view m.view ≡ true) (erased : BoundsAreErased m.view) (rank : ℕ → ℕ) (down : LeadDown m.view rank) (f : CanonicalForm) (a : Asked) (is_asked : asked m.view f ≡ Some a) where
+module _ (m : ViewMeaning) (declared : is_declared_view m.view ≡ true) (erased : BoundsAreErased m.view) (rank : ℕ → ℕ) (down : LeadDown m.view rank) (f : CanonicalForm) (a : GoalOverKinds) (is_asked : goal_over_kinds m.view f ≡ Some a) where
   abbrev V : World
   V = m.view
 
-  abbrev Read : Terms → Trees → Trees
+  abbrev Read : ChosenTerms → Trees → Trees
   Read s t = read_with (given s.slots) t
 
   abbrev Alone : Way → Rule
@@ -54,7 +54,7 @@ module _ (m : Meaning) (declared : is_declared_view m.view ≡ true) (erased : B
   same-references t u x y e g = cc
 
   module _ (is_unsize : (a.reference.trait == unsize) ≡ true) where
-    of-upcasts : (s : Terms) (u : Rule) → In u (unsize_upcast_rules V (Read s a.reference.args)) → In u (built_in_rules V (read_reference s.slots a.reference))
+    of-upcasts : (s : ChosenTerms) (u : Rule) → In u (unsize_upcast_rules V (Read s a.reference.args)) → In u (built_in_rules V (read_reference s.slots a.reference))
     of-upcasts s u i =
         let t = Read s a.reference.args in
         in-unsizes m declared f a is_asked s u (subst (λ (b : Bool). In u (if b then unsize_rules V t else [])) (sym is_unsize)
@@ -62,7 +62,7 @@ module _ (m : Meaning) (declared : is_declared_view m.view ≡ true) (erased : B
         (in-right u (unsize_to_dyn_rules V t) (unsize_upcast_rules V t ++ unsize_struct_rules V t) (in-left u (unsize_upcast_rules V t) (unsize_struct_rules V t) i))))
 
     module _ (c d o : Trees) (self_is : self_of a ≡ tree dynamic c (tree dynamic d o)) (from_made : is_made is_open_label bounds c ≡ true) (to_made : is_made is_open_label bounds d ≡ true)
-        (read_is : (s : Terms) → Read s a.reference.args ≡ tree dynamic (Read s c) (tree dynamic (Read s d) (Read s o))) where
+        (read_is : (s : ChosenTerms) → Read s a.reference.args ≡ tree dynamic (Read s c) (tree dynamic (Read s d) (Read s o))) where
       abbrev self : Trees
       self = tree dynamic c none
 
@@ -78,10 +78,10 @@ module _ (m : Meaning) (declared : is_declared_view m.view ≡ true) (erased : B
       abbrev wanted : List Reference
       wanted = autos_with self d
 
-      abbrev at : Terms → List Reference → List Reference
+      abbrev at : ChosenTerms → List Reference → List Reference
       at s rs = map (read_reference s.slots) rs
 
-      ps-plain : (s : Terms) → Held m declared f a is_asked s → (p : Reference) → In p ps → PlainRead V declared s.slots p
+      ps-plain : (s : ChosenTerms) → Held m declared f a is_asked s → (p : Reference) → In p ps → PlainRead V declared s.slots p
       ps-plain s h p i =
           let whole = subst Plain (read_is s) h.plain in
           member-of IsPlainReference (at s ps) (read_reference s.slots p)
@@ -101,7 +101,7 @@ module _ (m : Meaning) (declared : is_declared_view m.view ≡ true) (erased : B
           member-of (λ (r : Reference). is_made is_open_label terms r.args ≡ true) (elaborate V ps) r elaborated-made (elaborated-all V rank down ps r (flat-in (λ x. x ∷ strict_supertraits V x) ps p r i j))
 
       module _ (tests : are_declared V ps && upcasts_autos V ps written wanted ≡ true) where
-        here-rule : (s : Terms) (u : Rule) → In u (upcasts_principal V (at s ps) (at s qs)) → In u (built_in_rules V (read_reference s.slots a.reference))
+        here-rule : (s : ChosenTerms) (u : Rule) → In u (upcasts_principal V (at s ps) (at s qs)) → In u (built_in_rules V (read_reference s.slots a.reference))
         here-rule s u i =
             let w = at s written in
             let b = at s wanted in
@@ -119,11 +119,11 @@ module _ (m : Meaning) (declared : is_declared_view m.view ≡ true) (erased : B
                 (autos-same V (at s ps) (at s written) (at s wanted) ps written wanted (traits-stay V declared s.slots ps) (traits-stay V declared s.slots written) (traits-stay V declared s.slots wanted)
                 ∙ right (are_declared V ps) (upcasts_autos V ps written wanted) tests)
 
-        alone-sound : (source : CandidateSource) (es : List Equation) → ((s : Terms) → Held m declared f a is_asked s → Every (λ e. Meets e s) es → (w : Way) × In (Alone w) (upcasts_principal V (at s ps) (at s qs))) → IsSoundFor m f a (by_rule V a source es [])
+        alone-sound : (source : CandidateSource) (es : List Equation) → ((s : ChosenTerms) → Held m declared f a is_asked s → Every (λ e. EquationIsMet e s) es → (w : Way) × In (Alone w) (upcasts_principal V (at s ps) (at s qs))) → IsSoundFor m f a (by_rule V a source es [])
         alone-sound source es go = rule-sound m declared f a is_asked source es [] (λ s h e. let x = go s h e in (x.0, here-rule s (Alone x.0) x.1, tt))
 
         -- equated references of one trait are read as one
-        met : (p q : Reference) → (p.trait == q.trait) ≡ true → is_made is_open_label terms p.args ≡ true → is_made is_open_label terms q.args ≡ true → (s : Terms) → Every (λ e. Meets e s) (all_equal p.args q.args)
+        met : (p q : Reference) → (p.trait == q.trait) ≡ true → is_made is_open_label terms p.args ≡ true → is_made is_open_label terms q.args ≡ true → (s : ChosenTerms) → Every (λ e. EquationIsMet e s) (all_equal p.args q.args)
             → read_reference s.slots p ≡ read_reference s.slots q
         met p q t g h s e = same-references p.trait q.trait _ _ (same-number p.trait q.trait t) (met-reads s.slots p.args q.args g h e)
 
@@ -138,7 +138,7 @@ module _ (m : Meaning) (declared : is_declared_view m.view ≡ true) (erased : B
             strict : In r (strict_supertraits V p)
             strict = supertraits-only V rank down p r (i r (here r rs))
 
-            upcast : (r.trait == q.trait) ≡ true → (s : Terms) → Held m declared f a is_asked s → Every (λ e. Meets e s) (all_equal r.args q.args) → (w : Way) × In (Alone w) (upcasts_principal V (at s ps) (at s qs))
+            upcast : (r.trait == q.trait) ≡ true → (s : ChosenTerms) → Held m declared f a is_asked s → Every (λ e. EquationIsMet e s) (all_equal r.args q.args) → (w : Way) × In (Alone w) (upcasts_principal V (at s ps) (at s qs))
             upcast b s h e =
                 let x = row-of-equal unsize_upcast [] (read_reference s.slots q) 1 (strict_supertraits V (read_reference s.slots p)) (read_reference s.slots r)
                 (subst (In (read_reference s.slots r)) (sym (strict-open V declared s.slots p (ps-plain s h p own))) (in-map (read_reference s.slots) (strict_supertraits V p) r strict))
@@ -160,7 +160,7 @@ module _ (m : Meaning) (declared : is_declared_view m.view ≡ true) (erased : B
             own : In p ps
             own = subst (In p) (sym pe) (here p ps')
 
-            go : (s : Terms) → Held m declared f a is_asked s → Every (λ e. Meets e s) (all_equal p.args q.args) → (w : Way) × In (Alone w) (upcasts_principal V (at s ps) (at s qs))
+            go : (s : ChosenTerms) → Held m declared f a is_asked s → Every (λ e. EquationIsMet e s) (all_equal p.args q.args) → (w : Way) × In (Alone w) (upcasts_principal V (at s ps) (at s qs))
             go s h e = (
               built_in unsize_dyn,
               subst (λ ps. In (Alone (built_in unsize_dyn)) (upcasts_principal V (at s ps) (at s qs))) (sym pe)
@@ -189,7 +189,7 @@ module _ (m : Meaning) (declared : is_declared_view m.view ≡ true) (erased : B
           by true t = to-principal t ps qs refl refl (principal-terms self d self-made to_made)
           by false t = tt
 
-    upcasts-at : (l : Label) (c o : Trees) → is_rigid l ≡ true → self_of a ≡ tree (erase_label l) c o → is_made is_open_label terms (tree l c o) ≡ true → ((s : Terms) → Read s a.reference.args ≡ tree (erase_label l) (Read s c) (Read s o))
+    upcasts-at : (l : Label) (c o : Trees) → is_rigid l ≡ true → self_of a ≡ tree (erase_label l) c o → is_made is_open_label terms (tree l c o) ≡ true → ((s : ChosenTerms) → Read s a.reference.args ≡ tree (erase_label l) (Read s c) (Read s o))
         → Every (IsSoundFor m f a) (upcasts_of V a (tree (erase_label l) c o))
     upcasts-at dynamic c none r e g q = tt
     upcasts-at dynamic c (tree dynamic d o) r e g q =

@@ -17,9 +17,9 @@ use Rattle.evaluation.specs.Lists.{Every, SomeOf}
 use Rattle.evaluation.specs.Instances.{read_with}
 use Rattle.evaluation.specs.Content.{Values, given}
 use Rattle.assembly_laws.specs.Declared.{are_terms, are_references, is_declared_view}
-use Rattle.assembly_laws.specs.Asking.{Asked}
+use Rattle.assembly_laws.specs.Asking.{GoalOverKinds}
 use Rattle.assembly_laws.specs.Candidates.{Candidate, by_rule, all_equal, misc, if_so, unsize_by_struct, unsize_struct_of}
-use Rattle.assembly_laws.specs.Cover.{slots, Gives, Proved, read_reference}
+use Rattle.assembly_laws.specs.Cover.{slots, SolvesEquations, Proved, read_reference}
 use Rattle.assembly_laws.proofs.Reading.{begins, read-append}
 use Rattle.assembly_laws.proofs.Instances.{is_bound, shut-unbound, read-unbound}
 use Rattle.assembly_laws.proofs.Impls.{pairwise}
@@ -77,7 +77,7 @@ module _ (xs : List Trees) where
   last-read : (fs : List Trees) → list_all are_terms fs ≡ true → (t s : Trees) → some_node is_open (read t) ≡ false → some_node is_open (read s) ≡ false → last_unsizes fs (read t) (read s) ≡ map (read_reference xs) (last_unsizes fs t s)
   last-read fs e t s h g = last-unbound fs e t s (shut-unbound (read t) h) (shut-unbound (read s) g)
 
-module _ (H : Reference → Type 0) (V : World) (declared : is_declared_view V ≡ true) (a : Asked) (v : Values) where
+module _ (H : Reference → Type 0) (V : World) (declared : is_declared_view V ≡ true) (a : GoalOverKinds) (v : Values) where
   abbrev ys : List Trees
   ys = slots a.kinds v []
 
@@ -87,19 +87,19 @@ module _ (H : Reference → Type 0) (V : World) (declared : is_declared_view V �
       (left (list_all (λ (y : StructDecl). list_all are_terms y.fields) V.structs)
       (list_all (λ y. are_references y.bounds) V.traits && list_all (λ (j : ImplDecl). are_terms j.header.args && are_references j.clauses) V.impls) declared) i
 
-  some-flat : (f : StructDecl → List Candidate) (zs : List StructDecl) (x : StructDecl) → In x zs → SomeOf (Gives H a.kinds v) (f x) → SomeOf (Gives H a.kinds v) (flat_map f zs)
+  some-flat : (f : StructDecl → List Candidate) (zs : List StructDecl) (x : StructDecl) → In x zs → SomeOf (SolvesEquations H a.kinds v) (f x) → SomeOf (SolvesEquations H a.kinds v) (flat_map f zs)
   some-flat f [] x i s = absurd (in-nothing x i)
   some-flat f (z ∷ zs) x i s = by (in-cases x z zs i) (λ j. some-flat f zs x j s)
     where
-      by : (z ≡ x) ⊎ In x zs → (In x zs → SomeOf (Gives H a.kinds v) (flat_map f zs)) → SomeOf (Gives H a.kinds v) (f z ++ flat_map f zs)
-      by (inl e) go = some-left (Gives H a.kinds v) (f z) (flat_map f zs) (subst (λ w. SomeOf (Gives H a.kinds v) (f w)) (sym e) s)
-      by (inr j) go = some-right (Gives H a.kinds v) (f z) (flat_map f zs) (go j)
+      by : (z ≡ x) ⊎ In x zs → (In x zs → SomeOf (SolvesEquations H a.kinds v) (flat_map f zs)) → SomeOf (SolvesEquations H a.kinds v) (f z ++ flat_map f zs)
+      by (inl e) go = some-left (SolvesEquations H a.kinds v) (f z) (flat_map f zs) (subst (λ w. SomeOf (SolvesEquations H a.kinds v) (f w)) (sym e) s)
+      by (inr j) go = some-right (SolvesEquations H a.kinds v) (f z) (flat_map f zs) (go j)
 
   by-struct : (x : StructDecl) → In x V.structs → (c d : Trees) → some_node is_open (read_with (given ys) c) ≡ false → some_node is_open (read_with (given ys) d) ≡ false → (u : Rule)
       → In u (if some_unsizing x.fields 0 (read_with (given ys) c) && same (with_unsizing x.fields 0 (read_with (given ys) c) (read_with (given ys) d)) (read_with (given ys) d) then row unsize_struct (last_unsizes x.fields (read_with (given ys) c) (read_with (given ys) d)) else [])
-      → Every (Proved H) u.premises → SomeOf (Gives H a.kinds v) (unsize_by_struct V a c d x)
+      → Every (Proved H) u.premises → SomeOf (SolvesEquations H a.kinds v) (unsize_by_struct V a c d x)
   by-struct x j c d h g u i e =
-      subst (λ b. SomeOf (Gives H a.kinds v) (if_so b (by_rule V a misc (all_equal (with_unsizing x.fields 0 c d) d) (last_unsizes x.fields c d) ∷ []))) (sym some)
+      subst (λ b. SomeOf (SolvesEquations H a.kinds v) (if_so b (by_rule V a misc (all_equal (with_unsizing x.fields 0 c d) d) (last_unsizes x.fields c d) ∷ []))) (sym some)
       (inl (gives-equal H V a v misc (all_equal (with_unsizing x.fields 0 c d) d) (last_unsizes x.fields c d) (pairwise ys (with_unsizing x.fields 0 c d) d equal)
       (subst (Every (Proved H)) (sym (ap (λ (z : Rule). z.premises) (the-one H V a v _ u w.1)) ∙ last-read ys x.fields (fields-declared x j) c d h g) e)))
     where
@@ -118,13 +118,13 @@ module _ (H : Reference → Type 0) (V : World) (declared : is_declared_view V �
   -- the row of structs
   pub structs-at : (k : Label) (c : Trees) (s : ℕ) (d o : Trees) → some_node is_open (read_with (given ys) c) ≡ false → some_node is_open (read_with (given ys) d) ≡ false → (u : Rule)
       → In u (unsize_struct_rules V (tree k (read_with (given ys) c) (tree (adt s) (read_with (given ys) d) (read_with (given ys) o)))) → Every (Proved H) u.premises
-      → SomeOf (Gives H a.kinds v) (unsize_struct_of V a (tree k c (tree (adt s) d o)))
+      → SomeOf (SolvesEquations H a.kinds v) (unsize_struct_of V a (tree k c (tree (adt s) d o)))
   structs-at (adt r) c s d o h g u i e = by (r == s) i
     where
       make : StructDecl → List Rule
       make x = if some_unsizing x.fields 0 (read_with (given ys) c) && same (with_unsizing x.fields 0 (read_with (given ys) c) (read_with (given ys) d)) (read_with (given ys) d) then row unsize_struct (last_unsizes x.fields (read_with (given ys) c) (read_with (given ys) d)) else []
 
-      by : (b : Bool) → In u (if b then flat_map make (structs_named V r) else []) → SomeOf (Gives H a.kinds v) (if_so b (flat_map (unsize_by_struct V a c d) (structs_named V r)))
+      by : (b : Bool) → In u (if b then flat_map make (structs_named V r) else []) → SomeOf (SolvesEquations H a.kinds v) (if_so b (flat_map (unsize_by_struct V a c d) (structs_named V r)))
       by false j = absurd (in-nothing u j)
       by true j =
           let m = in-flat make (structs_named V r) u j in

@@ -19,9 +19,9 @@ use Rattle.evaluation.specs.Instances.{read_with}
 use Rattle.evaluation.specs.Content.{Values, given}
 use Rattle.assembly_laws.specs.Declared.{is_declared_view}
 use Rattle.declarations.specs.Elaboration.{supertraits}
-use Rattle.assembly_laws.specs.Asking.{Asked}
+use Rattle.assembly_laws.specs.Asking.{GoalOverKinds}
 use Rattle.assembly_laws.specs.Candidates.{by_rule, all_equal, misc, if_so, upcast_source, upcasts_from, upcasts_to, upcasts_of}
-use Rattle.assembly_laws.specs.Cover.{slots, Gives, read_reference}
+use Rattle.assembly_laws.specs.Cover.{slots, SolvesEquations, read_reference}
 use Rattle.assembly_laws.proofs.Reading.{true-false}
 use Rattle.assembly_laws.proofs.Unsizing.{traits_of, map-append, spread-same, within-same, all-declared, principal-read, autos-read, traits-stay}
 use Rattle.assembly_laws.proofs.Impls.{pairwise}
@@ -56,17 +56,17 @@ autos-same V ps qs bs ps' qs' bs' e f g =
         ∙ ap (λ z. z ++ traits_of (elaborated V ps)) f
         ∙ ap (λ z. traits_of qs' ++ z) (spread-same (strict_supertraits V) (strict_supertraits V) (λ x y q. within-same (length V.traits) V x y q) ps ps' e)
 
-module _ (H : Reference → Type 0) (V : World) (declared : is_declared_view V ≡ true) (plain : BoundsArePlain V) (rank : ℕ → ℕ) (down : LeadDown V rank) (a : Asked) (v : Values) where
+module _ (H : Reference → Type 0) (V : World) (declared : is_declared_view V ≡ true) (plain : BoundsArePlain V) (rank : ℕ → ℕ) (down : LeadDown V rank) (a : GoalOverKinds) (v : Values) where
   abbrev ys : List Trees
   ys = slots a.kinds v []
 
   -- a supertrait that is read as the target's principal gives the candidate
-  from-super : (q : Reference) (i : ℕ) (rs : List Reference) (t : Reference) → In t rs → read_reference ys t ≡ read_reference ys q → SomeOf (Gives H a.kinds v) (upcasts_from V a q i rs)
+  from-super : (q : Reference) (i : ℕ) (rs : List Reference) (t : Reference) → In t rs → read_reference ys t ≡ read_reference ys q → SomeOf (SolvesEquations H a.kinds v) (upcasts_from V a q i rs)
   from-super q i [] t j e = absurd (in-nothing t j)
   from-super q i (r ∷ rs) t j e = by (r.trait == q.trait) refl (in-cases t r rs j) (λ k g. from-super q k rs t g e)
     where
-      by : (b : Bool) → (r.trait == q.trait) ≡ b → (r ≡ t) ⊎ In t rs → ((k : ℕ) → In t rs → SomeOf (Gives H a.kinds v) (upcasts_from V a q k rs))
-          → SomeOf (Gives H a.kinds v) (if b then by_rule V a (upcast_source i) (all_equal r.args q.args) [] ∷ upcasts_from V a q (suc i) rs else upcasts_from V a q (suc i) rs)
+      by : (b : Bool) → (r.trait == q.trait) ≡ b → (r ≡ t) ⊎ In t rs → ((k : ℕ) → In t rs → SomeOf (SolvesEquations H a.kinds v) (upcasts_from V a q k rs))
+          → SomeOf (SolvesEquations H a.kinds v) (if b then by_rule V a (upcast_source i) (all_equal r.args q.args) [] ∷ upcasts_from V a q (suc i) rs else upcasts_from V a q (suc i) rs)
       by true f (inl g) go =
           inl (gives-equal H V a v (upcast_source i) (all_equal r.args q.args) [] (pairwise ys r.args q.args (ap (λ (z : Reference). z.args) (ap (read_reference ys) g ∙ e))) tt)
       by true f (inr g) go = inr (go (suc i) g)
@@ -77,13 +77,13 @@ module _ (H : Reference → Type 0) (V : World) (declared : is_declared_view V �
   in-supers : (p t : Reference) → In t (strict_supertraits V p) → (p ≡ t) ⊎ In t (supertraits V p)
   in-supers p t i = in-cases t p (supertraits V p) (elaborated-all V rank down (p ∷ []) t (in-left t (p ∷ strict_supertraits V p) [] (there t p (strict_supertraits V p) i)))
 
-  to-principal : (ps qs : List Reference) → ((p : Reference) → In p ps → Shut (read_with (given ys) p.args)) → IsUpcast V (map (read_reference ys) ps) (map (read_reference ys) qs) → SomeOf (Gives H a.kinds v) (upcasts_to V a ps qs)
+  to-principal : (ps qs : List Reference) → ((p : Reference) → In p ps → Shut (read_with (given ys) p.args)) → IsUpcast V (map (read_reference ys) ps) (map (read_reference ys) qs) → SomeOf (SolvesEquations H a.kinds v) (upcasts_to V a ps qs)
   to-principal ps [] h e = inl (gives-equal H V a v misc [] [] tt tt)
   to-principal [] (q ∷ qs) h e = absurd e
   to-principal (p ∷ ps) (q ∷ qs) h e = by e
     where
       Candidates : Bool → Type 0
-      Candidates b = SomeOf (Gives H a.kinds v) (if b then by_rule V a misc (all_equal p.args q.args) [] ∷ [] else upcasts_from V a q 1 (supertraits V p))
+      Candidates b = SomeOf (SolvesEquations H a.kinds v) (if b then by_rule V a misc (all_equal p.args q.args) [] ∷ [] else upcasts_from V a q 1 (supertraits V p))
 
       not-own : (t : Reference) → (p.trait == q.trait) ≡ false → read_reference ys t ≡ read_reference ys q → (p ≡ t) ⊎ In t (supertraits V p) → In t (supertraits V p)
       not-own t f g (inl k) =
@@ -91,7 +91,7 @@ module _ (H : Reference → Type 0) (V : World) (declared : is_declared_view V �
       not-own t f g (inr k) = k
 
       by : (((p.trait == q.trait) ≡ true) × (same_reference (read_reference ys p) (read_reference ys q) ≡ true)) ⊎ (((p.trait == q.trait) ≡ false) × IsOneOf (read_reference ys q) (strict_supertraits V (read_reference ys p)))
-          → SomeOf (Gives H a.kinds v) (if p.trait == q.trait then by_rule V a misc (all_equal p.args q.args) [] ∷ [] else upcasts_from V a q 1 (supertraits V p))
+          → SomeOf (SolvesEquations H a.kinds v) (if p.trait == q.trait then by_rule V a misc (all_equal p.args q.args) [] ∷ [] else upcasts_from V a q 1 (supertraits V p))
       by (inl g) =
           subst Candidates (sym g.0)
           (inl (gives-equal H V a v misc (all_equal p.args q.args) [] (pairwise ys p.args q.args (ap (λ (z : Reference). z.args) (same-reference-sound (read_reference ys p) (read_reference ys q) g.1))) tt))
@@ -122,8 +122,8 @@ module _ (H : Reference → Type 0) (V : World) (declared : is_declared_view V �
 
   -- the row of upcasts
   upcasts-dyn : (good : Label → Bool) (c d o : Trees) → is_made good bounds c ≡ true → is_made good bounds d ≡ true → Shut (tree dynamic (read_with (given ys) c) (tree dynamic (read_with (given ys) d) (read_with (given ys) o)))
-      → Tests c d → SomeOf (Gives H a.kinds v) (upcasts_of V a (tree dynamic c (tree dynamic d o)))
-  upcasts-dyn good c d o made target shut t = subst (λ b. SomeOf (Gives H a.kinds v) (if_so b (upcasts_to V a ps qs))) (sym test) (to-principal ps qs ps-shut principal)
+      → Tests c d → SomeOf (SolvesEquations H a.kinds v) (upcasts_of V a (tree dynamic c (tree dynamic d o)))
+  upcasts-dyn good c d o made target shut t = subst (λ b. SomeOf (SolvesEquations H a.kinds v) (if_so b (upcasts_to V a ps qs))) (sym test) (to-principal ps qs ps-shut principal)
     where
       self : Trees
       self = tree dynamic c none
@@ -171,7 +171,7 @@ module _ (H : Reference → Type 0) (V : World) (declared : is_declared_view V �
 
   pub upcasts-at : (good : Label → Bool) (k : Label) (c d o : Trees) → (k ≡ dynamic → is_made good bounds c ≡ true) → is_made good bounds d ≡ true
       → Shut (tree k (read_with (given ys) c) (tree dynamic (read_with (given ys) d) (read_with (given ys) o)))
-      → (u : Rule) → In u (unsize_upcast_rules V (tree k (read_with (given ys) c) (tree dynamic (read_with (given ys) d) (read_with (given ys) o)))) → SomeOf (Gives H a.kinds v) (upcasts_of V a (tree k c (tree dynamic d o)))
+      → (u : Rule) → In u (unsize_upcast_rules V (tree k (read_with (given ys) c) (tree dynamic (read_with (given ys) d) (read_with (given ys) o)))) → SomeOf (SolvesEquations H a.kinds v) (upcasts_of V a (tree k c (tree dynamic d o)))
   upcasts-at good dynamic c d o made target shut u i = upcasts-dyn good c d o (made refl) target shut (tests-of c d o u i)
   upcasts-at good k c d o made target shut u i = absurd (in-nothing u i)
 

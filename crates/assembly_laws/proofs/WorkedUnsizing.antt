@@ -11,11 +11,11 @@ use Rattle.evaluation.specs.declared.candidate.CandidateSource.TheVariants.{Buil
 use Rattle.evaluation.specs.declared.candidate.BuiltinImplSource.TheVariants.{Misc, Object, TraitUpcasting}
 use Rattle.evaluation.specs.FrameTables.{Nested}
 use Rattle.assembly_laws.specs.Facts.{tree_of_reference}
-use Rattle.assembly_laws.specs.Asking.{Asked}
+use Rattle.assembly_laws.specs.Asking.{GoalOverKinds}
 use Rattle.assembly_laws.specs.Candidates.{Candidate, by_unsize, by_objects}
 
 -- a goal over two type variables
-abbrev goal : Reference → Asked
+abbrev goal : Reference → GoalOverKinds
 goal r = record { kinds = Ty ∷ Ty ∷ []; environment = none; reference = r }
 
 abbrev X : Trees

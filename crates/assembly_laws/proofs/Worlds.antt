@@ -13,7 +13,7 @@ use Rattle.infer_table.proofs.SolutionLaws.{resolved-none}
 use Rattle.infer_table.specs.Responses.{AnswerTrees}
 use Rattle.evaluation.specs.Lists.{Every}
 use Rattle.evaluation.specs.Instances.{put_in}
-use Rattle.evaluation.specs.Content.{Question}
+use Rattle.evaluation.specs.Content.{NestedQuestion}
 use Rattle.evaluation.specs.FrameTables.{kinds_known, good_in, FrameTable, IsMadeFrame, Nested, slot_at, goal_in}
 use Rattle.type_terms.proofs.Made.{false-true}
 use Rattle.type_terms.proofs.Walking.{left}
@@ -26,11 +26,11 @@ use Rattle.evaluation.proofs.FrameTableLaws.{tables_are_lawful}
 use Rattle.evaluation.proofs.Kept.{AreKept, AreSo, questions_so, made_kept}
 use Rattle.evaluation.specs.Plans.{Plan, each_of, first_alone, after}
 use Rattle.declarations.specs.Elaboration.{supertraits}
-use Rattle.assembly_laws.specs.Meaning.{Meaning, Place, by_view, in_set, proved_at}
+use Rattle.assembly_laws.specs.Meaning.{ViewMeaning, SolutionPlace, by_view, in_set, proved_at}
 use Rattle.assembly_laws.specs.Knowing.{is_knowable}
-use Rattle.assembly_laws.specs.Asking.{Asked, asked, clauses, self_of, begins_unknown, all_known}
-use Rattle.assembly_laws.specs.Candidates.{Candidate, premise, unsure, unknowable, behind}
-use Rattle.assembly_laws.specs.Solver.{Past, everything, in_coherence, by_mode, plan_for, has_placeholder, solver_handled}
+use Rattle.assembly_laws.specs.Asking.{GoalOverKinds, goal_over_kinds, clauses, self_of, begins_unknown, all_known}
+use Rattle.assembly_laws.specs.Candidates.{Candidate, premise, unsure, unknowable, rules_behind}
+use Rattle.assembly_laws.specs.Solver.{SolverPast, everything, in_coherence, by_mode, plan_for, has_placeholder, solver_handled}
 use Rattle.assembly_laws.specs.Cover.{all_candidates}
 use Rattle.assembly_laws.specs.Worlds.{KeepWorlds}
 use Rattle.assembly_laws.proofs.Cover.{asked-by}
@@ -40,7 +40,7 @@ use Rattle.assembly_laws.proofs.Rowwise.{AreRows, all-so}
 use Rattle.assembly_laws.proofs.Considering.{ConsidersOnly, after-only, wanted-only, each-only, first-only}
 
 -- the question has no where-clauses and no placeholders
-abbrev IsBare : Question → Type 0
+abbrev IsBare : NestedQuestion → Type 0
 IsBare q = (q.form.goal.environment ≡ none) × (has_placeholder (kinds_known q.form.kinds) ≡ false)
 
 -- ---- tables keep the kinds of the goal
@@ -87,7 +87,7 @@ bare-question n e T h = (
 abbrev AreBare : Candidate → Type 0
 AreBare c = Every (AreSo frame_tables IsBare HasNone) c.nested
 
-module _ (V : World) (a : Asked) (no_clauses : a.environment ≡ none) where
+module _ (V : World) (a : GoalOverKinds) (no_clauses : a.environment ≡ none) where
   premises-bare : (kind : Bool) (rs : List Reference) → Every (AreSo frame_tables IsBare HasNone) (map (premise a kind) rs)
   premises-bare kind [] = tt
   premises-bare kind (r ∷ rs) = (bare-question (premise a kind r) no_clauses, premises-bare kind rs)
@@ -110,7 +110,7 @@ module _ (V : World) (a : Asked) (no_clauses : a.environment ≡ none) where
     structs = λ s u b d o e x. tt;
     clauses = every-unit (clauses a);
     bounds = λ bounds others e. (every-unit _, every-unit _);
-    impls = λ i j. premises-bare (is_coinductive V a.reference.trait) (map (behind (length a.kinds)) i.clauses);
+    impls = λ i j. premises-bare (is_coinductive V a.reference.trait) (map (rules_behind (length a.kinds)) i.clauses);
     unsures = tt;
     records = λ r c h. h;
   }
@@ -122,17 +122,17 @@ module _ (V : World) (a : Asked) (no_clauses : a.environment ≡ none) where
   unknowable-bare = premises-bare false (supertraits V a.reference)
 
 -- ---- the plan in coherence
-module _ (applicable : AnswerTrees → Bool) (same : AnswerTrees → AnswerTrees → Bool) (start : FrameTable) (m : Meaning) where
+module _ (applicable : AnswerTrees → Bool) (same : AnswerTrees → AnswerTrees → Bool) (start : FrameTable) (m : ViewMeaning) where
   abbrev Only : Plan frame_tables → Type 0
   Only p = ConsidersOnly frame_tables AreBare p
 
   unsure-only : Only (each_of frame_tables (unsure ∷ []) (everything applicable same start) [])
   unsure-only = each-only frame_tables AreBare (unsure ∷ []) (everything applicable same start) [] (tt, tt) (λ later. tt)
 
-  asked-only : (a : Asked) → a.environment ≡ none → Only (in_coherence applicable same start m.view m.crate a)
+  asked-only : (a : GoalOverKinds) → a.environment ≡ none → Only (in_coherence applicable same start m.view m.crate a)
   asked-only a e = by (is_knowable m.view m.crate a.reference)
     where
-      each : (seen : Past) → Only (each_of frame_tables (all_candidates m.view a) (everything applicable same start) seen)
+      each : (seen : SolverPast) → Only (each_of frame_tables (all_candidates m.view a) (everything applicable same start) seen)
       each seen = each-only frame_tables AreBare (all_candidates m.view a) (everything applicable same start) seen (all-bare m.view a e) (λ later. tt)
 
       by : (b : Bool) → Only (if b then each_of frame_tables (all_candidates m.view a) (everything applicable same start) []
@@ -142,7 +142,7 @@ module _ (applicable : AnswerTrees → Bool) (same : AnswerTrees → AnswerTrees
           first-only frame_tables AreBare (unknowable m.view a) (λ seen. each_of frame_tables (all_candidates m.view a) (everything applicable same start) seen) (everything applicable same start) []
           (unknowable-bare m.view a e) (λ later. each later) (λ later. tt)
 
-  plan-only : (o : Option Asked) → ((a : Asked) → o ≡ Some a → a.environment ≡ none) → Only (plan_for applicable same start m Coherence o)
+  plan-only : (o : Option GoalOverKinds) → ((a : GoalOverKinds) → o ≡ Some a → a.environment ≡ none) → Only (plan_for applicable same start m Coherence o)
   plan-only None f = unsure-only
   plan-only (Some a) f = by (not m.is_sound || begins_unknown a.kinds (self_of a))
     where
@@ -151,12 +151,12 @@ module _ (applicable : AnswerTrees → Bool) (same : AnswerTrees → AnswerTrees
       by false = asked-only a (f a refl)
 
 -- ---- the questions
-pub asked-bare : (m : Meaning) (f : CanonicalForm) → f.goal.environment ≡ none → (a : Asked) → asked m.view f ≡ Some a → a.environment ≡ none
+pub asked-bare : (m : ViewMeaning) (f : CanonicalForm) → f.goal.environment ≡ none → (a : GoalOverKinds) → goal_over_kinds m.view f ≡ Some a → a.environment ≡ none
 asked-bare m f e a is = sym (asked-by m.view f.goal.environment f.goal.predicate (all_known f.kinds) a is).environment_is ∙ e
 
 -- where solutions are looked for does not depend on whether a goal is decided
-pub same-place : (V : World) (crate : ℕ) (x y : Bool) (p : Place (record { view = V; crate = crate; is_sound = x }))
-    → (q : Place (record { view = V; crate = crate; is_sound = y })) × ((r : Reference) → proved_at p r → proved_at q r)
+pub same-place : (V : World) (crate : ℕ) (x y : Bool) (p : SolutionPlace (record { view = V; crate = crate; is_sound = x }))
+    → (q : SolutionPlace (record { view = V; crate = crate; is_sound = y })) × ((r : Reference) → proved_at p r → proved_at q r)
 same-place V crate x y (by_view crates begin) = (by_view crates begin, λ r h. h)
 same-place V crate x y (in_set w) = (in_set (record { set = w.set; views = w.views; rank = w.rank; linked = w.linked; numbers = w.numbers; crates = w.crates; holds = w.holds }), λ r h. h)
 
@@ -164,8 +164,8 @@ pub keep-worlds : KeepWorlds
 keep-worlds applicable same m PostAnalysis f heard q came e x = absurd x
 keep-worlds applicable same m Coherence f heard q came e x =
     let start = begin (kinds_known f.kinds) in
-    let plan = plan_for applicable same start m Coherence (asked m.view f) in
-    let only = plan-only applicable same start m (asked m.view f) (λ a is. asked-bare m f x.no_clauses a is) in
+    let plan = plan_for applicable same start m Coherence (goal_over_kinds m.view f) in
+    let only = plan-only applicable same start m (goal_over_kinds m.view f) (λ a is. asked-bare m f x.no_clauses a is) in
     let bare =
     questions_so frame_tables IsBare HasNone kept-tables (solver_handled applicable same m Coherence f) (begin-made (kinds_known f.kinds), x.no_placeholders)
     (λ seen c is. wanted-only frame_tables AreBare (after frame_tables plan seen) c (after-only frame_tables AreBare plan seen only) is) heard q came e in

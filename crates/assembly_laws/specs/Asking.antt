@@ -15,13 +15,13 @@ use Rattle.evaluation.specs.Variables.{is_variable_over}
 use Rattle.assembly_laws.specs.Facts.{clauses_of}
 
 -- a goal over variables of these kinds
-pub record Asked : Type 0 where
+pub record GoalOverKinds : Type 0 where
   pub kinds : List CanonicalVarKind
   pub environment : Trees
   pub reference : Reference
 
 -- the where-clauses that speak of traits
-abbrev pub clauses : Asked → List Reference
+abbrev pub clauses : GoalOverKinds → List Reference
 clauses a = clauses_of a.environment
 
 -- the kinds, if all are known
@@ -53,19 +53,19 @@ abbrev pub next_of : Trees → Trees
 next_of none = none
 next_of (tree l c o) = o
 
-abbrev pub asked_if : Bool → Asked → Option Asked
+abbrev pub asked_if : Bool → GoalOverKinds → Option GoalOverKinds
 asked_if true a = Some a
 asked_if false a = None
 
-abbrev pub asked_with : World → Trees → Trees → Option (List CanonicalVarKind) → Option Asked
+abbrev pub asked_with : World → Trees → Trees → Option (List CanonicalVarKind) → Option GoalOverKinds
 asked_with V environment (tree (predicate (of_trait t)) args none) (Some kinds) =
-    let a : Asked = record { kinds = kinds; environment = environment; reference = record { trait = t; args = args } } in
+    let a : GoalOverKinds = record { kinds = kinds; environment = environment; reference = record { trait = t; args = args } } in
     asked_if (written_in V a.reference && (is_made (is_variable_over kinds) terms args && ((begins_with_type args && (not (t == unsize) || begins_with_type (next_of args))) && are_clauses kinds environment))) a
 asked_with V environment asks kinds = None
 
 -- the goal that a canonical form asks, if it is made as such forms are and names what the view declares
-abbrev pub asked : World → CanonicalForm → Option Asked
-asked V f = asked_with V f.goal.environment f.goal.predicate (all_known f.kinds)
+abbrev pub goal_over_kinds : World → CanonicalForm → Option GoalOverKinds
+goal_over_kinds V f = asked_with V f.goal.environment f.goal.predicate (all_known f.kinds)
 
 -- ---- the self type, and the type after it
 -- the arguments, the self type first, whose head is read up to lifetimes: a fn pointer's binder does not count
@@ -73,7 +73,7 @@ abbrev pub with_plain_head : Trees → Trees
 with_plain_head none = none
 with_plain_head (tree l c o) = tree (erase_label l) c o
 
-abbrev pub self_of : Asked → Trees
+abbrev pub self_of : GoalOverKinds → Trees
 self_of a = with_plain_head a.reference.args
 
 -- the first of the trees is an unknown type

@@ -28,7 +28,7 @@ use Rattle.type_terms.specs.declared.TheConstants.{MAX_INDEX}
 use Rattle.assembly_laws.specs.Facts.{tree_of_reference}
 use Rattle.declarations.specs.Elaboration.{elaborate, supertraits}
 use Rattle.assembly_laws.specs.Apart.{are_apart}
-use Rattle.assembly_laws.specs.Asking.{Asked, self_of, next_of, begins_unknown, with_plain_head}
+use Rattle.assembly_laws.specs.Asking.{GoalOverKinds, self_of, next_of, begins_unknown, with_plain_head}
 
 -- The handle of the impl of a number; numbers of impls are in range.
 abbrev pub impl_id : ℕ → ImplId
@@ -39,7 +39,7 @@ Candidate = Spec (workings frame_tables)
 
 -- ---- parts of candidates
 -- a premise, under the goal's where-clauses; whether the step to it is coinductive
-abbrev pub premise : Asked → Bool → Reference → Nested
+abbrev pub premise : GoalOverKinds → Bool → Reference → Nested
 premise a kind r = record { goal = record { environment = a.environment; predicate = tree_of_reference r none }; coinductive = kind }
 
 abbrev pub first_value : Label → Trees → Value
@@ -57,7 +57,7 @@ all_equal none (tree m d p) = never_met ∷ []
 all_equal (tree l c o) none = never_met ∷ []
 
 -- a certain candidate without variables of its own: its premises are asked as where-clauses of an impl
-abbrev pub by_rule : World → Asked → CandidateSource → List Equation → List Reference → Candidate
+abbrev pub by_rule : World → GoalOverKinds → CandidateSource → List Equation → List Reference → Candidate
 by_rule V a source equations premises = record {
   source = source;
   kinds = [];
@@ -76,7 +76,7 @@ abbrev pub unsure : Candidate
 unsure = record { source = BuiltinImpl Misc; kinds = []; equations = []; regions = none; nested = []; certainty = Maybe Ambiguity }
 
 -- a crate that is not seen may have an impl, which has the goal's supertraits
-abbrev pub unknowable : World → Asked → Candidate
+abbrev pub unknowable : World → GoalOverKinds → Candidate
 unknowable V a = record {
   source = CoherenceUnknowable;
   kinds = [];
@@ -91,7 +91,7 @@ unknowable V a = record {
 abbrev pub clause_source : Reference → ParamEnvSource
 clause_source r = if some_node is_open r.args then NonGlobal else Global
 
-abbrev pub by_clauses : World → Asked → List Reference → List Candidate
+abbrev pub by_clauses : World → GoalOverKinds → List Reference → List Candidate
 by_clauses V a [] = []
 by_clauses V a (r ∷ rs) =
     if r.trait == a.reference.trait then by_rule V a (ParamEnv (clause_source r)) (all_equal a.reference.args r.args) [] ∷ by_clauses V a rs else by_clauses V a rs
@@ -115,16 +115,16 @@ abbrev pub moved : ℕ → Label → Option Trees
 moved n (param k i) = Some (leaf (canonical k (n + i)))
 moved n l = None
 
-abbrev pub behind : ℕ → Reference → Reference
-behind n r = record { trait = r.trait; args = put_in (moved n) r.args }
+abbrev pub rules_behind : ℕ → Reference → Reference
+rules_behind n r = record { trait = r.trait; args = put_in (moved n) r.args }
 
-abbrev pub by_the_impl : World → Asked → ImplDecl → Candidate
+abbrev pub by_the_impl : World → GoalOverKinds → ImplDecl → Candidate
 by_the_impl V a i = record {
   source = Impl (impl_id i.name);
   kinds = kinds_of_params i.header.args zero i.params;
-  equations = all_equal a.reference.args (behind (length a.kinds) i.header).args;
+  equations = all_equal a.reference.args (rules_behind (length a.kinds) i.header).args;
   regions = none;
-  nested = map (premise a (is_coinductive V a.reference.trait)) (map (behind (length a.kinds)) i.clauses);
+  nested = map (premise a (is_coinductive V a.reference.trait)) (map (rules_behind (length a.kinds)) i.clauses);
   certainty = Yes;
 }
 
@@ -137,13 +137,13 @@ is_relevant_to (tree l c o) header = same_head l header
 abbrev pub can_match : Trees → Trees → Bool
 can_match args header = is_relevant_to (with_plain_head args) header && not (are_apart args header)
 
-abbrev pub by_impls : World → Asked → List ImplDecl → List Candidate
+abbrev pub by_impls : World → GoalOverKinds → List ImplDecl → List Candidate
 by_impls V a [] = []
 by_impls V a (i ∷ is) = if (i.header.trait == a.reference.trait) && can_match a.reference.args i.header.args then by_the_impl V a i ∷ by_impls V a is else by_impls V a is
 
 -- ---- built-in rules
 -- rules that read the goal's outermost types alone: the rule of the goal as it is written is the candidate
-abbrev pub as_written : World → Asked → CandidateSource → List Rule → List Candidate
+abbrev pub as_written : World → GoalOverKinds → CandidateSource → List Rule → List Candidate
 as_written V a source [] = []
 as_written V a source (u ∷ us) = by_rule V a source [] u.premises ∷ as_written V a source us
 
@@ -154,32 +154,32 @@ abbrev pub if_so : {A : Type 0} → Bool → List A → List A
 if_so true xs = xs
 if_so false xs = []
 
-abbrev pub by_sized : World → Asked → List Candidate
+abbrev pub by_sized : World → GoalOverKinds → List Candidate
 by_sized V a = if_so (a.reference.trait == sized) (as_written V a (BuiltinImpl Trivial) (sized_rules V (self_of a)))
 
-abbrev pub by_copy : World → Asked → List Candidate
+abbrev pub by_copy : World → GoalOverKinds → List Candidate
 by_copy V a = if_so ((a.reference.trait == copy) || (a.reference.trait == clone)) (as_written V a misc (copy_rules a.reference.trait (self_of a)))
 
-abbrev pub by_auto : World → Asked → List Candidate
+abbrev pub by_auto : World → GoalOverKinds → List Candidate
 by_auto V a = if_so (is_auto V a.reference.trait) (as_written V a misc (auto_rules V a.reference.trait (self_of a)))
 
-abbrev pub by_tuple : World → Asked → List Candidate
+abbrev pub by_tuple : World → GoalOverKinds → List Candidate
 by_tuple V a = if_so (a.reference.trait == tuple_trait) (as_written V a misc (tuple_rules (self_of a)))
 
-abbrev pub by_fn_ptr : World → Asked → List Candidate
+abbrev pub by_fn_ptr : World → GoalOverKinds → List Candidate
 by_fn_ptr V a = if_so (a.reference.trait == fn_ptr_trait) (as_written V a misc (fn_ptr_rules (self_of a)))
 
 -- `fn(T1, .., Tn) -> R: FnOnce<A>` equates A with the tuple of the inputs
-abbrev pub call_of : World → Asked → Trees → List Candidate
+abbrev pub call_of : World → GoalOverKinds → Trees → List Candidate
 call_of V a (tree (fn_ptr n) types (tree l c others)) = by_rule V a misc (all_equal (tree tuple (but_last types) none) (tree l c none)) (last_asked sized types) ∷ []
 call_of V a self = []
 
-abbrev pub by_call : World → Asked → List Candidate
+abbrev pub by_call : World → GoalOverKinds → List Candidate
 by_call V a = if_so (is_fn_trait a.reference.trait) (call_of V a (self_of a))
 
 -- ---- `Unsize`
 -- `[T; N]: Unsize<[U]>` equates T with U
-abbrev pub unsize_array_of : World → Asked → Trees → List Candidate
+abbrev pub unsize_array_of : World → GoalOverKinds → Trees → List Candidate
 unsize_array_of V a (tree array (tree l c n) (tree slice (tree m d p) o)) = by_rule V a misc (all_equal (tree l c none) (tree m d none)) [] ∷ []
 unsize_array_of V a args = []
 
@@ -187,19 +187,19 @@ abbrev pub upcast_source : ℕ → CandidateSource
 upcast_source i = BuiltinImpl (TraitUpcasting i)
 
 -- the bounds of the trait of q among these, which are numbered from i on: each is equated with q
-abbrev pub upcasts_from : World → Asked → Reference → ℕ → List Reference → List Candidate
+abbrev pub upcasts_from : World → GoalOverKinds → Reference → ℕ → List Reference → List Candidate
 upcasts_from V a q i [] = []
 upcasts_from V a q i (r ∷ rs) =
     if r.trait == q.trait then by_rule V a (upcast_source i) (all_equal r.args q.args) [] ∷ upcasts_from V a q (suc i) rs else upcasts_from V a q (suc i) rs
 
 -- the principal is dropped, or kept where the traits are one, or upcast to a supertrait
-abbrev pub upcasts_to : World → Asked → List Reference → List Reference → List Candidate
+abbrev pub upcasts_to : World → GoalOverKinds → List Reference → List Reference → List Candidate
 upcasts_to V a ps [] = by_rule V a misc [] [] ∷ []
 upcasts_to V a [] (q ∷ qs) = []
 upcasts_to V a (p ∷ ps) (q ∷ qs) = if p.trait == q.trait then by_rule V a misc (all_equal p.args q.args) [] ∷ [] else upcasts_from V a q 1 (supertraits V p)
 
 -- `dyn A: Unsize<dyn B>`; auto traits are compared by name alone
-abbrev pub upcasts_of : World → Asked → Trees → List Candidate
+abbrev pub upcasts_of : World → GoalOverKinds → Trees → List Candidate
 upcasts_of V a (tree dynamic b (tree dynamic d o)) =
     let self = tree dynamic b none in
     if_so (are_declared V (principal_with self b) && upcasts_autos V (principal_with self b) (autos_with self b) (autos_with self d)) (upcasts_to V a (principal_with self b) (principal_with self d))
@@ -207,15 +207,15 @@ upcasts_of V a args = []
 
 -- `S<b>: Unsize<S<d>>`: the declaration tells which parameters are unsizing; the other arguments are equated, and the last field is
 -- asked to unsize
-abbrev pub unsize_by_struct : World → Asked → Trees → Trees → StructDecl → List Candidate
+abbrev pub unsize_by_struct : World → GoalOverKinds → Trees → Trees → StructDecl → List Candidate
 unsize_by_struct V a b d x = if_so (some_unsizing x.fields 0 b) (by_rule V a misc (all_equal (with_unsizing x.fields 0 b d) d) (last_unsizes x.fields b d) ∷ [])
 
-abbrev pub unsize_struct_of : World → Asked → Trees → List Candidate
+abbrev pub unsize_struct_of : World → GoalOverKinds → Trees → List Candidate
 unsize_struct_of V a (tree (adt s) b (tree (adt u) d o)) = if_so (s == u) (flat_map (unsize_by_struct V a b d) (structs_named V s))
 unsize_struct_of V a args = []
 
 -- where the heads of both types are known; `T: Unsize<dyn B>` asks T for each bound of B, and for `Sized`
-abbrev pub unsize_known : World → Asked → Trees → List Candidate
+abbrev pub unsize_known : World → GoalOverKinds → Trees → List Candidate
 unsize_known V a args = unsize_array_of V a args ++ (as_written V a misc (unsize_to_dyn_rules V args) ++ (upcasts_of V a args ++ unsize_struct_of V a args))
 
 -- the last of the trees
@@ -240,19 +240,19 @@ abbrev pub unsizing_outlives : Trees → Trees
 unsizing_outlives args = outlives (nth args 0) (lifetime_of args) (lifetime_of (next_of args))
 
 -- `dyn A + 'a: Unsize<dyn B + 'b>` records `'a: 'b`, and `T: Unsize<dyn B + 'b>` records `T: 'b`
-abbrev pub unsize_recording : World → Asked → List Candidate
+abbrev pub unsize_recording : World → GoalOverKinds → List Candidate
 unsize_recording V a = map (recording (unsizing_outlives a.reference.args)) (unsize_known V a (self_of a))
 
 -- a target that is unknown leaves it open
-abbrev pub by_unsize : World → Asked → List Candidate
+abbrev pub by_unsize : World → GoalOverKinds → List Candidate
 by_unsize V a = if_so (a.reference.trait == unsize) (if begins_unknown a.kinds (next_of (self_of a)) then unsure ∷ [] else unsize_recording V a)
 
-abbrev pub built_in : World → Asked → List Candidate
+abbrev pub built_in : World → GoalOverKinds → List Candidate
 built_in V a = by_sized V a ++ (by_copy V a ++ (by_auto V a ++ (by_tuple V a ++ (by_fn_ptr V a ++ (by_call V a ++ by_unsize V a)))))
 
 -- ---- object bounds
 -- the bounds of the goal's trait among these, which are numbered from i on: they are equated, and the supertraits of the goal are asked
-abbrev pub bounds_from : World → Asked → (ℕ → CandidateSource) → ℕ → List Reference → List Candidate
+abbrev pub bounds_from : World → GoalOverKinds → (ℕ → CandidateSource) → ℕ → List Reference → List Candidate
 bounds_from V a source i [] = []
 bounds_from V a source i (r ∷ rs) =
     if r.trait == a.reference.trait
@@ -265,7 +265,7 @@ object_source i = BuiltinImpl (Object i)
 abbrev pub written_source : ℕ → CandidateSource
 written_source i = misc
 
-abbrev pub objects_of : World → Asked → Trees → List Candidate
+abbrev pub objects_of : World → GoalOverKinds → Trees → List Candidate
 objects_of V a (tree dynamic bounds others) =
     let self = tree dynamic bounds none in
     if_so (are_dyn_compatible V (principal_with self bounds))
@@ -273,5 +273,5 @@ objects_of V a (tree dynamic bounds others) =
     ++ if_so (not (a.reference.trait == sized)) (bounds_from V a object_source 0 (elaborate V (principal_with self bounds))))
 objects_of V a self = []
 
-abbrev pub by_objects : World → Asked → List Candidate
+abbrev pub by_objects : World → GoalOverKinds → List Candidate
 by_objects V a = objects_of V a (self_of a)

@@ -18,11 +18,11 @@ use Rattle.evaluation.specs.TableOperations.{begin}
 use Rattle.evaluation.specs.Tables.{frame_tables}
 use Rattle.assembly_laws.specs.Slots.{as_slots, with_slots}
 use Rattle.declarations.specs.Elaboration.{elaborate}
-use Rattle.assembly_laws.specs.Meaning.{Meaning, Place, proved_at}
+use Rattle.assembly_laws.specs.Meaning.{ViewMeaning, SolutionPlace, proved_at}
 use Rattle.assembly_laws.specs.Lifetimes.{goal_gives_lifetimes}
 use Rattle.assembly_laws.specs.Knowing.{is_knowable}
 use Rattle.assembly_laws.specs.Declared.{is_declared_view, BoundsAreErased, LeadDown}
-use Rattle.assembly_laws.specs.Asking.{Asked, asked, clauses, self_of, begins_unknown}
+use Rattle.assembly_laws.specs.Asking.{GoalOverKinds, goal_over_kinds, clauses, self_of, begins_unknown}
 use Rattle.assembly_laws.specs.Candidates.{Candidate, unknowable, by_clauses, built_in, by_impls, by_objects}
 use Rattle.assembly_laws.specs.Determined.{ImplsAreDetermined}
 use Rattle.assembly_laws.specs.Solver.{Searched, IsSolution, has_placeholder}
@@ -40,7 +40,7 @@ abbrev pub nested_at : List Trees → Nested → Fact
 nested_at ts n = record { trait = trait_of n.goal.predicate; goal = goal_read (given ts) n.goal; proper = true }
 
 -- terms for the candidate's own variables, as tables have them, with which its equations hold and its premises are solutions
-pub record Gives (H : Reference → Type 0) (kinds : List CanonicalVarKind) (v : Values) (c : Candidate) : Type 0 where
+pub record SolvesEquations (H : Reference → Type 0) (kinds : List CanonicalVarKind) (v : Values) (c : Candidate) : Type 0 where
   pub own : List Trees
   pub sorted : as_slots c.kinds own ≡ own
   pub equal : Every (λ (e : Equation). read_with (given (slots kinds v own)) e.left.trees ≡ read_with (given (slots kinds v own)) e.right.trees) c.equations
@@ -51,7 +51,7 @@ abbrev pub AreTermsOf : Candidate → Type 0
 AreTermsOf c = Every (λ (e : Equation). (term_of e.left ≡ e.left.trees) × (term_of e.right ≡ e.right.trees)) c.equations
 
 -- the supertraits of a `dyn` type's principal trait have made terms as arguments
-abbrev pub BoundsAreTerms : World → Asked → Type 0
+abbrev pub BoundsAreTerms : World → GoalOverKinds → Type 0
 BoundsAreTerms V a =
     (bounds others : Trees) → self_of a ≡ tree dynamic bounds others
     → Every (λ (r : Reference). is_made is_open_label terms r.args ≡ true) (elaborate V (principal_with (tree dynamic bounds none) bounds))
@@ -59,11 +59,11 @@ BoundsAreTerms V a =
 -- the table of the candidate allows these terms, and with them it realizes the values
 abbrev pub GivenIsRealized : Type 0
 GivenIsRealized =
-    (m : Meaning) (w : Place m) (kinds : List CanonicalVarKind) (v : Values) (c : Candidate) → AreTermsOf c → has_placeholder kinds ≡ false → has_placeholder c.kinds ≡ false
-    → (v.proper && fits (map Some kinds) v.terms) ≡ true → Gives (proved_at w) kinds (with_slots kinds v) c → Realizes frame_tables (IsSolution (proved_at w)) (begin kinds) v c
+    (m : ViewMeaning) (w : SolutionPlace m) (kinds : List CanonicalVarKind) (v : Values) (c : Candidate) → AreTermsOf c → has_placeholder kinds ≡ false → has_placeholder c.kinds ≡ false
+    → (v.proper && fits (map Some kinds) v.terms) ≡ true → SolvesEquations (proved_at w) kinds (with_slots kinds v) c → Realizes frame_tables (IsSolution (proved_at w)) (begin kinds) v c
 
 -- all candidates but the unknowable one
-abbrev pub all_candidates : World → Asked → List Candidate
+abbrev pub all_candidates : World → GoalOverKinds → List Candidate
 all_candidates V a = by_clauses V a (clauses a) ++ (built_in V a ++ (by_impls V a V.impls ++ by_objects V a))
 
 abbrev pub goal_fact : CanonicalForm → Values → Fact
@@ -71,11 +71,11 @@ goal_fact f v = fact_of (record { form = f; coinductive = false }) v
 
 -- of a goal that gives its structs their lifetimes: where it is knowable each solution is one by a candidate, and in any case it is one
 -- by the unknowable candidate
-abbrev pub SolutionsAreCandidates : Meaning → Type 0
+abbrev pub SolutionsAreCandidates : ViewMeaning → Type 0
 SolutionsAreCandidates m =
-    (f : CanonicalForm) (a : Asked) → asked m.view f ≡ Some a → begins_unknown a.kinds (self_of a) ≡ false → goal_gives_lifetimes m.view a ≡ true
+    (f : CanonicalForm) (a : GoalOverKinds) → goal_over_kinds m.view f ≡ Some a → begins_unknown a.kinds (self_of a) ≡ false → goal_gives_lifetimes m.view a ≡ true
     → (w : Searched m f) (v : Values) → IsSolution (proved_at w.place) (goal_fact f v)
-    → (is_knowable m.view m.crate a.reference ≡ true → SomeOf (Gives (proved_at w.place) a.kinds v) (all_candidates m.view a)) × Gives (proved_at w.place) a.kinds v (unknowable m.view a)
+    → (is_knowable m.view m.crate a.reference ≡ true → SomeOf (SolvesEquations (proved_at w.place) a.kinds v) (all_candidates m.view a)) × SolvesEquations (proved_at w.place) a.kinds v (unknowable m.view a)
 
 -- the reference with terms for its variables
 abbrev pub read_reference : List Trees → Reference → Reference
@@ -88,4 +88,4 @@ Proved H r = (is_closed r.args ≡ true) × H r
 -- by the crate's view alone, and in every linked set that holds it, each solution is one by the candidates that are considered
 abbrev pub SolutionsAreByCandidates : Type 0
 SolutionsAreByCandidates =
-    (m : Meaning) → is_declared_view m.view ≡ true → ImplsAreDetermined m.view → BoundsAreErased m.view → (rank : ℕ → ℕ) → LeadDown m.view rank → SolutionsAreCandidates m
+    (m : ViewMeaning) → is_declared_view m.view ≡ true → ImplsAreDetermined m.view → BoundsAreErased m.view → (rank : ℕ → ℕ) → LeadDown m.view rank → SolutionsAreCandidates m

@@ -11,14 +11,14 @@ use Rattle.evaluation.specs.Law.{Realizes}
 use Rattle.evaluation.specs.Handler.{Handled, IsHandler}
 use Rattle.evaluation.specs.Content.{Values}
 use Rattle.evaluation.specs.Tables.{frame_tables}
-use Rattle.evaluation.specs.Handler.{IsLawful}
+use Rattle.evaluation.specs.Handler.{CandidateIsLawful}
 use Rattle.evaluation.specs.Plans.{nested_in}
-use Rattle.evaluation.specs.Merge.{IsTest, TellsApart}
-use Rattle.assembly_laws.specs.Meaning.{Meaning}
+use Rattle.evaluation.specs.Merge.{IsTest, TellsResponsesApart}
+use Rattle.assembly_laws.specs.Meaning.{ViewMeaning}
 use Rattle.assembly_laws.specs.Lifetimes.{GivesLifetimes}
 use Rattle.assembly_laws.specs.Declared.{is_declared_view, BoundsAreErased, LeadDown}
 use Rattle.assembly_laws.specs.Determined.{ImplsAreDetermined}
-use Rattle.assembly_laws.specs.Asking.{Asked, asked}
+use Rattle.assembly_laws.specs.Asking.{GoalOverKinds, goal_over_kinds}
 use Rattle.assembly_laws.specs.Candidates.{unknowable}
 use Rattle.assembly_laws.specs.Solver.{solver_handled}
 use Rattle.assembly_laws.specs.Cover.{BoundsAreTerms, all_candidates}
@@ -30,15 +30,15 @@ AnswersCover h =
     → (w : h.World) (v : Values) → h.Proves w (h.goal v) → SomeOf (λ (c : Considered (workings frame_tables)). Realizes frame_tables (h.Proves w) h.begin v c.spec) seen
 
 -- the bounds of `dyn` types in the goals that are decided
-abbrev pub BoundsAreLeft : Meaning → Type 0
-BoundsAreLeft m = (f : CanonicalForm) (a : Asked) → asked m.view f ≡ Some a → BoundsAreTerms m.view a
+abbrev pub BoundsAreLeft : ViewMeaning → Type 0
+BoundsAreLeft m = (f : CanonicalForm) (a : GoalOverKinds) → goal_over_kinds m.view f ≡ Some a → BoundsAreTerms m.view a
 
 -- they have made terms, where the bounds of traits hold no lifetime parameters
 abbrev pub ErasedBoundsAreLeft : Type 0
-ErasedBoundsAreLeft = (m : Meaning) → is_declared_view m.view ≡ true → BoundsAreErased m.view → BoundsAreLeft m
+ErasedBoundsAreLeft = (m : ViewMeaning) → is_declared_view m.view ≡ true → BoundsAreErased m.view → BoundsAreLeft m
 
 -- what has to hold of declarations that are found to be sound: of the view alone, but for the bounds of `dyn` types
-pub record IsAsMeant (m : Meaning) : Type 0 where
+pub record IsAsMeant (m : ViewMeaning) : Type 0 where
   pub declared : is_declared_view m.view ≡ true
   pub determined : ImplsAreDetermined m.view
   pub erased : BoundsAreErased m.view
@@ -48,19 +48,19 @@ pub record IsAsMeant (m : Meaning) : Type 0 where
 
 abbrev pub CoherenceIsCovered : Type 0
 CoherenceIsCovered =
-    (applicable : AnswerTrees → Bool) (same : AnswerTrees → AnswerTrees → Bool) (m : Meaning) → (m.is_sound ≡ true → IsAsMeant m)
+    (applicable : AnswerTrees → Bool) (same : AnswerTrees → AnswerTrees → Bool) (m : ViewMeaning) → (m.is_sound ≡ true → IsAsMeant m)
     → (f : CanonicalForm) → GivesLifetimes m f → AnswersCover (solver_handled applicable same m Coherence f)
 
 -- the candidates of a goal that is decided are lawful, and there are not too many of them
-pub record CandidatesAreLawful (h : Handled frame_tables) (V : World) (a : Asked) : Type 0 where
-  pub each : Every (IsLawful frame_tables h) (unknowable V a ∷ all_candidates V a)
+pub record DecidedCandidatesAreLawful (h : Handled frame_tables) (V : World) (a : GoalOverKinds) : Type 0 where
+  pub each : Every (CandidateIsLawful frame_tables h) (unknowable V a ∷ all_candidates V a)
   pub few : suc (length (all_candidates V a)) ≤ h.candidates
   pub asks : nested_in frame_tables (unknowable V a ∷ all_candidates V a) ≤ h.number
 
 -- left besides: candidates are lawful and few enough
 abbrev pub CoherenceIsLawful : Type 0
 CoherenceIsLawful =
-    (applicable : AnswerTrees → Bool) (same : AnswerTrees → AnswerTrees → Bool) → IsTest frame_tables applicable → TellsApart same
-    → (m : Meaning) → (m.is_sound ≡ true → IsAsMeant m)
-    → (f : CanonicalForm) → GivesLifetimes m f → ((a : Asked) → asked m.view f ≡ Some a → CandidatesAreLawful (solver_handled applicable same m Coherence f) m.view a)
+    (applicable : AnswerTrees → Bool) (same : AnswerTrees → AnswerTrees → Bool) → IsTest frame_tables applicable → TellsResponsesApart same
+    → (m : ViewMeaning) → (m.is_sound ≡ true → IsAsMeant m)
+    → (f : CanonicalForm) → GivesLifetimes m f → ((a : GoalOverKinds) → goal_over_kinds m.view f ≡ Some a → DecidedCandidatesAreLawful (solver_handled applicable same m Coherence f) m.view a)
     → IsHandler frame_tables (solver_handled applicable same m Coherence f)

@@ -7,7 +7,7 @@ use Rattle.type_terms.specs.Rules.{Way, rules, is_coinductive}
 use Rattle.type_terms.specs.Proofs.{In}
 use Rattle.type_terms.specs.Proofs as Model
 use Rattle.evaluation.specs.Lists.{Every, IsAmong}
-use Rattle.evaluation.specs.Proof.{HasProof}
+use Rattle.evaluation.specs.Proof.{FactHasProof}
 use Rattle.evaluation.specs.Content.{Fact}
 
 -- ---- references and where-clauses as trees, and back
@@ -59,7 +59,7 @@ is_plain f = not (some_node is_unerased f.goal.predicate)
 
 -- ---- what follows
 -- the fact is one of its reference, and one of the rules of V and its clauses that conclude it has its premises among these
-pub record Follows (V : World) (f : Fact) (premises : List Fact) : Type 0 where
+pub record FactFollows (V : World) (f : Fact) (premises : List Fact) : Type 0 where
   pub asks : beside f (reference_in f) ≡ f
   pub way : Way
   pub references : List Reference
@@ -69,7 +69,7 @@ pub record Follows (V : World) (f : Fact) (premises : List Fact) : Type 0 where
 
 -- what is improper, or not written up to lifetimes, counts for nothing
 abbrev pub FollowsByView : World → Fact → List Fact → Type 0
-FollowsByView V f premises = f.proper ≡ true → is_plain f ≡ true → Follows V f premises
+FollowsByView V f premises = f.proper ≡ true → is_plain f ≡ true → FactFollows V f premises
 
 abbrev pub is_coinductive_trait : World → Option ℕ → Bool
 is_coinductive_trait V None = false
@@ -81,7 +81,7 @@ is_coinductive_fact V f = is_coinductive_trait V f.trait
 -- a proof of facts is one of the model
 abbrev pub ProofsOfFactsAreProofs : Type 0
 ProofsOfFactsAreProofs =
-    (V : World) (f : Fact) → f.proper ≡ true → is_plain f ≡ true → HasProof Fact (FollowsByView V) (is_coinductive_fact V) f
+    (V : World) (f : Fact) → f.proper ≡ true → is_plain f ≡ true → FactHasProof Fact (FollowsByView V) (is_coinductive_fact V) f
     → Model.HasProof V (clauses_of f.goal.environment) (reference_in f)
 
 -- a reference and clauses come back from what they are as trees

@@ -7,8 +7,8 @@ use Rattle.type_terms.specs.Trees.{Trees, tree, is_a, nth, some_node}
 use Rattle.type_terms.specs.Worlds.{World, StructDecl, structs_named}
 use Rattle.type_terms.specs.Rules.{unsize}
 use Rattle.infer_table.specs.Canonical.{CanonicalForm}
-use Rattle.assembly_laws.specs.Meaning.{Meaning}
-use Rattle.assembly_laws.specs.Asking.{Asked, asked, self_of, next_of}
+use Rattle.assembly_laws.specs.Meaning.{ViewMeaning}
+use Rattle.assembly_laws.specs.Asking.{GoalOverKinds, goal_over_kinds, self_of, next_of}
 
 -- a lifetime parameter for which these arguments have something else, or nothing
 abbrev pub lacks_lifetime : Trees → Label → Bool
@@ -24,17 +24,17 @@ gives_lifetimes V (tree (adt s) A o) = list_all (are_given A) (structs_named V s
 gives_lifetimes V t = true
 
 -- of the self type and, where `Unsize` is asked, the target
-abbrev pub goal_gives_lifetimes : World → Asked → Bool
+abbrev pub goal_gives_lifetimes : World → GoalOverKinds → Bool
 goal_gives_lifetimes V a = gives_lifetimes V (self_of a) && (not (a.reference.trait == unsize) || gives_lifetimes V (next_of (self_of a)))
 
 -- of the goal that the form asks, if it asks one
-abbrev pub given_by : World → Option Asked → Bool
+abbrev pub given_by : World → Option GoalOverKinds → Bool
 given_by V None = true
 given_by V (Some a) = goal_gives_lifetimes V a
 
 abbrev pub form_gives_lifetimes : World → CanonicalForm → Bool
-form_gives_lifetimes V f = given_by V (asked V f)
+form_gives_lifetimes V f = given_by V (goal_over_kinds V f)
 
 -- a goal that is decided gives them
-abbrev pub GivesLifetimes : Meaning → CanonicalForm → Type 0
-GivesLifetimes m f = m.is_sound ≡ true → (a : Asked) → asked m.view f ≡ Some a → goal_gives_lifetimes m.view a ≡ true
+abbrev pub GivesLifetimes : ViewMeaning → CanonicalForm → Type 0
+GivesLifetimes m f = m.is_sound ≡ true → (a : GoalOverKinds) → goal_over_kinds m.view f ≡ Some a → goal_gives_lifetimes m.view a ≡ true

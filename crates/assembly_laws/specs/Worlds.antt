@@ -6,20 +6,20 @@ use Rattle.infer_table.specs.Responses.{AnswerTrees}
 use Rattle.evaluation.specs.Handler.{Handled}
 use Rattle.evaluation.specs.History.{evaluate, asks, CameInOrder}
 use Rattle.evaluation.specs.Promises.{frame_of_goal, Anything, History}
-use Rattle.evaluation.specs.Content.{Fact, Question}
+use Rattle.evaluation.specs.Content.{Fact, NestedQuestion}
 use Rattle.evaluation.specs.Tables.{frame_tables}
-use Rattle.assembly_laws.specs.Meaning.{Meaning}
+use Rattle.assembly_laws.specs.Meaning.{ViewMeaning}
 use Rattle.assembly_laws.specs.Solver.{solver_handled}
 
 -- what has a proof in a linked set for the one goal has one in some set for the other
-abbrev pub ProvesNoMore : Handled frame_tables → Handled frame_tables → Type 0
-ProvesNoMore h nested = (x : h.World) → (y : nested.World) × ((f : Fact) → h.Proves x f → nested.Proves y f)
+abbrev pub LinkedSetsProveNoMore : Handled frame_tables → Handled frame_tables → Type 0
+LinkedSetsProveNoMore h nested = (x : h.World) → (y : nested.World) × ((f : Fact) → h.Proves x f → nested.Proves y f)
 
 -- whatever was answered
 abbrev pub KeepWorlds : Type 0
 KeepWorlds =
-    (applicable : AnswerTrees → Bool) (same : AnswerTrees → AnswerTrees → Bool) (m : Meaning) (mode : TypingMode) (f : CanonicalForm)
-    (heard : History frame_tables (solver_handled applicable same m mode f)) (q : Question)
+    (applicable : AnswerTrees → Bool) (same : AnswerTrees → AnswerTrees → Bool) (m : ViewMeaning) (mode : TypingMode) (f : CanonicalForm)
+    (heard : History frame_tables (solver_handled applicable same m mode f)) (q : NestedQuestion)
     → CameInOrder (Anything frame_tables (solver_handled applicable same m mode f)) (frame_of_goal frame_tables (solver_handled applicable same m mode f)) heard
     → asks (frame_of_goal frame_tables (solver_handled applicable same m mode f)) heard ≡ evaluate q
-    → ProvesNoMore (solver_handled applicable same m mode f) (solver_handled applicable same m mode q.form)
+    → LinkedSetsProveNoMore (solver_handled applicable same m mode f) (solver_handled applicable same m mode q.form)

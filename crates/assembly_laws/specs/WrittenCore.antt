@@ -4,7 +4,7 @@ use Rattle.type_terms.specs.Label.{of_lifetime, ref, static, param}
 use Rattle.type_terms.specs.Trees.{Trees, none, tree}
 use Rattle.type_terms.specs.Worlds.{World, ImplDecl, core}
 use Rattle.type_terms.specs.Core.{core_world}
-use Rattle.assembly_laws.specs.Meaning.{Meaning, LinkedWith}
+use Rattle.assembly_laws.specs.Meaning.{ViewMeaning, LinkedWith}
 use Rattle.assembly_laws.specs.DeclaredWell.{is_declared_well}
 
 -- with 'a, parameter 0, in the place of `'static`: `&'a T`
@@ -19,7 +19,7 @@ written_impl i = record i { header = record { trait = i.header.trait; args = wit
 abbrev pub written_core : World
 written_core = record core_world { crates = []; impls = map written_impl core_world.impls }
 
-abbrev pub core_meant : Meaning
+abbrev pub core_meant : ViewMeaning
 core_meant = record { view = written_core; crate = core; is_sound = true }
 
 -- it is declared well, and some linked set holds it

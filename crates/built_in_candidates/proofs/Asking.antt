@@ -9,7 +9,7 @@ use Rattle.infer_table.specs.Goals.{GoalHeld}
 use Rattle.infer_table.proofs.Numbers.{environment-later}
 use Rattle.evaluation.specs.declared.candidate.CandidateSource.{CandidateSource}
 use Rattle.declarations.proofs.Growth.{reference-same}
-use Rattle.assembly_laws.specs.Asking.{Asked}
+use Rattle.assembly_laws.specs.Asking.{GoalOverKinds}
 use Rattle.assembly_laws.specs.Candidates.{as_written, by_rule}
 use Rattle.built_in_candidates.specs.Goals.{asked_of}
 use Rattle.built_in_candidates.specs.Constituents.{premises_of}
@@ -19,15 +19,15 @@ asked-later old new k g h =
     same _ _ _ _ (environment-later old new k g.goal.param_env.items h.environment) (reference-same old new k g.goal.predicate.trait_ref h.predicate)
   where
     same : (s t : Trees) (q r : Reference) → s ≡ t → q ≡ r
-        → ◌≡◌ {A = Asked} (record { kinds = g.variables.items; environment = s; reference = q }) (record { kinds = g.variables.items; environment = t; reference = r })
+        → ◌≡◌ {A = GoalOverKinds} (record { kinds = g.variables.items; environment = s; reference = q }) (record { kinds = g.variables.items; environment = t; reference = r })
     same s t q r e f = cc
 
 -- what rules ask makes their candidates
-pub none-written : (V : World) (a : Asked) (s : CandidateSource) (us : List Rule) → premises_of us ≡ [] → [] ≡ as_written V a s us
+pub none-written : (V : World) (a : GoalOverKinds) (s : CandidateSource) (us : List Rule) → premises_of us ≡ [] → [] ≡ as_written V a s us
 none-written V a s [] e = refl
 none-written V a s (u ∷ us) e = absurd cc
 
-pub one-written : (V : World) (a : Asked) (s : CandidateSource) (us : List Rule) (ps : List Reference) → premises_of us ≡ ps ∷ [] → by_rule V a s [] ps ∷ [] ≡ as_written V a s us
+pub one-written : (V : World) (a : GoalOverKinds) (s : CandidateSource) (us : List Rule) (ps : List Reference) → premises_of us ≡ ps ∷ [] → by_rule V a s [] ps ∷ [] ≡ as_written V a s us
 one-written V a s [] ps e = absurd cc
 one-written V a s (u ∷ []) ps e = let q : u.premises ≡ ps = cc in ap (λ z. by_rule V a s [] z ∷ []) (sym q)
 one-written V a s (u ∷ v ∷ us) ps e = absurd cc

@@ -11,7 +11,7 @@ use Rattle.type_terms.specs.Kinds.{ArgsHeld, TysHeld, args_trees, tys_trees}
 use Rattle.type_terms.specs.declared.kinds.GenericArgKind.{GenericArgKind}
 use Rattle.type_terms.specs.declared.kinds.Ty.{Ty}
 use Rattle.term_folds.specs.Signatures.{StartsWithType}
-use Rattle.assembly_laws.specs.Asking.{Asked, with_plain_head, next_of}
+use Rattle.assembly_laws.specs.Asking.{GoalOverKinds, with_plain_head, next_of}
 use Rattle.assembly_laws.specs.Candidates.{call_of, by_rule, all_equal, misc}
 use Rattle.infer_table.proofs.BindFacts.{type-is}
 use Rattle.built_in_candidates.specs.FnPointers.{signature_of, IsFirst}
@@ -32,7 +32,7 @@ second-first es law (x ∷ []) h = ap (λ z. next_of (z +++ none)) (arg-tree es 
 second-first es law (x ∷ y ∷ xs) h = (h.1.0, args_trees es xs, ap (λ z. next_of (z +++ args_trees es (y ∷ xs))) (arg-tree es law x h.0).is)
 
 -- ---- the candidates
-module _ (V : World) (a : Asked) where
+module _ (V : World) (a : GoalOverKinds) where
   pub no-signature : (T : Trees) → signature_of T ≡ None → [] ≡ call_of V a (with_plain_head T)
   no-signature none e = refl
   no-signature (tree (fn_ptr n) c o) e = absurd cc

@@ -28,13 +28,13 @@ use Rattle.evaluation.specs.declared.candidate.BuiltinImplSource.TheVariants.{Mi
 use Rattle.declarations.specs.Items.{Items, reference_in, written}
 use Rattle.declarations.specs.Held.{ReferenceHeld}
 use Rattle.declarations.specs.Merges.{Each}
-use Rattle.declarations.specs.Applied.{references_in, AllHeld, AreApplied, HaveBounds}
+use Rattle.declarations.specs.Applied.{references_in, TraitRefsHeld, AreApplied, HaveBounds}
 use Rattle.declarations.specs.Elaboration.{elaborate, supertraits}
 use Rattle.declarations.proofs.Elaborating.{lead-down}
-use Rattle.assembly_laws.specs.Asking.{Asked, with_plain_head}
+use Rattle.assembly_laws.specs.Asking.{GoalOverKinds, with_plain_head}
 use Rattle.assembly_laws.specs.Candidates.{Candidate, by_rule, misc, all_equal, if_so, bounds_from, written_source, object_source, upcasts_from, upcasts_to, upcasts_of, objects_of}
 use Rattle.assembly_laws.proofs.Stack.{elaborated-all, elaborated-only}
-use Rattle.built_in_candidates.specs.Objects.{bounds_of, AreArgumentsOf, ObjectIsApplied, numbered_to, Bound, bound_in, bounds_to, written_and_elaborated, object_bounds, upcast_bounds, upcasts_between}
+use Rattle.built_in_candidates.specs.Objects.{bounds_of, AreArgumentsOf, ObjectIsApplied, numbered_to, BoundRule, bound_in, bounds_to, written_and_elaborated, object_bounds, upcast_bounds, upcasts_between}
 
 -- ---- what is read off bounds
 lifetime-no-principal : (self : Trees) (l : Label) → sort_of l ≡ of_lifetime → principal_with self (leaf l) ≡ []
@@ -197,7 +197,7 @@ other-numbered t i n x d rs lt is e =
     ∙ sym (ap (λ l. slice_get (numbered_to t i l) n) (cut-at rs i d lt ∙ ap (λ z. z ∷ drop (i + 1) rs) (sym is))
     ∙ ap (λ b. slice_get (if b then (i, x) ∷ numbered_to t (suc i) (drop (i + 1) rs) else numbered_to t (suc i) (drop (i + 1) rs)) n) e)
 
-pub numbered-held : (es : List Entry) (t i n : ℕ) (rs : List TraitRef) (k : ℕ) (r : TraitRef) → AllHeld es rs → Some (k, r) ≡ slice_get (numbered_to t i rs) n → ReferenceHeld es r
+pub numbered-held : (es : List Entry) (t i n : ℕ) (rs : List TraitRef) (k : ℕ) (r : TraitRef) → TraitRefsHeld es rs → Some (k, r) ≡ slice_get (numbered_to t i rs) n → ReferenceHeld es r
 numbered-held es t i n [] k r h e = absurd cc
 numbered-held es t i n (x ∷ rs) k r h e = by (x.def_id.index == t) n e (λ m g. numbered-held es t (suc i) m rs k r h.1 g)
   where
@@ -212,7 +212,7 @@ pub differ : (a b : ℕ) → (a ≡ b → ⊥) → (a == b) ≡ false
 differ a b h = so-false (a == b) (λ e. h (same-number a b e))
 
 -- ---- bounds of one trait
-abbrev pub with_source : (ℕ → BuiltinImplSource) → List Entry → ℕ × TraitRef → Bound
+abbrev pub with_source : (ℕ → BuiltinImplSource) → List Entry → ℕ × TraitRef → BoundRule
 with_source source es x = bound_in es (source x.0, x.1)
 
 module _ (source : ℕ → BuiltinImplSource) (es : List Entry) (t : ℕ) where
@@ -232,7 +232,7 @@ module _ (source : ℕ → BuiltinImplSource) (es : List Entry) (t : ℕ) where
       ∙ ap (λ l. slice_get l n) (numbered-bounds i rs)
 
 -- ---- auto traits come first
-abbrev auto_bound : ℕ → Trees → Bound
+abbrev auto_bound : ℕ → Trees → BoundRule
 auto_bound t self = record { source = Misc; reference = asked t self }
 
 same-bound : (t : ℕ) (self : Trees) (r : Reference) → r.args ≡ self → (r.trait == t) ≡ true → auto_bound t self ≡ record { source = Misc; reference = r }
@@ -245,10 +245,10 @@ module _ (t : ℕ) (self : Trees) where
   abbrev many : List Reference → ℕ
   many rs = length (filter of_trait rs)
 
-  abbrev misc_bounds : ℕ → List Reference → List Bound
+  abbrev misc_bounds : ℕ → List Reference → List BoundRule
   misc_bounds i rs = bounds_to t (λ j. Misc) i rs
 
-  autos-there : (ys : List Bound) (i n : ℕ) (rs : List Reference) → Each (λ (r : Reference). r.args ≡ self) rs → n < many rs → Some (auto_bound t self) ≡ slice_get (misc_bounds i rs ++ ys) n
+  autos-there : (ys : List BoundRule) (i n : ℕ) (rs : List Reference) → Each (λ (r : Reference). r.args ≡ self) rs → n < many rs → Some (auto_bound t self) ≡ slice_get (misc_bounds i rs ++ ys) n
   autos-there ys i n [] h lt = absurd (omega (arith, lt))
   autos-there ys i n (r ∷ rs) h lt = by (r.trait == t) refl n lt (λ m k. autos-there ys (suc i) m rs h.1 k)
     where
@@ -265,7 +265,7 @@ module _ (t : ℕ) (self : Trees) where
   minus-both : (n m : ℕ) → n - m ≡ suc n - suc m
   minus-both n m = omega arith
 
-  autos-past : (ys : List Bound) (i n : ℕ) (rs : List Reference) → many rs ≤ n → slice_get (misc_bounds i rs ++ ys) n ≡ slice_get ys (n - many rs)
+  autos-past : (ys : List BoundRule) (i n : ℕ) (rs : List Reference) → many rs ≤ n → slice_get (misc_bounds i rs ++ ys) n ≡ slice_get ys (n - many rs)
   autos-past ys i n [] le = ap (slice_get ys) (minus-zero n)
   autos-past ys i n (r ∷ rs) le = by (r.trait == t) n le (λ m k. autos-past ys (suc i) m rs k)
     where
@@ -276,7 +276,7 @@ module _ (t : ℕ) (self : Trees) where
       by true (suc m) k go = go m (omega (arith, k)) ∙ ap (slice_get ys) (minus-both m (many rs))
       by false m k go = go m k
 
-  abbrev all_bounds : Trees → List Reference → List Bound
+  abbrev all_bounds : Trees → List Reference → List BoundRule
   all_bounds b rs = bounds_to t (λ i. Misc) 0 (autos_with self b) ++ bounds_to t Object 0 rs
 
   pub auto-found : (b : Trees) (rs : List Reference) (n : ℕ) → n < many (autos_with self b) → (t == sized) ≡ false → Some (auto_bound t self) ≡ slice_get (written_and_elaborated t self b rs) n
@@ -298,8 +298,8 @@ map-if : {A B : Type 0} (f : A → B) (b : Bool) (xs : List A) → if_so b (map 
 map-if f true xs = refl
 map-if f false xs = refl
 
-module _ (V : World) (a : Asked) where
-  abbrev pub by_bound : Bound → Candidate
+module _ (V : World) (a : GoalOverKinds) where
+  abbrev pub by_bound : BoundRule → Candidate
   by_bound x = by_rule V a (BuiltinImpl x.source) (all_equal a.reference.args x.reference.args) (supertraits V a.reference)
 
   bounds-read : (source : ℕ → BuiltinImplSource) (i : ℕ) (rs : List Reference) → bounds_from V a (λ n. BuiltinImpl (source n)) i rs ≡ map by_bound (bounds_to a.reference.trait source i rs)
@@ -386,8 +386,8 @@ pub object-applied : (d : Items) (S b : Trees) → S ≡ tree dynamic b none →
 object-applied d S b e h = subst (λ z. Each (AreArgumentsOf d) (principal_with z b)) (sym e) (subst (ObjectIsApplied d) e h)
 
 -- ---- upcasts
-module _ (V : World) (a : Asked) (q : Reference) where
-  abbrev pub by_upcast : Bound → Candidate
+module _ (V : World) (a : GoalOverKinds) (q : Reference) where
+  abbrev pub by_upcast : BoundRule → Candidate
   by_upcast x = by_rule V a (BuiltinImpl x.source) (all_equal x.reference.args q.args) []
 
   from-read : (i : ℕ) (rs : List Reference) → upcasts_from V a q i rs ≡ map by_upcast (bounds_to q.trait TraitUpcasting i rs)
@@ -430,12 +430,12 @@ upcast-level V es t n o p same other rs found all e r at =
     ∙ ap (λ l. slice_get (upcast_bounds V t l) n) (sym ps)
 
 -- ---- a `dyn` and its target
-pub no-source : (V : World) (a : Asked) (S T : Trees) → IsA of_type S → bounds_of S ≡ None → upcasts_of V a (S +++ T) ≡ []
+pub no-source : (V : World) (a : GoalOverKinds) (S T : Trees) → IsA of_type S → bounds_of S ≡ None → upcasts_of V a (S +++ T) ≡ []
 no-source V a none T h e = absurd h
 no-source V a (tree dynamic c o) T h e = absurd cc
 no-source V a (tree l c o) T h e = refl
 
-pub no-target : (V : World) (a : Asked) (S T b : Trees) → S ≡ tree dynamic b none → bounds_of T ≡ None → upcasts_of V a (S +++ T) ≡ []
+pub no-target : (V : World) (a : GoalOverKinds) (S T b : Trees) → S ≡ tree dynamic b none → bounds_of T ≡ None → upcasts_of V a (S +++ T) ≡ []
 no-target V a S T b f e = ap (λ z. upcasts_of V a (z +++ T)) f ∙ by T e
   where
     by : (t : Trees) → bounds_of t ≡ None → upcasts_of V a (tree dynamic b t) ≡ []
@@ -443,5 +443,5 @@ no-target V a S T b f e = ap (λ z. upcasts_of V a (z +++ T)) f ∙ by T e
     by (tree dynamic c o) e = absurd cc
     by (tree l c o) e = refl
 
-pub between-read : (V : World) (a : Asked) (S T b d : Trees) → S ≡ tree dynamic b none → T ≡ tree dynamic d none → upcasts_between V a S b d ≡ upcasts_of V a (S +++ T)
+pub between-read : (V : World) (a : GoalOverKinds) (S T b d : Trees) → S ≡ tree dynamic b none → T ≡ tree dynamic d none → upcasts_between V a S b d ≡ upcasts_of V a (S +++ T)
 between-read V a S T b d e f = ap (λ z. upcasts_between V a z b d) e ∙ sym (ap (λ z. upcasts_of V a (z +++ T)) e ∙ ap (λ z. upcasts_of V a (tree dynamic b z)) f)

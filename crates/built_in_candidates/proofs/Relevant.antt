@@ -11,7 +11,7 @@ use Rattle.term_folds.specs.Signatures.{StartsWithType}
 use Rattle.declarations.specs.Items.{Items, HeldImpl, impl_in, written}
 use Rattle.declarations.specs.Merges.{Each}
 use Rattle.declarations.specs.Relevant.{relevant_in}
-use Rattle.assembly_laws.specs.Asking.{Asked, self_of, with_plain_head}
+use Rattle.assembly_laws.specs.Asking.{GoalOverKinds, self_of, with_plain_head}
 use Rattle.assembly_laws.specs.Candidates.{is_relevant_to}
 use Rattle.built_in_candidates.specs.BuiltIn.{HavePlainHeads}
 
@@ -52,7 +52,7 @@ module _ (t : ℕ) (l : Label) (c o : Trees) where
       (ap (λ b. (i.def.header.def_id.index == t) && b) (plain-head (erase_label l) (trees_at es i.def.header.args.0) h.0)) (names-written es is h.1)
 
 -- ---- over declarations
-module _ (es : List Entry) (d : Items) (a : Asked) (S : Trees) (starts : StartsWithType a.reference.args) (self : S ≡ nth a.reference.args 0)
+module _ (es : List Entry) (d : Items) (a : GoalOverKinds) (S : Trees) (starts : StartsWithType a.reference.args) (self : S ≡ nth a.reference.args 0)
     (plain : HavePlainHeads es d) where
   names-at : (T : Trees) → StartsWithType T → S ≡ nth T 0
       → relevant_in es d a.reference.trait S ≡ names (filter (λ i. (i.header.trait == a.reference.trait) && is_relevant_to (with_plain_head T) i.header.args) (written es d).impls)

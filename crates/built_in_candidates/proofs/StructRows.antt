@@ -15,7 +15,7 @@ use Rattle.declarations.specs.declared.items.AdtDef.{AdtDef}
 use Rattle.declarations.specs.Applied.{sort_of_param, sorts_of}
 use Rattle.declarations.specs.Items.{Items, struct_at}
 use Rattle.declarations.specs.Unsizing.{unsizing_flags, field_trees}
-use Rattle.assembly_laws.specs.Asking.{Asked}
+use Rattle.assembly_laws.specs.Asking.{GoalOverKinds}
 use Rattle.assembly_laws.specs.Candidates.{by_rule, misc, all_equal, if_so, unsize_by_struct, unsize_struct_of}
 use Rattle.built_in_candidates.specs.Constituents.{AreArguments}
 use Rattle.built_in_candidates.specs.Unsizing.{begins_struct, replaced, tail_asked, FitsStruct}
@@ -118,7 +118,7 @@ pub none-unsizing : (k : ℕ) (t : Trees) → some_unsizing [] k t ≡ false
 none-unsizing k none = refl
 none-unsizing k (tree l c o) = none-unsizing (suc k) o
 
-module _ (V : World) (a : Asked) where
+module _ (V : World) (a : GoalOverKinds) where
   pub no-candidate : (b d : Trees) (x : StructDecl) → some_unsizing x.fields 0 b ≡ false → [] ≡ unsize_by_struct V a b d x
   no-candidate b d x e = ap (λ z. if_so z (by_rule V a misc (all_equal (with_unsizing x.fields 0 b d) d) (last_unsizes x.fields b d) ∷ [])) (sym e)
 

@@ -16,7 +16,7 @@ use Rattle.term_folds.specs.declared.predicate.TraitRef.{TraitRef}
 use Rattle.declarations.specs.Items.{Items, reference_in}
 use Rattle.declarations.specs.Merges.{Each}
 use Rattle.declarations.specs.Applied.{references_in}
-use Rattle.assembly_laws.specs.Asking.{Asked, with_plain_head}
+use Rattle.assembly_laws.specs.Asking.{GoalOverKinds, with_plain_head}
 use Rattle.assembly_laws.specs.Candidates.{as_written, by_rule, misc, if_so}
 use Rattle.built_in_candidates.specs.Objects.{bounds_of, AreArgumentsOf}
 use Rattle.built_in_candidates.specs.Unsizing.{traits_asked, to_dyn, TargetIsApplied}
@@ -71,7 +71,7 @@ pushed-last es [] r = refl
 pushed-last es (s ∷ rs) r = ap (λ l. reference_in es s ∷ l) (pushed-last es rs r)
 
 -- ---- the candidate
-module _ (V : World) (a : Asked) where
+module _ (V : World) (a : GoalOverKinds) where
   pub compatible : (self b : Trees) (x : Bool) → x ≡ are_dyn_compatible V (principal_with self b) → x ≡ true
       → by_rule V a misc [] (principal_with self b ++ (autos_with self b ++ asked sized self ∷ [])) ∷ [] ≡ to_dyn V a self b
   compatible self b x e t = ap (λ z. if_so z (by_rule V a misc [] (principal_with self b ++ (autos_with self b ++ asked sized self ∷ [])) ∷ [])) (sym t ∙ e)

@@ -12,7 +12,7 @@ use Rattle.term_folds.specs.Signatures.{StartsWithType}
 use Rattle.evaluation.specs.declared.candidate.CandidateSpec.{CandidateSpec}
 use Rattle.declarations.specs.Items.{Items}
 use Rattle.infer_table.specs.declared.canonical.CanonicalVarKind.{CanonicalVarKind}
-use Rattle.assembly_laws.specs.Asking.{Asked, self_of, next_of, with_plain_head, begins_unknown}
+use Rattle.assembly_laws.specs.Asking.{GoalOverKinds, self_of, next_of, with_plain_head, begins_unknown}
 use Rattle.assembly_laws.specs.Candidates.{Candidate, as_written, misc, if_so, unsure, unsize_array_of, upcasts_of, unsize_struct_of, unsize_known, unsize_recording, by_unsize}
 use Rattle.built_in_candidates.specs.Goals.{candidate_of}
 use Rattle.built_in_candidates.specs.Constituents.{StructIsApplied, candidates_of}
@@ -33,7 +33,7 @@ place-later V t es (Some s) zero h = absurd (h refl)
 place-later V t es (Some s) (suc n) h = refl
 
 -- ---- one rule at a time
-module _ (V : World) (a : Asked) where
+module _ (V : World) (a : GoalOverKinds) where
   array-erased : (l : Label) (c t : Trees) → unsize_array_of V a (tree l c t) ≡ unsize_array_of V a (tree (erase_label l) c t)
   array-erased (param of_lifetime i) c t = refl
   array-erased (param s i) c t = refl
@@ -210,7 +210,7 @@ target-struct d (tree l c o) (tree m b p) h g t =
     struct-target d (erase_label l) c m b p (subst (λ z. TargetIsApplied d (tree (erase_label l) c (z +++ tree m b p))) h.1 t)
 
 -- ---- the rule of `Unsize` for any trait
-module _ (V : World) (a : Asked) where
+module _ (V : World) (a : GoalOverKinds) where
   pub of-other-trait : (a.reference.trait ≡ unsize → ⊥) → [] ≡ by_unsize V a
   of-other-trait n =
       ap (λ b. if_so b (if begins_unknown a.kinds (next_of (self_of a)) then unsure ∷ [] else unsize_recording V a)) (sym (not-same (a.reference.trait == unsize) refl))

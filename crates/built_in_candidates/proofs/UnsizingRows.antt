@@ -5,7 +5,7 @@ use Rattle.type_terms.specs.Trees.{Trees, none, tree, ◌+++◌, IsA}
 use Rattle.type_terms.specs.Worlds.{World}
 use Rattle.infer_table.specs.Values.{Value}
 use Rattle.evaluation.specs.FrameTables.{Equation}
-use Rattle.assembly_laws.specs.Asking.{Asked}
+use Rattle.assembly_laws.specs.Asking.{GoalOverKinds}
 use Rattle.assembly_laws.specs.Candidates.{Candidate, by_rule, misc, all_equal, first_value, unsize_array_of}
 use Rattle.built_in_candidates.specs.Unsizing.{array_element_of, slice_element_of}
 
@@ -36,7 +36,7 @@ types-equal (tree l c o) (tree m d p) h g =
     ∙ ap (λ z. equate (first_value l c) (first_value m d) ∷ all_equal o z) (sym g.1)
 
 -- ---- arrays
-module _ (V : World) (a : Asked) where
+module _ (V : World) (a : GoalOverKinds) where
   abbrev pub array_by : Option Trees → Option Trees → List Candidate
   array_by None y = []
   array_by (Some x) None = []

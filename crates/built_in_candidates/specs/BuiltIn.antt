@@ -7,27 +7,27 @@ use Rattle.evaluation.specs.declared.candidate.CandidateSource.TheVariants.{Buil
 use Rattle.evaluation.specs.declared.candidate.BuiltinImplSource.TheVariants.{Trivial}
 use Rattle.declarations.specs.Items.{Items}
 use Rattle.declarations.specs.Merges.{Each}
-use Rattle.assembly_laws.specs.Asking.{Asked, self_of, with_plain_head}
+use Rattle.assembly_laws.specs.Asking.{GoalOverKinds, self_of, with_plain_head}
 use Rattle.assembly_laws.specs.Candidates.{Candidate, as_written, misc}
 
 -- Of `Sized`.
-abbrev pub sized_candidates : World → Asked → List Candidate
+abbrev pub sized_candidates : World → GoalOverKinds → List Candidate
 sized_candidates V a = as_written V a (BuiltinImpl Trivial) (sized_rules V (self_of a))
 
 -- Of `Copy` and `Clone`.
-abbrev pub copy_candidates : World → Asked → List Candidate
+abbrev pub copy_candidates : World → GoalOverKinds → List Candidate
 copy_candidates V a = as_written V a misc (copy_rules a.reference.trait (self_of a))
 
 -- Of an auto trait.
-abbrev pub auto_candidates : World → Asked → List Candidate
+abbrev pub auto_candidates : World → GoalOverKinds → List Candidate
 auto_candidates V a = as_written V a misc (auto_rules V a.reference.trait (self_of a))
 
 -- Of `Tuple`.
-abbrev pub tuple_candidates : World → Asked → List Candidate
+abbrev pub tuple_candidates : World → GoalOverKinds → List Candidate
 tuple_candidates V a = as_written V a misc (tuple_rules (self_of a))
 
 -- Of `FnPtr`.
-abbrev pub fn_ptr_candidates : World → Asked → List Candidate
+abbrev pub fn_ptr_candidates : World → GoalOverKinds → List Candidate
 fn_ptr_candidates V a = as_written V a misc (fn_ptr_rules (self_of a))
 
 -- No impl's self type binds lifetimes outermost.

@@ -5,7 +5,7 @@ use Rattle.type_terms.specs.Worlds.{World}
 use Rattle.type_terms.specs.Rules.{sized, clone, copy, tuple_trait, fn_ptr_trait, is_fn_trait, is_auto}
 use Rattle.type_terms.specs.Terms.{Entry}
 use Rattle.evaluation.specs.declared.candidate.CandidateSpec.{CandidateSpec}
-use Rattle.assembly_laws.specs.Asking.{Asked}
+use Rattle.assembly_laws.specs.Asking.{GoalOverKinds}
 use Rattle.assembly_laws.specs.Candidates.{Candidate, if_so, by_unsize}
 use Rattle.built_in_candidates.specs.declared.built_in_rules.BuiltInRule.{BuiltInRule}
 use Rattle.built_in_candidates.specs.declared.built_in_rules.BuiltInRule.TheVariants.{«Sized» as RSized, CopyClone, AutoTrait, «Tuple» as RTuple, FnPtr, Calls}
@@ -24,7 +24,7 @@ speaks_of V t FnPtr = t == fn_ptr_trait
 speaks_of V t Calls = is_fn_trait t
 
 -- The candidates by the rule, whatever trait the goal asks.
-abbrev pub of_rule : World → Asked → BuiltInRule → List Candidate
+abbrev pub of_rule : World → GoalOverKinds → BuiltInRule → List Candidate
 of_rule V a RSized = sized_candidates V a
 of_rule V a CopyClone = copy_candidates V a
 of_rule V a AutoTrait = auto_candidates V a
@@ -33,11 +33,11 @@ of_rule V a FnPtr = fn_ptr_candidates V a
 of_rule V a Calls = call_candidates V a
 
 -- Those for a goal of a trait that it speaks of.
-abbrev pub by_the_rule : World → Asked → BuiltInRule → List Candidate
+abbrev pub by_the_rule : World → GoalOverKinds → BuiltInRule → List Candidate
 by_the_rule V a r = if_so (speaks_of V a.reference.trait r) (of_rule V a r)
 
 -- Those by these rules and, behind them, by the rule of `Unsize`.
-abbrev pub by_rules : World → Asked → List BuiltInRule → List Candidate
+abbrev pub by_rules : World → GoalOverKinds → List BuiltInRule → List Candidate
 by_rules V a [] = by_unsize V a
 by_rules V a (r ∷ rs) = by_the_rule V a r ++ by_rules V a rs
 

@@ -6,11 +6,11 @@ use Rattle.type_terms.specs.Worlds.{World}
 use Rattle.type_terms.specs.Terms.{Entry}
 use Rattle.type_terms.specs.Kinds.{ArgHeld, arg_trees}
 use Rattle.type_terms.specs.declared.kinds.GenericArgKind.{GenericArgKind}
-use Rattle.assembly_laws.specs.Asking.{Asked, self_of}
+use Rattle.assembly_laws.specs.Asking.{GoalOverKinds, self_of}
 use Rattle.assembly_laws.specs.Candidates.{Candidate, call_of}
 
 -- Of `Fn`, `FnMut` and `FnOnce`.
-abbrev pub call_candidates : World → Asked → List Candidate
+abbrev pub call_candidates : World → GoalOverKinds → List Candidate
 call_candidates V a = call_of V a (self_of a)
 
 -- The inputs and the output of a `fn` pointer, if the first type is one.

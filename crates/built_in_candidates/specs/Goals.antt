@@ -12,11 +12,11 @@ use Rattle.evaluation.specs.Lists.{Every}
 use Rattle.evaluation.specs.FrameTables.{Nested}
 use Rattle.evaluation.specs.StepReadings.{nested_read, spec_read}
 use Rattle.declarations.specs.Items.{reference_in}
-use Rattle.assembly_laws.specs.Asking.{Asked}
+use Rattle.assembly_laws.specs.Asking.{GoalOverKinds}
 use Rattle.assembly_laws.specs.Candidates.{Candidate}
 
 -- The goal of a canonical input: its where-clauses and the reference that it asks, over the variables of its kinds.
-abbrev pub asked_of : List Entry → CanonicalInput → Asked
+abbrev pub asked_of : List Entry → CanonicalInput → GoalOverKinds
 asked_of es a = record { kinds = a.variables.items; environment = environment_trees es a.goal.param_env.items; reference = reference_in es a.goal.predicate.trait_ref }
 
 -- The candidate that a spec is, for a goal of the trait t.
@@ -28,5 +28,5 @@ abbrev pub nested_of : List Entry → Bool → List (GoalSource × Goal) → Lis
 nested_of es kind ns = map (nested_read es kind) ns
 
 -- The goals' terms are the interner's.
-abbrev pub NestedHeld : List Entry → List (GoalSource × Goal) → Type 0
-NestedHeld es ns = Every (λ (n : GoalSource × Goal). GoalHeld es n.1) ns
+abbrev pub NestedGoalsHeld : List Entry → List (GoalSource × Goal) → Type 0
+NestedGoalsHeld es ns = Every (λ (n : GoalSource × Goal). GoalHeld es n.1) ns

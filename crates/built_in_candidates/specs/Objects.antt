@@ -13,7 +13,7 @@ use Rattle.declarations.specs.Items.{Items, reference_in, trait_at}
 use Rattle.declarations.specs.Merges.{Each}
 use Rattle.declarations.specs.Applied.{sorts_of, sorts_of_params}
 use Rattle.declarations.specs.Elaboration.{elaborate, supertraits}
-use Rattle.assembly_laws.specs.Asking.{Asked}
+use Rattle.assembly_laws.specs.Asking.{GoalOverKinds}
 use Rattle.assembly_laws.specs.Candidates.{Candidate, if_so, upcasts_to}
 
 -- ---- what is read off a type
@@ -49,33 +49,33 @@ numbered_to t i [] = []
 numbered_to t i (r ∷ rs) = if r.def_id.index == t then (i, r) ∷ numbered_to t (suc i) rs else numbered_to t (suc i) rs
 
 -- A bound, and the rule by which it makes a candidate.
-pub record Bound : Type 0 where
+pub record BoundRule : Type 0 where
   pub source : BuiltinImplSource
   pub reference : Reference
 
-abbrev pub bound_in : List Entry → BuiltinImplSource × TraitRef → Bound
+abbrev pub bound_in : List Entry → BuiltinImplSource × TraitRef → BoundRule
 bound_in es x = record { source = x.0; reference = reference_in es x.1 }
 
 -- Those of the trait t among references that are numbered from i on.
-abbrev pub bounds_to : ℕ → (ℕ → BuiltinImplSource) → ℕ → List Reference → List Bound
+abbrev pub bounds_to : ℕ → (ℕ → BuiltinImplSource) → ℕ → List Reference → List BoundRule
 bounds_to t source i [] = []
 bounds_to t source i (r ∷ rs) = if r.trait == t then record { source = source i; reference = r } ∷ bounds_to t source (suc i) rs else bounds_to t source (suc i) rs
 
 -- The auto traits that a `dyn` is written with, and behind them its principal and the supertraits; `Sized` is none of these.
-abbrev pub written_and_elaborated : ℕ → Trees → Trees → List Reference → List Bound
+abbrev pub written_and_elaborated : ℕ → Trees → Trees → List Reference → List BoundRule
 written_and_elaborated t self b rs = if_so (not (t == sized)) (bounds_to t (λ i. Misc) 0 (autos_with self b) ++ bounds_to t Object 0 rs)
 
 -- The bounds of the trait t of a `dyn` whose principal is dyn compatible: of `dyn Sub + Send` those of `Send`, of `Sub`, or of its supertraits.
-abbrev pub object_bounds : World → ℕ → Trees → Trees → List Bound
+abbrev pub object_bounds : World → ℕ → Trees → Trees → List BoundRule
 object_bounds V t self b = if_so (are_dyn_compatible V (principal_with self b)) (written_and_elaborated t self b (elaborate V (principal_with self b)))
 
 -- To which bounds of the trait t a `dyn` with this principal is upcast: the principal, if it is of that trait, else its supertraits.
-abbrev pub upcast_bounds : World → ℕ → List Reference → List Bound
+abbrev pub upcast_bounds : World → ℕ → List Reference → List BoundRule
 upcast_bounds V t [] = []
 upcast_bounds V t (p ∷ ps) = if p.trait == t then record { source = Misc; reference = p } ∷ [] else bounds_to t TraitUpcasting 1 (supertraits V p)
 
 -- The candidates by which a `dyn` with the bounds b unsizes to one with the bounds d, both with the same Self.
-abbrev pub upcasts_between : World → Asked → Trees → Trees → Trees → List Candidate
+abbrev pub upcasts_between : World → GoalOverKinds → Trees → Trees → Trees → List Candidate
 upcasts_between V a self b d =
     let ps = principal_with self b in
     if_so (are_declared V ps && upcasts_autos V ps (autos_with self b) (autos_with self d)) (upcasts_to V a ps (principal_with self d))

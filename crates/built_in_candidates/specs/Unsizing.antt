@@ -14,7 +14,7 @@ use Rattle.declarations.specs.declared.items.AdtDef.{AdtDef}
 use Rattle.declarations.specs.Applied.{sort_of_param, sorts_of}
 use Rattle.declarations.specs.Items.{Items}
 use Rattle.declarations.specs.Merges.{Each}
-use Rattle.assembly_laws.specs.Asking.{Asked, next_of}
+use Rattle.assembly_laws.specs.Asking.{GoalOverKinds, next_of}
 use Rattle.assembly_laws.specs.Candidates.{Candidate, by_rule, misc, if_so}
 use Rattle.built_in_candidates.specs.Constituents.{AreArguments}
 use Rattle.built_in_candidates.specs.Objects.{AreArgumentsOf}
@@ -39,9 +39,9 @@ begins_struct (tree (adt s) c o) = true
 begins_struct t = false
 
 -- The struct and its arguments, if the type is one.
-abbrev pub IsStruct : List Entry → Trees → Option (AdtId × GenericArgs) → Type 0
-IsStruct es t None = begins_struct t ≡ false
-IsStruct es t (Some r) = Has es args_lists r.1.0 × (t ≡ tree (adt r.0.index) (trees_at es r.1.0) none)
+abbrev pub IsStructType : List Entry → Trees → Option (AdtId × GenericArgs) → Type 0
+IsStructType es t None = begins_struct t ≡ false
+IsStructType es t (Some r) = Has es args_lists r.1.0 × (t ≡ tree (adt r.0.index) (trees_at es r.1.0) none)
 
 -- The target's arguments in the places that are flagged.
 abbrev pub replaced : List Bool → List GenericArgKind → List GenericArgKind → List GenericArgKind
@@ -63,7 +63,7 @@ abbrev pub traits_asked : List TraitId → Trees → List Reference
 traits_asked ts self = map (λ (t : TraitId). asked t.index self) ts
 
 -- The candidate by which a type unsizes to a `dyn` with these bounds and a lifetime, if the principal is dyn compatible.
-abbrev pub to_dyn : World → Asked → Trees → Trees → List Candidate
+abbrev pub to_dyn : World → GoalOverKinds → Trees → Trees → List Candidate
 to_dyn V a self b =
     if_so (are_dyn_compatible V (principal_with self b)) (by_rule V a misc [] (principal_with self b ++ (autos_with self b ++ asked sized self ∷ [])) ∷ [])
 

@@ -9,7 +9,7 @@ ghost use Rattle.infer_table.specs.Goals.{GoalHeld};
 ghost use Rattle.evaluation.specs.Readings.{SpecHeld};
 ghost use Rattle.declarations.specs.Items.{reference_in, written};
 ghost use Rattle.declarations.specs.Held.{ReferenceHeld};
-ghost use Rattle.declarations.specs.Applied.{references_in, AllHeld};
+ghost use Rattle.declarations.specs.Applied.{references_in, TraitRefsHeld};
 ghost use Rattle.assembly_laws.specs.Candidates.{as_written};
 ghost use Rattle.built_in_candidates.specs.Goals.{asked_of};
 ghost use Rattle.built_in_candidates.specs.Constituents.{AreConstituents, TypesHeld, CanBeConsidered, types_asked, candidates_of};
@@ -62,7 +62,7 @@ pub(crate) fn types_asked(
     requires { TypesHeld cx.old.entries tys.now }
     ensures keeps { Keeps cx.old.entries cx.new.entries }
     ensures limit { cx.new.limit ≡ cx.old.limit }
-    ensures held { IfOk result (λ v. AllHeld cx.new.entries v.items) }
+    ensures held { IfOk result (λ v. TraitRefsHeld cx.new.entries v.items) }
     ensures are { IfOk result (λ v. references_in cx.new.entries v.items ≡ types_asked cx.old.entries def_id.index tys.now) }
     ensures full { result ≡ Err Fault.Full → SomeKindIsFull cx.new.entries cx.new.limit }
 {

@@ -11,7 +11,7 @@ ghost use Rattle.type_terms.specs.Failures.{SomeKindIsFull};
 ghost use Rattle.term_folds.specs.Signatures.{StartsWithType};
 ghost use Rattle.infer_table.specs.Goals.{GoalHeld};
 ghost use Rattle.evaluation.specs.Readings.{SpecHeld};
-ghost use Rattle.declarations.specs.Applied.{references_in, AllHeld};
+ghost use Rattle.declarations.specs.Applied.{references_in, TraitRefsHeld};
 ghost use Rattle.assembly_laws.specs.Asking.{next_of};
 ghost use Rattle.assembly_laws.specs.Candidates.{all_equal, by_rule, misc};
 ghost use Rattle.built_in_candidates.specs.Goals.{asked_of, candidate_of};
@@ -103,7 +103,7 @@ fn output_is_sized(
     requires { Has cx.old.entries type_lists inputs_and_output.0 }
     ensures keeps { Keeps cx.old.entries cx.new.entries }
     ensures limit { cx.new.limit ≡ cx.old.limit }
-    ensures held { IfOk result (λ v. AllHeld cx.new.entries v.items) }
+    ensures held { IfOk result (λ v. TraitRefsHeld cx.new.entries v.items) }
     ensures are { IfOk result (λ v. references_in cx.new.entries v.items ≡ last_asked sized (trees_at cx.old.entries inputs_and_output.0)) }
     ensures full { result ≡ Err Fault.Full → SomeKindIsFull cx.new.entries cx.new.limit }
 {

@@ -9,7 +9,7 @@ ghost use Rattle.evaluation.specs.Merge.{if_there};
 ghost use Rattle.declarations.specs.Items.{written};
 ghost use Rattle.declarations.specs.Held.{AreHeld};
 ghost use Rattle.declarations.specs.Merges.{Each};
-ghost use Rattle.declarations.specs.Applied.{references_in, AllHeld, AreApplied, HaveBounds};
+ghost use Rattle.declarations.specs.Applied.{references_in, TraitRefsHeld, AreApplied, HaveBounds};
 ghost use Rattle.declarations.specs.Elaboration.{elaborate};
 ghost use Rattle.built_in_candidates.specs.Objects.{AreArgumentsOf, AreBoundsOf, WithLifetime, numbered_to};
 
@@ -81,7 +81,7 @@ pub(crate) fn principal_with(
     requires bounds { Has cx.old.entries bounds_lists bounds.0 }
     ensures keeps { Keeps cx.old.entries cx.new.entries }
     ensures limit { cx.new.limit ≡ cx.old.limit }
-    ensures held { IfOk result (λ o. AllHeld cx.new.entries (if_there o)) }
+    ensures held { IfOk result (λ o. TraitRefsHeld cx.new.entries (if_there o)) }
     ensures is { IfOk result (λ o. WithLifetime cx.old.entries bounds (λ b. references_in cx.new.entries (if_there o) ≡ principal_with (trees_at cx.old.entries self_ty.0) b)) }
     ensures full { result ≡ Err Fault.Full → SomeKindIsFull cx.new.entries cx.new.limit }
 {
@@ -104,11 +104,11 @@ fn elaborate_principal(
 ) -> Result<Vec<TraitRef>, Fault>
     requires declared { AreHeld cx.old.entries declarations.now }
     requires bounds { HaveBounds cx.old.entries declarations.now }
-    requires held { AllHeld cx.old.entries (if_there principal) }
+    requires held { TraitRefsHeld cx.old.entries (if_there principal) }
     requires applied { AreApplied cx.old.entries declarations.now (if_there principal) }
     ensures keeps { Keeps cx.old.entries cx.new.entries }
     ensures limit { cx.new.limit ≡ cx.old.limit }
-    ensures held { IfOk result (λ v. AllHeld cx.new.entries v.items) }
+    ensures held { IfOk result (λ v. TraitRefsHeld cx.new.entries v.items) }
     ensures are { IfOk result (λ v. references_in cx.new.entries v.items ≡ elaborate (written cx.old.entries declarations.now) (references_in cx.old.entries (if_there principal))) }
     ensures full { result ≡ Err Fault.Full → SomeKindIsFull cx.new.entries cx.new.limit }
 {
@@ -140,9 +140,9 @@ pub(crate) fn elaborated_principal(
     requires applied { WithLifetime cx.old.entries bounds (λ b. Each (AreArgumentsOf declarations.now) (principal_with (trees_at cx.old.entries self_ty.0) b)) }
     ensures keeps { Keeps cx.old.entries cx.new.entries }
     ensures limit { cx.new.limit ≡ cx.old.limit }
-    ensures principal_held { IfOk result (λ e. AllHeld cx.new.entries (if_there e.principal)) }
+    ensures principal_held { IfOk result (λ e. TraitRefsHeld cx.new.entries (if_there e.principal)) }
     ensures principal { IfOk result (λ e. WithLifetime cx.old.entries bounds (λ b. references_in cx.new.entries (if_there e.principal) ≡ principal_with (trees_at cx.old.entries self_ty.0) b)) }
-    ensures held { IfOk result (λ e. AllHeld cx.new.entries e.elaborated.items) }
+    ensures held { IfOk result (λ e. TraitRefsHeld cx.new.entries e.elaborated.items) }
     ensures elaborated { let V = written cx.old.entries declarations.now in
         IfOk result (λ e. WithLifetime cx.old.entries bounds (λ b. references_in cx.new.entries e.elaborated.items ≡ elaborate V (principal_with (trees_at cx.old.entries self_ty.0) b))) }
     ensures full { result ≡ Err Fault.Full → SomeKindIsFull cx.new.entries cx.new.limit }

@@ -11,7 +11,7 @@ ghost use Rattle.evaluation.specs.declared.candidate.CandidateSource.TheVariants
 ghost use Rattle.declarations.specs.Items.{reference_in, written};
 ghost use Rattle.declarations.specs.Held.{AreHeld, ReferenceHeld};
 ghost use Rattle.declarations.specs.Merges.{Each};
-ghost use Rattle.declarations.specs.Applied.{references_in, AllHeld, IsApplied, HaveBounds};
+ghost use Rattle.declarations.specs.Applied.{references_in, TraitRefsHeld, IsApplied, HaveBounds};
 ghost use Rattle.declarations.specs.Elaboration.{supertraits};
 ghost use Rattle.assembly_laws.specs.Candidates.{all_equal, by_rule, by_objects};
 ghost use Rattle.built_in_candidates.specs.Goals.{asked_of, candidate_of};
@@ -45,7 +45,7 @@ fn bound_of_trait(
 ) -> Result<Option<(BuiltinImplSource, TraitRef)>, Fault>
     requires self_held { Has cx.old.entries types self_ty.0 }
     requires bounds { Has cx.old.entries bounds_lists bounds.0 }
-    requires elaborated { AllHeld cx.old.entries elaborated.now }
+    requires elaborated { TraitRefsHeld cx.old.entries elaborated.now }
     ensures keeps { Keeps cx.old.entries cx.new.entries }
     ensures limit { cx.new.limit ≡ cx.old.limit }
     ensures held { IfOk result (λ o. IfSome o (λ x. ReferenceHeld cx.new.entries x.1)) }

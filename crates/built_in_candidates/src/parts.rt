@@ -9,9 +9,9 @@ ghost use Rattle.evaluation.specs.Readings.{SpecHeld, EquationHeld, is_coinducti
 ghost use Rattle.evaluation.specs.StepReadings.{nested_read, spec_read, equation_read};
 ghost use Rattle.declarations.specs.Items.{reference_in};
 ghost use Rattle.declarations.specs.Held.{ReferenceHeld};
-ghost use Rattle.declarations.specs.Applied.{references_in, AllHeld};
+ghost use Rattle.declarations.specs.Applied.{references_in, TraitRefsHeld};
 ghost use Rattle.assembly_laws.specs.Candidates.{premise, by_rule, unsure};
-ghost use Rattle.built_in_candidates.specs.Goals.{asked_of, candidate_of, nested_of, NestedHeld};
+ghost use Rattle.built_in_candidates.specs.Goals.{asked_of, candidate_of, nested_of, NestedGoalsHeld};
 
 use evaluation::{
     BuiltinImplSource, CandidateSource, CandidateSpec, Certainty, Goal, GoalSource, MaybeCause,
@@ -49,7 +49,7 @@ pub fn nested_goals(
 ) -> Result<Vec<(GoalSource, Goal)>, Fault>
     ensures are { IfOk result (λ v. (es : List Entry) (kind : Bool)
         → nested_of es kind v.items ≡ map (premise (asked_of es goal.now) (is_coinductive_step kind source)) (references_in es references.now)) }
-    ensures held { IfOk result (λ v. (es : List Entry) → GoalHeld es goal.now.goal → AllHeld es references.now → NestedHeld es v.items) }
+    ensures held { IfOk result (λ v. (es : List Entry) → GoalHeld es goal.now.goal → TraitRefsHeld es references.now → NestedGoalsHeld es v.items) }
     ensures memory { IfErr result (λ fault. fault ≡ Memory) }
 {
     let mut nested = Vec::new(alloc);
@@ -73,7 +73,7 @@ pub fn by_rule(
 ) -> Result<CandidateSpec, Fault>
     ensures is { IfOk result (λ s. (es : List Entry) (V : World)
         → candidate_of V goal.now.goal.predicate.trait_ref.def_id.index es s ≡ by_rule V (asked_of es goal.now) source (map (equation_read es) equations.items) (references_in es premises.now)) }
-    ensures held { IfOk result (λ s. (es : List Entry) → GoalHeld es goal.now.goal → Every (EquationHeld es) equations.items → AllHeld es premises.now → SpecHeld es s) }
+    ensures held { IfOk result (λ s. (es : List Entry) → GoalHeld es goal.now.goal → Every (EquationHeld es) equations.items → TraitRefsHeld es premises.now → SpecHeld es s) }
     ensures memory { IfErr result (λ fault. fault ≡ Memory) }
 {
     let nested_goals = nested_goals(alloc, goal, GoalSource::ImplWhereBound, premises)?;

@@ -19,7 +19,7 @@ ghost use Rattle.declarations.specs.Unsizing.{field_trees};
 ghost use Rattle.assembly_laws.specs.Candidates.{by_rule, misc, all_equal, unsize_by_struct, unsize_struct_of};
 ghost use Rattle.built_in_candidates.specs.Goals.{asked_of, candidate_of};
 ghost use Rattle.built_in_candidates.specs.Constituents.{AreArguments, StructIsApplied, HaveFields, candidates_of};
-ghost use Rattle.built_in_candidates.specs.Unsizing.{replaced, FitsStruct, IsStruct, tail_asked};
+ghost use Rattle.built_in_candidates.specs.Unsizing.{replaced, FitsStruct, IsStructType, tail_asked};
 
 use crate::parts::by_rule;
 use crate::relate::relate_args;
@@ -256,7 +256,7 @@ fn unsize_adt(
 
 fn struct_with(cx: &Interner, ty: Ty) -> Option<(AdtId, GenericArgs)>
     requires { Has cx.now.entries types ty.0 }
-    ensures { IsStruct cx.now.entries (trees_at cx.now.entries ty.0) result }
+    ensures { IsStructType cx.now.entries (trees_at cx.now.entries ty.0) result }
 {
     cx.lawful();
     match cx.kind(ty) {

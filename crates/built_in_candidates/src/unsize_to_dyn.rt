@@ -11,7 +11,7 @@ ghost use Rattle.evaluation.specs.Readings.{SpecHeld};
 ghost use Rattle.declarations.specs.Items.{written};
 ghost use Rattle.declarations.specs.Held.{AreHeld};
 ghost use Rattle.declarations.specs.Merges.{Each};
-ghost use Rattle.declarations.specs.Applied.{references_in, AllHeld, HaveBounds};
+ghost use Rattle.declarations.specs.Applied.{references_in, TraitRefsHeld, HaveBounds};
 ghost use Rattle.assembly_laws.specs.Asking.{with_plain_head};
 ghost use Rattle.assembly_laws.specs.Candidates.{as_written, misc};
 ghost use Rattle.built_in_candidates.specs.Goals.{asked_of};
@@ -84,11 +84,11 @@ fn with_traits_asked(
     def_ids: &[TraitId],
     ty: Ty,
 ) -> Result<Vec<TraitRef>, Fault>
-    requires first { AllHeld cx.old.entries (if_there first) }
+    requires first { TraitRefsHeld cx.old.entries (if_there first) }
     requires ty { Has cx.old.entries types ty.0 }
     ensures keeps { Keeps cx.old.entries cx.new.entries }
     ensures limit { cx.new.limit ≡ cx.old.limit }
-    ensures held { IfOk result (λ v. AllHeld cx.new.entries v.items) }
+    ensures held { IfOk result (λ v. TraitRefsHeld cx.new.entries v.items) }
     ensures are { IfOk result (λ v. references_in cx.new.entries v.items ≡ references_in cx.old.entries (if_there first) ++ traits_asked def_ids.now (trees_at cx.old.entries ty.0)) }
     ensures full { result ≡ Err Fault.Full → SomeKindIsFull cx.new.entries cx.new.limit }
 {
@@ -112,11 +112,11 @@ fn unsizing_obligations(
     bounds: Bounds,
 ) -> Result<Vec<TraitRef>, Fault>
     requires self_held { Has cx.old.entries types self_ty.0 }
-    requires principal { AllHeld cx.old.entries (if_there principal) }
+    requires principal { TraitRefsHeld cx.old.entries (if_there principal) }
     requires bounds { Has cx.old.entries bounds_lists bounds.0 }
     ensures keeps { Keeps cx.old.entries cx.new.entries }
     ensures limit { cx.new.limit ≡ cx.old.limit }
-    ensures held { IfOk result (λ v. AllHeld cx.new.entries v.items) }
+    ensures held { IfOk result (λ v. TraitRefsHeld cx.new.entries v.items) }
     ensures are { let S = trees_at cx.old.entries self_ty.0 in
         IfOk result (λ v. WithLifetime cx.old.entries bounds (λ b. references_in cx.new.entries v.items
         ≡ references_in cx.old.entries (if_there principal) ++ (autos_with S b ++ asked sized S ∷ []))) }

@@ -14,7 +14,7 @@ ghost use Rattle.evaluation.specs.declared.candidate.CandidateSource.TheVariants
 ghost use Rattle.declarations.specs.Items.{written};
 ghost use Rattle.declarations.specs.Held.{AreHeld, ReferenceHeld};
 ghost use Rattle.declarations.specs.Merges.{Each};
-ghost use Rattle.declarations.specs.Applied.{references_in, AllHeld, HaveBounds};
+ghost use Rattle.declarations.specs.Applied.{references_in, TraitRefsHeld, HaveBounds};
 ghost use Rattle.declarations.specs.Elaboration.{elaborate};
 ghost use Rattle.assembly_laws.specs.Candidates.{all_equal, by_rule, misc, upcasts_to, upcasts_of};
 ghost use Rattle.built_in_candidates.specs.Goals.{asked_of, candidate_of};
@@ -87,7 +87,7 @@ fn upcast_bound(
 ) -> Option<(BuiltinImplSource, TraitRef)>
     ensures is { (es : List Entry) (V : World) → let ps = references_in es (if_there from.now.principal) in
         references_in es from.now.elaborated.items ≡ elaborate V ps → option_map (bound_in es) result ≡ slice_get (upcast_bounds V def_id.index ps) place }
-    ensures held { (es : List Entry) → AllHeld es (if_there from.now.principal) → AllHeld es from.now.elaborated.items → IfSome result (λ x. ReferenceHeld es x.1) }
+    ensures held { (es : List Entry) → TraitRefsHeld es (if_there from.now.principal) → TraitRefsHeld es from.now.elaborated.items → IfSome result (λ x. ReferenceHeld es x.1) }
 {
     match from.principal {
         Some(principal) => {
@@ -164,9 +164,9 @@ fn upcast_candidate(
     place: usize,
 ) -> Result<Option<CandidateSpec>, Fault>
     requires goal { GoalHeld cx.old.entries goal.now.goal }
-    requires principal { AllHeld cx.old.entries (if_there from.now.principal) }
-    requires elaborated { AllHeld cx.old.entries from.now.elaborated.items }
-    requires to { AllHeld cx.old.entries (if_there to) }
+    requires principal { TraitRefsHeld cx.old.entries (if_there from.now.principal) }
+    requires elaborated { TraitRefsHeld cx.old.entries from.now.elaborated.items }
+    requires to { TraitRefsHeld cx.old.entries (if_there to) }
     ensures keeps { Keeps cx.old.entries cx.new.entries }
     ensures limit { cx.new.limit ≡ cx.old.limit }
     ensures held { IfOk result (λ o. IfSome o (SpecHeld cx.new.entries)) }
@@ -211,12 +211,12 @@ fn upcast_ends(
     requires applied { WithLifetime cx.old.entries source (λ b. Each (AreArgumentsOf declarations.now) (principal_with (trees_at cx.old.entries self_ty.0) b)) }
     ensures keeps { Keeps cx.old.entries cx.new.entries }
     ensures limit { cx.new.limit ≡ cx.old.limit }
-    ensures principal_held { IfOk result (λ e. AllHeld cx.new.entries (if_there e.from.principal)) }
+    ensures principal_held { IfOk result (λ e. TraitRefsHeld cx.new.entries (if_there e.from.principal)) }
     ensures principal { IfOk result (λ e. WithLifetime cx.old.entries source (λ b. references_in cx.new.entries (if_there e.from.principal) ≡ principal_with (trees_at cx.old.entries self_ty.0) b)) }
-    ensures elaborated_held { IfOk result (λ e. AllHeld cx.new.entries e.from.elaborated.items) }
+    ensures elaborated_held { IfOk result (λ e. TraitRefsHeld cx.new.entries e.from.elaborated.items) }
     ensures elaborated { let V = written cx.old.entries declarations.now in
         IfOk result (λ e. WithLifetime cx.old.entries source (λ b. references_in cx.new.entries e.from.elaborated.items ≡ elaborate V (principal_with (trees_at cx.old.entries self_ty.0) b))) }
-    ensures to_held { IfOk result (λ e. AllHeld cx.new.entries (if_there e.to)) }
+    ensures to_held { IfOk result (λ e. TraitRefsHeld cx.new.entries (if_there e.to)) }
     ensures to { IfOk result (λ e. WithLifetime cx.old.entries target (λ b. references_in cx.new.entries (if_there e.to) ≡ principal_with (trees_at cx.old.entries self_ty.0) b)) }
     ensures full { result ≡ Err Fault.Full → SomeKindIsFull cx.new.entries cx.new.limit }
 {

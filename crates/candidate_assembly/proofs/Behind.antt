@@ -10,7 +10,7 @@ use Rattle.type_terms.specs.Terms.{Entry, Is, Keeps, args_lists, trees_at}
 use Rattle.type_terms.specs.declared.ImplId.{ImplId}
 use Rattle.type_terms.specs.declared.TheConstants.{MAX_INDEX}
 use Rattle.type_terms.specs.Kept.{trees-is, trees-later}
-use Rattle.declarations.specs.Applied.{AllHeld, sort_of_param, sorts_of, SpeaksOf, references_in}
+use Rattle.declarations.specs.Applied.{TraitRefsHeld, sort_of_param, sorts_of, SpeaksOf, references_in}
 use Rattle.type_terms.specs.Kinds.{args_trees, arg_trees}
 use Rattle.type_terms.specs.declared.kinds.GenericArgKind.{GenericArgKind}
 use Rattle.term_folds.specs.Arguments.{sort_at, misfit, first_misfit}
@@ -26,7 +26,7 @@ use Rattle.declarations.specs.Items.{reference_in}
 use Rattle.declarations.specs.Merges.{Each}
 use Rattle.term_folds.specs.declared.predicate.TraitRef.{TraitRef}
 use Rattle.evaluation.specs.Instances.{put_in}
-use Rattle.assembly_laws.specs.Candidates.{moved, behind, impl_id}
+use Rattle.assembly_laws.specs.Candidates.{moved, rules_behind, impl_id}
 use Rattle.term_folds.proofs.ParamFacts.{tree-cong}
 use Rattle.candidate_assembly.specs.Headers.{var_kind}
 
@@ -103,14 +103,14 @@ put-behind d n ks (tree l c o) h =
     (put-behind (inside l d) n ks c (left-none (first_misfit A c) (first_misfit A o) h))
     (put-behind d n ks o (right-none (first_misfit A c) (first_misfit A o) h))
 
-pub reference-behind : (n : ℕ) (ks : List CanonicalVarKind) (r : Reference) → first_misfit (variables n ks) r.args ≡ None → with_args (variables n ks) r ≡ behind n r
+pub reference-behind : (n : ℕ) (ks : List CanonicalVarKind) (r : Reference) → first_misfit (variables n ks) r.args ≡ None → with_args (variables n ks) r ≡ rules_behind n r
 reference-behind n ks r h = ap (λ (t : Trees). let q : Reference = record { trait = r.trait; args = t } in q) (put-behind 0 n ks r.args h)
 
 pub all-behind : (es : List Entry) (n : ℕ) (ks : List CanonicalVarKind) (rs : List TraitRef) → Each (λ (r : TraitRef). first_misfit (variables n ks) (trees_at es r.args.0) ≡ None) rs
-    → all_with_args (variables n ks) (references_in es rs) ≡ map (behind n) (references_in es rs)
+    → all_with_args (variables n ks) (references_in es rs) ≡ map (rules_behind n) (references_in es rs)
 all-behind es n ks [] h = refl
 all-behind es n ks (r ∷ rs) h =
-    ap (λ x. x ∷ all_with_args (variables n ks) (references_in es rs)) (reference-behind n ks (reference_in es r) h.0) ∙ ap (λ l. behind n (reference_in es r) ∷ l) (all-behind es n ks rs h.1)
+    ap (λ x. x ∷ all_with_args (variables n ks) (references_in es rs)) (reference-behind n ks (reference_in es r) h.0) ∙ ap (λ l. rules_behind n (reference_in es r) ∷ l) (all-behind es n ks rs h.1)
 
 pub all-fit : (es : List Entry) (sorts : List Sort) (A : Trees) → sorts_of A ≡ sorts → (rs : List TraitRef) → Each (λ (r : TraitRef). SpeaksOf sorts (trees_at es r.args.0)) rs
     → Each (λ (r : TraitRef). first_misfit A (trees_at es r.args.0) ≡ None) rs
@@ -119,7 +119,7 @@ all-fit es sorts A e (r ∷ rs) h = (h.0 A e, all-fit es sorts A e rs h.1)
 
 -- ---- while the interner grows
 module _ (es fs : List Entry) (kept : Keeps es fs) where
-  pub fits-later : (A : Trees) (rs : List TraitRef) → AllHeld es rs → Each (λ (r : TraitRef). first_misfit A (trees_at es r.args.0) ≡ None) rs → Each (λ (r : TraitRef). first_misfit A (trees_at fs r.args.0) ≡ None) rs
+  pub fits-later : (A : Trees) (rs : List TraitRef) → TraitRefsHeld es rs → Each (λ (r : TraitRef). first_misfit A (trees_at es r.args.0) ≡ None) rs → Each (λ (r : TraitRef). first_misfit A (trees_at fs r.args.0) ≡ None) rs
   fits-later A [] h g = tt
   fits-later A (r ∷ rs) h g = (subst (λ (t : Trees). first_misfit A t ≡ None) (sym (trees-later es fs kept args_lists r.args.0 h.0)) g.0, fits-later A rs h.1 g.1)
 

@@ -19,19 +19,19 @@ use Rattle.evaluation.specs.Tables.{frame_tables}
 use Rattle.goal_frames.specs.Handlers.{same_answer, applies_always}
 use Rattle.evaluation.specs.StepReadings.{HasHistory, Shows, shown_by}
 use Rattle.declarations.specs.Items.{Items, written}
-use Rattle.assembly_laws.specs.Meaning.{Meaning}
+use Rattle.assembly_laws.specs.Meaning.{ViewMeaning}
 use Rattle.assembly_laws.specs.Knowing.{is_knowable}
-use Rattle.assembly_laws.specs.Asking.{Asked, asked, asked_if, clauses, self_of, begins_unknown}
+use Rattle.assembly_laws.specs.Asking.{GoalOverKinds, goal_over_kinds, asked_if, clauses, self_of, begins_unknown}
 use Rattle.assembly_laws.specs.Candidates.{Candidate, unsure, unknowable, by_clauses, built_in}
 use Rattle.assembly_laws.specs.DeclaredWell.{is_declared_well}
 use Rattle.assembly_laws.specs.Lifetimes.{form_gives_lifetimes}
-use Rattle.assembly_laws.specs.Solver.{Past, from, is_clause, is_impl, is_settled, says_nothing, holds_from, solver_handled}
+use Rattle.assembly_laws.specs.Solver.{SolverPast, from, is_clause, is_impl, is_settled, says_nothing, holds_from, solver_handled}
 use Rattle.type_terms.proofs.Members.{not-both}
 use Rattle.built_in_candidates.specs.Goals.{asked_of}
 use Rattle.candidate_assembly.specs.Counted.{ends_by_impl}
 use Rattle.candidate_assembly.specs.Fitting.{fits_declared, solving_of}
 use Rattle.candidate_assembly.specs.Nexts.{handled_in, ForEachHistory, late_in, next_decided}
-use Rattle.candidate_assembly.specs.Ready.{IsReady, IsDecided, Decides}
+use Rattle.candidate_assembly.specs.Ready.{AreReadyDeclarations, IsWellPosedGoal, Decides}
 use Rattle.candidate_assembly.specs.Sections.{misc_is_bound, is_unknowable, is_built_in, sources_tell, considered_from, early, late, is_first, next_in, decided, next_candidate, end_of, or_end}
 use Rattle.candidate_assembly.specs.Solving.{meaning_for}
 use Rattle.candidate_assembly.proofs.Along.{Answers}
@@ -43,11 +43,11 @@ use Rattle.candidate_assembly.proofs.SourcesOf.{impl-clause, impl-built, impl-kn
 use Rattle.candidate_assembly.proofs.TraitGoals.{was-asked}
 
 -- ---- what is next behind an impl
-module _ (m : Meaning) (a : Asked) (tell : sources_tell a ≡ true) (c : Considered (workings frame_tables)) (seen : Past) (t : is_impl c.spec.source ≡ true) where
+module _ (m : ViewMeaning) (a : GoalOverKinds) (tell : sources_tell a ≡ true) (c : Considered (workings frame_tables)) (seen : SolverPast) (t : is_impl c.spec.source ≡ true) where
   abbrev V : World
   V = m.view
 
-  abbrev built : Past → List (Considered (workings frame_tables))
+  abbrev built : SolverPast → List (Considered (workings frame_tables))
   built z = filter (from (is_built_in (misc_is_bound a))) z
 
   -- an impl is no where-clause and no built-in rule
@@ -88,15 +88,15 @@ module _ (m : Meaning) (a : Asked) (tell : sources_tell a ≡ true) (c : Conside
       by false None n g = refl
 
 -- ---- along histories
-module _ (m : Meaning) (mode : TypingMode) (f : CanonicalForm) (c : Considered (workings frame_tables)) (seen : Past) where
-  abbrev next : Past → Next (workings frame_tables)
+module _ (m : ViewMeaning) (mode : TypingMode) (f : CanonicalForm) (c : Considered (workings frame_tables)) (seen : SolverPast) where
+  abbrev next : SolverPast → Next (workings frame_tables)
   next = (solver_handled applies_always same_answer m mode f).next
 
-  end-answers : (o : Option Asked) → Answers frame_tables (end_of mode o (kinds_known f.kinds) seen)
+  end-answers : (o : Option GoalOverKinds) → Answers frame_tables (end_of mode o (kinds_known f.kinds) seen)
   end-answers None = ends-answer (kinds_known f.kinds) Coherence seen
   end-answers (Some a) = ends-answer (kinds_known f.kinds) mode seen
 
-  was-next : (o : Option Asked) → decided m (asked m.view f) ≡ o → IfSome o (λ a. sources_tell a ≡ true) → IsHistory (workings frame_tables) next (c ∷ seen) → next_candidate m mode o seen ≡ Some c.spec
+  was-next : (o : Option GoalOverKinds) → decided m (goal_over_kinds m.view f) ≡ o → IfSome o (λ a. sources_tell a ≡ true) → IsHistory (workings frame_tables) next (c ∷ seen) → next_candidate m mode o seen ≡ Some c.spec
   was-next o is tell h =
       considered-is (next_candidate m mode o seen) (end_of mode o (kinds_known f.kinds) seen) (end-answers o) c.spec
       (sym (histories-tell m mode f (subst (λ x. IfSome x (λ a. sources_tell a ≡ true)) (sym is) tell) seen h.2
@@ -104,23 +104,23 @@ module _ (m : Meaning) (mode : TypingMode) (f : CanonicalForm) (c : Considered (
       ∙ h.0)
 
   -- no impl is considered for a goal that is not decided
-  pub impls-decide : IsHistory (workings frame_tables) next (c ∷ seen) → is_impl c.spec.source ≡ true → (a : Asked) × (decided m (asked m.view f) ≡ Some a)
-  impls-decide h t = by (decided m (asked m.view f)) refl
+  pub impls-decide : IsHistory (workings frame_tables) next (c ∷ seen) → is_impl c.spec.source ≡ true → (a : GoalOverKinds) × (decided m (goal_over_kinds m.view f) ≡ Some a)
+  impls-decide h t = by (decided m (goal_over_kinds m.view f)) refl
     where
       not-alone : (b : Bool) → (if b then Some unsure else None) ≡ Some c.spec → ⊥
       not-alone true g = not-both (is_impl c.spec.source) t (sym (ap (λ (x : Candidate). is_impl x.source) (some-is unsure c.spec g)))
       not-alone false g = none-is c.spec g
 
-      by : (o : Option Asked) → decided m (asked m.view f) ≡ o → (a : Asked) × (decided m (asked m.view f) ≡ Some a)
+      by : (o : Option GoalOverKinds) → decided m (goal_over_kinds m.view f) ≡ o → (a : GoalOverKinds) × (decided m (goal_over_kinds m.view f) ≡ Some a)
       by None is = absurd (not-alone (is_first seen) (was-next None is tt h))
       by (Some a) is = (a, is)
 
-  pub late-behind : (a : Asked) → decided m (asked m.view f) ≡ Some a → sources_tell a ≡ true → IsHistory (workings frame_tables) next (c ∷ seen) → is_impl c.spec.source ≡ true
+  pub late-behind : (a : GoalOverKinds) → decided m (goal_over_kinds m.view f) ≡ Some a → sources_tell a ≡ true → IsHistory (workings frame_tables) next (c ∷ seen) → is_impl c.spec.source ≡ true
       → next_in m mode a (c ∷ seen) ≡ late m.view a (c ∷ seen)
   late-behind a is tell h t = late-next m a tell c seen t mode (was-next (Some a) is tell h)
 
 -- ---- goals in code
-is-sound : (n : Meaning) (o : Option Asked) (a : Asked) → decided n o ≡ Some a → n.is_sound ≡ true
+is-sound : (n : ViewMeaning) (o : Option GoalOverKinds) (a : GoalOverKinds) → decided n o ≡ Some a → n.is_sound ≡ true
 is-sound n None a e = absurd cc
 is-sound n (Some x) a e = by n.is_sound e
   where
@@ -129,35 +129,35 @@ is-sound n (Some x) a e = by n.is_sound e
     by false q = absurd cc
 
 module _ (es : List Entry) (d : Items) (g : CanonicalInput) (done : List InCode.Considered) (e : ends_by_impl false done ≡ true) where
-  pub behind-impl : IsDecided es d g → ForEachHistory es d g done (λ seen. late_in es d g seen ≡ next_decided es d g seen)
+  pub behind-impl : IsWellPosedGoal es d g → ForEachHistory es d g done (λ seen. late_in es d g seen ≡ next_decided es d g seen)
   behind-impl h [] s t = absurd (false-true (sym (ends-is es done [] s) ∙ e))
   behind-impl h (c ∷ seen) s t = sym (late-behind (meaning_for (solving_of es d) (form_of es g)) g.mode (form_of es g) c seen (asked_of es g) h.is h.fits.tells t (sym (ends-is es done (c ∷ seen) s) ∙ e))
 
-  abbrev own : Asked
+  abbrev own : GoalOverKinds
   own = asked_of es g
 
-  same-asked : (a : Asked) → asked (written es d) (form_of es g) ≡ Some a → a ≡ own
+  same-asked : (a : GoalOverKinds) → goal_over_kinds (written es d) (form_of es g) ≡ Some a → a ≡ own
   same-asked a is = by (tests es d g) (sym (asked-tests es d g) ∙ is)
     where
       by : (b : Bool) → asked_if b own ≡ Some a → a ≡ own
       by true q = cc
       by false q = absurd cc
 
-  pub decides : IsReady es d → HasHistory es (handled_in es d g) done → Decides es d g true
+  pub decides : AreReadyDeclarations es d → HasHistory es (handled_in es d g) done → Decides es d g true
   decides ready h = by h.0 h.1 h.2
     where
-      m : Meaning
+      m : ViewMeaning
       m = meaning_for (solving_of es d) (form_of es g)
 
-      by-asked : (a : Asked) → decided m (asked (written es d) (form_of es g)) ≡ Some a → Decides es d g true
+      by-asked : (a : GoalOverKinds) → decided m (goal_over_kinds (written es d) (form_of es g)) ≡ Some a → Decides es d g true
       by-asked a is =
-          let was = was-asked m (asked (written es d) (form_of es g)) a is in
+          let was = was-asked m (goal_over_kinds (written es d) (form_of es g)) a is in
           let same = same-asked a was in
-          let sound = is-sound m (asked (written es d) (form_of es g)) a is in
+          let sound = is-sound m (goal_over_kinds (written es d) (form_of es g)) a is in
           let fits = left (fits_declared d (form_of es g)) (form_gives_lifetimes (written es d) (form_of es g)) (right (is_declared_well (written es d)) _ sound) in
           record { is = is ∙ ap (λ x. Some x) same; fits = λ _. decided-fits es d g (was ∙ ap (λ x. Some x) same) fits }
 
-      by : (seen : Past) → Shows (map (shown_by es) done) seen → IsHistory (workings frame_tables) (handled_in es d g).next seen → Decides es d g true
+      by : (seen : SolverPast) → Shows (map (shown_by es) done) seen → IsHistory (workings frame_tables) (handled_in es d g).next seen → Decides es d g true
       by [] s t = absurd (false-true (sym (ends-is es done [] s) ∙ e))
       by (c ∷ seen) s t =
           let p = impls-decide m g.mode (form_of es g) c seen t (sym (ends-is es done (c ∷ seen) s) ∙ e) in

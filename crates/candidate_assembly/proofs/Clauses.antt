@@ -11,9 +11,9 @@ use Rattle.infer_table.specs.Goals.{ClausesHeld, environment_trees}
 use Rattle.evaluation.specs.declared.candidate.CandidateSource.TheVariants.{ParamEnv}
 use Rattle.declarations.specs.Items.{reference_in}
 use Rattle.declarations.specs.Held.{ReferenceHeld}
-use Rattle.declarations.specs.Applied.{AllHeld}
+use Rattle.declarations.specs.Applied.{TraitRefsHeld}
 use Rattle.assembly_laws.specs.Facts.{clauses_of}
-use Rattle.assembly_laws.specs.Asking.{Asked}
+use Rattle.assembly_laws.specs.Asking.{GoalOverKinds}
 use Rattle.assembly_laws.specs.Candidates.{Candidate, by_rule, by_clauses, clause_source, all_equal}
 use Rattle.candidate_assembly.specs.Clauses.{reference_of, with_reference, references_to}
 
@@ -28,23 +28,23 @@ pub first-known : (t : ℕ) (c : Clause) (cs : List Clause) (r : TraitRef) → S
 first-known t c cs r e = ap (λ o. slice_get (with_reference o (references_to t cs)) 0) e
 
 -- ---- their terms
-pub references-held : (es : List Entry) (t : ℕ) (cs : List Clause) → ClausesHeld es cs → AllHeld es (references_to t cs)
+pub references-held : (es : List Entry) (t : ℕ) (cs : List Clause) → ClausesHeld es cs → TraitRefsHeld es (references_to t cs)
 references-held es t [] h = tt
 references-held es t (Trait p ∷ cs) h = by (p.trait_ref.def_id.index == t) (references-held es t cs h.1)
   where
-    by : (b : Bool) → AllHeld es (references_to t cs) → AllHeld es (with_reference (if b then Some p.trait_ref else None) (references_to t cs))
+    by : (b : Bool) → TraitRefsHeld es (references_to t cs) → TraitRefsHeld es (with_reference (if b then Some p.trait_ref else None) (references_to t cs))
     by true g = (h.0, g)
     by false g = g
 references-held es t (RegionOutlives a b ∷ cs) h = references-held es t cs h.1
 references-held es t (TypeOutlives a r ∷ cs) h = references-held es t cs h.1
 
-pub held-at : (es : List Entry) (rs : List TraitRef) (n : ℕ) (r : TraitRef) → AllHeld es rs → Some r ≡ slice_get rs n → ReferenceHeld es r
+pub held-at : (es : List Entry) (rs : List TraitRef) (n : ℕ) (r : TraitRef) → TraitRefsHeld es rs → Some r ≡ slice_get rs n → ReferenceHeld es r
 held-at es [] n r h e = absurd cc
 held-at es (x ∷ rs) zero r h e = let q : x ≡ r = cc in subst (ReferenceHeld es) q h.0
 held-at es (x ∷ rs) (suc n) r h e = held-at es rs n r h.1 e
 
 -- ---- as candidates
-module _ (V : World) (es : List Entry) (a : Asked) where
+module _ (V : World) (es : List Entry) (a : GoalOverKinds) where
   abbrev pub of_clause : TraitRef → Candidate
   of_clause r = by_rule V a (ParamEnv (clause_source (reference_in es r))) (all_equal a.reference.args (reference_in es r).args) []
 

@@ -9,20 +9,20 @@ use Rattle.evaluation.specs.declared.candidate.Considered as InCode
 use Rattle.evaluation.specs.Candidate.{Considered}
 use Rattle.evaluation.specs.Table.{workings}
 use Rattle.evaluation.specs.Tables.{frame_tables}
-use Rattle.evaluation.specs.StepReadings.{Shown, shown, shown_by}
-use Rattle.assembly_laws.specs.Solver.{Past, from, is_impl}
+use Rattle.evaluation.specs.StepReadings.{ShownCandidate, shown, shown_by}
+use Rattle.assembly_laws.specs.Solver.{SolverPast, from, is_impl}
 use Rattle.candidate_assembly.specs.Counted.{count_from, last_from, ends_by_impl, ForEachPast}
 use Rattle.candidate_assembly.specs.Sections.{considered_from, impl_or, last_impl}
 use Rattle.candidate_assembly.proofs.Along.{count-last}
 use Rattle.candidate_assembly.proofs.Taken.{count}
 
 -- one more candidate stands at the end of what is shown
-pub shown-next : (c : Considered (workings frame_tables)) (seen : Past) → reverse (map shown (c ∷ seen)) ≡ reverse (map shown seen) ++ shown c ∷ []
+pub shown-next : (c : Considered (workings frame_tables)) (seen : SolverPast) → reverse (map shown (c ∷ seen)) ≡ reverse (map shown seen) ++ shown c ∷ []
 shown-next c seen = reverse-append (shown c ∷ []) (map shown seen)
 
 -- ---- counts
 module _ (p : CandidateSource → Bool) where
-  abbrev from-there : Shown → Bool
+  abbrev from-there : ShownCandidate → Bool
   from-there x = p x.source
 
   count-read : (es : List Entry) (done : List InCode.Considered) → count_from p done ≡ count from-there (map (shown_by es) done)
@@ -35,7 +35,7 @@ module _ (p : CandidateSource → Bool) where
       by true h = ap suc h
       by false h = h
 
-  count-shown : (seen : Past) → count from-there (reverse (map shown seen)) ≡ considered_from p seen
+  count-shown : (seen : SolverPast) → count from-there (reverse (map shown seen)) ≡ considered_from p seen
   count-shown [] = refl
   count-shown (c ∷ seen) = ap (count from-there) (shown-next c seen) ∙ count-last from-there (reverse (map shown seen)) (shown c) ∙ by (p c.spec.source) (count-shown seen)
     where
@@ -48,7 +48,7 @@ module _ (p : CandidateSource → Bool) where
   counted es done seen h = count-read es done ∙ ap (count from-there) h ∙ count-shown seen
 
 -- ---- the last impl
-abbrev last-shown : Option ImplId → List Shown → Option ImplId
+abbrev last-shown : Option ImplId → List ShownCandidate → Option ImplId
 last-shown o [] = o
 last-shown o (x ∷ xs) = last-shown (impl_or x.source o) xs
 
@@ -56,11 +56,11 @@ last-read : (es : List Entry) (o : Option ImplId) (done : List InCode.Considered
 last-read es o [] = refl
 last-read es o (d ∷ done) = last-read es (impl_or d.source o) done
 
-last-one : (o : Option ImplId) (xs : List Shown) (x : Shown) → last-shown o (xs ++ x ∷ []) ≡ impl_or x.source (last-shown o xs)
+last-one : (o : Option ImplId) (xs : List ShownCandidate) (x : ShownCandidate) → last-shown o (xs ++ x ∷ []) ≡ impl_or x.source (last-shown o xs)
 last-one o [] x = refl
 last-one o (y ∷ xs) x = last-one (impl_or y.source o) xs x
 
-last-of-shown : (seen : Past) → last-shown None (reverse (map shown seen)) ≡ last_impl seen
+last-of-shown : (seen : SolverPast) → last-shown None (reverse (map shown seen)) ≡ last_impl seen
 last-of-shown [] = refl
 last-of-shown (c ∷ seen) = ap (last-shown None) (shown-next c seen) ∙ last-one None (reverse (map shown seen)) (shown c) ∙ ap (impl_or c.spec.source) (last-of-shown seen)
 
@@ -77,7 +77,7 @@ pub ends-behind : (b : Bool) (done : List InCode.Considered) (d : InCode.Conside
 ends-behind b [] d = refl
 ends-behind b (x ∷ done) d = ends-behind (is_impl x.source) done d
 
-abbrev ends-shown : Bool → List Shown → Bool
+abbrev ends-shown : Bool → List ShownCandidate → Bool
 ends-shown b [] = b
 ends-shown b (x ∷ xs) = ends-shown (is_impl x.source) xs
 
@@ -85,11 +85,11 @@ ends-read : (es : List Entry) (b : Bool) (done : List InCode.Considered) → end
 ends-read es b [] = refl
 ends-read es b (d ∷ done) = ends-read es (is_impl d.source) done
 
-ends-one : (b : Bool) (xs : List Shown) (x : Shown) → ends-shown b (xs ++ x ∷ []) ≡ is_impl x.source
+ends-one : (b : Bool) (xs : List ShownCandidate) (x : ShownCandidate) → ends-shown b (xs ++ x ∷ []) ≡ is_impl x.source
 ends-one b [] x = refl
 ends-one b (y ∷ xs) x = ends-one (is_impl y.source) xs x
 
-abbrev pub newest_by_impl : Past → Bool
+abbrev pub newest_by_impl : SolverPast → Bool
 newest_by_impl [] = false
 newest_by_impl (c ∷ seen) = is_impl c.spec.source
 

@@ -16,14 +16,14 @@ use Rattle.evaluation.specs.Merge.{or_else}
 use Rattle.evaluation.specs.Readings.{ConsideredHeld}
 use Rattle.evaluation.specs.Table.{workings}
 use Rattle.evaluation.specs.Tables.{frame_tables}
-use Rattle.evaluation.specs.StepReadings.{Shown, shown, Shows, shown_by}
+use Rattle.evaluation.specs.StepReadings.{ShownCandidate, shown, Shows, shown_by}
 use Rattle.goal_frames.proofs.Later.{shown-later}
 use Rattle.declarations.specs.Items.{Items, reference_in, written}
 use Rattle.declarations.specs.Merges.{Rises}
 use Rattle.declarations.proofs.Growth.{reference-same, args-same, all-written}
-use Rattle.assembly_laws.specs.Asking.{Asked, asked, self_of}
+use Rattle.assembly_laws.specs.Asking.{GoalOverKinds, goal_over_kinds, self_of}
 use Rattle.assembly_laws.specs.Candidates.{Candidate, by_impls, by_objects}
-use Rattle.assembly_laws.specs.Solver.{Past, is_impl}
+use Rattle.assembly_laws.specs.Solver.{SolverPast, is_impl}
 use Rattle.candidate_assembly.proofs.Settled.{some-length}
 use Rattle.candidate_assembly.proofs.Counted.{shown-next}
 use Rattle.built_in_candidates.specs.Constituents.{StructIsApplied, CanBeConsidered}
@@ -35,7 +35,7 @@ use Rattle.declarations.proofs.Elaborating.{applied-later}
 use Rattle.candidate_assembly.specs.Kept.{ready-kept, solving-kept}
 use Rattle.candidate_assembly.specs.Nexts.{handled_in, ForEachHistory}
 use Rattle.built_in_candidates.specs.Objects.{ObjectIsApplied}
-use Rattle.candidate_assembly.specs.Ready.{IsDecided}
+use Rattle.candidate_assembly.specs.Ready.{IsWellPosedGoal}
 use Rattle.candidate_assembly.specs.Sections.{sources_tell, decided, considered_from, is_bound, is_first, misc_is_bound, last_impl}
 use Rattle.candidate_assembly.specs.Solving.{Solving, meaning_for, solver_for}
 use Rattle.built_in_candidates.specs.Unsizing.{CanUnsize}
@@ -43,7 +43,7 @@ use Rattle.built_in_candidates.proofs.Asking.{asked-later}
 use Rattle.candidate_assembly.proofs.GoingOn.{walks-go-on}
 
 -- ---- what candidates ask of a goal
-module _ (es : List Entry) (d : Items) (g : CanonicalInput) (h : IsDecided es d g) where
+module _ (es : List Entry) (d : Items) (g : CanonicalInput) (h : IsWellPosedGoal es d g) where
   pub can-be : CanBeConsidered es d g
   can-be = record { goal = h.goal; first = h.fits.first; declared = h.ready.held; fields = h.ready.fields; applied = h.fits.struct }
 
@@ -54,7 +54,7 @@ module _ (es : List Entry) (d : Items) (g : CanonicalInput) (h : IsDecided es d 
   unsizing e = h.fits.unsizing e
 
 -- ---- while the interner grows
-module _ (old new : List Entry) (k : Keeps old new) (d : Items) (g : CanonicalInput) (h : IsDecided old d g) where
+module _ (old new : List Entry) (k : Keeps old new) (d : Items) (g : CanonicalInput) (h : IsWellPosedGoal old d g) where
   view-same : written new d ≡ written old d
   view-same = all-written old new k d h.ready.held
 
@@ -77,40 +77,40 @@ module _ (old new : List Entry) (k : Keeps old new) (d : Items) (g : CanonicalIn
         first = subst StartsWithType same h.fits.first;
         struct = subst (StructIsApplied d) same h.fits.struct;
         object = subst (ObjectIsApplied d) same h.fits.object;
-        unsizing = λ e. subst (λ (a : Asked). CanUnsize d (self_of a)) (sym asked-same) (h.fits.unsizing e);
+        unsizing = λ e. subst (λ (a : GoalOverKinds). CanUnsize d (self_of a)) (sym asked-same) (h.fits.unsizing e);
         tells = ap sources_tell asked-same ∙ h.fits.tells;
       }
 
-  pub decided-later : IsDecided new d g
+  pub decided-later : IsWellPosedGoal new d g
   decided-later = record {
     ready = ready-kept d old new k h.ready;
     goal = goal-held-later old new k g.goal h.goal;
     is =
-        ap (λ (s : Solving). decided (meaning_for s (form_of new g)) (asked s.view (form_of new g))) solving-same
-        ∙ ap (λ (f : CanonicalForm). decided (meaning_for (solving_of old d) f) (asked (written old d) f)) form-same
-        ∙ h.is ∙ ap (λ (a : Asked). Some a) (sym asked-same);
+        ap (λ (s : Solving). decided (meaning_for s (form_of new g)) (goal_over_kinds s.view (form_of new g))) solving-same
+        ∙ ap (λ (f : CanonicalForm). decided (meaning_for (solving_of old d) f) (goal_over_kinds (written old d) f)) form-same
+        ∙ h.is ∙ ap (λ (a : GoalOverKinds). Some a) (sym asked-same);
     fits = fits-same;
   }
 
   module _ (done : List InCode.Considered) (held : ConsideredHeld old done) where
-    shows-later : (seen : Past) → Shows (map (shown_by old) done) seen → Shows (map (shown_by new) done) seen
+    shows-later : (seen : SolverPast) → Shows (map (shown_by old) done) seen → Shows (map (shown_by new) done) seen
     shows-later seen s = shown-later old new k done held ∙ s
 
     -- what holds of each past
-    pub past-later : (P : World → Asked → Past → Type 0) → ForEachPast new done (λ seen. P (written new d) (asked_of new g) seen) → ForEachPast old done (λ seen. P (written old d) (asked_of old g) seen)
-    past-later P f seen s = subst (λ (V : World). P V (asked_of old g) seen) view-same (subst (λ (a : Asked). P (written new d) a seen) asked-same (f seen (shows-later seen s)))
+    pub past-later : (P : World → GoalOverKinds → SolverPast → Type 0) → ForEachPast new done (λ seen. P (written new d) (asked_of new g) seen) → ForEachPast old done (λ seen. P (written old d) (asked_of old g) seen)
+    past-later P f seen s = subst (λ (V : World). P V (asked_of old g) seen) view-same (subst (λ (a : GoalOverKinds). P (written new d) a seen) asked-same (f seen (shows-later seen s)))
 
-    history-later : (seen : Past) → IsHistory (workings frame_tables) (handled_in old d g).next seen → IsHistory (workings frame_tables) (handled_in new d g).next seen
+    history-later : (seen : SolverPast) → IsHistory (workings frame_tables) (handled_in old d g).next seen → IsHistory (workings frame_tables) (handled_in new d g).next seen
     history-later seen s =
         subst (λ (x : Solving). IsHistory (workings frame_tables) (solver_for x g.mode (form_of new g)).next seen) (sym solving-same)
         (subst (λ (f : CanonicalForm). IsHistory (workings frame_tables) (solver_for (solving_of old d) g.mode f).next seen) (sym form-same) s)
 
     -- and of each history
-    pub histories-later : (P : World → Asked → Past → Type 0) → ForEachHistory new d g done (λ seen. P (written new d) (asked_of new g) seen) → ForEachHistory old d g done (λ seen. P (written old d) (asked_of old g) seen)
-    histories-later P f seen s t = subst (λ (V : World). P V (asked_of old g) seen) view-same (subst (λ (a : Asked). P (written new d) a seen) asked-same (f seen (shows-later seen s) (history-later seen t)))
+    pub histories-later : (P : World → GoalOverKinds → SolverPast → Type 0) → ForEachHistory new d g done (λ seen. P (written new d) (asked_of new g) seen) → ForEachHistory old d g done (λ seen. P (written old d) (asked_of old g) seen)
+    histories-later P f seen s t = subst (λ (V : World). P V (asked_of old g) seen) view-same (subst (λ (a : GoalOverKinds). P (written new d) a seen) asked-same (f seen (shows-later seen s) (history-later seen t)))
 
 -- ---- the walk over impls
-pub walk-in : (es : List Entry) (d : Items) (g : CanonicalInput) → IsDecided es d g → Rises (map (λ i. i.id) d.impls) → (done : List InCode.Considered)
+pub walk-in : (es : List Entry) (d : Items) (g : CanonicalInput) → IsWellPosedGoal es d g → Rises (map (λ i. i.id) d.impls) → (done : List InCode.Considered)
     → ForEachHistory es d g done (λ seen. let V = written es d in let a = asked_of es g in slice_get (by_impls V a (impls_above (last_impl seen) V.impls)) 0 ≡ slice_get (by_impls V a V.impls) (considered_from is_impl seen))
 walk-in es d g h rises done seen s t = walks-go-on es d rises (meaning_for (solving_of es d) (form_of es g)) refl g.mode (form_of es g) (asked_of es g) h.is h.fits.tells seen t
 
@@ -133,13 +133,13 @@ pub many-at : (n : ℕ) (x y : Option Candidate) → x ≡ y → HasTooMany n x 
 many-at n x y e h = subst (HasTooMany n) e h
 
 -- ---- sections
-abbrev pub next_impl : World → Asked → Past → Option Candidate
+abbrev pub next_impl : World → GoalOverKinds → SolverPast → Option Candidate
 next_impl V a seen = slice_get (by_impls V a V.impls) (considered_from is_impl seen)
 
-abbrev pub impl_behind : World → Asked → Past → Option Candidate
+abbrev pub impl_behind : World → GoalOverKinds → SolverPast → Option Candidate
 impl_behind V a seen = slice_get (by_impls V a (impls_above (last_impl seen) V.impls)) 0
 
-abbrev pub next_bound : World → Asked → Past → Option Candidate
+abbrev pub next_bound : World → GoalOverKinds → SolverPast → Option Candidate
 next_bound V a seen = slice_get (by_objects V a) (considered_from (is_bound (misc_is_bound a)) seen)
 
 -- ---- in coherence
@@ -154,11 +154,11 @@ inside-none true u k o e f = absurd cc
 inside-none false false k o e f = absurd cc
 
 -- ---- nothing was considered
-no-end : (xs : List Shown) (x : Shown) → [] ≡ xs ++ x ∷ [] → ⊥
+no-end : (xs : List ShownCandidate) (x : ShownCandidate) → [] ≡ xs ++ x ∷ [] → ⊥
 no-end [] x e = cc
 no-end (y ∷ xs) x e = cc
 
-pub first-is : (es : List Entry) (done : List InCode.Considered) (seen : Past) → Shows (map (shown_by es) done) seen → (length done == 0) ≡ is_first seen
+pub first-is : (es : List Entry) (done : List InCode.Considered) (seen : SolverPast) → Shows (map (shown_by es) done) seen → (length done == 0) ≡ is_first seen
 first-is es [] [] h = refl
 first-is es [] (c ∷ seen) h = absurd (no-end (reverse (map shown seen)) (shown c) (h ∙ shown-next c seen))
 first-is es (x ∷ done) [] h = absurd cc

@@ -15,7 +15,7 @@ use Rattle.infer_table.specs.Goals.{environment_trees, predicate_trees}
 use Rattle.infer_table.specs.Inputs.{form_of}
 use Rattle.evaluation.specs.Variables.{is_variable_over}
 use Rattle.declarations.specs.Items.{Items, reference_in, written}
-use Rattle.assembly_laws.specs.Asking.{Asked, asked, asked_if, asked_with, all_known, with_first, are_clauses, begins_with_type, begins_unknown, next_of, self_of}
+use Rattle.assembly_laws.specs.Asking.{GoalOverKinds, goal_over_kinds, asked_if, asked_with, all_known, with_first, are_clauses, begins_with_type, begins_unknown, next_of, self_of}
 use Rattle.assembly_laws.specs.DeclaredWell.{is_declared_well}
 use Rattle.assembly_laws.specs.Lifetimes.{gives_lifetimes, given_by, form_gives_lifetimes}
 use Rattle.assembly_laws.proofs.DeclaredWell.{tests-tell}
@@ -35,7 +35,7 @@ unless : (b x : Bool) → (b ≡ true → x ≡ true) → (not b || x) ≡ true
 unless true x f = f refl
 unless false x f = refl
 
-otherwise : (r : Bool) (a : Asked) → (if r then None else Some a) ≡ (if not r then Some a else None)
+otherwise : (r : Bool) (a : GoalOverKinds) → (if r then None else Some a) ≡ (if not r then Some a else None)
 otherwise true a = refl
 otherwise false a = refl
 
@@ -46,7 +46,7 @@ module _ (es : List Entry) (d : Items) (g : CanonicalInput) where
   abbrev f : CanonicalForm
   f = form_of es g
 
-  abbrev a : Asked
+  abbrev a : GoalOverKinds
   a = asked_of es g
 
   abbrev own : Reference
@@ -73,7 +73,7 @@ module _ (es : List Entry) (d : Items) (g : CanonicalInput) where
   pub all-over : written_in V own ≡ true → over ≡ true → types ≡ true → (r : Bool) → r ≡ clauses → r ≡ tests
   all-over e h k r q = q ∙ sym (ap (λ z. z && (over && (types && clauses))) e ∙ ap (λ z. z && (types && clauses)) h ∙ ap (λ z. z && clauses) k)
 
-  pub asked-tests : asked V f ≡ asked_if tests a
+  pub asked-tests : goal_over_kinds V f ≡ asked_if tests a
   asked-tests = ap (asked_with V (environment_trees es g.goal.param_env.items) (predicate_trees es g.goal.predicate)) (all-known g.variables.items)
 
   asked-if : (b : Bool) → asked_if b a ≡ (if b then Some a else None)
@@ -81,10 +81,10 @@ module _ (es : List Entry) (d : Items) (g : CanonicalInput) where
   asked-if false = refl
 
   -- what the four tests answer
-  pub asked-by : (r : Bool) → r ≡ tests → asked V f ≡ (if r then Some a else None)
+  pub asked-by : (r : Bool) → r ≡ tests → goal_over_kinds V f ≡ (if r then Some a else None)
   asked-by r e = asked-tests ∙ asked-if tests ∙ ap (λ b. if b then Some a else None) (sym e)
 
-  pub tests-hold : asked V f ≡ Some a → tests ≡ true
+  pub tests-hold : goal_over_kinds V f ≡ Some a → tests ≡ true
   tests-hold e = by tests (sym asked-tests ∙ e)
     where
       by : (b : Bool) → asked_if b a ≡ Some a → b ≡ true
@@ -92,13 +92,13 @@ module _ (es : List Entry) (d : Items) (g : CanonicalInput) where
       by false e = absurd cc
 
   -- what the candidates ask of it holds
-  pub decided-fits : asked V f ≡ Some a → reference_fits d own ≡ true → GoalFits es d g
+  pub decided-fits : goal_over_kinds V f ≡ Some a → reference_fits d own ≡ true → GoalFits es d g
   decided-fits e fits =
       let h = tests-hold e in
       goal-fits es d g (left (written_in V own) _ h) (left types clauses (right (is_made (is_variable_over g.variables.items) terms T) _ (right (written_in V own) _ h))) fits
 
   -- and its structs are given the lifetimes that their fields name
-  gives-lifetimes : asked V f ≡ Some a → HaveFields es d → is_declared_well V ≡ true → GoalFits es d g → form_gives_lifetimes V f ≡ true
+  gives-lifetimes : goal_over_kinds V f ≡ Some a → HaveFields es d → is_declared_well V ≡ true → GoalFits es d g → form_gives_lifetimes V f ≡ true
   gives-lifetimes e fields well fits =
       let made = left over _ (right (written_in V own) _ (tests-hold e)) in
       let good = is_variable_over g.variables.items in
@@ -107,8 +107,8 @@ module _ (es : List Entry) (d : Items) (g : CanonicalInput) where
       (unless (own.trait == unsize) (gives_lifetimes V (next_of (self_of a))) (λ u. target-given es d fields (tests-tell V well) good T made (fits.unsizing u).applied))
 
   -- so it is decided, if its self type is no unknown
-  pub decided-is : asked V f ≡ Some a → HaveFields es d → is_declared_well V ≡ true → reference_fits d own ≡ true → (r : Bool) → r ≡ begins_unknown a.kinds (self_of a)
-      → decided (meaning_for (solving_of es d) f) (asked V f) ≡ (if not r then Some a else None)
+  pub decided-is : goal_over_kinds V f ≡ Some a → HaveFields es d → is_declared_well V ≡ true → reference_fits d own ≡ true → (r : Bool) → r ≡ begins_unknown a.kinds (self_of a)
+      → decided (meaning_for (solving_of es d) f) (goal_over_kinds V f) ≡ (if not r then Some a else None)
   decided-is e fields well fits r u =
       let gives = gives-lifetimes e fields well (decided-fits e fits) in
       ap (decided (meaning_for (solving_of es d) f)) e

@@ -26,7 +26,7 @@ use Rattle.goal_frames.specs.Fitting.{ResultFits, ConsideredFits}
 use Rattle.goal_frames.specs.Handlers.{same_answer, applies_always}
 use Rattle.goal_frames.specs.Merges.{responses_of, merge_of}
 use Rattle.evaluation.specs.StepReadings.{Shows, shown_by, result_read}
-use Rattle.assembly_laws.specs.Solver.{Past, from, is_clause, is_global, is_impl, is_non_global, is_object, is_trivial, gives_none, holds_from, oldest_gives_none, remain, remains}
+use Rattle.assembly_laws.specs.Solver.{SolverPast, from, is_clause, is_global, is_impl, is_non_global, is_object, is_trivial, gives_none, holds_from, oldest_gives_none, remain, remains}
 use Rattle.candidate_assembly.specs.declared.merge.Sources.{Sources}
 use Rattle.candidate_assembly.specs.declared.merge.Sources.TheVariants.{All, Trivial, NonGlobalClauses, Clauses, Remaining}
 use Rattle.candidate_assembly.specs.Merging.{is_among, from_sources, end_in, clause_taken, IsEnd, MergesFrom, AreRemaining}
@@ -41,17 +41,17 @@ ok-map P Q f (Err e) h = tt
 abbrev ends : Option AnswerTrees → Next (workings frame_tables)
 ends a = answer a []
 
-merge-kept : (sources : Sources) (es : List Entry) (ks : List CanonicalVarKind) (done : List InCode.Considered) (seen : Past) → Shows (map (shown_by es) done) seen → (Q : CandidateSource → Bool) → ((s : CandidateSource) → is_among sources s ≡ Q s)
+merge-kept : (sources : Sources) (es : List Entry) (ks : List CanonicalVarKind) (done : List InCode.Considered) (seen : SolverPast) → Shows (map (shown_by es) done) seen → (Q : CandidateSource → Bool) → ((s : CandidateSource) → is_among sources s ≡ Q s)
     → merge_of es ks (responses_of (from_sources sources done)) ≡ merge_or_flounder frame_tables applies_always same_answer (begin ks) (responses frame_tables (filter (from Q) seen))
 merge-kept sources es ks done seen h Q same =
     ap (merge_or_flounder frame_tables applies_always same_answer (begin ks))
     (answers (is_among sources) es done seen h ∙ ap (responses frame_tables) (same-filter (from (is_among sources)) (from Q) (λ c. same c.spec.source) seen))
 
-abbrev kept_end : List CanonicalVarKind → (Past → CandidateSource → Bool) → Past → Plan frame_tables
+abbrev kept_end : List CanonicalVarKind → (SolverPast → CandidateSource → Bool) → SolverPast → Plan frame_tables
 kept_end ks Q seen = kept_merged frame_tables applies_always same_answer (begin ks) (from (Q seen)) seen
 
-pub end-kept : (sources : Sources) (es new : List Entry) (ks : List CanonicalVarKind) (done : List InCode.Considered) (Q : Past → CandidateSource → Bool)
-    → ((seen : Past) → Shows (map (shown_by es) done) seen → (s : CandidateSource) → is_among sources s ≡ Q seen s) → (step : HandlerStep) → MergesFrom sources ks es done new step → IsEnd (kept_end ks Q) es done new step
+pub end-kept : (sources : Sources) (es new : List Entry) (ks : List CanonicalVarKind) (done : List InCode.Considered) (Q : SolverPast → CandidateSource → Bool)
+    → ((seen : SolverPast) → Shows (map (shown_by es) done) seen → (s : CandidateSource) → is_among sources s ≡ Q seen s) → (step : HandlerStep) → MergesFrom sources ks es done new step → IsEnd (kept_end ks Q) es done new step
 end-kept sources es new ks done Q same step m = λ seen h kind. m kind ∙ ap ends (merge-kept sources es ks done seen h (Q seen) (same seen h))
 
 pub end-all : (es new : List Entry) (ks : List CanonicalVarKind) (done : List InCode.Considered) (step : HandlerStep) → MergesFrom All ks es done new step → IsEnd (end_in Coherence ks) es done new step
@@ -72,7 +72,7 @@ no-pair a b e = cc
 answer-cong : (a c : Option AnswerTrees) (ns ms : List ℕ) → a ≡ c → ns ≡ ms → ◌≡◌ {A = Next (workings frame_tables)} (answer a ns) (answer c ms)
 answer-cong a c ns ms e f = cc
 
-pub clause-end : (es : List Entry) (ks : List CanonicalVarKind) (done : List InCode.Considered) (seen : Past) → Shows (map (shown_by es) done) seen → (r : AnswerTrees) (n : ℕ) (ns : List ℕ)
+pub clause-end : (es : List Entry) (ks : List CanonicalVarKind) (done : List InCode.Considered) (seen : SolverPast) → Shows (map (shown_by es) done) seen → (r : AnswerTrees) (n : ℕ) (ns : List ℕ)
     → ◌≡◌ {A = Option (AnswerTrees × ℕ)} (Some (r, n)) (first_yes (map (shown_by es) done)) → ns ≡ reverse (other_clauses n (map (shown_by es) done)) → ◌≡◌ {A = Next (workings frame_tables)} (answer (Some r) ns) (wanted frame_tables (clause_taken ks seen))
 clause-end es ks done seen h r n ns e f = by (first_passing frame_tables applies_always same_answer (begin ks) (clauses_of seen)) (ap (option_map as_taken) (e ∙ ap first_yes h) ∙ yes-shown (begin ks) seen)
   where
@@ -94,7 +94,7 @@ no-clause-end es new ks done e step m = λ seen h kind.
     none-some : (c : Considered (workings frame_tables)) → None ≡ Some (taken_of c) → ⊥
     none-some c q = cc
 
-    by : (seen : Past) (o : Option (Considered (workings frame_tables))) → None ≡ option_map taken_of o
+    by : (seen : SolverPast) (o : Option (Considered (workings frame_tables))) → None ≡ option_map taken_of o
         → ◌≡◌ {A = Next (workings frame_tables)} (wanted frame_tables (kept_end ks (λ z. is_clause) seen)) (wanted frame_tables (taken_or_merged frame_tables applies_always same_answer (begin ks) (clauses_of seen) o))
     by seen None q = refl
     by seen (Some c) q = absurd (none-some c q)
@@ -112,7 +112,7 @@ around true false = refl
 around false true = refl
 around false false = refl
 
-holds-same : (P Q : CandidateSource → Bool) → ((s : CandidateSource) → P s ≡ Q s) → (seen : Past) → holds_from P seen ≡ holds_from Q seen
+holds-same : (P Q : CandidateSource → Bool) → ((s : CandidateSource) → P s ≡ Q s) → (seen : SolverPast) → holds_from P seen ≡ holds_from Q seen
 holds-same P Q same [] = refl
 holds-same P Q same (c ∷ seen) = ap (λ b. (b && is_some c.response) || holds_from P seen) (same c.spec.source) ∙ ap (λ b. (Q c.spec.source && is_some c.response) || b) (holds-same P Q same seen)
 

@@ -19,11 +19,11 @@ use Rattle.evaluation.specs.Tables.{frame_tables}
 use Rattle.goal_frames.specs.Handlers.{same_answer, applies_always}
 use Rattle.declarations.specs.Items.{Items, written}
 use Rattle.declarations.specs.Merges.{Rises}
-use Rattle.assembly_laws.specs.Meaning.{Meaning}
+use Rattle.assembly_laws.specs.Meaning.{ViewMeaning}
 use Rattle.assembly_laws.specs.Knowing.{is_knowable}
-use Rattle.assembly_laws.specs.Asking.{Asked, asked, clauses}
+use Rattle.assembly_laws.specs.Asking.{GoalOverKinds, goal_over_kinds, clauses}
 use Rattle.assembly_laws.specs.Candidates.{Candidate, unknowable, by_clauses, built_in, by_impls, by_objects}
-use Rattle.assembly_laws.specs.Solver.{Past, from, is_clause, is_impl, is_settled, holds_from, solver_handled}
+use Rattle.assembly_laws.specs.Solver.{SolverPast, from, is_clause, is_impl, is_settled, holds_from, solver_handled}
 use Rattle.type_terms.proofs.Members.{not-both}
 use Rattle.candidate_assembly.specs.Headers.{impls_above}
 use Rattle.candidate_assembly.specs.Sections.{misc_is_bound, is_unknowable, is_built_in, is_bound, sources_tell, considered_from, early, late, is_first, next_in, decided, next_candidate, end_of, or_end, impl_or, last_impl, WalksGoOn}
@@ -57,26 +57,26 @@ by-impl None (Some y) q h g s e t = e
 by-impl None None q h g s e t = absurd (not-both (is_impl s.source) t (g s e))
 
 -- ---- the next candidate, if it is by an impl
-module _ (m : Meaning) (a : Asked) (tell : sources_tell a ≡ true) where
+module _ (m : ViewMeaning) (a : GoalOverKinds) (tell : sources_tell a ≡ true) where
   abbrev V : World
   V = m.view
 
-  pub no-early : (seen : Past) → NoImpl (early V a seen)
+  pub no-early : (seen : SolverPast) → NoImpl (early V a seen)
   no-early seen =
       neither (slice_get (by_clauses V a (clauses a)) (considered_from is_clause seen)) (slice_get (built_in V a) (considered_from (is_built_in (misc_is_bound a)) seen))
       (λ s e. clause-impl s.source (at-every (λ (c : Candidate). is_clause c.source ≡ true) (by_clauses V a (clauses a)) (considered_from is_clause seen) s (clauses-are V a (clauses a)) e))
       (λ s e. built-impl (misc_is_bound a) s.source (at-every (λ (c : Candidate). is_built_in (misc_is_bound a) c.source ≡ true) (built_in V a) (considered_from (is_built_in (misc_is_bound a)) seen) s (built-in-are V a (misc_is_bound a) refl) e))
 
-  abbrev next_bound : Past → Option Candidate
+  abbrev next_bound : SolverPast → Option Candidate
   next_bound seen = slice_get (by_objects V a) (considered_from (is_bound (misc_is_bound a)) seen)
 
-  no-bound : (seen : Past) → NoImpl (next_bound seen)
+  no-bound : (seen : SolverPast) → NoImpl (next_bound seen)
   no-bound seen = λ s e. bound-impl (misc_is_bound a) s.source (at-every (λ (c : Candidate). is_bound (misc_is_bound a) c.source ≡ true) (by_objects V a) (considered_from (is_bound (misc_is_bound a)) seen) s (objects-are V a (misc_is_bound a) refl tell) e)
 
-  abbrev next_impl : Past → Option Candidate
+  abbrev next_impl : SolverPast → Option Candidate
   next_impl seen = slice_get (by_impls V a V.impls) (considered_from is_impl seen)
 
-  impl-next : (mode : TypingMode) (seen : Past) (s : Candidate) → next_in m mode a seen ≡ Some s → is_impl s.source ≡ true → next_impl seen ≡ Some s
+  impl-next : (mode : TypingMode) (seen : SolverPast) (s : Candidate) → next_in m mode a seen ≡ Some s → is_impl s.source ≡ true → next_impl seen ≡ Some s
   impl-next Coherence seen s e t = by (is_first seen && not (is_knowable V m.crate a.reference)) (holds_from is_unknowable seen) e
     where
       by : (b c : Bool) → (if b then Some (unknowable V a) else if c then None else or_else (early V a seen) (late V a seen)) ≡ Some s → next_impl seen ≡ Some s
@@ -99,26 +99,26 @@ considered-is (Some x) end h s e = ap (λ z. Some z) (same x s e)
     same : (x y : Candidate) → ◌≡◌ {A = Next (workings frame_tables)} (consider x) (consider y) → x ≡ y
     same x y e = cc
 
-module _ (es : List Entry) (d : Items) (rises : Rises (map (λ i. i.id) d.impls)) (m : Meaning) (view : m.view ≡ written es d) (mode : TypingMode) (f : CanonicalForm) (a : Asked)
-    (is : decided m (asked m.view f) ≡ Some a) (tell : sources_tell a ≡ true) where
+module _ (es : List Entry) (d : Items) (rises : Rises (map (λ i. i.id) d.impls)) (m : ViewMeaning) (view : m.view ≡ written es d) (mode : TypingMode) (f : CanonicalForm) (a : GoalOverKinds)
+    (is : decided m (goal_over_kinds m.view f) ≡ Some a) (tell : sources_tell a ≡ true) where
   abbrev W : World
   W = written es d
 
-  abbrev next : Past → Next (workings frame_tables)
+  abbrev next : SolverPast → Next (workings frame_tables)
   next = (solver_handled applies_always same_answer m mode f).next
 
-  next-is : (seen : Past) → IsHistory (workings frame_tables) next seen → next seen ≡ or_end (next_in m mode a seen) (end_of mode (Some a) (kinds_known f.kinds) seen)
+  next-is : (seen : SolverPast) → IsHistory (workings frame_tables) next seen → next seen ≡ or_end (next_in m mode a seen) (end_of mode (Some a) (kinds_known f.kinds) seen)
   next-is seen h =
       histories-tell m mode f (subst (λ o. IfSome o (λ b. sources_tell b ≡ true)) (sym is) tell) seen h
       ∙ ap (λ o. or_end (next_candidate m mode o seen) (end_of mode o (kinds_known f.kinds) seen)) is
 
-  at-impl : (seen : Past) (c : Candidate) → IsHistory (workings frame_tables) next seen → next seen ≡ consider c → is_impl c.source ≡ true → slice_get (by_impls W a W.impls) (considered_from is_impl seen) ≡ Some c
+  at-impl : (seen : SolverPast) (c : Candidate) → IsHistory (workings frame_tables) next seen → next seen ≡ consider c → is_impl c.source ≡ true → slice_get (by_impls W a W.impls) (considered_from is_impl seen) ≡ Some c
   at-impl seen c h e t =
       subst (λ (V : World). slice_get (by_impls V a V.impls) (considered_from is_impl seen) ≡ Some c) view
       (impl-next m a tell mode seen c
       (considered-is (next_in m mode a seen) (end_of mode (Some a) (kinds_known f.kinds) seen) (ends-answer (kinds_known f.kinds) mode seen) c (sym (next-is seen h) ∙ e)) t)
 
-  walk : (seen : Past) → IsHistory (workings frame_tables) next seen → slice_get (by_impls W a (impls_above (last_impl seen) W.impls)) 0 ≡ slice_get (by_impls W a W.impls) (considered_from is_impl seen)
+  walk : (seen : SolverPast) → IsHistory (workings frame_tables) next seen → slice_get (by_impls W a (impls_above (last_impl seen) W.impls)) 0 ≡ slice_get (by_impls W a W.impls) (considered_from is_impl seen)
   walk [] h = ap (λ ds. slice_get (by_impls W a ds) 0) (begins es W a d.impls)
   walk (c ∷ seen) h = by c.spec.source refl (walk seen h.2)
     where

@@ -15,11 +15,11 @@ use Rattle.evaluation.specs.FrameTables.{kinds_known}
 use Rattle.evaluation.specs.TableOperations.{begin}
 use Rattle.evaluation.specs.Tables.{frame_tables}
 use Rattle.goal_frames.specs.Handlers.{same_answer, applies_always}
-use Rattle.assembly_laws.specs.Meaning.{Meaning}
+use Rattle.assembly_laws.specs.Meaning.{ViewMeaning}
 use Rattle.assembly_laws.specs.Knowing.{is_knowable}
-use Rattle.assembly_laws.specs.Asking.{Asked, asked, clauses, self_of, begins_unknown}
+use Rattle.assembly_laws.specs.Asking.{GoalOverKinds, goal_over_kinds, clauses, self_of, begins_unknown}
 use Rattle.assembly_laws.specs.Candidates.{Candidate, unsure, unknowable, by_clauses, built_in, by_impls, by_objects}
-use Rattle.assembly_laws.specs.Solver.{Past, from, is_clause, is_non_global, is_impl, is_trivial, says_nothing, is_settled, holds_from, remains, by_mode, plan_for}
+use Rattle.assembly_laws.specs.Solver.{SolverPast, from, is_clause, is_non_global, is_impl, is_trivial, says_nothing, is_settled, holds_from, remains, by_mode, plan_for}
 use Rattle.candidate_assembly.specs.Merging.{end_in}
 use Rattle.candidate_assembly.specs.Sections.{misc_is_bound, is_unknowable, is_built_in, is_bound, sources_tell, early, late, is_first, next_outside, next_in, decided, next_candidate, end_of, or_end, HistoriesTell}
 use Rattle.candidate_assembly.proofs.Along.{Follows, Answers, same-considered, chosen, outside-next, known-next, unknown-next}
@@ -30,14 +30,14 @@ Plans = Plan frame_tables
 
 -- ---- ends are answers
 module _ (kinds : List CanonicalVarKind) where
-  merged-answers : (kept : Considered (workings frame_tables) → Bool) (seen : Past) → Answers frame_tables (kept_merged frame_tables applies_always same_answer (begin kinds) kept seen)
+  merged-answers : (kept : Considered (workings frame_tables) → Bool) (seen : SolverPast) → Answers frame_tables (kept_merged frame_tables applies_always same_answer (begin kinds) kept seen)
   merged-answers kept seen = record { response = _; ignored = []; is = refl }
 
-  taken-answers : (seen : Past) (o : Option (Considered (workings frame_tables))) → Answers frame_tables (taken_or_merged frame_tables applies_always same_answer (begin kinds) seen o)
+  taken-answers : (seen : SolverPast) (o : Option (Considered (workings frame_tables))) → Answers frame_tables (taken_or_merged frame_tables applies_always same_answer (begin kinds) seen o)
   taken-answers seen None = record { response = _; ignored = []; is = refl }
   taken-answers seen (Some c) = record { response = c.response; ignored = _; is = refl }
 
-  pub ends-answer : (mode : TypingMode) (seen : Past) → Answers frame_tables (end_in mode kinds seen)
+  pub ends-answer : (mode : TypingMode) (seen : SolverPast) → Answers frame_tables (end_in mode kinds seen)
   ends-answer Coherence seen = record { response = _; ignored = []; is = refl }
   ends-answer PostAnalysis seen = by (holds_from is_trivial seen) (holds_from is_non_global seen)
     where
@@ -50,27 +50,27 @@ module _ (kinds : List CanonicalVarKind) where
       by false false = merged-answers (from (remains seen)) seen
 
 -- ---- histories
-pub follows-of : (p : Plans) (seen : Past) → IsHistory (workings frame_tables) (λ z. wanted frame_tables (after frame_tables p z)) seen → Follows frame_tables p seen
+pub follows-of : (p : Plans) (seen : SolverPast) → IsHistory (workings frame_tables) (λ z. wanted frame_tables (after frame_tables p z)) seen → Follows frame_tables p seen
 follows-of p [] h = tt
 follows-of p (c ∷ seen) h = (h.0, follows-of p seen h.2)
 
 -- ---- goals that are not decided
-module _ (end : Past → Plans) (ends : (seen : Past) → Answers frame_tables (end seen)) where
+module _ (end : SolverPast → Plans) (ends : (seen : SolverPast) → Answers frame_tables (end seen)) where
   abbrev alone : Plans
   alone = each_of frame_tables (unsure ∷ []) end []
 
-  over : (c : Considered (workings frame_tables)) (seen : Past) → Answers frame_tables (after frame_tables alone (c ∷ seen))
+  over : (c : Considered (workings frame_tables)) (seen : SolverPast) → Answers frame_tables (after frame_tables alone (c ∷ seen))
   over c [] = ends (came frame_tables unsure c.response c.number ∷ [])
   over c (d ∷ seen) = let a = over d seen in record { response = a.response; ignored = a.ignored; is = ap (told frame_tables c) a.is }
 
-  abbrev next_alone : Past → Option Candidate
+  abbrev next_alone : SolverPast → Option Candidate
   next_alone seen = if is_first seen then Some unsure else None
 
   abbrev spec-in : Candidate → Next (workings frame_tables) → Candidate
   spec-in s (consider c) = c
   spec-in s n = s
 
-  pub alone-next : (seen : Past) → Follows frame_tables alone seen → wanted frame_tables (after frame_tables alone seen) ≡ or_end (next_alone seen) (end seen)
+  pub alone-next : (seen : SolverPast) → Follows frame_tables alone seen → wanted frame_tables (after frame_tables alone seen) ≡ or_end (next_alone seen) (end seen)
   alone-next [] f = refl
   alone-next (c ∷ []) f =
       let same : unsure ≡ c.spec = ap (spec-in unsure) f.0 in
@@ -93,7 +93,7 @@ so-not : (b : Bool) → b ≡ false → not b ≡ true
 so-not true h = absurd cc
 so-not false h = refl
 
-module _ (V : World) (crate : ℕ) (a : Asked) (tell : sources_tell a ≡ true) (end : Past → Plans) (ends : (seen : Past) → Answers frame_tables (end seen)) where
+module _ (V : World) (crate : ℕ) (a : GoalOverKinds) (tell : sources_tell a ≡ true) (end : SolverPast → Plans) (ends : (seen : SolverPast) → Answers frame_tables (end seen)) where
   abbrev b : Bool
   b = misc_is_bound a
 
@@ -115,7 +115,7 @@ module _ (V : World) (crate : ℕ) (a : Asked) (tell : sources_tell a ≡ true) 
   abbrev quiet : Candidate → Bool
   quiet c = not (is_non_global c.source)
 
-  stays : (c : Considered (workings frame_tables)) (seen : Past) → quiet c.spec ≡ true → is_settled (c ∷ seen) ≡ is_settled seen
+  stays : (c : Considered (workings frame_tables)) (seen : SolverPast) → quiet c.spec ≡ true → is_settled (c ∷ seen) ≡ is_settled seen
   stays c seen h = ap (λ x. (x && says_nothing c.response) || is_settled seen) (not-so (is_non_global c.spec.source) h)
 
   quiets : (p : Candidate → Bool) → ((c : Candidate) → p c ≡ true → quiet c ≡ true) → (xs : List Candidate) → Every (λ (c : Candidate). p c ≡ true) xs → Every (λ (c : Candidate). quiet c ≡ true) xs
@@ -135,7 +135,7 @@ module _ (V : World) (crate : ℕ) (a : Asked) (tell : sources_tell a ≡ true) 
   abbrev out-plan : Plans
   out-plan = each_of frame_tables (by_clauses V a (clauses a) ++ built_in V a) (λ seen. if is_settled seen then end seen else each_of frame_tables (by_impls V a V.impls ++ by_objects V a) end seen) []
 
-  pub next-outside : (seen : Past) → Follows frame_tables out-plan seen → wanted frame_tables (after frame_tables out-plan seen) ≡ or_end (next_outside V a seen) (end seen)
+  pub next-outside : (seen : SolverPast) → Follows frame_tables out-plan seen → wanted frame_tables (after frame_tables out-plan seen) ≡ or_end (next_outside V a seen) (end seen)
   next-outside seen f =
       outside-next frame_tables pU pA pB pC pD
       (λ c. built-clause b c.source) (λ c. impl-clause c.source) (λ c. bound-clause b c.source) (λ c. impl-built b c.source) (λ c. bound-built b c.source) (λ c. bound-impl b c.source)
@@ -150,18 +150,18 @@ module _ (V : World) (crate : ℕ) (a : Asked) (tell : sources_tell a ≡ true) 
   abbrev in-plan : Bool → Plans
   in-plan known = if known then each_of frame_tables all end [] else first_alone frame_tables (unknowable V a) (λ seen. each_of frame_tables all end seen) end []
 
-  abbrev next-both : Past → Option Candidate
+  abbrev next-both : SolverPast → Option Candidate
   next-both seen = if holds_from is_unknowable seen then None else or_else (early V a seen) (late V a seen)
 
-  abbrev next-if : Bool → Past → Option Candidate
+  abbrev next-if : Bool → SolverPast → Option Candidate
   next-if known seen = if is_first seen && not known then Some (unknowable V a) else next-both seen
 
   -- where the goal is knowable, no crate that is not seen is asked of
-  never-first : (seen : Past) → next-if true seen ≡ next-both seen
+  never-first : (seen : SolverPast) → next-if true seen ≡ next-both seen
   never-first [] = refl
   never-first (c ∷ seen) = refl
 
-  next-known : (seen : Past) → Follows frame_tables (in-plan true) seen → wanted frame_tables (after frame_tables (in-plan true) seen) ≡ or_end (next-both seen) (end seen)
+  next-known : (seen : SolverPast) → Follows frame_tables (in-plan true) seen → wanted frame_tables (after frame_tables (in-plan true) seen) ≡ or_end (next-both seen) (end seen)
   next-known seen f =
       known-next frame_tables pU pA pB pC pD
       (λ c. built-clause b c.source) (λ c. impl-clause c.source) (λ c. bound-clause b c.source) (λ c. impl-built b c.source) (λ c. bound-built b c.source) (λ c. bound-impl b c.source)
@@ -170,7 +170,7 @@ module _ (V : World) (crate : ℕ) (a : Asked) (tell : sources_tell a ≡ true) 
       end ends (λ c. clause-known c.source) (λ c. built-known b c.source) (λ c. impl-known c.source) (λ c. bound-known b c.source) seen f
       ∙ or-chosen (next-both seen) (end seen)
 
-  next-unknown : (seen : Past) → Follows frame_tables (in-plan false) seen → wanted frame_tables (after frame_tables (in-plan false) seen) ≡ or_end (next-if false seen) (end seen)
+  next-unknown : (seen : SolverPast) → Follows frame_tables (in-plan false) seen → wanted frame_tables (after frame_tables (in-plan false) seen) ≡ or_end (next-if false seen) (end seen)
   next-unknown [] f = refl
   next-unknown (c ∷ seen) f =
       unknown-next frame_tables pU pA pB pC pD
@@ -181,28 +181,28 @@ module _ (V : World) (crate : ℕ) (a : Asked) (tell : sources_tell a ≡ true) 
       (unknowable V a) refl refl refl refl refl (c ∷ seen) f
       ∙ or-chosen (next-both (c ∷ seen)) (end (c ∷ seen))
 
-  pub next-inside : (known : Bool) (seen : Past) → Follows frame_tables (in-plan known) seen → wanted frame_tables (after frame_tables (in-plan known) seen) ≡ or_end (next-if known seen) (end seen)
+  pub next-inside : (known : Bool) (seen : SolverPast) → Follows frame_tables (in-plan known) seen → wanted frame_tables (after frame_tables (in-plan known) seen) ≡ or_end (next-if known seen) (end seen)
   next-inside true seen f = next-known seen f ∙ sym (ap (λ o. or_end o (end seen)) (never-first seen))
   next-inside false seen f = next-unknown seen f
 
 -- ---- the plan of a goal
-module _ (m : Meaning) (kinds : List CanonicalVarKind) where
-  abbrev plan-of : TypingMode → Option Asked → Plans
+module _ (m : ViewMeaning) (kinds : List CanonicalVarKind) where
+  abbrev plan-of : TypingMode → Option GoalOverKinds → Plans
   plan-of mode o = plan_for applies_always same_answer (begin kinds) m mode o
 
-  abbrev Tells : Option Asked → Type 0
+  abbrev Tells : Option GoalOverKinds → Type 0
   Tells o = IfSome o (λ a. sources_tell a ≡ true)
 
-  undecided-next : (seen : Past) → Follows frame_tables (alone (end_in Coherence kinds) (ends-answer kinds Coherence)) seen
+  undecided-next : (seen : SolverPast) → Follows frame_tables (alone (end_in Coherence kinds) (ends-answer kinds Coherence)) seen
       → wanted frame_tables (after frame_tables (alone (end_in Coherence kinds) (ends-answer kinds Coherence)) seen) ≡ or_end (if is_first seen then Some unsure else None) (end_in Coherence kinds seen)
   undecided-next seen f = alone-next (end_in Coherence kinds) (ends-answer kinds Coherence) seen f
 
-  decided-next : (mode : TypingMode) (a : Asked) → sources_tell a ≡ true → (seen : Past) → Follows frame_tables (by_mode applies_always same_answer (begin kinds) m mode a) seen
+  decided-next : (mode : TypingMode) (a : GoalOverKinds) → sources_tell a ≡ true → (seen : SolverPast) → Follows frame_tables (by_mode applies_always same_answer (begin kinds) m mode a) seen
       → wanted frame_tables (after frame_tables (by_mode applies_always same_answer (begin kinds) m mode a) seen) ≡ or_end (next_in m mode a seen) (end_in mode kinds seen)
   decided-next Coherence a t seen f = next-inside m.view m.crate a t (end_in Coherence kinds) (ends-answer kinds Coherence) (is_knowable m.view m.crate a.reference) seen f
   decided-next PostAnalysis a t seen f = next-outside m.view m.crate a t (end_in PostAnalysis kinds) (ends-answer kinds PostAnalysis) seen f
 
-  pub plan-next : (mode : TypingMode) (o : Option Asked) → Tells (decided m o) → (seen : Past) → Follows frame_tables (plan-of mode o) seen
+  pub plan-next : (mode : TypingMode) (o : Option GoalOverKinds) → Tells (decided m o) → (seen : SolverPast) → Follows frame_tables (plan-of mode o) seen
       → wanted frame_tables (after frame_tables (plan-of mode o) seen) ≡ or_end (next_candidate m mode (decided m o) seen) (end_of mode (decided m o) kinds seen)
   plan-next mode None t seen f = undecided-next seen f
   plan-next mode (Some a) t seen f = by (not m.is_sound || begins_unknown a.kinds (self_of a)) t f
@@ -217,4 +217,4 @@ module _ (m : Meaning) (kinds : List CanonicalVarKind) where
 
 pub histories-tell : HistoriesTell
 histories-tell m mode f t seen h =
-    plan-next m (kinds_known f.kinds) mode (asked m.view f) t seen (follows-of (plan-of m (kinds_known f.kinds) mode (asked m.view f)) seen h)
+    plan-next m (kinds_known f.kinds) mode (goal_over_kinds m.view f) t seen (follows-of (plan-of m (kinds_known f.kinds) mode (goal_over_kinds m.view f)) seen h)

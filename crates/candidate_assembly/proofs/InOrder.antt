@@ -11,7 +11,7 @@ use Rattle.evaluation.specs.declared.candidate.CandidateSource.TheVariants.{Impl
 use Rattle.declarations.specs.Items.{HeldImpl, impl_in}
 use Rattle.declarations.specs.Merges.{Each, Rises}
 use Rattle.declarations.specs.Relevant.{is_above}
-use Rattle.assembly_laws.specs.Asking.{Asked}
+use Rattle.assembly_laws.specs.Asking.{GoalOverKinds}
 use Rattle.assembly_laws.specs.Candidates.{Candidate, by_impls, by_the_impl, can_match, impl_id}
 use Rattle.candidate_assembly.proofs.Behind.{same-impl}
 
@@ -27,7 +27,7 @@ above-test m n h = grind (arith, nat_tests)
 one-source : (i j : ImplId) → ◌≡◌ {A = CandidateSource} (Impl i) (Impl j) → i ≡ j
 one-source i j h = cc
 
-module _ (es : List Entry) (V : World) (a : Asked) where
+module _ (es : List Entry) (V : World) (a : GoalOverKinds) where
   abbrev decls : List HeldImpl → List ImplDecl
   decls is = map (λ (i : HeldImpl). impl_in es i.id i.def) is
 

@@ -19,7 +19,7 @@ use Rattle.orphan_check.specs.declared.errors.Conflict.{Conflict}
 use Rattle.orphan_check.specs.declared.errors.Conflict.TheVariants.{Upstream, Downstream}
 use Rattle.orphan_check.specs.declared.errors.WalkError.{WalkError}
 use Rattle.orphan_check.specs.declared.errors.WalkError.TheVariants.{Deep}
-use Rattle.orphan_check.specs.Exact.{reference_read, IsKnown, IsKnownOf}
+use Rattle.orphan_check.specs.Exact.{reference_read, WalkTellsKnown, IsKnownOf}
 use Rattle.orphan_check.specs.Knowing.{meets_open, is_knowable, is_written_in}
 use Rattle.orphan_check.proofs.Visiting.{erased-visits}
 
@@ -324,8 +324,8 @@ module _ (es : List Entry) (d : Items) (r : TraitRef) where
   unread t e = ap (λ vs. record { trait = r.def_id.index; args = resolved (content es vs) (trees_at es r.args.0) }) e
 
   module _ {E : Type 0} (t : Table) (none_has : t.values ≡ []) (limit : ℕ) (a : Result (Result (Unit {0}) Conflict) (WalkError E)) (h : IsKnownOf es d t limit r a) where
-    known : (b : Result (Result (Unit {0}) Conflict) (WalkError E)) → a ≡ b → IsKnown (declared es d) d.local limit own b
-    known b e = subst (λ x. IsKnown (declared es d) d.local limit x b) (unread t none_has) (subst (IsKnownOf es d t limit r) e h)
+    known : (b : Result (Result (Unit {0}) Conflict) (WalkError E)) → a ≡ b → WalkTellsKnown (declared es d) d.local limit own b
+    known b e = subst (λ x. WalkTellsKnown (declared es d) d.local limit x b) (unread t none_has) (subst (IsKnownOf es d t limit r) e h)
 
     known-yes : (x : Result (Unit {0}) Conflict) (u : Unit {0}) → a ≡ Ok x → x ≡ Ok u → written_in W own ≡ true → true ≡ is_knowable W d.local own
     known-yes x u e f w = sym (sym (knowable-same W d.local own) ∙ known (Ok (Ok u)) (e ∙ ap Ok f) (written-same W own ∙ written-walk W own w))

@@ -27,13 +27,13 @@ use Rattle.evaluation.specs.Fitting.{is_of_sort, AreOver, IsGoalOver, IsValueOve
 use Rattle.evaluation.specs.Variables.{is_variable_over}
 use Rattle.goal_frames.specs.RuleFitting.{slots_of, IsOverSlots}
 use Rattle.declarations.specs.Elaboration.{elaborate, supertraits}
-use Rattle.assembly_laws.specs.Asking.{Asked, clauses, self_of, next_of, begins_unknown, all_known, are_clauses, asked}
-use Rattle.assembly_laws.specs.Candidates.{Candidate, all_equal, premise, by_rule, unsure, unknowable, clause_source, by_clauses, behind, is_param, kind_of_param, kinds_of_params, by_the_impl, can_match, by_impls, as_written, misc, if_so, by_sized, by_copy, by_auto, by_tuple, by_fn_ptr, call_of, by_call, unsize_array_of, upcast_source, upcasts_from, upcasts_to, upcasts_of, unsize_by_struct, unsize_struct_of, unsize_known, recording, unsizing_outlives, unsize_recording, by_unsize, built_in, bounds_from, object_source, written_source, objects_of, by_objects}
+use Rattle.assembly_laws.specs.Asking.{GoalOverKinds, clauses, self_of, next_of, begins_unknown, all_known, are_clauses, goal_over_kinds}
+use Rattle.assembly_laws.specs.Candidates.{Candidate, all_equal, premise, by_rule, unsure, unknowable, clause_source, by_clauses, rules_behind, is_param, kind_of_param, kinds_of_params, by_the_impl, can_match, by_impls, as_written, misc, if_so, by_sized, by_copy, by_auto, by_tuple, by_fn_ptr, call_of, by_call, unsize_array_of, upcast_source, upcasts_from, upcasts_to, upcasts_of, unsize_by_struct, unsize_struct_of, unsize_known, recording, unsizing_outlives, unsize_recording, by_unsize, built_in, bounds_from, object_source, written_source, objects_of, by_objects}
 use Rattle.assembly_laws.specs.Cover.{AreTermsOf, all_candidates}
 use Rattle.assembly_laws.specs.Declared.{are_terms, is_unsorted, is_otherwise}
 use Rattle.assembly_laws.specs.DeclaredWell.{IsDeclaredWell}
 use Rattle.assembly_laws.specs.Facts.{clauses_of}
-use Rattle.assembly_laws.specs.Meaning.{Meaning}
+use Rattle.assembly_laws.specs.Meaning.{ViewMeaning}
 use Rattle.assembly_laws.proofs.BoundTerms.{equations-are-terms}
 use Rattle.assembly_laws.proofs.Cover.{IsAsked, asked-by}
 use Rattle.assembly_laws.proofs.DeclaredParts.{header-declared, clause-declared, bound-declared}
@@ -56,7 +56,7 @@ IsOpenOver ls c = AreOverSides ls c.equations × AreOver ls c.regions × Every (
 abbrev FitsGoal : List CanonicalVarKind → Candidate → Type 0
 FitsGoal kinds c = IsOpenOver (slots_of kinds c.kinds) c
 
-module _ (V : World) (fields : (x : StructDecl) → In x V.structs → Every ArePlain x.fields) (bounds : (x : TraitDecl) → In x V.traits → (b : Reference) → In b x.bounds → ArePlain b.args) (a : Asked)
+module _ (V : World) (fields : (x : StructDecl) → In x V.structs → Every ArePlain x.fields) (bounds : (x : TraitDecl) → In x V.traits → (b : Reference) → In b x.bounds → ArePlain b.args) (a : GoalOverKinds)
     (environment : (own : List CanonicalVarKind) → AreOver (slots_of a.kinds own) a.environment) (goal : (own : List CanonicalVarKind) → AreOver (slots_of a.kinds own) a.reference.args)
     (clauses_are : Every (λ (r : Reference). AreOver (slots_of a.kinds []) r.args) (clauses a))
     (impls_are : (i : ImplDecl) → In i V.impls → FitsGoal a.kinds (by_the_impl V a i)) where
@@ -270,19 +270,19 @@ every-all : {A : Type 0} (P : A → Type 0) (p : A → Bool) → ((x : A) → p 
 every-all P p f [] h = tt
 every-all P p f (x ∷ xs) h = (f x (left (p x) (list_all p xs) h), every-all P p f xs (right (p x) (list_all p xs) h))
 
-module _ (V : World) (well : IsDeclaredWell V) (a : Asked) (over : is_made (is_variable_over a.kinds) terms a.reference.args ≡ true)
+module _ (V : World) (well : IsDeclaredWell V) (a : GoalOverKinds) (over : is_made (is_variable_over a.kinds) terms a.reference.args ≡ true)
     (environment : (own : List CanonicalVarKind) → AreOver (slots_of a.kinds own) a.environment) where
   impl-over : (i : ImplDecl) → In i V.impls → FitsGoal a.kinds (by_the_impl V a i)
   impl-over i m = (
-    over-equal ls a.reference.args (behind (length a.kinds) i.header).args (goal-over a.kinds own a.reference.args over) (over-behind ls (length a.kinds) i.header.args at (declared-plain i.header.args (header-declared V well.terms i m))),
+    over-equal ls a.reference.args (rules_behind (length a.kinds) i.header).args (goal-over a.kinds own a.reference.args over) (over-behind ls (length a.kinds) i.header.args at (declared-plain i.header.args (header-declared V well.terms i m))),
     tt,
-    Every-map (λ (n : Nested). IsGoalOver ls n.goal) (premise a (is_coinductive V a.reference.trait)) (map (behind (length a.kinds)) i.clauses)
-        (Every-map (λ (r : Reference). IsGoalOver ls (premise a (is_coinductive V a.reference.trait) r).goal) (behind (length a.kinds)) i.clauses
-        (every-in (λ (r : Reference). IsGoalOver ls (premise a (is_coinductive V a.reference.trait) (behind (length a.kinds) r)).goal) i.clauses
+    Every-map (λ (n : Nested). IsGoalOver ls n.goal) (premise a (is_coinductive V a.reference.trait)) (map (rules_behind (length a.kinds)) i.clauses)
+        (Every-map (λ (r : Reference). IsGoalOver ls (premise a (is_coinductive V a.reference.trait) r).goal) (rules_behind (length a.kinds)) i.clauses
+        (every-in (λ (r : Reference). IsGoalOver ls (premise a (is_coinductive V a.reference.trait) (rules_behind (length a.kinds) r)).goal) i.clauses
         (λ r k. record {
           environment = environment own;
           predicate =
-              over-reference ls (behind (length a.kinds) r)
+              over-reference ls (rules_behind (length a.kinds) r)
               (over-behind ls (length a.kinds) r.args (λ s j e. at s j (well.determined i r m k s j e)) (declared-plain r.args (clause-declared V well.terms i r m k)));
         }))),
   )
@@ -335,7 +335,7 @@ clause-refs kinds (tree (predicate (of_trait t)) c o) h =
 clause-refs kinds (tree l c o) h =
     clause-refs kinds o (right (is_made (is_variable_over kinds) terms c) (are_clauses kinds o) (right (not (is_open l)) (is_made (is_variable_over kinds) terms c && are_clauses kinds o) h))
 
-module _ (m : Meaning) (well : IsDeclaredWell m.view) (f : CanonicalForm) (a : Asked) (is : asked m.view f ≡ Some a)
+module _ (m : ViewMeaning) (well : IsDeclaredWell m.view) (f : CanonicalForm) (a : GoalOverKinds) (is : goal_over_kinds m.view f ≡ Some a)
     (environment : (own : List CanonicalVarKind) → AreOver (slots_of a.kinds own) a.environment) where
   abbrev V : World
   V = m.view

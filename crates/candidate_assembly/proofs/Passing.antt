@@ -9,7 +9,7 @@ use Rattle.declarations.specs.Items.{HeldImpl, impl_in}
 use Rattle.declarations.specs.Merges.{Each, Rises}
 use Rattle.declarations.specs.Relevant.{is_above, next_above}
 use Rattle.assembly_laws.specs.Apart.{are_apart}
-use Rattle.assembly_laws.specs.Asking.{Asked, self_of}
+use Rattle.assembly_laws.specs.Asking.{GoalOverKinds, self_of}
 use Rattle.assembly_laws.specs.Candidates.{is_relevant_to, can_match}
 use Rattle.built_in_candidates.proofs.Relevant.{names}
 
@@ -188,7 +188,7 @@ pub each-then : (P Q : ImplDecl → Type 0) (n : ℕ) (js : List ImplDecl) → (
 each-then P Q n [] f h = tt
 each-then P Q n (j ∷ js) f h = (λ e. f j (h.0 e), each-then P Q n js f h.1)
 
-module _ (a : Asked) where
+module _ (a : GoalOverKinds) where
   abbrev pub heads_match : ImplDecl → Bool
   heads_match i = (i.header.trait == a.reference.trait) && is_relevant_to (self_of a) i.header.args
 

@@ -16,8 +16,8 @@ use Rattle.evaluation.specs.declared.candidate.Considered as InCode
 use Rattle.evaluation.specs.Responses.{is_identity_modulo_regions}
 use Rattle.evaluation.specs.TableAnswers.{has_values, IsWellFormed}
 use Rattle.evaluation.proofs.Filling.{same-values}
-use Rattle.evaluation.specs.StepReadings.{Shown, shown, shown_by, Shows}
-use Rattle.assembly_laws.specs.Solver.{Past, is_non_global, says_nothing, is_settled}
+use Rattle.evaluation.specs.StepReadings.{ShownCandidate, shown, shown_by, Shows}
+use Rattle.assembly_laws.specs.Solver.{SolverPast, is_non_global, says_nothing, is_settled}
 
 twice : (b : Bool) → not (not b) ≡ b
 twice true = refl
@@ -37,7 +37,7 @@ says-is es r h b e f g =
     ap (λ z. z && e) given ∙ ap (λ z. not (has_values (answer_trees es r)) && z) (g ∙ no-constraint es r.region_constraints.items)
 
 -- ---- one that settles
-abbrev pub settles_at : Shown → Bool
+abbrev pub settles_at : ShownCandidate → Bool
 settles_at x = is_non_global x.source && says_nothing x.result
 
 pub settled-here : (es : List Entry) (done : List InCode.Considered) (i : ℕ) (x : InCode.Considered) → i < length done → x ≡ get_or done i x → settles_at (shown_by es x) ≡ true → list_any settles_at (map (shown_by es) (drop i done)) ≡ true
@@ -51,11 +51,11 @@ turned true false = refl
 turned false true = refl
 turned false false = refl
 
-settled-shown : (seen : Past) → list_any settles_at (reverse (map shown seen)) ≡ is_settled seen
+settled-shown : (seen : SolverPast) → list_any settles_at (reverse (map shown seen)) ≡ is_settled seen
 settled-shown [] = refl
 settled-shown (c ∷ seen) =
     ap (list_any settles_at) (reverse-append (shown c ∷ []) (map shown seen)) ∙ list_any-append settles_at (reverse (map shown seen)) (shown c ∷ [])
     ∙ turned (list_any settles_at (reverse (map shown seen))) (settles_at (shown c)) ∙ ap (λ b. settles_at (shown c) || b) (settled-shown seen)
 
-pub settled-is : (es : List Entry) (done : List InCode.Considered) (seen : Past) → Shows (map (shown_by es) done) seen → list_any settles_at (map (shown_by es) done) ≡ is_settled seen
+pub settled-is : (es : List Entry) (done : List InCode.Considered) (seen : SolverPast) → Shows (map (shown_by es) done) seen → list_any settles_at (map (shown_by es) done) ≡ is_settled seen
 settled-is es done seen h = ap (list_any settles_at) h ∙ settled-shown seen

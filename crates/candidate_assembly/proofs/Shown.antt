@@ -17,15 +17,15 @@ use Rattle.evaluation.specs.FrameTables.{FrameTable}
 use Rattle.evaluation.specs.Tables.{frame_tables}
 use Rattle.goal_frames.specs.Handlers.{same_answer, applies_always}
 use Rattle.goal_frames.specs.Merges.{responses_of}
-use Rattle.evaluation.specs.StepReadings.{Shown, Shows, shown, shown_by, result_read}
-use Rattle.assembly_laws.specs.Solver.{Past, from, is_clause, is_object, gives_none, holds_from, oldest_gives_none}
+use Rattle.evaluation.specs.StepReadings.{ShownCandidate, Shows, shown, shown_by, result_read}
+use Rattle.assembly_laws.specs.Solver.{SolverPast, from, is_clause, is_object, gives_none, holds_from, oldest_gives_none}
 use Rattle.candidate_assembly.proofs.Taken.{or-none}
 use Rattle.candidate_assembly.proofs.Counted.{shown-next}
 use Rattle.candidate_assembly.specs.Shown.{yes_of, clause_yes, first_yes, other_clauses, first_bound_gives_none}
 
 -- ---- whether some candidate from there holds
 module _ (P : CandidateSource → Bool) where
-  abbrev holds_at : Shown → Bool
+  abbrev holds_at : ShownCandidate → Bool
   holds_at x = P x.source && is_some x.result
 
   read-some : (es : List Entry) (o : Option CanonicalResponse) → is_some o ≡ is_some (result_read es o)
@@ -42,25 +42,25 @@ module _ (P : CandidateSource → Bool) where
   turned false true = refl
   turned false false = refl
 
-  holds-shown : (seen : Past) → list_any holds_at (reverse (map shown seen)) ≡ holds_from P seen
+  holds-shown : (seen : SolverPast) → list_any holds_at (reverse (map shown seen)) ≡ holds_from P seen
   holds-shown [] = refl
   holds-shown (c ∷ seen) =
       ap (list_any holds_at) (shown-next c seen) ∙ list_any-append holds_at (reverse (map shown seen)) (shown c ∷ [])
       ∙ turned (list_any holds_at (reverse (map shown seen))) (holds_at (shown c)) ∙ ap (λ b. holds_at (shown c) || b) (holds-shown seen)
 
-  pub holds : (es : List Entry) (done : List InCode.Considered) (seen : Past) → Shows (map (shown_by es) done) seen → list_any (λ (d : InCode.Considered). P d.source && is_some d.result) done ≡ holds_from P seen
+  pub holds : (es : List Entry) (done : List InCode.Considered) (seen : SolverPast) → Shows (map (shown_by es) done) seen → list_any (λ (d : InCode.Considered). P d.source && is_some d.result) done ≡ holds_from P seen
   holds es done seen h = holds-read es done ∙ ap (list_any holds_at) h ∙ holds-shown seen
 
 -- ---- the responses from there
 module _ (P : CandidateSource → Bool) where
-  abbrev answer_of : Shown → List AnswerTrees
+  abbrev answer_of : ShownCandidate → List AnswerTrees
   answer_of x = if P x.source then if_there x.result else []
 
-  abbrev answers_of : List Shown → List AnswerTrees
+  abbrev answers_of : List ShownCandidate → List AnswerTrees
   answers_of [] = []
   answers_of (x ∷ xs) = answer_of x ++ answers_of xs
 
-  answers-append : (xs ys : List Shown) → answers_of (xs ++ ys) ≡ answers_of xs ++ answers_of ys
+  answers-append : (xs ys : List ShownCandidate) → answers_of (xs ++ ys) ≡ answers_of xs ++ answers_of ys
   answers-append [] ys = refl
   answers-append (x ∷ xs) ys = ap (λ z. answer_of x ++ z) (answers-append xs ys) ∙ sym (append_assoc (answer_of x) (answers_of xs) (answers_of ys))
 
@@ -77,7 +77,7 @@ module _ (P : CandidateSource → Bool) where
       by true (Some r) e = ap (λ z. answer_trees es r ∷ z) e
       by false o e = e
 
-  answers-shown : (seen : Past) → answers_of (reverse (map shown seen)) ≡ responses frame_tables (filter (from P) seen)
+  answers-shown : (seen : SolverPast) → answers_of (reverse (map shown seen)) ≡ responses frame_tables (filter (from P) seen)
   answers-shown [] = refl
   answers-shown (c ∷ seen) =
       ap answers_of (shown-next c seen) ∙ answers-append (reverse (map shown seen)) (shown c ∷ [])
@@ -88,7 +88,7 @@ module _ (P : CandidateSource → Bool) where
       by true = refl
       by false = append-nil (responses frame_tables (filter (from P) seen))
 
-  pub answers : (es : List Entry) (done : List InCode.Considered) (seen : Past) → Shows (map (shown_by es) done) seen → map (answer_trees es) (responses_of (kept done)) ≡ responses frame_tables (filter (from P) seen)
+  pub answers : (es : List Entry) (done : List InCode.Considered) (seen : SolverPast) → Shows (map (shown_by es) done) seen → map (answer_trees es) (responses_of (kept done)) ≡ responses frame_tables (filter (from P) seen)
   answers es done seen h = answers-read es done ∙ ap answers_of h ∙ answers-shown seen
 
 -- the same from the same sources
@@ -101,17 +101,17 @@ all-kept [] = refl
 all-kept (x ∷ xs) = ap (λ z. x ∷ z) (all-kept xs)
 
 -- ---- the first bound of a `dyn`
-bound-append : (otherwise : Bool) (xs ys : List Shown) → first_bound_gives_none otherwise (xs ++ ys) ≡ first_bound_gives_none (first_bound_gives_none otherwise ys) xs
+bound-append : (otherwise : Bool) (xs ys : List ShownCandidate) → first_bound_gives_none otherwise (xs ++ ys) ≡ first_bound_gives_none (first_bound_gives_none otherwise ys) xs
 bound-append otherwise [] ys = refl
 bound-append otherwise (x ∷ xs) ys = ap (gives_none x.result (is_object x.source)) (bound-append otherwise xs ys)
 
-bound-shown : (otherwise : Bool) (seen : Past) → first_bound_gives_none otherwise (reverse (map shown seen)) ≡ oldest_gives_none is_object otherwise seen
+bound-shown : (otherwise : Bool) (seen : SolverPast) → first_bound_gives_none otherwise (reverse (map shown seen)) ≡ oldest_gives_none is_object otherwise seen
 bound-shown otherwise [] = refl
 bound-shown otherwise (c ∷ seen) =
     ap (first_bound_gives_none otherwise) (shown-next c seen) ∙ bound-append otherwise (reverse (map shown seen)) (shown c ∷ [])
     ∙ bound-shown (gives_none c.response (is_object c.spec.source) otherwise) seen
 
-pub bound : (es : List Entry) (done : List InCode.Considered) (seen : Past) → Shows (map (shown_by es) done) seen → first_bound_gives_none false (map (shown_by es) done) ≡ oldest_gives_none is_object false seen
+pub bound : (es : List Entry) (done : List InCode.Considered) (seen : SolverPast) → Shows (map (shown_by es) done) seen → first_bound_gives_none false (map (shown_by es) done) ≡ oldest_gives_none is_object false seen
 bound es done seen h = ap (first_bound_gives_none false) h ∙ bound-shown false seen
 
 -- ---- the first where-clause that is a yes
@@ -119,7 +119,7 @@ else-else : {A : Type 0} (a b c : Option A) → or_else (or_else a b) c ≡ or_e
 else-else None b c = refl
 else-else (Some x) b c = refl
 
-yes-append : (xs ys : List Shown) → first_yes (xs ++ ys) ≡ or_else (first_yes xs) (first_yes ys)
+yes-append : (xs ys : List ShownCandidate) → first_yes (xs ++ ys) ≡ or_else (first_yes xs) (first_yes ys)
 yes-append [] ys = refl
 yes-append (x ∷ xs) ys = ap (or_else (clause_yes x)) (yes-append xs ys) ∙ sym (else-else (clause_yes x) (first_yes xs) (first_yes ys))
 
@@ -133,10 +133,10 @@ map-else : {A B : Type 0} (f : A → B) (a b : Option A) → option_map f (or_el
 map-else f None b = refl
 map-else f (Some x) b = refl
 
-abbrev pub clauses_of : Past → Past
+abbrev pub clauses_of : SolverPast → SolverPast
 clauses_of seen = filter (from is_clause) seen
 
-pub yes-shown : (t : FrameTable) (seen : Past) → option_map as_taken (first_yes (reverse (map shown seen))) ≡ option_map taken_of (first_passing frame_tables applies_always same_answer t (clauses_of seen))
+pub yes-shown : (t : FrameTable) (seen : SolverPast) → option_map as_taken (first_yes (reverse (map shown seen))) ≡ option_map taken_of (first_passing frame_tables applies_always same_answer t (clauses_of seen))
 yes-shown t [] = refl
 yes-shown t (c ∷ seen) =
     ap (λ z. option_map as_taken (first_yes z)) (shown-next c seen)
@@ -162,7 +162,7 @@ yes-shown t (c ∷ seen) =
     by false = or-none (option_map taken_of before)
 
 -- ---- the numbers of the other where-clauses
-others-append : (n : ℕ) (xs ys : List Shown) → other_clauses n (xs ++ ys) ≡ other_clauses n xs ++ other_clauses n ys
+others-append : (n : ℕ) (xs ys : List ShownCandidate) → other_clauses n (xs ++ ys) ≡ other_clauses n xs ++ other_clauses n ys
 others-append n [] ys = refl
 others-append n (x ∷ xs) ys = ap (λ z. if is_clause x.source && not (x.number == n) then x.number ∷ z else z) (others-append n xs ys) ∙ by (is_clause x.source && not (x.number == n))
   where
@@ -170,7 +170,7 @@ others-append n (x ∷ xs) ys = ap (λ z. if is_clause x.source && not (x.number
     by true = refl
     by false = refl
 
-pub others-shown : (n : ℕ) (seen : Past) → reverse (other_clauses n (reverse (map shown seen))) ≡ numbers_but frame_tables n (clauses_of seen)
+pub others-shown : (n : ℕ) (seen : SolverPast) → reverse (other_clauses n (reverse (map shown seen))) ≡ numbers_but frame_tables n (clauses_of seen)
 others-shown n [] = refl
 others-shown n (c ∷ seen) =
     ap (λ z. reverse (other_clauses n z)) (shown-next c seen) ∙ ap reverse (others-append n (reverse (map shown seen)) (shown c ∷ []))

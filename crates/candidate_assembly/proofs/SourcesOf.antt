@@ -10,7 +10,7 @@ use Rattle.evaluation.specs.declared.candidate.CandidateSource.{CandidateSource}
 use Rattle.evaluation.specs.declared.candidate.CandidateSource.TheVariants.{Impl, BuiltinImpl, ParamEnv}
 use Rattle.evaluation.specs.declared.candidate.BuiltinImplSource.TheVariants.{Trivial, Misc, Object, TraitUpcasting}
 use Rattle.declarations.specs.Elaboration.{elaborate, supertraits}
-use Rattle.assembly_laws.specs.Asking.{Asked, self_of, next_of, begins_unknown}
+use Rattle.assembly_laws.specs.Asking.{GoalOverKinds, self_of, next_of, begins_unknown}
 use Rattle.assembly_laws.specs.Solver.{is_clause, is_non_global, is_impl}
 use Rattle.assembly_laws.specs.Candidates.{Candidate, unsure, all_equal, by_rule, clause_source, by_clauses, by_the_impl, can_match, by_impls, as_written, misc, if_so, by_sized, by_copy, by_auto, by_tuple, by_fn_ptr, call_of, by_call, unsize_array_of, upcast_source, upcasts_from, upcasts_to, upcasts_of, unsize_by_struct, unsize_struct_of, unsize_known, unsizing_outlives, unsize_recording, built_in, bounds_from, object_source, written_source, objects_of, by_objects}
 use Rattle.type_terms.proofs.Members.{same-number}
@@ -91,7 +91,7 @@ bound-quiet b (BuiltinImpl i) h = refl
 bound-quiet b s h = absurd cc
 
 -- ---- the sections
-module _ (V : World) (a : Asked) where
+module _ (V : World) (a : GoalOverKinds) where
   abbrev pub Are : (CandidateSource → Bool) → List Candidate → Type 0
   Are p cs = Every (λ (c : Candidate). p c.source ≡ true) cs
 

@@ -31,11 +31,11 @@ use Rattle.goal_frames.specs.RuleFitting.{slots_of, IsOverSlots}
 use Rattle.goal_frames.specs.Shortages.{HasTooManyVariables}
 use Rattle.goal_frames.proofs.KnownKinds.{all-known as known-some}
 use Rattle.declarations.specs.Items.{Items, written}
-use Rattle.assembly_laws.specs.Asking.{Asked, all_known, are_clauses, asked, self_of, begins_unknown, clauses}
+use Rattle.assembly_laws.specs.Asking.{GoalOverKinds, all_known, are_clauses, goal_over_kinds, self_of, begins_unknown, clauses}
 use Rattle.assembly_laws.specs.Candidates.{Candidate, unsure, unknowable, by_clauses, built_in, by_impls, by_objects}
 use Rattle.assembly_laws.specs.Knowing.{is_knowable}
-use Rattle.assembly_laws.specs.Meaning.{Meaning}
-use Rattle.assembly_laws.specs.Solver.{Past, is_clause, is_impl, is_settled, holds_from}
+use Rattle.assembly_laws.specs.Meaning.{ViewMeaning}
+use Rattle.assembly_laws.specs.Solver.{SolverPast, is_clause, is_impl, is_settled, holds_from}
 use Rattle.assembly_laws.proofs.DeclaredWell.{tests-tell}
 use Rattle.assembly_laws.proofs.LawfulCandidates.{asked-clauses}
 use Rattle.assembly_laws.proofs.CandidateKinds.{every-split}
@@ -44,7 +44,7 @@ use Rattle.built_in_candidates.specs.Goals.{asked_of, candidate_of}
 use Rattle.candidate_assembly.specs.Headers.{HasTooMany}
 use Rattle.candidate_assembly.specs.Merging.{end_in}
 use Rattle.candidate_assembly.specs.Nexts.{handled_in, next_for, mode_at_end}
-use Rattle.candidate_assembly.specs.Ready.{IsReady, Decides}
+use Rattle.candidate_assembly.specs.Ready.{AreReadyDeclarations, Decides}
 use Rattle.candidate_assembly.specs.Sections.{misc_is_bound, is_unknowable, is_built_in, is_bound, sources_tell, considered_from, early, late, is_first, next_in, decided, next_candidate, end_of, or_end}
 use Rattle.candidate_assembly.specs.Solving.{meaning_for}
 use Rattle.candidate_assembly.proofs.Histories.{ends-answer, histories-tell}
@@ -53,13 +53,13 @@ use Rattle.candidate_assembly.proofs.OverCandidates.{all-fit, unknowable-fits}
 
 -- ---- what comes next
 module _ (es : List Entry) (d : Items) (g : CanonicalInput) where
-  abbrev m : Meaning
+  abbrev m : ViewMeaning
   m = meaning_for (solving_of es d) (form_of es g)
 
-  abbrev asks : Option Asked
-  asks = decided m (asked m.view (form_of es g))
+  abbrev asks : Option GoalOverKinds
+  asks = decided m (goal_over_kinds m.view (form_of es g))
 
-  abbrev end : Past → Plan frame_tables
+  abbrev end : SolverPast → Plan frame_tables
   end seen = end_of g.mode asks (kinds_known (form_of es g).kinds) seen
 
   module _ (b : Bool) (h : Decides es d g b) where
@@ -70,14 +70,14 @@ module _ (es : List Entry) (d : Items) (g : CanonicalInput) where
         by true f = f refl
         by false f = tt
 
-    next-is : (seen : Past) → IsHistory (workings frame_tables) (handled_in es d g).next seen → (handled_in es d g).next seen ≡ or_end (next_for es d g seen) (end seen)
+    next-is : (seen : SolverPast) → IsHistory (workings frame_tables) (handled_in es d g).next seen → (handled_in es d g).next seen ≡ or_end (next_for es d g seen) (end seen)
     next-is seen t = histories-tell m g.mode (form_of es g) tells seen t
 
-    pub considers : (seen : Past) → IsHistory (workings frame_tables) (handled_in es d g).next seen → (c : Candidate) → Some c ≡ next_for es d g seen → consider c ≡ (handled_in es d g).next seen
+    pub considers : (seen : SolverPast) → IsHistory (workings frame_tables) (handled_in es d g).next seen → (c : Candidate) → Some c ≡ next_for es d g seen → consider c ≡ (handled_in es d g).next seen
     considers seen t c e = ap (λ o. or_end o (end seen)) e ∙ sym (next-is seen t)
 
     -- the end, over the goal's own variables
-    end-same : (seen : Past) → end_in (mode_at_end g.mode b) g.variables.items seen ≡ end seen
+    end-same : (seen : SolverPast) → end_in (mode_at_end g.mode b) g.variables.items seen ≡ end seen
     end-same seen =
         ap (λ ks. end_in (mode_at_end g.mode b) ks seen) (sym (known-some g.variables.items)) ∙ by b
         ∙ ap (λ o. end_of g.mode o (kinds_known (form_of es g).kinds) seen) (sym h.is)
@@ -86,18 +86,18 @@ module _ (es : List Entry) (d : Items) (g : CanonicalInput) where
         by true = refl
         by false = refl
 
-    pub answers : (seen : Past) → IsHistory (workings frame_tables) (handled_in es d g).next seen → None ≡ next_for es d g seen → wanted frame_tables (end_in (mode_at_end g.mode b) g.variables.items seen) ≡ (handled_in es d g).next seen
+    pub answers : (seen : SolverPast) → IsHistory (workings frame_tables) (handled_in es d g).next seen → None ≡ next_for es d g seen → wanted frame_tables (end_in (mode_at_end g.mode b) g.variables.items seen) ≡ (handled_in es d g).next seen
     answers seen t e = ap (wanted frame_tables) (end-same seen) ∙ ap (λ o. or_end o (end seen)) e ∙ sym (next-is seen t)
 
     -- ---- where numbers run out
-    pub candidate-many : (seen : Past) → IsHistory (workings frame_tables) (handled_in es d g).next seen → HasTooMany (length g.variables.items) (next_for es d g seen) → HasTooManyVariables g.variables.items ((handled_in es d g).next seen)
+    pub candidate-many : (seen : SolverPast) → IsHistory (workings frame_tables) (handled_in es d g).next seen → HasTooMany (length g.variables.items) (next_for es d g seen) → HasTooManyVariables g.variables.items ((handled_in es d g).next seen)
     candidate-many seen t x = subst (HasTooManyVariables g.variables.items) (sym (next-is seen t)) (by (next_for es d g seen) x)
       where
         by : (o : Option Candidate) → HasTooMany (length g.variables.items) o → HasTooManyVariables g.variables.items (or_end o (end seen))
         by None y = absurd y
         by (Some c) y = y
 
-    pub answer-many : (seen : Past) → IsHistory (workings frame_tables) (handled_in es d g).next seen → None ≡ next_for es d g seen → MAX_INDEX < length g.variables.items → HasTooManyVariables g.variables.items ((handled_in es d g).next seen)
+    pub answer-many : (seen : SolverPast) → IsHistory (workings frame_tables) (handled_in es d g).next seen → None ≡ next_for es d g seen → MAX_INDEX < length g.variables.items → HasTooManyVariables g.variables.items ((handled_in es d g).next seen)
     answer-many seen t e lt =
         let a = ends-answer g.variables.items (mode_at_end g.mode b) seen in
         subst (HasTooManyVariables g.variables.items) (sym (ap (wanted frame_tables) a.is) ∙ answers seen t e) lt
@@ -134,7 +134,7 @@ environment-over es kinds own (c ∷ cs) h = label-over c es kinds own cs (goal-
         by (TypeOutlives a b) q = (left (is_made (is_variable_over kinds) terms (clause_terms es (TypeOutlives a b))) (are_clauses kinds (environment_trees es cs)) q, right (is_made (is_variable_over kinds) terms (clause_terms es (TypeOutlives a b))) (are_clauses kinds (environment_trees es cs)) q)
 
 -- a goal that is decided is asked
-pub was-asked : (n : Meaning) (o : Option Asked) (a : Asked) → decided n o ≡ Some a → o ≡ Some a
+pub was-asked : (n : ViewMeaning) (o : Option GoalOverKinds) (a : GoalOverKinds) → decided n o ≡ Some a → o ≡ Some a
 was-asked n None a e = e
 was-asked n (Some x) a e = by (not n.is_sound || begins_unknown x.kinds (self_of x)) e
   where
@@ -152,7 +152,7 @@ either-one : (P : Candidate → Type 0) (o q : Option Candidate) → IfSome o P 
 either-one P None q h k = k
 either-one P (Some x) q h k = h
 
-module _ (P : Candidate → Type 0) (n : Meaning) (a : Asked) (all : Every P (by_clauses n.view a (clauses a) ++ (built_in n.view a ++ (by_impls n.view a n.view.impls ++ by_objects n.view a)))) (first : P (unknowable n.view a)) where
+module _ (P : Candidate → Type 0) (n : ViewMeaning) (a : GoalOverKinds) (all : Every P (by_clauses n.view a (clauses a) ++ (built_in n.view a ++ (by_impls n.view a n.view.impls ++ by_objects n.view a)))) (first : P (unknowable n.view a)) where
   abbrev V : World
   V = n.view
 
@@ -162,19 +162,19 @@ module _ (P : Candidate → Type 0) (n : Meaning) (a : Asked) (all : Every P (by
   lasts : Every P (by_impls V a V.impls ++ by_objects V a)
   lasts = (every-split P (built_in V a) (by_impls V a V.impls ++ by_objects V a) others).1
 
-  early-so : (seen : Past) → IfSome (early V a seen) P
+  early-so : (seen : SolverPast) → IfSome (early V a seen) P
   early-so seen =
       either-one P (slice_get (by_clauses V a (clauses a)) (considered_from is_clause seen)) (slice_get (built_in V a) (considered_from (is_built_in (misc_is_bound a)) seen))
       (at-place P (by_clauses V a (clauses a)) (considered_from is_clause seen) (every-split P (by_clauses V a (clauses a)) (built_in V a ++ (by_impls V a V.impls ++ by_objects V a)) all).0)
       (at-place P (built_in V a) (considered_from (is_built_in (misc_is_bound a)) seen) (every-split P (built_in V a) (by_impls V a V.impls ++ by_objects V a) others).0)
 
-  late-so : (seen : Past) → IfSome (late V a seen) P
+  late-so : (seen : SolverPast) → IfSome (late V a seen) P
   late-so seen =
       either-one P (slice_get (by_impls V a V.impls) (considered_from is_impl seen)) (slice_get (by_objects V a) (considered_from (is_bound (misc_is_bound a)) seen))
       (at-place P (by_impls V a V.impls) (considered_from is_impl seen) (every-split P (by_impls V a V.impls) (by_objects V a) lasts).0)
       (at-place P (by_objects V a) (considered_from (is_bound (misc_is_bound a)) seen) (every-split P (by_impls V a V.impls) (by_objects V a) lasts).1)
 
-  next-so : (mode : TypingMode) (seen : Past) → IfSome (next_in n mode a seen) P
+  next-so : (mode : TypingMode) (seen : SolverPast) → IfSome (next_in n mode a seen) P
   next-so Coherence seen = by (is_first seen && not (is_knowable V n.crate a.reference)) (holds_from is_unknowable seen)
     where
       by : (b c : Bool) → IfSome (if b then Some (unknowable V a) else if c then None else or_else (early V a seen) (late V a seen)) P
@@ -187,32 +187,32 @@ module _ (P : Candidate → Type 0) (n : Meaning) (a : Asked) (all : Every P (by
       by true = tt
       by false = late-so seen
 
-module _ (es : List Entry) (d : Items) (g : CanonicalInput) (ready : IsReady es d) (b : Bool) (h : Decides es d g b) where
+module _ (es : List Entry) (d : Items) (g : CanonicalInput) (ready : AreReadyDeclarations es d) (b : Bool) (h : Decides es d g b) where
   abbrev Fits : Candidate → Type 0
   Fits c = IsOverSlots (slots_of g.variables.items c.kinds) c
 
-  decided-fit : decided (meaning_for (solving_of es d) (form_of es g)) (asked (written es d) (form_of es g)) ≡ Some (asked_of es g) → (seen : Past) → IfSome (next_in (meaning_for (solving_of es d) (form_of es g)) g.mode (asked_of es g) seen) Fits
+  decided-fit : decided (meaning_for (solving_of es d) (form_of es g)) (goal_over_kinds (written es d) (form_of es g)) ≡ Some (asked_of es g) → (seen : SolverPast) → IfSome (next_in (meaning_for (solving_of es d) (form_of es g)) g.mode (asked_of es g) seen) Fits
   decided-fit e seen =
       let n = meaning_for (solving_of es d) (form_of es g) in
       let a = asked_of es g in
-      let is = was-asked n (asked (written es d) (form_of es g)) a e in
+      let is = was-asked n (goal_over_kinds (written es d) (form_of es g)) a e in
       let well = tests-tell (written es d) ready.well in
       let environment = λ (own : List CanonicalVarKind). environment-over es a.kinds own g.goal.param_env.items (asked-clauses (written es d) (form_of es g).goal.environment (form_of es g).goal.predicate (all_known (form_of es g).kinds) a is) in
       next-so Fits n a (all-fit n well (form_of es g) a is environment) (unknowable-fits n well (form_of es g) a is environment) g.mode seen
 
-  next-fit : (seen : Past) → IfSome (next_for es d g seen) Fits
+  next-fit : (seen : SolverPast) → IfSome (next_for es d g seen) Fits
   next-fit seen = by b h.is
     where
-      n : Meaning
+      n : ViewMeaning
       n = meaning_for (solving_of es d) (form_of es g)
 
       one : (c : Bool) → IfSome (if c then Some unsure else None) Fits
       one true = record { equations = tt; constraints = tt; nested = tt }
       one false = tt
 
-      by : (c : Bool) → decided n (asked (written es d) (form_of es g)) ≡ (if c then Some (asked_of es g) else None) → IfSome (next_for es d g seen) Fits
+      by : (c : Bool) → decided n (goal_over_kinds (written es d) (form_of es g)) ≡ (if c then Some (asked_of es g) else None) → IfSome (next_for es d g seen) Fits
       by true e = subst (λ o. IfSome (next_candidate n g.mode o seen) Fits) (sym e) (decided-fit e seen)
       by false e = subst (λ o. IfSome (next_candidate n g.mode o seen) Fits) (sym e) (one (is_first seen))
 
-  pub candidate-fits : (new : List Entry) (s : CandidateSpec) (seen : Past) → Some (candidate_of (written es d) g.goal.predicate.trait_ref.def_id.index new s) ≡ next_for es d g seen → IsOver g.variables.items new s
+  pub candidate-fits : (new : List Entry) (s : CandidateSpec) (seen : SolverPast) → Some (candidate_of (written es d) g.goal.predicate.trait_ref.def_id.index new s) ≡ next_for es d g seen → IsOver g.variables.items new s
   candidate-fits new s seen e = is-over g.variables.items new _ s (subst (λ o. IfSome o Fits) (sym e) (next-fit seen))

@@ -11,7 +11,7 @@ use Rattle.declarations.specs.declared.items.ImplDef.{ImplDef}
 use Rattle.declarations.specs.Items.{HeldImpl, impl_at}
 use Rattle.declarations.specs.Merges.{Each}
 use Rattle.declarations.specs.Relevant.{is_above, next_above}
-use Rattle.assembly_laws.specs.Asking.{Asked, with_plain_head}
+use Rattle.assembly_laws.specs.Asking.{GoalOverKinds, with_plain_head}
 use Rattle.assembly_laws.specs.Candidates.{kinds_of_params, by_impls, by_the_impl, can_match}
 use Rattle.built_in_candidates.proofs.Relevant.{names}
 use Rattle.candidate_assembly.specs.Headers.{CanBeCandidate}
@@ -20,7 +20,7 @@ use Rattle.candidate_assembly.specs.Headers.{CanBeCandidate}
 same-number : (m n : ℕ) → m ≡ n → (n == m) ≡ true
 same-number m n h = grind (arith, nat_tests)
 
-module _ (V : World) (a : Asked) (last : Option ImplId) where
+module _ (V : World) (a : GoalOverKinds) (last : Option ImplId) where
   abbrev rel : ImplDecl → Bool
   rel i = (i.header.trait == a.reference.trait) && can_match a.reference.args i.header.args
 

@@ -5,7 +5,7 @@ use Rattle.type_terms.specs.declared.ImplId.{ImplId}
 use Rattle.evaluation.specs.declared.candidate.CandidateSource.{CandidateSource}
 use Rattle.evaluation.specs.declared.candidate.Considered.{Considered}
 use Rattle.evaluation.specs.StepReadings.{Shows, shown_by}
-use Rattle.assembly_laws.specs.Solver.{Past, is_clause, is_impl}
+use Rattle.assembly_laws.specs.Solver.{SolverPast, is_clause, is_impl}
 use Rattle.candidate_assembly.specs.declared.assembly.Section.{Section}
 use Rattle.candidate_assembly.specs.declared.assembly.Section.TheVariants.{WhereClauses, BuiltInRules, Impls, ObjectBounds}
 use Rattle.candidate_assembly.specs.Sections.{is_built_in, is_bound, impl_or}
@@ -32,5 +32,5 @@ ends_by_impl b [] = b
 ends_by_impl b (d ∷ done) = ends_by_impl (is_impl d.source) done
 
 -- What holds of each past that shows these candidates.
-abbrev pub ForEachPast : List Entry → List Considered → (Past → Type 0) → Type 0
-ForEachPast es done P = (seen : Past) → Shows (map (shown_by es) done) seen → P seen
+abbrev pub ForEachPast : List Entry → List Considered → (SolverPast → Type 0) → Type 0
+ForEachPast es done P = (seen : SolverPast) → Shows (map (shown_by es) done) seen → P seen

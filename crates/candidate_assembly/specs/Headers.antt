@@ -15,7 +15,7 @@ use Rattle.declarations.specs.Held.{AreHeld}
 use Rattle.declarations.specs.Items.{Items, written}
 use Rattle.declarations.specs.Merges.{Each}
 use Rattle.declarations.specs.Relevant.{is_above}
-use Rattle.assembly_laws.specs.Asking.{Asked, with_plain_head}
+use Rattle.assembly_laws.specs.Asking.{GoalOverKinds, with_plain_head}
 use Rattle.assembly_laws.specs.Candidates.{Candidate, can_match, kinds_of_params}
 use Rattle.assembly_laws.specs.DeclaredWell.{IsDeclaredWell}
 
@@ -54,7 +54,7 @@ abbrev pub impls_above : Option ImplId → List ImplDecl → List ImplDecl
 impls_above last is = filter (λ i. is_above last i.name) is
 
 -- The numbers of the impls that can match.
-abbrev pub matching_in : List Entry → Items → Asked → List ℕ
+abbrev pub matching_in : List Entry → Items → GoalOverKinds → List ℕ
 matching_in es d a = map (λ (i : ImplDecl). i.name) (filter (λ (i : ImplDecl). (i.header.trait == a.reference.trait) && can_match a.reference.args i.header.args) (written es d).impls)
 
 -- The candidate has so many variables of its own that there are no numbers for them behind n others.

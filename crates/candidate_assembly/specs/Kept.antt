@@ -18,7 +18,7 @@ use Rattle.assembly_laws.specs.DeclaredWell.{is_declared_well}
 use Rattle.built_in_candidates.proofs.Later.{fields-later}
 use Rattle.candidate_assembly.specs.Fitting.{solving_of, fits_declared}
 use Rattle.candidate_assembly.specs.Headers.{CanBeCandidate, HaveCandidates}
-use Rattle.candidate_assembly.specs.Ready.{IsReady}
+use Rattle.candidate_assembly.specs.Ready.{AreReadyDeclarations}
 use Rattle.candidate_assembly.specs.Solving.{Solving}
 
 -- what holds of each of two lists of facts
@@ -48,7 +48,7 @@ module _ (old new : List Entry) (k : Keeps old new) where
   candidates-later d h c =
       each-of-both (λ (i : HeldImpl). ImplHeld old i.def) (λ (i : HeldImpl). CanBeCandidate old i.def) (λ (i : HeldImpl). CanBeCandidate new i.def) (λ i g x. candidate-later i.def g x) d.impls h.impls c
 
-pub ready-kept : (d : Items) (old new : List Entry) → Keeps old new → IsReady old d → IsReady new d
+pub ready-kept : (d : Items) (old new : List Entry) → Keeps old new → AreReadyDeclarations old d → AreReadyDeclarations new d
 ready-kept d old new k r = record {
   held = all-held old new k d r.held;
   well = subst (λ (V : World). is_declared_well V ≡ true) (sym (all-written old new k d r.held)) r.well;
@@ -57,5 +57,5 @@ ready-kept d old new k r = record {
   bounds = have-bounds-later old new k d r.held r.bounds;
 }
 
-pub solving-kept : (d : Items) (old new : List Entry) → Keeps old new → IsReady old d → solving_of new d ≡ solving_of old d
+pub solving-kept : (d : Items) (old new : List Entry) → Keeps old new → AreReadyDeclarations old d → solving_of new d ≡ solving_of old d
 solving-kept d old new k r = ap (λ (V : World). let s : Solving = record { view = V; crate = d.local; fits = fits_declared d } in s) (all-written old new k d r.held)

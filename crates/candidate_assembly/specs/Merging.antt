@@ -15,7 +15,7 @@ use Rattle.evaluation.specs.Tables.{frame_tables}
 use Rattle.goal_frames.specs.Handlers.{same_answer, applies_always}
 use Rattle.goal_frames.specs.Merges.{responses_of, merge_of}
 use Rattle.evaluation.specs.StepReadings.{next_read, Shows, shown_by}
-use Rattle.assembly_laws.specs.Solver.{Past, from, remains, is_clause, is_non_global, is_global, is_impl, is_object, is_trivial, preferred, everything}
+use Rattle.assembly_laws.specs.Solver.{SolverPast, from, remains, is_clause, is_non_global, is_global, is_impl, is_object, is_trivial, preferred, everything}
 use Rattle.candidate_assembly.specs.declared.merge.Sources.{Sources}
 use Rattle.candidate_assembly.specs.declared.merge.Sources.TheVariants.{All, Trivial, NonGlobalClauses, Clauses, Bounds, Remaining}
 
@@ -34,17 +34,17 @@ from_sources sources done = filter (λ (d : Considered). is_among sources d.sour
 
 -- ---- the answer
 -- how the plan of a goal of this mode, over variables of these kinds, ends once no candidate is left
-abbrev pub end_in : TypingMode → List CanonicalVarKind → Past → Plan frame_tables
+abbrev pub end_in : TypingMode → List CanonicalVarKind → SolverPast → Plan frame_tables
 end_in Coherence kinds seen = everything applies_always same_answer (begin kinds) seen
 end_in PostAnalysis kinds seen = preferred applies_always same_answer (begin kinds) seen
 
 -- where a where-clause is preferred: the first that is a yes without values and constraints is taken
-abbrev pub clause_taken : List CanonicalVarKind → Past → Plan frame_tables
+abbrev pub clause_taken : List CanonicalVarKind → SolverPast → Plan frame_tables
 clause_taken kinds seen = first_taken frame_tables applies_always same_answer (begin kinds) (from is_clause) seen
 
 -- the step is that end, for each past that shows these candidates
-abbrev pub IsEnd : (Past → Plan frame_tables) → List Entry → List Considered → List Entry → HandlerStep → Type 0
-IsEnd end old done new step = (seen : Past) → Shows (map (shown_by old) done) seen → (coinductive : Bool) → next_read new coinductive step ≡ wanted frame_tables (end seen)
+abbrev pub IsEnd : (SolverPast → Plan frame_tables) → List Entry → List Considered → List Entry → HandlerStep → Type 0
+IsEnd end old done new step = (seen : SolverPast) → Shows (map (shown_by old) done) seen → (coinductive : Bool) → next_read new coinductive step ≡ wanted frame_tables (end seen)
 
 -- the merge of the responses from there, with no candidate ignored
 abbrev pub MergesFrom : Sources → List CanonicalVarKind → List Entry → List Considered → List Entry → HandlerStep → Type 0
@@ -52,4 +52,4 @@ MergesFrom sources kinds old done new step = (coinductive : Bool) → next_read 
 
 -- the sources that remain, for each past that shows these candidates
 abbrev pub AreRemaining : Sources → List Entry → List Considered → Type 0
-AreRemaining sources es done = (seen : Past) → Shows (map (shown_by es) done) seen → (s : CandidateSource) → is_among sources s ≡ remains seen s
+AreRemaining sources es done = (seen : SolverPast) → Shows (map (shown_by es) done) seen → (s : CandidateSource) → is_among sources s ≡ remains seen s

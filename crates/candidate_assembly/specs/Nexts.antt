@@ -14,9 +14,9 @@ use Rattle.evaluation.specs.Table.{workings}
 use Rattle.evaluation.specs.Tables.{frame_tables}
 use Rattle.evaluation.specs.StepReadings.{Shows, shown_by, handled_for}
 use Rattle.declarations.specs.Items.{Items, written}
-use Rattle.assembly_laws.specs.Asking.{asked}
+use Rattle.assembly_laws.specs.Asking.{goal_over_kinds}
 use Rattle.assembly_laws.specs.Candidates.{Candidate, unsure}
-use Rattle.assembly_laws.specs.Solver.{Past}
+use Rattle.assembly_laws.specs.Solver.{SolverPast}
 use Rattle.candidate_assembly.specs.Fitting.{solving_of}
 use Rattle.built_in_candidates.specs.Goals.{asked_of, candidate_of}
 use Rattle.candidate_assembly.specs.Headers.{HasTooMany}
@@ -28,47 +28,47 @@ abbrev pub handled_in : List Entry → Items → CanonicalInput → Handled fram
 handled_in es d g = handled_for solver_for (λ (items : Items) (entries : List Entry). solving_of entries items) d es g
 
 -- What holds of each history of the goal that shows these candidates.
-abbrev pub ForEachHistory : List Entry → Items → CanonicalInput → List Considered → (Past → Type 0) → Type 0
-ForEachHistory es d g done P = (seen : Past) → Shows (map (shown_by es) done) seen → IsHistory (workings frame_tables) (handled_in es d g).next seen → P seen
+abbrev pub ForEachHistory : List Entry → Items → CanonicalInput → List Considered → (SolverPast → Type 0) → Type 0
+ForEachHistory es d g done P = (seen : SolverPast) → Shows (map (shown_by es) done) seen → IsHistory (workings frame_tables) (handled_in es d g).next seen → P seen
 
 -- The candidate is the one that is next in each of them; if there is none, none is.
-abbrev pub IsNextBy : (Past → Option Candidate) → List Entry → Items → CanonicalInput → List Considered → List Entry → Option CandidateSpec → Type 0
+abbrev pub IsNextBy : (SolverPast → Option Candidate) → List Entry → Items → CanonicalInput → List Considered → List Entry → Option CandidateSpec → Type 0
 IsNextBy next old d g done new o = ForEachHistory old d g done (λ seen. option_map (candidate_of (written old d) g.goal.predicate.trait_ref.def_id.index new) o ≡ next seen)
 
 -- It has more variables of its own than there are numbers for, in each of them.
-abbrev pub RunsOutBy : (Past → Option Candidate) → List Entry → Items → CanonicalInput → List Considered → Type 0
+abbrev pub RunsOutBy : (SolverPast → Option Candidate) → List Entry → Items → CanonicalInput → List Considered → Type 0
 RunsOutBy next es d g done = ForEachHistory es d g done (λ seen. HasTooMany (length g.variables.items) (next seen))
 
 -- ---- what is next for the goal
-abbrev pub early_in : List Entry → Items → CanonicalInput → Past → Option Candidate
+abbrev pub early_in : List Entry → Items → CanonicalInput → SolverPast → Option Candidate
 early_in es d g seen = early (written es d) (asked_of es g) seen
 
-abbrev pub late_in : List Entry → Items → CanonicalInput → Past → Option Candidate
+abbrev pub late_in : List Entry → Items → CanonicalInput → SolverPast → Option Candidate
 late_in es d g seen = late (written es d) (asked_of es g) seen
 
 -- Where it stops none of these comes.
-abbrev pub late_unless : Bool → List Entry → Items → CanonicalInput → Past → Option Candidate
+abbrev pub late_unless : Bool → List Entry → Items → CanonicalInput → SolverPast → Option Candidate
 late_unless stops es d g seen = if stops then None else late_in es d g seen
 
-abbrev pub until : Bool → List Entry → Items → CanonicalInput → Past → Option Candidate
+abbrev pub until : Bool → List Entry → Items → CanonicalInput → SolverPast → Option Candidate
 until stops es d g seen = or_else (early_in es d g seen) (late_unless stops es d g seen)
 
-abbrev pub next_inside_in : List Entry → Items → CanonicalInput → Past → Option Candidate
+abbrev pub next_inside_in : List Entry → Items → CanonicalInput → SolverPast → Option Candidate
 next_inside_in es d g seen = next_inside (written es d) d.local (asked_of es g) seen
 
-abbrev pub next_outside_in : List Entry → Items → CanonicalInput → Past → Option Candidate
+abbrev pub next_outside_in : List Entry → Items → CanonicalInput → SolverPast → Option Candidate
 next_outside_in es d g seen = next_outside (written es d) (asked_of es g) seen
 
-abbrev pub next_decided : List Entry → Items → CanonicalInput → Past → Option Candidate
+abbrev pub next_decided : List Entry → Items → CanonicalInput → SolverPast → Option Candidate
 next_decided es d g seen = next_in (meaning_for (solving_of es d) (form_of es g)) g.mode (asked_of es g) seen
 
-abbrev pub next_undecided : Past → Option Candidate
+abbrev pub next_undecided : SolverPast → Option Candidate
 next_undecided seen = if is_first seen then Some unsure else None
 
-abbrev pub next_for : List Entry → Items → CanonicalInput → Past → Option Candidate
+abbrev pub next_for : List Entry → Items → CanonicalInput → SolverPast → Option Candidate
 next_for es d g seen =
     let m = meaning_for (solving_of es d) (form_of es g) in
-    next_candidate m g.mode (decided m (asked m.view (form_of es g))) seen
+    next_candidate m g.mode (decided m (goal_over_kinds m.view (form_of es g))) seen
 
 -- What is not decided is merged as in coherence.
 abbrev pub mode_at_end : TypingMode → Bool → TypingMode

@@ -7,7 +7,7 @@ use Rattle.infer_table.specs.Goals.{GoalHeld}
 use Rattle.declarations.specs.Applied.{HaveBounds}
 use Rattle.declarations.specs.Held.{AreHeld}
 use Rattle.declarations.specs.Items.{Items, written}
-use Rattle.assembly_laws.specs.Asking.{asked}
+use Rattle.assembly_laws.specs.Asking.{goal_over_kinds}
 use Rattle.assembly_laws.specs.DeclaredWell.{is_declared_well}
 use Rattle.built_in_candidates.specs.Constituents.{HaveFields}
 use Rattle.candidate_assembly.specs.Fitting.{GoalFits, solving_of}
@@ -18,7 +18,7 @@ use Rattle.candidate_assembly.specs.Solving.{meaning_for}
 
 -- The declarations' terms are the interner's, they are declared well, and all of them can be candidates: so it stays while the interner
 -- grows.
-pub record IsReady (es : List Entry) (d : Items) : Type 0 where
+pub record AreReadyDeclarations (es : List Entry) (d : Items) : Type 0 where
   pub held : AreHeld es d
   pub well : is_declared_well (written es d) ≡ true
   pub impls : HaveCandidates es d
@@ -27,12 +27,12 @@ pub record IsReady (es : List Entry) (d : Items) : Type 0 where
 
 -- A goal that is decided if this is true, and then fits the declarations.
 pub record Decides (es : List Entry) (d : Items) (g : CanonicalInput) (b : Bool) : Type 0 where
-  pub is : decided (meaning_for (solving_of es d) (form_of es g)) (asked (written es d) (form_of es g)) ≡ (if b then Some (asked_of es g) else None)
+  pub is : decided (meaning_for (solving_of es d) (form_of es g)) (goal_over_kinds (written es d) (form_of es g)) ≡ (if b then Some (asked_of es g) else None)
   pub fits : IsTrue b → GoalFits es d g
 
 -- A goal that is decided by declarations that are ready.
-pub record IsDecided (es : List Entry) (d : Items) (g : CanonicalInput) : Type 0 where
-  pub ready : IsReady es d
+pub record IsWellPosedGoal (es : List Entry) (d : Items) (g : CanonicalInput) : Type 0 where
+  pub ready : AreReadyDeclarations es d
   pub goal : GoalHeld es g.goal
-  pub is : decided (meaning_for (solving_of es d) (form_of es g)) (asked (written es d) (form_of es g)) ≡ Some (asked_of es g)
+  pub is : decided (meaning_for (solving_of es d) (form_of es g)) (goal_over_kinds (written es d) (form_of es g)) ≡ Some (asked_of es g)
   pub fits : GoalFits es d g

@@ -24,11 +24,11 @@ use Rattle.evaluation.specs.Tables.{frame_tables}
 use Rattle.declarations.specs.Items.{Items, written}
 use Rattle.declarations.specs.Merges.{Rises}
 use Rattle.goal_frames.specs.Handlers.{same_answer, applies_always}
-use Rattle.assembly_laws.specs.Meaning.{Meaning}
+use Rattle.assembly_laws.specs.Meaning.{ViewMeaning}
 use Rattle.assembly_laws.specs.Knowing.{is_knowable}
-use Rattle.assembly_laws.specs.Asking.{Asked, asked, clauses, self_of, begins_unknown}
+use Rattle.assembly_laws.specs.Asking.{GoalOverKinds, goal_over_kinds, clauses, self_of, begins_unknown}
 use Rattle.assembly_laws.specs.Candidates.{Candidate, unsure, unknowable, by_clauses, built_in, by_impls, by_objects}
-use Rattle.assembly_laws.specs.Solver.{Past, from, holds_from, is_clause, is_impl, is_settled, solver_handled}
+use Rattle.assembly_laws.specs.Solver.{SolverPast, from, holds_from, is_clause, is_impl, is_settled, solver_handled}
 use Rattle.candidate_assembly.specs.Headers.{impls_above}
 use Rattle.candidate_assembly.specs.Merging.{end_in}
 
@@ -40,7 +40,7 @@ begins_dyn t = false
 
 -- A source that is no more than a built-in rule, for this goal, is a bound: of a `dyn` only `Unsize` has such rules, and the auto
 -- traits that it is written with are such bounds.
-abbrev pub misc_is_bound : Asked → Bool
+abbrev pub misc_is_bound : GoalOverKinds → Bool
 misc_is_bound a = begins_dyn (self_of a) && not (a.reference.trait == unsize)
 
 abbrev pub is_unknowable : CandidateSource → Bool
@@ -64,52 +64,52 @@ autos_of (tree dynamic bounds o) = autos_with (tree dynamic bounds none) bounds
 autos_of t = []
 
 -- The sources tell the sections apart: no `dyn` is written with `Unsize` as an auto trait.
-abbrev pub sources_tell : Asked → Bool
+abbrev pub sources_tell : GoalOverKinds → Bool
 sources_tell a = not (a.reference.trait == unsize) || not (list_any (λ (r : Reference). r.trait == unsize) (autos_of (self_of a)))
 
 -- so many of those from there were considered
-abbrev pub considered_from : (CandidateSource → Bool) → Past → ℕ
+abbrev pub considered_from : (CandidateSource → Bool) → SolverPast → ℕ
 considered_from p seen = length (filter (from p) seen)
 
 -- ---- what is next
 -- of where-clauses and built-in rules
-abbrev pub early : World → Asked → Past → Option Candidate
+abbrev pub early : World → GoalOverKinds → SolverPast → Option Candidate
 early V a seen = or_else (slice_get (by_clauses V a (clauses a)) (considered_from is_clause seen)) (slice_get (built_in V a) (considered_from (is_built_in (misc_is_bound a)) seen))
 
 -- of impls and object bounds
-abbrev pub late : World → Asked → Past → Option Candidate
+abbrev pub late : World → GoalOverKinds → SolverPast → Option Candidate
 late V a seen = or_else (slice_get (by_impls V a V.impls) (considered_from is_impl seen)) (slice_get (by_objects V a) (considered_from (is_bound (misc_is_bound a)) seen))
 
-abbrev pub is_first : Past → Bool
+abbrev pub is_first : SolverPast → Bool
 is_first [] = true
 is_first (c ∷ seen) = false
 
 -- in coherence first that other crates may have an impl, where the goal isn't knowable, and nothing else if that holds
-abbrev pub next_inside : World → ℕ → Asked → Past → Option Candidate
+abbrev pub next_inside : World → ℕ → GoalOverKinds → SolverPast → Option Candidate
 next_inside V crate a seen =
     if is_first seen && not (is_knowable V crate a.reference) then Some (unknowable V a)
     else if holds_from is_unknowable seen then None else or_else (early V a seen) (late V a seen)
 
 -- outside it impls and object bounds only where no where-clause has settled the goal
-abbrev pub next_outside : World → Asked → Past → Option Candidate
+abbrev pub next_outside : World → GoalOverKinds → SolverPast → Option Candidate
 next_outside V a seen = or_else (early V a seen) (if is_settled seen then None else late V a seen)
 
-abbrev pub next_in : Meaning → TypingMode → Asked → Past → Option Candidate
+abbrev pub next_in : ViewMeaning → TypingMode → GoalOverKinds → SolverPast → Option Candidate
 next_in m Coherence a seen = next_inside m.view m.crate a seen
 next_in m PostAnalysis a seen = next_outside m.view a seen
 
 -- the goal, if it is decided
-abbrev pub decided : Meaning → Option Asked → Option Asked
+abbrev pub decided : ViewMeaning → Option GoalOverKinds → Option GoalOverKinds
 decided m None = None
 decided m (Some a) = if not m.is_sound || begins_unknown a.kinds (self_of a) then None else Some a
 
 -- for a goal that is not decided there is one candidate, which is not sure
-abbrev pub next_candidate : Meaning → TypingMode → Option Asked → Past → Option Candidate
+abbrev pub next_candidate : ViewMeaning → TypingMode → Option GoalOverKinds → SolverPast → Option Candidate
 next_candidate m mode None seen = if is_first seen then Some unsure else None
 next_candidate m mode (Some a) seen = next_in m mode a seen
 
 -- the answer once none is left: what is not decided is merged as in coherence
-abbrev pub end_of : TypingMode → Option Asked → List CanonicalVarKind → Past → Plan frame_tables
+abbrev pub end_of : TypingMode → Option GoalOverKinds → List CanonicalVarKind → SolverPast → Plan frame_tables
 end_of mode None kinds seen = end_in Coherence kinds seen
 end_of mode (Some a) kinds seen = end_in mode kinds seen
 
@@ -121,9 +121,9 @@ or_end None end = wanted frame_tables end
 -- After each history of a goal the plan wants the candidate that is next there, or, where there is none, its end.
 abbrev pub HistoriesTell : Type 0
 HistoriesTell =
-    (m : Meaning) (mode : TypingMode) (f : CanonicalForm) → let o = decided m (asked m.view f) in IfSome o (λ a. sources_tell a ≡ true)
+    (m : ViewMeaning) (mode : TypingMode) (f : CanonicalForm) → let o = decided m (goal_over_kinds m.view f) in IfSome o (λ a. sources_tell a ≡ true)
     → let next = (solver_handled applies_always same_answer m mode f).next in
-    (seen : Past) → IsHistory (workings frame_tables) next seen → next seen ≡ or_end (next_candidate m mode o seen) (end_of mode o (kinds_known f.kinds) seen)
+    (seen : SolverPast) → IsHistory (workings frame_tables) next seen → next seen ≡ or_end (next_candidate m mode o seen) (end_of mode o (kinds_known f.kinds) seen)
 
 -- ---- where the walk over impls goes on
 abbrev pub impl_or : CandidateSource → Option ImplId → Option ImplId
@@ -131,7 +131,7 @@ impl_or (Impl i) other = Some i
 impl_or s other = other
 
 -- the impl that was considered last
-abbrev pub last_impl : Past → Option ImplId
+abbrev pub last_impl : SolverPast → Option ImplId
 last_impl [] = None
 last_impl (c ∷ seen) = impl_or c.spec.source (last_impl seen)
 
@@ -139,7 +139,7 @@ last_impl (c ∷ seen) = impl_or c.spec.source (last_impl seen)
 -- numbers of impls rise.
 abbrev pub WalksGoOn : Type 0
 WalksGoOn =
-    (es : List Entry) (d : Items) → Rises (map (λ i. i.id) d.impls) → (m : Meaning) → m.view ≡ written es d
-    → (mode : TypingMode) (f : CanonicalForm) (a : Asked) → decided m (asked m.view f) ≡ Some a → sources_tell a ≡ true
-    → (seen : Past) → IsHistory (workings frame_tables) (solver_handled applies_always same_answer m mode f).next seen
+    (es : List Entry) (d : Items) → Rises (map (λ i. i.id) d.impls) → (m : ViewMeaning) → m.view ≡ written es d
+    → (mode : TypingMode) (f : CanonicalForm) (a : GoalOverKinds) → decided m (goal_over_kinds m.view f) ≡ Some a → sources_tell a ≡ true
+    → (seen : SolverPast) → IsHistory (workings frame_tables) (solver_handled applies_always same_answer m mode f).next seen
     → let is = (written es d).impls in slice_get (by_impls (written es d) a (impls_above (last_impl seen) is)) 0 ≡ slice_get (by_impls (written es d) a is) (considered_from is_impl seen)

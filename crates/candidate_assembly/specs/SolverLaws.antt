@@ -9,11 +9,11 @@ use Rattle.infer_table.specs.declared.certainty.TypingMode.TheVariants.{Coherenc
 use Rattle.evaluation.specs.Handler.{IsHandler}
 use Rattle.evaluation.specs.History.{evaluate, asks, CameInOrder}
 use Rattle.evaluation.specs.Promises.{frame_of_goal, Anything, History}
-use Rattle.evaluation.specs.Content.{Fact, Question}
+use Rattle.evaluation.specs.Content.{Fact, NestedQuestion}
 use Rattle.evaluation.specs.Widths.{number_of}
 use Rattle.evaluation.specs.Tables.{frame_tables}
 use Rattle.goal_frames.specs.Handlers.{same_answer, applies_always}
-use Rattle.goal_frames.specs.HandlerPrograms.{AreLawfulGoals, IsLawful}
+use Rattle.goal_frames.specs.HandlerPrograms.{AreLawfulGoals, HandlerIsLawful}
 use Rattle.goal_frames.proofs.Same.{answers-are, applies-to-yeses}
 use Rattle.assembly_laws.specs.Facts.{reference_in}
 use Rattle.assembly_laws.specs.Meaning.{proved_at}
@@ -65,7 +65,7 @@ goals-are-lawful = record {
   outside = λ s g x. x;
 }
   where
-    by : (s : Solving) (mode : TypingMode) (g : CanonicalForm) (heard : History frame_tables (solver_for s mode g)) (q : Question)
+    by : (s : Solving) (mode : TypingMode) (g : CanonicalForm) (heard : History frame_tables (solver_for s mode g)) (q : NestedQuestion)
         → CameInOrder (Anything frame_tables (solver_for s mode g)) (frame_of_goal frame_tables (solver_for s mode g)) heard
         → asks (frame_of_goal frame_tables (solver_for s mode g)) heard ≡ evaluate q
         → (x : (solver_for s mode g).World) → (y : (solver_for s mode q.form).World) × ((f : Fact) → (solver_for s mode g).Proves x f → (solver_for s mode q.form).Proves y f)
@@ -77,7 +77,7 @@ goals-are-lawful = record {
           λ f y. let z : IsSolution (proved_at k.0.place) f = k.1 f y in record { asks = z.asks; proper = z.proper; closed = z.closed; proof = p.1 (reference_in f) z.proof },
         )
 
-pub solver-laws : IsLawful solver_by_view
+pub solver-laws : HandlerIsLawful solver_by_view
 solver-laws = record {
   ready_kept = λ h old new k r. ready-kept h.declarations old new k r;
   world_kept = λ h old new k r. solving-kept h.declarations old new k r;

@@ -2,7 +2,7 @@
 use Rattle.goal_frames.specs.Meanings.{Goals, HandlerMeaning}
 use Rattle.assembly_laws.specs.Facts.{FollowsByView}
 use Rattle.candidate_assembly.specs.Fitting.{solving_of}
-use Rattle.candidate_assembly.specs.Ready.{IsReady}
+use Rattle.candidate_assembly.specs.Ready.{AreReadyDeclarations}
 use Rattle.candidate_assembly.specs.Solving.{Solving, solver_for, coinductive_for}
 use Rattle.candidate_assembly.specs.declared.solver.Solver.{Solver}
 
@@ -14,6 +14,6 @@ goals_by_view = record { World = Solving; handled = solver_for; Rule = λ s. Fol
 abbrev pub solver_by_view : HandlerMeaning Solver
 solver_by_view = record {
   goals = goals_by_view;
-  IsReady = λ (h : Solver) es. IsReady es h.declarations;
+  IsReady = λ (h : Solver) es. AreReadyDeclarations es h.declarations;
   world = λ (h : Solver) es. solving_of es h.declarations;
 }

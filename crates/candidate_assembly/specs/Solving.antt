@@ -8,7 +8,7 @@ use Rattle.evaluation.specs.Content.{Fact}
 use Rattle.evaluation.specs.Tables.{frame_tables}
 use Rattle.goal_frames.specs.Handlers.{same_answer, applies_always}
 use Rattle.assembly_laws.specs.Facts.{is_coinductive_fact}
-use Rattle.assembly_laws.specs.Meaning.{Meaning}
+use Rattle.assembly_laws.specs.Meaning.{ViewMeaning}
 use Rattle.assembly_laws.specs.DeclaredWell.{is_declared_well}
 use Rattle.assembly_laws.specs.Lifetimes.{form_gives_lifetimes}
 use Rattle.assembly_laws.specs.Solver.{solver_handled}
@@ -22,7 +22,7 @@ pub record Solving : Type 0 where
 
 -- What is meant for a goal: of a view that is not declared well, or a goal that does not fit it, nothing is decided. A goal that fits gives
 -- its structs lifetimes where their fields name them.
-abbrev pub meaning_for : Solving → CanonicalForm → Meaning
+abbrev pub meaning_for : Solving → CanonicalForm → ViewMeaning
 meaning_for s f = record { view = s.view; crate = s.crate; is_sound = is_declared_well s.view && (s.fits f && form_gives_lifetimes s.view f) }
 
 abbrev pub solver_for : Solving → TypingMode → CanonicalForm → Handled frame_tables

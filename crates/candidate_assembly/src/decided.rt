@@ -17,7 +17,7 @@ ghost use Rattle.evaluation.specs.Variables.{is_variable_over};
 ghost use Rattle.declarations.specs.Items.{reference_in, written};
 ghost use Rattle.declarations.specs.Applied.{sort_of_param, sorts_of};
 ghost use Rattle.declarations.specs.Held.{ReferenceHeld};
-ghost use Rattle.assembly_laws.specs.Asking.{asked, are_clauses, begins_with_type, begins_unknown, next_of, with_plain_head};
+ghost use Rattle.assembly_laws.specs.Asking.{goal_over_kinds, are_clauses, begins_with_type, begins_unknown, next_of, with_plain_head};
 ghost use Rattle.assembly_laws.specs.DeclaredWell.{is_declared_well};
 ghost use Rattle.built_in_candidates.specs.Constituents.{HaveFields};
 ghost use Rattle.built_in_candidates.specs.Goals.{asked_of};
@@ -349,7 +349,7 @@ fn clauses_are_over(cx: &Interner, kinds: &[CanonicalVarKind], clauses: &[Clause
 /// types.
 fn is_asked(cx: &Interner, declarations: &Declarations, goal: &CanonicalInput) -> bool
     requires { GoalHeld cx.now.entries goal.now.goal }
-    ensures { let es = cx.now.entries in asked (written es declarations.now) (form_of es goal.now) ≡ (if result then Some (asked_of es goal.now) else None) }
+    ensures { let es = cx.now.entries in goal_over_kinds (written es declarations.now) (form_of es goal.now) ≡ (if result then Some (asked_of es goal.now) else None) }
 {
     let trait_ref = goal.goal.predicate.trait_ref;
     if !reference_is_declared(cx, declarations, trait_ref) {
@@ -374,7 +374,7 @@ pub fn is_decided(cx: &Interner, declarations: &Declarations, goal: &CanonicalIn
     requires well { is_declared_well (written cx.now.entries declarations.now) ≡ true }
     requires fields { HaveFields cx.now.entries declarations.now }
     ensures is { let es = cx.now.entries in let f = form_of es goal.now in
-        decided (meaning_for (solving_of es declarations.now) f) (asked (written es declarations.now) f) ≡ (if result then Some (asked_of es goal.now) else None) }
+        decided (meaning_for (solving_of es declarations.now) f) (goal_over_kinds (written es declarations.now) f) ≡ (if result then Some (asked_of es goal.now) else None) }
     ensures fits { IsTrue result → GoalFits cx.now.entries declarations.now goal.now }
 {
     let trait_ref = goal.goal.predicate.trait_ref;

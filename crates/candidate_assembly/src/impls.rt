@@ -8,12 +8,12 @@ ghost use Rattle.type_terms.specs.Failures.{SomeKindIsFull};
 ghost use Rattle.term_folds.specs.Signatures.{StartsWithType};
 ghost use Rattle.infer_table.specs.Goals.{GoalHeld};
 ghost use Rattle.evaluation.specs.Readings.{SpecHeld};
-ghost use Rattle.declarations.specs.Applied.{references_in, AllHeld};
+ghost use Rattle.declarations.specs.Applied.{references_in, TraitRefsHeld};
 ghost use Rattle.declarations.specs.Items.{reference_in, impl_in, written};
 ghost use Rattle.declarations.specs.Held.{AreHeld, ImplHeld, ReferenceHeld};
 ghost use Rattle.declarations.specs.Merges.{Rises};
 ghost use Rattle.declarations.specs.Relevant.{next_above};
-ghost use Rattle.assembly_laws.specs.Candidates.{behind, by_the_impl, by_impls};
+ghost use Rattle.assembly_laws.specs.Candidates.{rules_behind, by_the_impl, by_impls};
 ghost use Rattle.built_in_candidates.specs.Goals.{asked_of, candidate_of};
 ghost use Rattle.candidate_assembly.specs.Headers.{var_kind, StandInHeader, SpeaksOfParameters, HaveCandidates, HasTooMany, impls_above, matching_in};
 
@@ -52,10 +52,10 @@ fn instance_behind(
     ensures keeps { Keeps cx.old.entries cx.new.entries }
     ensures limit { cx.new.limit ≡ cx.old.limit }
     ensures header_held { IfOk result (λ n. ReferenceHeld cx.new.entries n.header) }
-    ensures clauses_held { IfOk result (λ n. AllHeld cx.new.entries n.clauses.items) }
+    ensures clauses_held { IfOk result (λ n. TraitRefsHeld cx.new.entries n.clauses.items) }
     ensures variables { IfOk result (λ n. n.variables.items ≡ map var_kind def.now.params.items) }
-    ensures header { IfOk result (λ n. reference_in cx.new.entries n.header ≡ behind others (reference_in cx.old.entries def.now.header)) }
-    ensures clauses { IfOk result (λ n. references_in cx.new.entries n.clauses.items ≡ map (behind others) (references_in cx.old.entries def.now.clauses.items)) }
+    ensures header { IfOk result (λ n. reference_in cx.new.entries n.header ≡ rules_behind others (reference_in cx.old.entries def.now.header)) }
+    ensures clauses { IfOk result (λ n. references_in cx.new.entries n.clauses.items ≡ map (rules_behind others) (references_in cx.old.entries def.now.clauses.items)) }
     ensures full { result ≡ Err Fault.Full → SomeKindIsFull cx.new.entries cx.new.limit ⊎ (MAX_INDEX < others + length def.now.params.items) }
 {
     let variables = variable_kinds(alloc, &def.params)?;

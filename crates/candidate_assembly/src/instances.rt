@@ -12,7 +12,7 @@ ghost use Rattle.infer_table.specs.Raw.{variables_from};
 ghost use Rattle.infer_table.specs.Values.{values_of};
 ghost use Rattle.declarations.specs.Items.{reference_in};
 ghost use Rattle.declarations.specs.Held.{ReferenceHeld};
-ghost use Rattle.declarations.specs.Applied.{references_in, AllHeld};
+ghost use Rattle.declarations.specs.Applied.{references_in, TraitRefsHeld};
 ghost use Rattle.declarations.specs.Merges.{Each};
 ghost use Rattle.candidate_assembly.specs.Headers.{var_kind};
 
@@ -117,13 +117,13 @@ pub(crate) fn all_with_arguments(
     references: &[TraitRef],
     args: GenericArgs,
 ) -> Result<Vec<TraitRef>, Fault>
-    requires held { AllHeld cx.old.entries references.now }
+    requires held { TraitRefsHeld cx.old.entries references.now }
     requires args { Has cx.old.entries args_lists args.0 }
     requires closed { outer_binder (trees_at cx.old.entries args.0) ≡ 0 }
     requires fits { Each (λ b. first_misfit (trees_at cx.old.entries args.0) (trees_at cx.old.entries b.args.0) ≡ None) references.now }
     ensures keeps { Keeps cx.old.entries cx.new.entries }
     ensures limit { cx.new.limit ≡ cx.old.limit }
-    ensures held { IfOk result (λ v. AllHeld cx.new.entries v.items) }
+    ensures held { IfOk result (λ v. TraitRefsHeld cx.new.entries v.items) }
     ensures are { IfOk result (λ v. references_in cx.new.entries v.items ≡ all_with_args (trees_at cx.old.entries args.0) (references_in cx.old.entries references.now)) }
     ensures full { result ≡ Err Fault.Full → SomeKindIsFull cx.new.entries cx.new.limit }
 {

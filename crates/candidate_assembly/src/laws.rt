@@ -9,7 +9,7 @@ ghost use Rattle.evaluation.specs.declared.candidate.CandidateSource.TheVariants
 ghost use Rattle.declarations.specs.Items.{Items, written};
 ghost use Rattle.declarations.specs.Merges.{Rises};
 ghost use Rattle.assembly_laws.specs.Knowing.{is_knowable};
-ghost use Rattle.assembly_laws.specs.Asking.{Asked};
+ghost use Rattle.assembly_laws.specs.Asking.{GoalOverKinds};
 ghost use Rattle.assembly_laws.specs.Candidates.{Candidate, by_impls};
 ghost use Rattle.candidate_assembly.specs.Headers.{impls_above, WellDeclaredHaveCandidates};
 ghost use Rattle.candidate_assembly.specs.Sections.{HistoriesTell, WalksGoOn};
@@ -19,9 +19,9 @@ ghost use Rattle.goal_frames.specs.HandlerPrograms.{HandlersArePrograms};
 /// A walk over the impls of a goal meets the definitions' candidates one after the other: without a last one considered it is at the
 /// first, and behind the impl of any of them at the one after that.
 pub fn walks_meet_all_impls()
-    ensures begins { (es : List Entry) (d : Items) (a : Asked) → let V = written es d in
+    ensures begins { (es : List Entry) (d : Items) (a : GoalOverKinds) → let V = written es d in
         slice_get (by_impls V a (impls_above None V.impls)) 0 ≡ slice_get (by_impls V a V.impls) 0 }
-    ensures goes_on { (es : List Entry) (d : Items) (a : Asked) (n : ℕ) (c : Candidate) (last : ImplId) → let V = written es d in
+    ensures goes_on { (es : List Entry) (d : Items) (a : GoalOverKinds) (n : ℕ) (c : Candidate) (last : ImplId) → let V = written es d in
         Rises (map (λ i. i.id) d.impls) → slice_get (by_impls V a V.impls) n ≡ Some c → c.source ≡ Impl last
         → slice_get (by_impls V a (impls_above (Some last) V.impls)) 0 ≡ slice_get (by_impls V a V.impls) (n + 1) }
 {}

@@ -7,7 +7,7 @@ ghost use Rattle.type_terms.specs.declared.TheConstants.{MAX_INDEX};
 ghost use Rattle.type_terms.specs.Failures.{SomeKindIsFull};
 ghost use Rattle.infer_table.specs.declared.certainty.TypingMode.TheVariants.{PostAnalysis};
 ghost use Rattle.infer_table.specs.Responses.{ResponseHeld, answer_trees};
-ghost use Rattle.evaluation.specs.Readings.{ConsideredHeld, StepHeld};
+ghost use Rattle.evaluation.specs.Readings.{ConsideredHeld, HandlerStepHeld};
 ghost use Rattle.evaluation.specs.Responses.{content};
 ghost use Rattle.evaluation.specs.TableAnswers.{IsWellFormed};
 ghost use Rattle.goal_frames.specs.Fitting.{ConsideredFits, StepFits};
@@ -181,7 +181,7 @@ fn merge_from(
     requires fits { ConsideredFits cx.old.entries done.now }
     ensures keeps { Keeps cx.old.entries cx.new.entries }
     ensures limit { cx.new.limit ≡ cx.old.limit }
-    ensures held { IfOk result (StepHeld cx.new.entries) }
+    ensures held { IfOk result (HandlerStepHeld cx.new.entries) }
     ensures fits { IfOk result (StepFits variables.now cx.new.entries) }
     ensures is { IfOk result (MergesFrom sources variables.now cx.old.entries done.now cx.new.entries) }
     ensures full { result ≡ Err Fault.Full → SomeKindIsFull cx.new.entries cx.new.limit ⊎ (MAX_INDEX < length variables.now) }
@@ -205,7 +205,7 @@ fn take_clause(
     requires fits { ConsideredFits cx.old.entries done.now }
     ensures keeps { Keeps cx.old.entries cx.new.entries }
     ensures limit { cx.new.limit ≡ cx.old.limit }
-    ensures held { IfOk result (StepHeld cx.new.entries) }
+    ensures held { IfOk result (HandlerStepHeld cx.new.entries) }
     ensures fits { IfOk result (StepFits variables.now cx.new.entries) }
     ensures is { IfOk result (IsEnd (clause_taken variables.now) cx.old.entries done.now cx.new.entries) }
     ensures full { result ≡ Err Fault.Full → SomeKindIsFull cx.new.entries cx.new.limit ⊎ (MAX_INDEX < length variables.now) }
@@ -249,7 +249,7 @@ fn merge_preferred(
     requires fits { ConsideredFits cx.old.entries done.now }
     ensures keeps { Keeps cx.old.entries cx.new.entries }
     ensures limit { cx.new.limit ≡ cx.old.limit }
-    ensures held { IfOk result (StepHeld cx.new.entries) }
+    ensures held { IfOk result (HandlerStepHeld cx.new.entries) }
     ensures fits { IfOk result (StepFits variables.now cx.new.entries) }
     ensures is { IfOk result (IsEnd (end_in PostAnalysis variables.now) cx.old.entries done.now cx.new.entries) }
     ensures full { result ≡ Err Fault.Full → SomeKindIsFull cx.new.entries cx.new.limit ⊎ (MAX_INDEX < length variables.now) }
@@ -283,7 +283,7 @@ pub fn merge_trait_candidates(
     requires fits { ConsideredFits cx.old.entries done.now }
     ensures keeps { Keeps cx.old.entries cx.new.entries }
     ensures limit { cx.new.limit ≡ cx.old.limit }
-    ensures held { IfOk result (StepHeld cx.new.entries) }
+    ensures held { IfOk result (HandlerStepHeld cx.new.entries) }
     ensures fits { IfOk result (StepFits variables.now cx.new.entries) }
     ensures is { IfOk result (IsEnd (end_in mode variables.now) cx.old.entries done.now cx.new.entries) }
     ensures full { result ≡ Err Fault.Full → SomeKindIsFull cx.new.entries cx.new.limit ⊎ (MAX_INDEX < length variables.now) }

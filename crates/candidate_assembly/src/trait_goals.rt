@@ -6,7 +6,7 @@ ghost use Rattle.type_terms.specs.declared.Fault.TheVariants.{Memory};
 ghost use Rattle.type_terms.specs.Failures.{SomeKindIsFull};
 ghost use Rattle.infer_table.specs.Goals.{GoalHeld};
 ghost use Rattle.infer_table.specs.Responses.{ResponseHeld, answer_trees};
-ghost use Rattle.evaluation.specs.Readings.{ConsideredHeld, ResultHeld, SpecHeld, StepHeld};
+ghost use Rattle.evaluation.specs.Readings.{ConsideredHeld, ResultHeld, SpecHeld, HandlerStepHeld};
 ghost use Rattle.goal_frames.specs.Fitting.{ConsideredFits, ResultFits, StepFits};
 ghost use Rattle.evaluation.specs.StepReadings.{result_read, shown_by, spec_read, HasHistory, IsNextAfter};
 ghost use Rattle.goal_frames.specs.Shortages.{NextRunsOut};
@@ -18,7 +18,7 @@ ghost use Rattle.assembly_laws.specs.Solver.{says_nothing, is_non_global, is_set
 ghost use Rattle.candidate_assembly.specs.Counted.{ForEachPast};
 ghost use Rattle.built_in_candidates.specs.Goals.{asked_of, candidate_of};
 ghost use Rattle.candidate_assembly.specs.Nexts.{handled_in, IsNextBy, RunsOutBy, early_in, late_in, late_unless, until, next_inside_in, next_outside_in, next_decided, next_undecided, next_for, mode_at_end};
-ghost use Rattle.candidate_assembly.specs.Ready.{IsReady, Decides, IsDecided};
+ghost use Rattle.candidate_assembly.specs.Ready.{AreReadyDeclarations, Decides, IsWellPosedGoal};
 ghost use Rattle.candidate_assembly.specs.Sections.{is_unknowable, is_bound, is_first, misc_is_bound, considered_from};
 
 use crate::assembly::{
@@ -108,7 +108,7 @@ fn begins_unknowable(
     goal: &CanonicalInput,
     done: &[Considered],
 ) -> Result<bool, Fault>
-    requires { IsDecided cx.now.entries declarations.now goal.now }
+    requires { IsWellPosedGoal cx.now.entries declarations.now goal.now }
     ensures is { let V = written cx.now.entries declarations.now in let r = (asked_of cx.now.entries goal.now).reference in
         IfOk result (λ b. ForEachPast cx.now.entries done.now (λ seen. b ≡ (is_first seen && not (is_knowable V declarations.now.local r)))) }
     ensures memory { IfErr result (λ fault. fault ≡ Memory) }
@@ -130,7 +130,7 @@ fn assemble_object_bound_candidates(
     goal: &CanonicalInput,
     done: &[Considered],
 ) -> Result<Option<CandidateSpec>, Fault>
-    requires { IsDecided cx.old.entries declarations.now goal.now }
+    requires { IsWellPosedGoal cx.old.entries declarations.now goal.now }
     ensures keeps { Keeps cx.old.entries cx.new.entries }
     ensures limit { cx.new.limit ≡ cx.old.limit }
     ensures held { IfOk result (λ o. IfSome o (SpecHeld cx.new.entries)) }
@@ -151,7 +151,7 @@ fn early_candidate(
     goal: &CanonicalInput,
     done: &[Considered],
 ) -> Result<Option<CandidateSpec>, Fault>
-    requires decided { IsDecided cx.old.entries declarations.now goal.now }
+    requires decided { IsWellPosedGoal cx.old.entries declarations.now goal.now }
     requires done { ConsideredHeld cx.old.entries done.now }
     ensures keeps { Keeps cx.old.entries cx.new.entries }
     ensures limit { cx.new.limit ≡ cx.old.limit }
@@ -173,7 +173,7 @@ fn late_candidate(
     goal: &CanonicalInput,
     done: &[Considered],
 ) -> Result<Option<CandidateSpec>, Fault>
-    requires decided { IsDecided cx.old.entries declarations.now goal.now }
+    requires decided { IsWellPosedGoal cx.old.entries declarations.now goal.now }
     requires done { ConsideredHeld cx.old.entries done.now }
     ensures keeps { Keeps cx.old.entries cx.new.entries }
     ensures limit { cx.new.limit ≡ cx.old.limit }
@@ -197,7 +197,7 @@ fn late_candidate_unless(
     done: &[Considered],
     stops: bool,
 ) -> Result<Option<CandidateSpec>, Fault>
-    requires decided { IsDecided cx.old.entries declarations.now goal.now }
+    requires decided { IsWellPosedGoal cx.old.entries declarations.now goal.now }
     requires done { ConsideredHeld cx.old.entries done.now }
     ensures keeps { Keeps cx.old.entries cx.new.entries }
     ensures limit { cx.new.limit ≡ cx.old.limit }
@@ -222,7 +222,7 @@ fn candidate_until(
     done: &[Considered],
     stops: bool,
 ) -> Result<Option<CandidateSpec>, Fault>
-    requires decided { IsDecided cx.old.entries declarations.now goal.now }
+    requires decided { IsWellPosedGoal cx.old.entries declarations.now goal.now }
     requires done { ConsideredHeld cx.old.entries done.now }
     ensures keeps { Keeps cx.old.entries cx.new.entries }
     ensures limit { cx.new.limit ≡ cx.old.limit }
@@ -246,7 +246,7 @@ fn candidate_in_coherence(
     goal: &CanonicalInput,
     done: &[Considered],
 ) -> Result<Option<CandidateSpec>, Fault>
-    requires decided { IsDecided cx.old.entries declarations.now goal.now }
+    requires decided { IsWellPosedGoal cx.old.entries declarations.now goal.now }
     requires done { ConsideredHeld cx.old.entries done.now }
     ensures keeps { Keeps cx.old.entries cx.new.entries }
     ensures limit { cx.new.limit ≡ cx.old.limit }
@@ -273,7 +273,7 @@ fn candidate_outside_coherence(
     goal: &CanonicalInput,
     done: &[Considered],
 ) -> Result<Option<CandidateSpec>, Fault>
-    requires decided { IsDecided cx.old.entries declarations.now goal.now }
+    requires decided { IsWellPosedGoal cx.old.entries declarations.now goal.now }
     requires done { ConsideredHeld cx.old.entries done.now }
     requires fits { ConsideredFits cx.old.entries done.now }
     ensures keeps { Keeps cx.old.entries cx.new.entries }
@@ -296,7 +296,7 @@ fn decided_candidate(
     goal: &CanonicalInput,
     done: &[Considered],
 ) -> Result<Option<CandidateSpec>, Fault>
-    requires decided { IsDecided cx.old.entries declarations.now goal.now }
+    requires decided { IsWellPosedGoal cx.old.entries declarations.now goal.now }
     requires done { ConsideredHeld cx.old.entries done.now }
     requires fits { ConsideredFits cx.old.entries done.now }
     ensures keeps { Keeps cx.old.entries cx.new.entries }
@@ -346,7 +346,7 @@ pub fn assemble_and_evaluate_candidates(
     decided: bool,
     done: &[Considered],
 ) -> Result<Option<CandidateSpec>, Fault>
-    requires ready { IsReady cx.old.entries declarations.now }
+    requires ready { AreReadyDeclarations cx.old.entries declarations.now }
     requires goal { GoalHeld cx.old.entries goal.now.goal }
     requires decides { Decides cx.old.entries declarations.now goal.now decided }
     requires done { ConsideredHeld cx.old.entries done.now }
@@ -380,7 +380,7 @@ fn stays_decided(
     goal: &CanonicalInput,
     done: &[Considered],
 ) -> bool
-    requires ready { IsReady cx.now.entries declarations.now }
+    requires ready { AreReadyDeclarations cx.now.entries declarations.now }
     requires goal { GoalHeld cx.now.entries goal.now.goal }
     requires history { HasHistory cx.now.entries (handled_in cx.now.entries declarations.now goal.now) done.now }
     ensures { Decides cx.now.entries declarations.now goal.now result }
@@ -403,14 +403,14 @@ pub fn compute_trait_goal(
     goal: &CanonicalInput,
     done: &[Considered],
 ) -> Result<HandlerStep, Fault>
-    requires ready { IsReady cx.old.entries declarations.now }
+    requires ready { AreReadyDeclarations cx.old.entries declarations.now }
     requires goal { GoalHeld cx.old.entries goal.now.goal }
     requires done { ConsideredHeld cx.old.entries done.now }
     requires fits { ConsideredFits cx.old.entries done.now }
     requires history { HasHistory cx.old.entries (handled_in cx.old.entries declarations.now goal.now) done.now }
     ensures keeps { Keeps cx.old.entries cx.new.entries }
     ensures limit { cx.new.limit ≡ cx.old.limit }
-    ensures held { IfOk result (StepHeld cx.new.entries) }
+    ensures held { IfOk result (HandlerStepHeld cx.new.entries) }
     ensures fits { IfOk result (StepFits goal.now.variables.items cx.new.entries) }
     ensures next { IfOk result (IsNextAfter cx.old.entries (handled_in cx.old.entries declarations.now goal.now) done.now cx.new.entries) }
     ensures full { result ≡ Err Fault.Full → SomeKindIsFull cx.new.entries cx.new.limit

@@ -6,7 +6,7 @@ use Rattle.std.proofs.lemmas.List.{length-set}
 use Rattle.std.proofs.lemmas.Option.{same_Some, slice_get_within}
 use Rattle.type_terms.proofs.Lists.{slice_get-append, slice_get-last}
 use Rattle.text_definitions.specs.Declarations.{Declarations, Check, Question}
-use Rattle.coherence.specs.Groups.{checked_crate, IsCheckedIn, IsAskedIn, ArePlaces, IsGroup, AreGroups}
+use Rattle.coherence.specs.Groups.{checked_crate, IsCheckedIn, IsAskedIn, ArePlacesWhere, IsGroup, AreGroups}
 use Rattle.coherence.specs.declared.groups.Group.{Group}
 use Rattle.coherence.proofs.Sets.{set-here, set-elsewhere, snoc-get}
 
@@ -18,7 +18,7 @@ pub one-checked : (d : Declarations) (b c n : ℕ) → IsCheckedIn d b n → IsC
 one-checked d b c n (q, e, f) (r, g, h) = sym f ∙ ap (λ (x : Check). checked_crate x) (same_Some q r (sym e ∙ g)) ∙ h
 
 -- no places
-pub none-yet : (Of : ℕ → Type 0) (places : List ℕ) → places ≡ [] → ArePlaces 0 Of places
+pub none-yet : (Of : ℕ → Type 0) (places : List ℕ) → places ≡ [] → ArePlacesWhere 0 Of places
 none-yet Of places e = record {
   only = λ i k h. absurd (nothing i k (subst (λ (ps : List ℕ). slice_get ps i ≡ Some k) e h));
   all = λ k h a. absurd (omega arith);
@@ -28,7 +28,7 @@ none-yet Of places e = record {
     nothing i k h = cc
 
 -- one more, of this crate
-own-more : (Of : ℕ → Type 0) (n : ℕ) (ps : List ℕ) → ArePlaces n Of ps → Of n → ArePlaces (n + 1) Of (ps ++ n ∷ [])
+own-more : (Of : ℕ → Type 0) (n : ℕ) (ps : List ℕ) → ArePlacesWhere n Of ps → Of n → ArePlacesWhere (n + 1) Of (ps ++ n ∷ [])
 own-more Of n ps g a = record {
   only = λ i k h. elim (snoc-get ps n i k h) [ inl e ↦ g.only i k e | inr e ↦ subst Of e a ];
   all = λ k h b. elim (cases_lt k n) [
@@ -38,7 +38,7 @@ own-more Of n ps g a = record {
 }
 
 -- ... and of another
-other-more : (Of : ℕ → Type 0) (n : ℕ) (ps : List ℕ) → ArePlaces n Of ps → (Of n → ⊥) → ArePlaces (n + 1) Of ps
+other-more : (Of : ℕ → Type 0) (n : ℕ) (ps : List ℕ) → ArePlacesWhere n Of ps → (Of n → ⊥) → ArePlacesWhere (n + 1) Of ps
 other-more Of n ps g elsewhere = record {
   only = g.only;
   all = λ k h x. elim (cases_lt k n) [
@@ -60,7 +60,7 @@ check-added d m n c gs g h all a at is same_questions = record { for_each = leng
             let here : slice_get (set gs c h) c ≡ Some h = set-here gs c h (slice_get_within gs c g at) in
             let same : h ≡ x = same_Some h x (sym here ∙ subst (λ k. slice_get (set gs c h) k ≡ Some x) s e) in
             let old = all.are c g at in
-            let new : IsGroup (m + 1) n d c h = record { checks = subst (ArePlaces (m + 1) (IsCheckedIn d c)) (sym is) (own-more (IsCheckedIn d c) m g.checks.items old.checks a); questions = subst (ArePlaces n (IsAskedIn d c)) (sym same_questions) old.questions } in
+            let new : IsGroup (m + 1) n d c h = record { checks = subst (ArePlacesWhere (m + 1) (IsCheckedIn d c)) (sym is) (own-more (IsCheckedIn d c) m g.checks.items old.checks a); questions = subst (ArePlacesWhere n (IsAskedIn d c)) (sym same_questions) old.questions } in
             subst (λ k. IsGroup (m + 1) n d k x) (sym s) (subst (IsGroup (m + 1) n d c) same new)
         by (inr ne) =
             let old = all.are b x (sym (set-elsewhere gs c h b ne) ∙ e) in
@@ -79,7 +79,7 @@ question-added d m n c gs g h all a at is same_checks = record { for_each = leng
             let here : slice_get (set gs c h) c ≡ Some h = set-here gs c h (slice_get_within gs c g at) in
             let same : h ≡ x = same_Some h x (sym here ∙ subst (λ k. slice_get (set gs c h) k ≡ Some x) s e) in
             let old = all.are c g at in
-            let new : IsGroup m (n + 1) d c h = record { checks = subst (ArePlaces m (IsCheckedIn d c)) (sym same_checks) old.checks; questions = subst (ArePlaces (n + 1) (IsAskedIn d c)) (sym is) (own-more (IsAskedIn d c) n g.questions.items old.questions a) } in
+            let new : IsGroup m (n + 1) d c h = record { checks = subst (ArePlacesWhere m (IsCheckedIn d c)) (sym same_checks) old.checks; questions = subst (ArePlacesWhere (n + 1) (IsAskedIn d c)) (sym is) (own-more (IsAskedIn d c) n g.questions.items old.questions a) } in
             subst (λ k. IsGroup m (n + 1) d k x) (sym s) (subst (IsGroup m (n + 1) d c) same new)
         by (inr ne) =
             let old = all.are b x (sym (set-elsewhere gs c h b ne) ∙ e) in

@@ -6,8 +6,8 @@ use Rattle.std.proofs.lemmas.Option.{same_Some, slice_get_within}
 use Rattle.text_definitions.specs.Declarations.{Declarations, Check, of_later, of_supers}
 use Rattle.workspace.specs.Numbered.{IsNumbered, IsCheckIn}
 use Rattle.sessions.specs.Subjects.{Subject, StaysOn}
-use Rattle.coherence.specs.Groups.{checked_crate, IsCheckedIn, IsAskedIn, ArePlaces}
-use Rattle.coherence.specs.Progress.{IsCheckLineOf, IsLineOf, IsKept, KeepsEach, KeepsChecks, KeepsQuestions}
+use Rattle.coherence.specs.Groups.{checked_crate, IsCheckedIn, IsAskedIn, ArePlacesWhere}
+use Rattle.coherence.specs.Progress.{IsCheckLineOf, IsLineOf, IsKeptLine, KeepsEach, KeepsChecks, KeepsQuestions}
 use Rattle.coherence.specs.declared.kept.KeptLine.{KeptLine}
 use Rattle.coherence.proofs.Sets.{set-here, set-elsewhere}
 
@@ -22,26 +22,26 @@ stays-on a b c x y = record {
 }
 
 -- one more line is kept
-pub still-kept : (Line : ℕ → List ℕ → Type 0) (ls : List KeptLine) (p : ℕ) (l : KeptLine) → p < length ls → Line p l.text.items → (n : ℕ) → IsKept Line ls n ⊎ (n ≡ p) → IsKept Line (set ls p l) n
+pub still-kept : (Line : ℕ → List ℕ → Type 0) (ls : List KeptLine) (p : ℕ) (l : KeptLine) → p < length ls → Line p l.text.items → (n : ℕ) → IsKeptLine Line ls n ⊎ (n ≡ p) → IsKeptLine Line (set ls p l) n
 still-kept Line ls p l within is n h = by (cases_eq n p) h
   where
-    here : IsKept Line (set ls p l) p
+    here : IsKeptLine Line (set ls p l) p
     here = (l, set-here ls p l within, is)
 
-    by : (n ≡ p) ⊎ (n ≡ p → ⊥) → IsKept Line ls n ⊎ (n ≡ p) → IsKept Line (set ls p l) n
-    by (inl e) o = subst (IsKept Line (set ls p l)) (sym e) here
+    by : (n ≡ p) ⊎ (n ≡ p → ⊥) → IsKeptLine Line ls n ⊎ (n ≡ p) → IsKeptLine Line (set ls p l) n
+    by (inl e) o = subst (IsKeptLine Line (set ls p l)) (sym e) here
     by (inr ne) (inr e) = absurd (ne e)
     by (inr ne) (inl k) = (k.0, set-elsewhere ls p l n ne ∙ k.1, k.2)
 
 -- all lines of one more crate
-pub one-crate-more : (m : ℕ) (Of : ℕ → ℕ → Type 0) (Line : ℕ → List ℕ → Type 0) (c : ℕ) (places : List ℕ) (ls : List KeptLine) → ArePlaces m (Of c) places → ((b n : ℕ) → Of b n → n < m) → length ls ≡ m
-    → ((b n : ℕ) → b < c → Of b n → IsKept Line ls n) → ((i k : ℕ) → i < length places → slice_get places i ≡ Some k → IsKept Line ls k) → KeepsEach m Of Line (c + 1) ls
+pub one-crate-more : (m : ℕ) (Of : ℕ → ℕ → Type 0) (Line : ℕ → List ℕ → Type 0) (c : ℕ) (places : List ℕ) (ls : List KeptLine) → ArePlacesWhere m (Of c) places → ((b n : ℕ) → Of b n → n < m) → length ls ≡ m
+    → ((b n : ℕ) → b < c → Of b n → IsKeptLine Line ls n) → ((i k : ℕ) → i < length places → slice_get places i ≡ Some k → IsKeptLine Line ls k) → KeepsEach m Of Line (c + 1) ls
 one-crate-more m Of Line c places ls g there many before done = record { for_each = many; are = each }
   where
-    each : (b n : ℕ) → b < c + 1 → Of b n → IsKept Line ls n
+    each : (b n : ℕ) → b < c + 1 → Of b n → IsKeptLine Line ls n
     each b n h a = by (cases_lt b c)
       where
-        by : (b < c) ⊎ (c ≤ b) → IsKept Line ls n
+        by : (b < c) ⊎ (c ≤ b) → IsKeptLine Line ls n
         by (inl lt) = before b n lt a
         by (inr le) =
             let e : b ≡ c = omega arith in

@@ -17,14 +17,14 @@ abbrev pub IsAskedIn : Declarations → ℕ → ℕ → Type 0
 IsAskedIn d c k = (q : Question) × (slice_get d.questions k ≡ Some q) × (q.asker ≡ c)
 
 -- these are the places at which Of holds, of the first n
-pub record ArePlaces (n : ℕ) (Of : ℕ → Type 0) (places : List ℕ) : Type 0 where
+pub record ArePlacesWhere (n : ℕ) (Of : ℕ → Type 0) (places : List ℕ) : Type 0 where
   pub only : (i k : ℕ) → slice_get places i ≡ Some k → Of k
   pub all : (k : ℕ) → k < n → Of k → (i : ℕ) × (slice_get places i ≡ Some k)
 
 -- of the first m checks and the first n questions, these are crate c's
 pub record IsGroup (m n : ℕ) (d : Declarations) (c : ℕ) (g : Group) : Type 0 where
-  pub checks : ArePlaces m (IsCheckedIn d c) g.checks.items
-  pub questions : ArePlaces n (IsAskedIn d c) g.questions.items
+  pub checks : ArePlacesWhere m (IsCheckedIn d c) g.checks.items
+  pub questions : ArePlacesWhere n (IsAskedIn d c) g.questions.items
 
 -- a group for each crate, of the first m checks and the first n questions
 pub record AreGroups (m n : ℕ) (d : Declarations) (groups : List Group) : Type 0 where

@@ -42,13 +42,13 @@ abbrev pub IsCheckLineOf : ℕ → Declarations → ℕ → List ℕ → Type 0
 IsCheckLineOf limit d n text = (x : Check) × (slice_get d.checks n ≡ Some x) × HasCheckLine limit d x text
 
 -- ---- lines that are kept
-abbrev pub IsKept : (ℕ → List ℕ → Type 0) → List KeptLine → ℕ → Type 0
-IsKept Line lines n = (l : KeptLine) × (slice_get lines n ≡ Some l) × Line n l.text.items
+abbrev pub IsKeptLine : (ℕ → List ℕ → Type 0) → List KeptLine → ℕ → Type 0
+IsKeptLine Line lines n = (l : KeptLine) × (slice_get lines n ≡ Some l) × Line n l.text.items
 
 -- There is room for m lines, and those of the first c crates are kept.
 pub record KeepsEach (m : ℕ) (Of : ℕ → ℕ → Type 0) (Line : ℕ → List ℕ → Type 0) (c : ℕ) (lines : List KeptLine) : Type 0 where
   pub for_each : length lines ≡ m
-  pub are : (b n : ℕ) → b < c → Of b n → IsKept Line lines n
+  pub are : (b n : ℕ) → b < c → Of b n → IsKeptLine Line lines n
 
 -- So it is of checks, and of questions.
 abbrev pub KeepsChecks : ℕ → Declarations → ℕ → List KeptLine → Type 0

@@ -3,7 +3,7 @@
 ghost use Rattle.std.specs.Prelude.{◌≡◌, ◌≢◌, ◌+◌, ◌<◌, ℕ, length, IfOk, IfErr, OnOk, OnErr};
 ghost use Rattle.workspace.specs.Numbered.{IsNumbered, IsFew};
 ghost use Rattle.sessions.specs.Subjects.{IsOfText, StaysOn};
-ghost use Rattle.coherence.specs.Groups.{IsAskedIn, IsCheckedIn, ArePlaces, IsGroup};
+ghost use Rattle.coherence.specs.Groups.{IsAskedIn, IsCheckedIn, ArePlacesWhere, IsGroup};
 ghost use Rattle.coherence.specs.Progress.{KeepsChecks, KeepsQuestions, KeepsLines, WritesChecks, WritesChecksPrefix, WritesQuestions, WritesQuestionsPrefix};
 
 use crate::groups::Group;
@@ -60,7 +60,7 @@ fn keep_checks(
 ) -> Result<(), RunFault>
     requires on { session.old.declarations ≡ workspace.now }
     requires numbered { IsNumbered workspace.now }
-    requires places { ArePlaces (length workspace.now.checks) (IsCheckedIn workspace.now session.old.of_crate) places.now }
+    requires places { ArePlacesWhere (length workspace.now.checks) (IsCheckedIn workspace.now session.old.of_crate) places.now }
     requires kept { KeepsChecks session.old.depth workspace.now session.old.of_crate lines.old.items }
     ensures kept { OnOk result (KeepsChecks session.old.depth workspace.now (session.old.of_crate + 1) lines.new.items) }
     ensures stays { StaysOn session.old session.new }
@@ -84,7 +84,7 @@ fn keep_questions(
     requires on { session.old.declarations ≡ workspace.now }
     requires parsed { IsOfText workspace.now }
     requires few { IsFew workspace.now ENTRY_LIMIT }
-    requires places { ArePlaces (length workspace.now.questions) (IsAskedIn workspace.now session.old.of_crate) places.now }
+    requires places { ArePlacesWhere (length workspace.now.questions) (IsAskedIn workspace.now session.old.of_crate) places.now }
     requires kept { KeepsQuestions session.old.depth workspace.now session.old.of_crate lines.old.items }
     ensures kept { OnOk result (KeepsQuestions session.old.depth workspace.now (session.old.of_crate + 1) lines.new.items) }
     ensures written { IfErr result (λ fault. fault ≢ RunFault.Read) }

@@ -10,7 +10,7 @@ use Rattle.term_folds.specs.declared.predicate.TraitRef.{TraitRef}
 use Rattle.type_terms.specs.Pieces.{Piece, one_piece, each_piece}
 use Rattle.declarations.specs.Items.{reference_in}
 use Rattle.declarations.specs.Held.{ReferenceHeld}
-use Rattle.declarations.specs.Applied.{references_in, AllHeld}
+use Rattle.declarations.specs.Applied.{references_in, TraitRefsHeld}
 use Rattle.declarations.proofs.Growth.{references-kept, reference-same}
 
 abbrev refer : ℕ → Trees → Reference
@@ -34,22 +34,22 @@ unfolding first-number first-trees
 one-instantiated old new A b r o p =
     same-refer r.def_id.index b.def_id.index (trees_at new r.args.0) (instantiate 0 A (trees_at old b.args.0)) (ap first-number o) (ap first-trees p)
 
-pub all-same : (old new : List Entry) → Keeps old new → (rs : List TraitRef) → AllHeld old rs → references_in new rs ≡ references_in old rs
+pub all-same : (old new : List Entry) → Keeps old new → (rs : List TraitRef) → TraitRefsHeld old rs → references_in new rs ≡ references_in old rs
 all-same old new k [] h = refl
 all-same old new k (r ∷ rs) h = ap (λ x. x ∷ references_in new rs) (reference-same old new k r h.0) ∙ ap (λ l. reference_in old r ∷ l) (all-same old new k rs h.1)
 
-pub all-put : (es : List Entry) (rs : List TraitRef) (r : TraitRef) → AllHeld es rs → ReferenceHeld es r → AllHeld es (rs ++ r ∷ [])
+pub all-put : (es : List Entry) (rs : List TraitRef) (r : TraitRef) → TraitRefsHeld es rs → ReferenceHeld es r → TraitRefsHeld es (rs ++ r ∷ [])
 all-put es [] r h g = (g, tt)
 all-put es (s ∷ rs) r h g = (h.0, all-put es rs r h.1 g)
 
-pub held-more : (now new : List Entry) → Keeps now new → (rs : List TraitRef) (r : TraitRef) → AllHeld now rs → ReferenceHeld new r → AllHeld new (rs ++ r ∷ [])
+pub held-more : (now new : List Entry) → Keeps now new → (rs : List TraitRef) (r : TraitRef) → TraitRefsHeld now rs → ReferenceHeld new r → TraitRefsHeld new (rs ++ r ∷ [])
 held-more now new k rs r h g = all-put new rs r (references-kept now new k rs h) g
 
 one-behind : (es : List Entry) (rs : List TraitRef) (r : TraitRef) (ys : List Reference) → references_in es (rs ++ r ∷ []) ++ ys ≡ references_in es rs ++ reference_in es r ∷ ys
 one-behind es [] r ys = refl
 one-behind es (s ∷ rs) r ys = ap (λ l. reference_in es s ∷ l) (one-behind es rs r ys)
 
-pub one-more : (now new : List Entry) → Keeps now new → (rs : List TraitRef) (r : TraitRef) (y : Reference) (ys all : List Reference) → AllHeld now rs
+pub one-more : (now new : List Entry) → Keeps now new → (rs : List TraitRef) (r : TraitRef) (y : Reference) (ys all : List Reference) → TraitRefsHeld now rs
     → reference_in new r ≡ y → references_in now rs ++ y ∷ ys ≡ all → references_in new (rs ++ r ∷ []) ++ ys ≡ all
 one-more now new k rs r y ys all h e f =
     one-behind new rs r ys ∙ ap (λ x. references_in new rs ++ x ∷ ys) e ∙ ap (λ l. l ++ y ∷ ys) (all-same now new k rs h) ∙ f

@@ -19,8 +19,8 @@ use Rattle.declarations.specs.Items.{Items, reference_in, trait_in, trait_at, wr
 use Rattle.declarations.specs.Held.{ReferenceHeld, AreHeld}
 use Rattle.declarations.specs.Merges.{Each}
 use Rattle.declarations.specs.Elaboration.{pushed, new_of, all_levels, elaborate}
-use Rattle.declarations.specs.Applied.{references_in, AllHeld, IsApplied, AreApplied, IsBoundOf, HaveBounds, sorts_of, sorts_of_params}
-use Rattle.declarations.specs.Stacked.{Extends}
+use Rattle.declarations.specs.Applied.{references_in, TraitRefsHeld, IsApplied, AreApplied, IsBoundOf, HaveBounds, sorts_of, sorts_of_params}
+use Rattle.declarations.specs.Stacked.{StacksUnseen}
 use Rattle.declarations.proofs.Growth.{each-kept, references-kept, args-same, all-written}
 use Rattle.declarations.proofs.Bounded.{all-same, all-put}
 use Rattle.declarations.proofs.Instances.{instance-closed, instance-sorts}
@@ -141,11 +141,11 @@ applied-later old new k d r h a =
       closed = ap outer_binder same ∙ a.closed;
     }
 
-pub all-applied-later : (old new : List Entry) → Keeps old new → (d : Items) (rs : List TraitRef) → AllHeld old rs → AreApplied old d rs → AreApplied new d rs
+pub all-applied-later : (old new : List Entry) → Keeps old new → (d : Items) (rs : List TraitRef) → TraitRefsHeld old rs → AreApplied old d rs → AreApplied new d rs
 all-applied-later old new k d [] h a = tt
 all-applied-later old new k d (r ∷ rs) h a = (applied-later old new k d r h.0 a.0, all-applied-later old new k d rs h.1 a.1)
 
-bound-later : (old new : List Entry) → Keeps old new → (d : Items) (rank : ℕ → ℕ) (t : ℕ) (def : TraitDef) (bs : List TraitRef) → AllHeld old bs → Each (IsBoundOf old d rank t def) bs
+bound-later : (old new : List Entry) → Keeps old new → (d : Items) (rank : ℕ → ℕ) (t : ℕ) (def : TraitDef) (bs : List TraitRef) → TraitRefsHeld old bs → Each (IsBoundOf old d rank t def) bs
     → Each (IsBoundOf new d rank t def) bs
 bound-later old new k d rank t def [] h a = tt
 bound-later old new k d rank t def (b ∷ bs) h a = (
@@ -157,7 +157,7 @@ bound-later old new k d rank t def (b ∷ bs) h a = (
   bound-later old new k d rank t def bs h.1 a.1,
 )
 
-bounds-later : (old new : List Entry) → Keeps old new → (d : Items) (rank : ℕ → ℕ) (xs : List (TraitId × TraitDef)) → Each (λ (x : TraitId × TraitDef). AllHeld old x.1.bounds.items) xs
+bounds-later : (old new : List Entry) → Keeps old new → (d : Items) (rank : ℕ → ℕ) (xs : List (TraitId × TraitDef)) → Each (λ (x : TraitId × TraitDef). TraitRefsHeld old x.1.bounds.items) xs
     → Each (λ (x : TraitId × TraitDef). Each (IsBoundOf old d rank x.0.index x.1) x.1.bounds.items) xs → Each (λ (x : TraitId × TraitDef). Each (IsBoundOf new d rank x.0.index x.1) x.1.bounds.items) xs
 bounds-later old new k d rank [] h a = tt
 bounds-later old new k d rank (x ∷ xs) h a = (bound-later old new k d rank x.0.index x.1 x.1.bounds.items h.0 a.0, bounds-later old new k d rank xs h.1 a.1)
@@ -176,9 +176,9 @@ module _ (es0 : List Entry) (d : Items) (references : List TraitRef) where
   -- what stands on the stack, what was put there, and what was taken off
   pub record Elaborates (es : List Entry) (e : Elaborator) (found : List TraitRef) : Type 0 where
     pub keeps : Keeps es0 es
-    pub stack_held : AllHeld es e.stack.items
-    pub visited_held : AllHeld es e.visited.items
-    pub found_held : AllHeld es found
+    pub stack_held : TraitRefsHeld es e.stack.items
+    pub visited_held : TraitRefsHeld es e.visited.items
+    pub found_held : TraitRefsHeld es found
     pub stack_applied : AreApplied es d e.stack.items
     pub found_applied : AreApplied es d found
     pub left : IsLeft V levels (references_in es e.visited.items) (pushed (references_in es e.stack.items) []) (references_in es found) (elaborate V (references_in es0 references))
@@ -187,8 +187,8 @@ module _ (es0 : List Entry) (d : Items) (references : List TraitRef) where
   abbrev pub to_come : List Entry → Elaborator → ℕ
   to_come es e = length (pushed (references_in es e.stack.items) []) + missing levels (references_in es e.visited.items)
 
-  pub elaborates-first : (old new : Elaborator) → AllHeld es0 references → AreApplied es0 d references → old.stack.items ≡ [] → old.visited.items ≡ []
-      → Extends es0 references old new → Elaborates es0 new []
+  pub elaborates-first : (old new : Elaborator) → TraitRefsHeld es0 references → AreApplied es0 d references → old.stack.items ≡ [] → old.visited.items ≡ []
+      → StacksUnseen es0 references old new → Elaborates es0 new []
   elaborates-first old new held applied s v x =
       let stack_is : new.stack.items ≡ x.added = x.stack ∙ ap (λ l. l ++ x.added) s in
       let visited_is : new.visited.items ≡ x.added = x.visited ∙ ap (λ l. l ++ x.added) v in
@@ -197,8 +197,8 @@ module _ (es0 : List Entry) (d : Items) (references : List TraitRef) where
       let added_applied = all-in (IsApplied es0 d) x.added (λ r i. each-in (IsApplied es0 d) references applied r (x.among r i)) in
       record {
         keeps = λ i e h. h;
-        stack_held = subst (AllHeld es0) (sym stack_is) added_held;
-        visited_held = subst (AllHeld es0) (sym visited_is) added_held;
+        stack_held = subst (TraitRefsHeld es0) (sym stack_is) added_held;
+        visited_held = subst (TraitRefsHeld es0) (sym visited_is) added_held;
         found_held = tt;
         stack_applied = subst (AreApplied es0 d) (sym stack_is) added_applied;
         found_applied = tt;
@@ -213,21 +213,21 @@ module _ (es0 : List Entry) (d : Items) (references : List TraitRef) where
   -- a step, in which next is taken off the stack, and its written supertraits ws are put there
   module _ (bounds : HaveBounds es0 d) (are_held : AreHeld es0 d) (es1 es2 : List Entry) (old mid new : Elaborator) (next : TraitRef) (found ws : List TraitRef)
       (h : Elaborates es1 old found) (popped : old.stack.items ≡ mid.stack.items ++ next ∷ []) (visited_stays : mid.visited.items ≡ old.visited.items)
-      (k : Keeps es1 es2) (ws_held : AllHeld es2 ws) (ws_applied : AreApplied es2 d ws)
-      (ws_are : references_in es2 ws ≡ written_supertraits (written es1 d) (reference_in es1 next)) (x : Extends es2 ws mid new) where
+      (k : Keeps es1 es2) (ws_held : TraitRefsHeld es2 ws) (ws_applied : AreApplied es2 d ws)
+      (ws_are : references_in es2 ws ≡ written_supertraits (written es1 d) (reference_in es1 next)) (x : StacksUnseen es2 ws mid new) where
     closed : (s t : Reference) → In s levels → In t (written_supertraits V s) → In t levels
     closed s t i j = all-closed V bounds.rank (lead-down es0 d bounds) (references_in es0 references) s t i j
 
     stack1 : List Reference
     stack1 = references_in es1 mid.stack.items
 
-    old_held : AllHeld es1 (mid.stack.items ++ next ∷ [])
-    old_held = subst (AllHeld es1) popped h.stack_held
+    old_held : TraitRefsHeld es1 (mid.stack.items ++ next ∷ [])
+    old_held = subst (TraitRefsHeld es1) popped h.stack_held
 
     old_applied : AreApplied es1 d (mid.stack.items ++ next ∷ [])
     old_applied = subst (AreApplied es1 d) popped h.stack_applied
 
-    mid_held : AllHeld es1 mid.stack.items
+    mid_held : TraitRefsHeld es1 mid.stack.items
     mid_held = each-front (ReferenceHeld es1) mid.stack.items next old_held
 
     next_held : ReferenceHeld es1 next
@@ -278,7 +278,7 @@ module _ (es0 : List Entry) (d : Items) (references : List TraitRef) where
     left2 : IsLeft V levels (put1 ++ added) (pushed added (pushed stack1 [])) (references_in es1 found ++ reference_in es1 next ∷ []) (elaborate V (references_in es0 references))
     left2 = left-next V levels put1 (pushed stack1 []) (references_in es1 found) (elaborate V (references_in es0 references)) (reference_in es1 next) added closed left1 added_is
 
-    added_held : AllHeld es2 x.added
+    added_held : TraitRefsHeld es2 x.added
     added_held = all-in (ReferenceHeld es2) x.added (λ r i. each-in (ReferenceHeld es2) ws ws_held r (x.among r i))
 
     added_applied : AreApplied es2 d x.added
@@ -287,9 +287,9 @@ module _ (es0 : List Entry) (d : Items) (references : List TraitRef) where
     pub elaborates-next : Elaborates es2 new (found ++ next ∷ [])
     elaborates-next = record {
       keeps = λ i e g. k i e (h.keeps i e g);
-      stack_held = subst (AllHeld es2) (sym x.stack) (each-append (ReferenceHeld es2) mid.stack.items x.added (references-kept es1 es2 k mid.stack.items mid_held) added_held);
-      visited_held = subst (AllHeld es2) (sym x.visited)
-          (each-append (ReferenceHeld es2) mid.visited.items x.added (subst (AllHeld es2) (sym visited_stays) (references-kept es1 es2 k old.visited.items h.visited_held)) added_held);
+      stack_held = subst (TraitRefsHeld es2) (sym x.stack) (each-append (ReferenceHeld es2) mid.stack.items x.added (references-kept es1 es2 k mid.stack.items mid_held) added_held);
+      visited_held = subst (TraitRefsHeld es2) (sym x.visited)
+          (each-append (ReferenceHeld es2) mid.visited.items x.added (subst (TraitRefsHeld es2) (sym visited_stays) (references-kept es1 es2 k old.visited.items h.visited_held)) added_held);
       found_held = references-kept es1 es2 k (found ++ next ∷ []) (all-put es1 found next h.found_held next_held);
       stack_applied = subst (AreApplied es2 d) (sym x.stack)
           (each-append (IsApplied es2 d) mid.stack.items x.added (all-applied-later es1 es2 k d mid.stack.items mid_held (each-front (IsApplied es1 d) mid.stack.items next old_applied)) added_applied);
@@ -315,7 +315,7 @@ module _ (es0 : List Entry) (d : Items) (references : List TraitRef) where
     next-is-applied = each-end (IsApplied es1 d) mid.stack.items next old_applied
 
   pub popped-held : (es : List Entry) (e : Elaborator) (found rest : List TraitRef) (next : TraitRef) → Elaborates es e found → e.stack.items ≡ rest ++ next ∷ [] → ReferenceHeld es next
-  popped-held es e found rest next h p = each-end (ReferenceHeld es) rest next (subst (AllHeld es) p h.stack_held)
+  popped-held es e found rest next h p = each-end (ReferenceHeld es) rest next (subst (TraitRefsHeld es) p h.stack_held)
 
   pub popped-applied : (es : List Entry) (e : Elaborator) (found rest : List TraitRef) (next : TraitRef) → Elaborates es e found → e.stack.items ≡ rest ++ next ∷ [] → IsApplied es d next
   popped-applied es e found rest next h p = each-end (IsApplied es d) rest next (subst (AreApplied es d) p h.stack_applied)

@@ -13,8 +13,8 @@ use Rattle.declarations.specs.declared.elaborate.Elaborator.{Elaborator}
 use Rattle.declarations.specs.Items.{reference_in}
 use Rattle.declarations.specs.Held.{ReferenceHeld}
 use Rattle.declarations.specs.Elaboration.{is_put, new_of}
-use Rattle.declarations.specs.Applied.{references_in, AllHeld}
-use Rattle.declarations.specs.Stacked.{Extends}
+use Rattle.declarations.specs.Applied.{references_in, TraitRefsHeld}
+use Rattle.declarations.specs.Stacked.{StacksUnseen}
 use Rattle.declarations.proofs.Bounded.{all-put}
 use Rattle.declarations.proofs.Stacks.{same-self, new-same, put-last}
 
@@ -40,7 +40,7 @@ both a b c e = ap (λ z. a && z) e
 either : (a b c d : Bool) → a ≡ b → c ≡ d → (a || c) ≡ (b || d)
 either a b c d e f = cc
 
-pub among-put : (es : List Entry) → Lawful es → (x : TraitRef) → ReferenceHeld es x → (ss : List TraitRef) → AllHeld es ss
+pub among-put : (es : List Entry) → Lawful es → (x : TraitRef) → ReferenceHeld es x → (ss : List TraitRef) → TraitRefsHeld es ss
     → list_any (λ (s : TraitRef). (x.def_id.index == s.def_id.index) && (x.args.0 == s.args.0)) ss ≡ is_put (reference_in es x) (references_in es ss)
 among-put es law x h [] g = refl
 among-put es law x h (s ∷ ss) g =
@@ -49,8 +49,8 @@ among-put es law x h (s ∷ ss) g =
 
 -- so much was added, and these are left
 pub record Extending (es : List Entry) (references : List TraitRef) (old : Elaborator) (left : List TraitRef) (now : Elaborator) : Type 0 where
-  pub left_held : AllHeld es left
-  pub visited_held : AllHeld es now.visited.items
+  pub left_held : TraitRefsHeld es left
+  pub visited_held : TraitRefsHeld es now.visited.items
   pub left_among : (r : TraitRef) → In r left → In r references
   pub added : List TraitRef
   pub among : (r : TraitRef) → In r added → In r references
@@ -62,7 +62,7 @@ append-none : {A : Type 0} (xs : List A) → xs ++ [] ≡ xs
 append-none [] = refl
 append-none (x ∷ xs) = ap (λ l. x ∷ l) (append-none xs)
 
-pub extending-first : (es : List Entry) (references : List TraitRef) (old : Elaborator) → AllHeld es references → AllHeld es old.visited.items → Extending es references old references old
+pub extending-first : (es : List Entry) (references : List TraitRef) (old : Elaborator) → TraitRefsHeld es references → TraitRefsHeld es old.visited.items → Extending es references old references old
 extending-first es references old h g = record {
   left_held = h;
   visited_held = g;
@@ -74,7 +74,7 @@ extending-first es references old h g = record {
   stack = sym (append-none old.stack.items);
 }
 
-pub extending-last : (es : List Entry) (references : List TraitRef) (old now : Elaborator) (left : List TraitRef) → left ≡ [] → Extending es references old left now → Extends es references old now
+pub extending-last : (es : List Entry) (references : List TraitRef) (old now : Elaborator) (left : List TraitRef) → left ≡ [] → Extending es references old left now → StacksUnseen es references old now
 extending-last es references old now left e h = record {
   added = h.added;
   among = h.among;
@@ -108,7 +108,7 @@ pub extending-new : (es : List Entry) (references : List TraitRef) (old now next
     → Extending es references old (x ∷ left) now → Extending es references old left next
 extending-new es references old now next x left e v s h = record {
   left_held = h.left_held.1;
-  visited_held = subst (AllHeld es) (sym v) (all-put es now.visited.items x h.visited_held h.left_held.0);
+  visited_held = subst (TraitRefsHeld es) (sym v) (all-put es now.visited.items x h.visited_held h.left_held.0);
   left_among = λ r i. h.left_among r (there r x left i);
   added = h.added ++ x ∷ [];
   among = λ r i. by r (in-append r h.added (x ∷ []) i);

@@ -19,8 +19,8 @@ abbrev pub references_in : List Entry → List TraitRef → List Reference
 references_in es rs = map (reference_in es) rs
 
 -- The references' arguments are the interner's.
-abbrev pub AllHeld : List Entry → List TraitRef → Type 0
-AllHeld es rs = Each (ReferenceHeld es) rs
+abbrev pub TraitRefsHeld : List Entry → List TraitRef → Type 0
+TraitRefsHeld es rs = Each (ReferenceHeld es) rs
 
 -- The sort of what a parameter stands for.
 abbrev pub sort_of_param : GenericParamKind → Sort

@@ -19,6 +19,6 @@ abbrev pub items_of : Inside → Items
 items_of a = record { local = a.local.index; structs = a.adts.entries; traits = a.traits.entries; impls = map impl_of a.impls.entries }
 
 -- Numbers of impls rise, and under each key are the impls that have it.
-pub record Sound (a : Inside) : Type 0 where
+pub record IndexIsSound (a : Inside) : Type 0 where
   pub rises : Rises (map (λ i. i.id) (items_of a).impls)
   pub indexed : (h : ImplHead) → listed a.heads h ≡ ids_with h.trait_id.index (option_map label_of h.self_ty) (items_of a).impls

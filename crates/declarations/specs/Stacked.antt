@@ -8,7 +8,7 @@ use Rattle.declarations.specs.Elaboration.{new_of}
 use Rattle.declarations.specs.Applied.{references_in}
 
 -- Those of the references that were not put on the stack before are put there, each once.
-pub record Extends (es : List Entry) (references : List TraitRef) (old new : Elaborator) : Type 0 where
+pub record StacksUnseen (es : List Entry) (references : List TraitRef) (old new : Elaborator) : Type 0 where
   pub added : List TraitRef
   pub are_new : references_in es added ≡ new_of (references_in es old.visited.items) (references_in es references)
   pub among : (r : TraitRef) → In r added → In r references

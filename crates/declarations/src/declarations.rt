@@ -67,11 +67,11 @@ impl Model for Declarations {
 
     ghost Value = { Items };
 
-    ghost use Rattle.declarations.specs.Inside.{items_of, Sound};
+    ghost use Rattle.declarations.specs.Inside.{items_of, IndexIsSound};
 
     ghost view = { items_of };
 
-    ghost invariant = { Sound };
+    ghost invariant = { IndexIsSound };
 }
 
 impl Declarations {

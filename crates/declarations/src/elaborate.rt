@@ -11,8 +11,8 @@ ghost use Rattle.type_terms.specs.Failures.{SomeKindIsFull};
 ghost use Rattle.declarations.specs.Items.{reference_in, written};
 ghost use Rattle.declarations.specs.Held.{ReferenceHeld, AreHeld};
 ghost use Rattle.declarations.specs.Elaboration.{is_put, new_of, elaborate, supertraits, rest_of};
-ghost use Rattle.declarations.specs.Applied.{references_in, AllHeld, IsApplied, AreApplied, HaveBounds};
-ghost use Rattle.declarations.specs.Stacked.{Extends};
+ghost use Rattle.declarations.specs.Applied.{references_in, TraitRefsHeld, IsApplied, AreApplied, HaveBounds};
+ghost use Rattle.declarations.specs.Stacked.{StacksUnseen};
 ghost use Rattle.declarations.specs.Merges.{Each};
 
 use crate::declarations::Declarations;
@@ -68,13 +68,13 @@ fn instantiate_bounds(
     bounds: &[TraitRef],
     args: GenericArgs,
 ) -> Result<Vec<TraitRef>, Fault>
-    requires held { AllHeld cx.old.entries bounds.now }
+    requires held { TraitRefsHeld cx.old.entries bounds.now }
     requires args { Has cx.old.entries args_lists args.0 }
     requires closed { outer_binder (trees_at cx.old.entries args.0) ≡ 0 }
     requires fits { Each (λ b. first_misfit (trees_at cx.old.entries args.0) (trees_at cx.old.entries b.args.0) ≡ None) bounds.now }
     ensures keeps { Keeps cx.old.entries cx.new.entries }
     ensures limit { cx.new.limit ≡ cx.old.limit }
-    ensures held { IfOk result (λ v. AllHeld cx.new.entries v.items) }
+    ensures held { IfOk result (λ v. TraitRefsHeld cx.new.entries v.items) }
     ensures are { IfOk result (λ v. references_in cx.new.entries v.items ≡ all_with_args (trees_at cx.old.entries args.0) (references_in cx.old.entries bounds.now)) }
     ensures full { result ≡ Err Fault.Full → SomeKindIsFull cx.new.entries cx.new.limit }
 {
@@ -106,9 +106,9 @@ struct Elaborator {
 impl Elaborator {
     /// Puts those on the stack that were not put there before (`extend_deduped`). The error is `Memory`.
     fn extend_deduped(&mut self, cx: &Interner, references: &[TraitRef]) -> Result<(), Fault>
-        requires held { AllHeld cx.now.entries references.now }
-        requires visited { AllHeld cx.now.entries self.old.visited.items }
-        ensures extends { OnOk result (Extends cx.now.entries references.now self.old self.new) }
+        requires held { TraitRefsHeld cx.now.entries references.now }
+        requires visited { TraitRefsHeld cx.now.entries self.old.visited.items }
+        ensures extends { OnOk result (StacksUnseen cx.now.entries references.now self.old self.new) }
         ensures memory { IfErr result (λ fault. fault ≡ Memory) }
     {
         cx.lawful();
@@ -138,7 +138,7 @@ impl Declarations {
         requires applied { IsApplied cx.old.entries self.now trait_ref }
         ensures keeps { Keeps cx.old.entries cx.new.entries }
         ensures limit { cx.new.limit ≡ cx.old.limit }
-        ensures held { IfOk result (λ v. AllHeld cx.new.entries v.items) }
+        ensures held { IfOk result (λ v. TraitRefsHeld cx.new.entries v.items) }
         ensures applied { IfOk result (λ v. AreApplied cx.new.entries self.now v.items) }
         ensures are { IfOk result (λ v. references_in cx.new.entries v.items ≡ written_supertraits (written cx.old.entries self.now) (reference_in cx.old.entries trait_ref)) }
         ensures full { result ≡ Err Fault.Full → SomeKindIsFull cx.new.entries cx.new.limit }
@@ -161,11 +161,11 @@ impl Declarations {
     ) -> Result<Vec<TraitRef>, Fault>
         requires held { AreHeld cx.old.entries self.now }
         requires bounds { HaveBounds cx.old.entries self.now }
-        requires references { AllHeld cx.old.entries references.now }
+        requires references { TraitRefsHeld cx.old.entries references.now }
         requires applied { AreApplied cx.old.entries self.now references.now }
         ensures keeps { Keeps cx.old.entries cx.new.entries }
         ensures limit { cx.new.limit ≡ cx.old.limit }
-        ensures held { IfOk result (λ v. AllHeld cx.new.entries v.items) }
+        ensures held { IfOk result (λ v. TraitRefsHeld cx.new.entries v.items) }
         ensures applied { IfOk result (λ v. AreApplied cx.new.entries self.now v.items) }
         ensures are { IfOk result (λ v. references_in cx.new.entries v.items ≡ elaborate (written cx.old.entries self.now) (references_in cx.old.entries references.now)) }
         ensures full { result ≡ Err Fault.Full → SomeKindIsFull cx.new.entries cx.new.limit }
@@ -197,7 +197,7 @@ impl Declarations {
         requires applied { IsApplied cx.old.entries self.now trait_ref }
         ensures keeps { Keeps cx.old.entries cx.new.entries }
         ensures limit { cx.new.limit ≡ cx.old.limit }
-        ensures held { IfOk result (λ v. AllHeld cx.new.entries v.items) }
+        ensures held { IfOk result (λ v. TraitRefsHeld cx.new.entries v.items) }
         ensures applied { IfOk result (λ v. AreApplied cx.new.entries self.now v.items) }
         ensures are { IfOk result (λ v. references_in cx.new.entries v.items ≡ supertraits (written cx.old.entries self.now) (reference_in cx.old.entries trait_ref)) }
         ensures full { result ≡ Err Fault.Full → SomeKindIsFull cx.new.entries cx.new.limit }

@@ -3,8 +3,8 @@ use Rattle.std.specs.Prelude.{◌<◌, ◌≤◌, ℕ}
 use Rattle.diagnostics.specs.declared.span.Place.{Place}
 
 -- A part of a line of this length, which is not empty.
-abbrev pub IsWithin : ℕ → Place → Type 0
-IsWithin end p = (p.start < p.end) × (p.end ≤ end)
+abbrev pub IsPartOfLine : ℕ → Place → Type 0
+IsPartOfLine end p = (p.start < p.end) × (p.end ≤ end)
 
 -- A part of a line of this length, which may be empty.
 abbrev pub IsPartOf : ℕ → Place → Type 0

@@ -1,7 +1,7 @@
 //! The parts of an impl's line and of a question's line.
 
 ghost use Rattle.std.specs.Prelude.{◌<◌, ◌≤◌, length, All, IfOk, IfSome};
-ghost use Rattle.diagnostics.specs.Places.{IsWithin, IsPartOf};
+ghost use Rattle.diagnostics.specs.Places.{IsPartOfLine, IsPartOf};
 
 use crate::span::Place;
 use crate::tokens::{text_of, token_places};

@@ -1,7 +1,7 @@
 //! Where the tokens of a line stand.
 
 ghost use Rattle.std.specs.Prelude.{◌<◌, ◌≤◌, ◌≡◌, ◌+◌, length, All, IfOk, slice_range};
-ghost use Rattle.diagnostics.specs.Places.{IsWithin};
+ghost use Rattle.diagnostics.specs.Places.{IsPartOfLine};
 
 use crate::span::Place;
 use std::alloc::{AllocError, Global};
@@ -43,7 +43,7 @@ fn token_end(line: &[u8], start: usize) -> usize
 ///
 /// Of a line that is in the grammar these are its tokens; any line has some.
 pub fn token_places(alloc: Global, line: &[u8]) -> Result<Vec<Place>, AllocError>
-    ensures { IfOk result (λ places. All (IsWithin (length line.now)) places.items) }
+    ensures { IfOk result (λ places. All (IsPartOfLine (length line.now)) places.items) }
 {
     let mut places = Vec::new(alloc);
     let mut at = 0;

@@ -22,9 +22,9 @@ use Rattle.infer_table.specs.declared.certainty.Certainty.TheVariants.{Yes, Mayb
 use Rattle.infer_table.specs.declared.certainty.MaybeCause.TheVariants.{Ambiguity, Overflow}
 use Rattle.infer_table.specs.Raw.{variables_from, variable_value}
 use Rattle.infer_table.proofs.SolutionLaws.{is_sort-equal as is-sort, is_sort-self}
-use Rattle.evaluation.specs.Content.{Values, Terms, standing, reading_of}
+use Rattle.evaluation.specs.Content.{Values, ChosenTerms, standing, reading_of}
 use Rattle.evaluation.specs.FrameTables.{is_good, FrameTable, AllowsApart, FitPlaceholders, HaveValues, IsOwn, AreOwn, label_at}
-use Rattle.evaluation.specs.TableAnswers.{is_variable_itself, are_variables, has_values, picked, IsPicked, ArePicked, Agrees, own_labels, own_values, joined, answer_leaves, numbered, value_numbered, respond}
+use Rattle.evaluation.specs.TableAnswers.{is_variable_itself, are_variables, has_values, picked, IsPicked, ArePicked, IsInstanceOfAnswer, own_labels, own_values, joined, answer_leaves, numbered, value_numbered, respond}
 use Rattle.type_terms.proofs.Made.{false-true, left, right}
 use Rattle.evaluation.proofs.Reading.{append-none, read-leaf, EachLabel, Carries, read-relabeled}
 use Rattle.evaluation.proofs.TableBeginning.{node_of, node-is}
@@ -103,7 +103,7 @@ variables-picked q n (v ∷ vs) ts h e = by (is_variable_itself n v.sort v.trees
       same f (right (is_sort v.sort of_lifetime) _ g),
     )
 
-pub bare-agrees : (a : AnswerTrees) → has_values a ≡ false → (v : Values) → Agrees a v
+pub bare-agrees : (a : AnswerTrees) → has_values a ≡ false → (v : Values) → IsInstanceOfAnswer a v
 bare-agrees a h v = (
   chosen_from 0 a.values v.terms,
   chosen-sorted 0 a.values v.terms,
@@ -131,10 +131,10 @@ term-label l (m ∷ ms) h = by (same_label m l) refl h (term-label l ms)
     by false e q r = r q
 
 -- what is chosen for the variables of the answer: what stands for the leaves
-abbrev leaf_terms : Terms → List Label → Assignment
+abbrev leaf_terms : ChosenTerms → List Label → Assignment
 leaf_terms s ls k i = node_of k (of_sort k (reading_of s (label_at ls i)))
 
-module _ (s : Terms) (sorted : (k : Sort) (v : ℕ) → sort_of (s.unknowns k v).0 ≡ k) (ls : List Label) where
+module _ (s : ChosenTerms) (sorted : (k : Sort) (v : ℕ) → sort_of (s.unknowns k v).0 ≡ k) (ls : List Label) where
   picked-leaf : (k : Sort) (l : Label) (x : Trees) → HasValues k → sort_of l ≡ k → standing s l ≡ Some x → is_among l ls ≡ true → Some (tree_of (leaf_terms s ls k (place_of l ls))) ≡ standing s l
   picked-leaf k l x v e h a =
       let sort : is_a k (reading_of s l) ≡ true = reading-sorted s sorted k l v ∙ ap (λ z. is_sort z k) e ∙ is_sort-self k in
@@ -198,7 +198,7 @@ among-map f l [] i = absurd i
 among-map f l (m ∷ ls) (inl e) = inl (ap f e)
 among-map f l (m ∷ ls) (inr i) = inr (among-map f l ls i)
 
-module _ (t : FrameTable) (s : Terms) (a : AllowsApart t s) where
+module _ (t : FrameTable) (s : ChosenTerms) (a : AllowsApart t s) where
   abbrev good : Label → Bool
   good l = is_good t.kinds t.content.ty_vars t.content.const_vars l
 
@@ -304,7 +304,7 @@ respond_certainty t (Maybe Ambiguity) = refl
 respond_certainty t (Maybe Overflow) = refl
 
 -- what a table answers agrees with all that it allows
-pub respond_keeps : (t : FrameTable) (c : Certainty) (s : Terms) → AllowsApart t s → Agrees (respond t c) s.own
+pub respond_keeps : (t : FrameTable) (c : Certainty) (s : ChosenTerms) → AllowsApart t s → IsInstanceOfAnswer (respond t c) s.own
 respond_keeps t Yes s a = (leaf_terms s (answer_leaves t), λ k i. (node-is k (reading_of s (label_at (answer_leaves t) i))).sort, table-agrees t s a Yes)
 respond_keeps t (Maybe Ambiguity) s a = (leaf_terms s (answer_leaves t), λ k i. (node-is k (reading_of s (label_at (answer_leaves t) i))).sort, table-agrees t s a Yes)
 respond_keeps t (Maybe Overflow) s a = bare-agrees (respond t (Maybe Overflow)) (overflow_is_bare t) s.own

@@ -21,8 +21,8 @@ use Rattle.infer_table.specs.Applied.{trees_of, solved_in_turn, with_constraints
 use Rattle.evaluation.specs.Lists.{Every}
 use Rattle.evaluation.specs.Instances.{read_with, put_in, of_sort}
 use Rattle.type_terms.specs.Made.{terms, is_made}
-use Rattle.evaluation.specs.Content.{Terms, standing, reading_of, Stands}
-use Rattle.evaluation.specs.Equations.{AreOne, IsTerm, IsPair, IsValue, HasLifetimes, IsMade}
+use Rattle.evaluation.specs.Content.{ChosenTerms, standing, reading_of, UnknownStands}
+use Rattle.evaluation.specs.Equations.{AreOne, IsTermOf, IsTermPair, IsValue, HasLifetimes, IsMadeTable}
 use Rattle.evaluation.specs.FrameTables.{kind_at, is_good, good_in, FrameTable, IsMadeFrame, Nested, goal_in, slot_at, in_turn, and_then}
 use Rattle.evaluation.specs.TableOperations.{with_content}
 use Rattle.evaluation.specs.TableAnswers.{picked, IsPicked, ArePicked, is_kind_of, is_variable_of, is_fitting, are_fitting, is_fitting_answer, put_into, leaf_value, originals_of}
@@ -262,10 +262,10 @@ all-match good ks (l ∷ ls) (v ∷ vs) h e f = (
 )
 
 -- the answer's value is read as the goal's
-abbrev AgreeAt : Terms → Assignment → Value × Value → Type 0
+abbrev AgreeAt : ChosenTerms → Assignment → Value × Value → Type 0
 AgreeAt s q p = IsPicked q p.1.sort p.1.trees (read_with (standing s) p.0.trees)
 
-pub all-agree : (s : Terms) (q : Assignment) (ls : List Label) (vs : List Value) → ArePicked q vs (map (reading_of s) ls) → Every (AgreeAt s q) (paired (map leaf_value ls) vs)
+pub all-agree : (s : ChosenTerms) (q : Assignment) (ls : List Label) (vs : List Value) → ArePicked q vs (map (reading_of s) ls) → Every (AgreeAt s q) (paired (map leaf_value ls) vs)
 all-agree s q [] vs h = tt
 all-agree s q (l ∷ ls) [] h = tt
 all-agree s q (l ∷ ls) (v ∷ vs) h = (h.0, all-agree s q ls vs h.1)
@@ -324,7 +324,7 @@ open-good kinds ks a b (placeholder of_const v) n h = absurd (false-true h)
 open-good kinds ks a b l n h = refl
 
 -- and it is read alike
-open-same : (ks : List CanonicalVarKind) (r : Terms) (q : Assignment) (l : Label) → ((s : Sort) (i : ℕ) → l ≡ canonical s i → ⊥) → is_variable_of ks l ≡ true → standing r l ≡ picked q l
+open-same : (ks : List CanonicalVarKind) (r : ChosenTerms) (q : Assignment) (l : Label) → ((s : Sort) (i : ℕ) → l ≡ canonical s i → ⊥) → is_variable_of ks l ≡ true → standing r l ≡ picked q l
 open-same ks r q (canonical s i) n h = absurd (n s i refl)
 open-same ks r q (infer of_type v) n h = absurd (false-true h)
 open-same ks r q (infer of_const v) n h = absurd (false-true h)
@@ -525,18 +525,18 @@ module _ (kinds : List CanonicalVarKind) (t : TableTrees) (ls : List Label) (the
       other l e = absurd (false-true (sym e))
 
   -- the pairs that are made equal are terms
-  fitting-made : (v : Value) → is_fitting a.kinds v ≡ true → IsTerm better (filled values v.trees)
+  fitting-made : (v : Value) → is_fitting a.kinds v ≡ true → IsTermOf better (filled values v.trees)
   fitting-made v h =
       let made = right (is_a v.sort v.trees) _ h in
-      subst (IsTerm better) (sym (filled-is values v.trees))
+      subst (IsTermOf better) (sym (filled-is values v.trees))
       (record {
         single = single-put-in (is_variable_of a.kinds) better (value_for values) puts v.trees made (single-of v.sort v.trees (left (is_a v.sort v.trees) _ h));
         made = made-put-in (is_variable_of a.kinds) better (value_for values) puts terms v.trees made;
       })
 
-  pair-made : (p : Value × Value) → IsMatch good a.kinds p → IsPair better (p.0.trees, filled values p.1.trees)
+  pair-made : (p : Value × Value) → IsMatch good a.kinds p → IsTermPair better (p.0.trees, filled values p.1.trees)
   pair-made p x = (
-    subst (λ (v : Value). IsTerm better v.trees) (sym x.is) (record { single = refl; made = made-more good better better-too terms (leaf x.label) x.made }),
+    subst (λ (v : Value). IsTermOf better v.trees) (sym x.is) (record { single = refl; made = made-more good better better-too terms (leaf x.label) x.made }),
     fitting-made p.1 x.fits,
   )
 
@@ -548,8 +548,8 @@ module _ (kinds : List CanonicalVarKind) (t : TableTrees) (ls : List Label) (the
   every-of P Q g [] h = tt
   every-of P Q g (p ∷ m) h = (g p h.0, every-of P Q g m h.1)
 
-  pub pairs-made : Every (IsPair better) (pairs_with values pairs)
-  pairs-made = every-map (IsMatch good a.kinds) (IsPair better) (λ p. (p.0.trees, filled values p.1.trees)) pair-made pairs matches
+  pub pairs-made : Every (IsTermPair better) (pairs_with values pairs)
+  pairs-made = every-map (IsMatch good a.kinds) (IsTermPair better) (λ p. (p.0.trees, filled values p.1.trees)) pair-made pairs matches
 
   pub turns : (u : TableTrees) → solved_in_turn u (trees_of (map leaf_value ls)) (filled values (trees_of a.values)) ≡ in_turn (pairs_with values pairs) u
   turns u =
@@ -557,7 +557,7 @@ module _ (kinds : List CanonicalVarKind) (t : TableTrees) (ls : List Label) (the
       (every-of (IsMatch good a.kinds) (AreSingle values) (λ p x. ((pair-made p x).0.single, (pair-made p x).1.single)) pairs matches) u
 
   -- the table with new unknowns
-  pub grown-made : IsMade good t → IsMade better grown
+  pub grown-made : IsMadeTable good t → IsMadeTable better grown
   grown-made m =
       record {
         acyclic = subst Acyclic (sym (for-bindings known t 0 a.kinds)) m.acyclic;
@@ -571,7 +571,7 @@ module _ (kinds : List CanonicalVarKind) (t : TableTrees) (ls : List Label) (the
           (record { sort = h.0.sort; known = better-too (infer b.sort b.var) h.0.known; single = h.0.single; same_sort = h.0.same_sort; made = made-more good better better-too terms b.value h.0.made }, each-value bs h.1)
 
   -- ---- what is put in is read as what is picked
-  module _ (r : Terms) (q : Assignment) (sorted : (k : Sort) (v : ℕ) → sort_of (r.unknowns k v).0 ≡ k) (agree : Every (AgreeAt r q) pairs)
+  module _ (r : ChosenTerms) (q : Assignment) (sorted : (k : Sort) (v : ℕ) → sort_of (r.unknowns k v).0 ≡ k) (agree : Every (AgreeAt r q) pairs)
       (new : (s : Sort) (i : ℕ) → (x : IsNewAt known t 0 a.kinds i (0 + i) s) → r.unknowns s x.number ≡ q s i) where
     leaf-read : (s : Sort) → HasValues s → (l : Label) → sort_of l ≡ s → of_sort s (read_with (standing r) (leaf l)) ≡ read_with (standing r) (leaf l)
     leaf-read s v l e = sort-of-sort s (reading_of r l) (reading-sorted r sorted s l v ∙ ap (λ z. is_sort z s) e ∙ sort-self s)
@@ -677,7 +677,7 @@ map-some : (f : TableTrees → TableTrees) (o : Option TableTrees) (u : TableTre
 map-some f None u e = none-some u _ e
 map-some f (Some w) u e = (w, refl, some-is (f w) u e)
 
-pub with-constraints-made : (good : Label → Bool) (c : Trees) (w : TableTrees) → IsMade good w → IsMade good (with_constraints c w)
+pub with-constraints-made : (good : Label → Bool) (c : Trees) (w : TableTrees) → IsMadeTable good w → IsMadeTable good (with_constraints c w)
 with-constraints-made good c w m = record { acyclic = m.acyclic; values = m.values; counted = record { types = m.counted.types; consts = m.counted.consts } }
 
 module _ (t : FrameTable) (made : IsMadeFrame t) (n : Nested) (a : AnswerTrees) (answers : is_fitting_answer (originals_of t n) a ≡ true) where
@@ -733,7 +733,7 @@ module _ (t : FrameTable) (made : IsMadeFrame t) (n : Nested) (a : AnswerTrees) 
       ap (λ n. is_good t.kinds n grown_of.const_vars) (sym y.after.ty_vars) ∙ ap (λ n. is_good t.kinds w.ty_vars n) (sym y.after.const_vars) in
       subst (λ v. IsMadeFrame (with_content t v)) x.is
       (record {
-        table = with-constraints-made (is_good t.kinds w.ty_vars w.const_vars) (filled values_in a.constraints) w (subst (λ g. IsMade g w) same y.after.made);
+        table = with-constraints-made (is_good t.kinds w.ty_vars w.const_vars) (filled values_in a.constraints) w (subst (λ g. IsMadeTable g w) same y.after.made);
         leaves = subst (λ g. AreTheirs g t.labels) same (labels-made t.labels made.leaves);
         own = made.own;
       })
@@ -755,9 +755,9 @@ put-made t made n a u e = by (put-cases t.content (originals_of t n) a u e)
     by (inr x) = subst (λ v. IsMadeFrame (with_content t v)) x made
 
 -- ---- nothing is lost that agrees with the answer
-module _ (t : FrameTable) (s : Terms) (q : Assignment) (known : ℕ → Option Value) (ks : List CanonicalVarKind) where
+module _ (t : FrameTable) (s : ChosenTerms) (q : Assignment) (known : ℕ → Option Value) (ks : List CanonicalVarKind) where
   -- the terms, with what is picked for new unknowns
-  abbrev pub further : Terms
+  abbrev pub further : ChosenTerms
   further = record { own = s.own; slots = s.slots; unknowns = extended s.unknowns q known t.content 0 ks; proper = s.proper }
 
   further-same : (l : Label) → IsGoodLabel (good_in t) l → GiveOne further.unknowns s.unknowns l
@@ -777,12 +777,12 @@ module _ (t : FrameTable) (s : Terms) (q : Assignment) (known : ℕ → Option V
   counted-by of_const v h g = below-is v t.content.const_vars g
   counted-by of_lifetime v h g = absurd h
 
-  pub further-holds : (bs : List Binding) → Every (IsValue (good_in t)) bs → Every (Stands s) bs → Every (Stands further) bs
+  pub further-holds : (bs : List Binding) → Every (IsValue (good_in t)) bs → Every (UnknownStands s) bs → Every (UnknownStands further) bs
   further-holds [] h g = tt
   further-holds (b ∷ bs) h g = (
     ap tree_of (extended-old s.unknowns q known t.content 0 ks b.sort b.var (counted-by b.sort b.var h.0.sort h.0.known)) ∙ g.0 ∙ sym (further-read b.value h.0.made),
     further-holds bs h.1 g.1,
   )
 
-abbrev pub with_unknowns : Terms → Assignment → Terms
+abbrev pub with_unknowns : ChosenTerms → Assignment → ChosenTerms
 with_unknowns s u = record { own = s.own; slots = s.slots; unknowns = u; proper = s.proper }

@@ -23,8 +23,8 @@ use Rattle.infer_table.proofs.SolvableLaws.{IsTidy, completed, instance-complete
 use Rattle.infer_table.proofs.SolveFacts.{Answers, unified-answers}
 use Rattle.evaluation.specs.Lists.{Every}
 use Rattle.evaluation.specs.Instances.{read_with, is_place, as_place, term_at}
-use Rattle.evaluation.specs.Content.{Terms, standing, Stands}
-use Rattle.evaluation.specs.Equations.{AreOne, Hold, IsValue, IsPair, HasLifetimes, IsMade, IsAfter, IsApart, EquationsNarrow, EquationsKeep, EquationsStayMade}
+use Rattle.evaluation.specs.Content.{ChosenTerms, standing, UnknownStands}
+use Rattle.evaluation.specs.Equations.{AreOne, Hold, IsValue, IsTermPair, HasLifetimes, IsMadeTable, IsAfter, IsApart, EquationsNarrow, EquationsKeep, EquationsStayMade}
 use Rattle.evaluation.proofs.Reading.{Carries, carried-at, read-lifetime}
 use Rattle.evaluation.proofs.Questions.{read-resolved, is-place}
 
@@ -49,13 +49,13 @@ module _ (good : Label → Bool) (opens : HasLifetimes good) where
   all-proper [] h = tt
   all-proper (b ∷ bs) h = (trees-proper good in_terms b.value h.0, all-proper bs h.1)
 
-  of-trees : (t : TableTrees) → IsMade good t → IsOfTrees good t
+  of-trees : (t : TableTrees) → IsMadeTable good t → IsOfTrees good t
   of-trees t m = record { valued = all-valued good t.bindings m.values; acyclic = m.acyclic; sorted = all-sorted t.bindings m.values; terms = all-trees t.bindings m.values }
 
   tidy : (t : TableTrees) → IsOfTrees good t → IsTidy t.bindings
   tidy t h = record { valued = h.valued; acyclic = h.acyclic; sorted = h.sorted; proper = all-proper t.bindings h.terms }
 
-  of-pairs : (todo : Worklist) → Every (IsPair good) todo → ArePairsOfTrees good todo
+  of-pairs : (todo : Worklist) → Every (IsTermPair good) todo → ArePairsOfTrees good todo
   of-pairs [] h = tt
   of-pairs (e ∷ todo) h = ((h.0.0.single, trees-of good terms e.0 h.0.0.made), (h.0.1.single, trees-of good terms e.1 h.0.1.made), of-pairs todo h.1)
 
@@ -78,7 +78,7 @@ module _ (good : Label → Bool) (opens : HasLifetimes good) where
   all-values (b ∷ bs) h i a g = (one-value b.sort b.var b.value h.0 g.0 i.0 a.0, all-values bs h.1 i.1 a.1 g.1)
 
   -- ---- unification from a table whose unknowns are counted
-  module _ (t : TableTrees) (made : IsMade good t) where
+  module _ (t : TableTrees) (made : IsMadeTable good t) where
     abbrev limit : Sort → ℕ
     limit of_type = t.ty_vars
     limit of_const = t.const_vars
@@ -133,7 +133,7 @@ module _ (good : Label → Bool) (opens : HasLifetimes good) where
     }
 
 -- ---- what holds where what is left holds: by the assignment that gives each unknown what it resolves to
-erased-carries : (s : Terms) (l : Label) → Carries (standing s) (standing s) l (erase_label l)
+erased-carries : (s : ChosenTerms) (l : Label) → Carries (standing s) (standing s) l (erase_label l)
 erased-carries s (infer of_lifetime v) = record { stands = refl; erased = λ e. refl }
 erased-carries s (param of_lifetime v) = record { stands = refl; erased = λ e. refl }
 erased-carries s (placeholder of_lifetime v) = record { stands = refl; erased = λ e. refl }
@@ -141,18 +141,18 @@ erased-carries s (canonical of_lifetime v) = record { stands = refl; erased = λ
 erased-carries s (bound of_lifetime k v) = record { stands = refl; erased = λ e. refl }
 erased-carries s l = record { stands = refl; erased = λ e. refl }
 
-read-erased : (s : Terms) (t : Trees) → read_with (standing s) (erase t) ≡ read_with (standing s) t
+read-erased : (s : ChosenTerms) (t : Trees) → read_with (standing s) (erase t) ≡ read_with (standing s) t
 read-erased s none = refl
 read-erased s (tree l c o) =
     carried-at (standing s) (standing s) l (erase_label l) (read_with (standing s) c) (read_with (standing s) (erase c)) (read_with (standing s) o) (read_with (standing s) (erase o)) (standing s l) refl
     (erased-carries s l) (read-erased s c) (read-erased s o)
 
-value-reads : (s : Terms) (k : Sort) (v : ℕ) → HasValues k → read_with (standing s) (leaf (infer k v)) ≡ tree_of (s.unknowns k v)
+value-reads : (s : ChosenTerms) (k : Sort) (v : ℕ) → HasValues k → read_with (standing s) (leaf (infer k v)) ≡ tree_of (s.unknowns k v)
 value-reads s of_type v h = refl
 value-reads s of_const v h = refl
 value-reads s of_lifetime v h = absurd h
 
-module _ (good : Label → Bool) (opens : HasLifetimes good) (s : Terms) (u : TableTrees) (values : Every (IsValue good) u.bindings) (ok : IsOfTrees good u) (hold : Hold s u) where
+module _ (good : Label → Bool) (opens : HasLifetimes good) (s : ChosenTerms) (u : TableTrees) (values : Every (IsValue good) u.bindings) (ok : IsOfTrees good u) (hold : Hold s u) where
   abbrev read : Trees → Trees
   read t = read_with (standing s) t
 
@@ -173,7 +173,7 @@ module _ (good : Label → Bool) (opens : HasLifetimes good) (s : Terms) (u : Ta
   solves : Solves resolving u.bindings
   solves = (tidy-completion u.bindings itself (tidy good opens u ok) (λ k v. refl)).solves
 
-  all-stand : (bs : List Binding) → AllValued bs → AllTrees good bs → Solves resolving bs → Every (Stands s) bs
+  all-stand : (bs : List Binding) → AllValued bs → AllTrees good bs → Solves resolving bs → Every (UnknownStands s) bs
   all-stand [] h a g = tt
   all-stand (b ∷ bs) h a g =
       (sym (variable-reads b.sort b.var h.0) ∙ ap read g.0 ∙ read-instance b.value (trees-proper good in_terms b.value a.0), all-stand bs h.1 a.1 g.1)
@@ -183,8 +183,8 @@ module _ (good : Label → Bool) (opens : HasLifetimes good) (s : Terms) (u : Ta
   all-one (e ∷ todo) h a =
       (sym (read-instance e.0 (trees-proper good in_terms e.0 h.0.1)) ∙ ap read a.0 ∙ read-instance e.1 (trees-proper good in_terms e.1 h.1.1), all-one todo h.2 a.1)
 
-unified_left : (good : Label → Bool) (t : TableTrees) (todo : Worklist) (u : TableTrees) → HasLifetimes good → IsMade good t → Every (IsPair good) todo → unified t todo ≡ Some u
-    → IsAfter good t u × ((s : Terms) → Hold s u → Hold s t × Every (AreOne s) todo)
+unified_left : (good : Label → Bool) (t : TableTrees) (todo : Worklist) (u : TableTrees) → HasLifetimes good → IsMadeTable good t → Every (IsTermPair good) todo → unified t todo ≡ Some u
+    → IsAfter good t u × ((s : ChosenTerms) → Hold s u → Hold s t × Every (AreOne s) todo)
 unified_left good t todo u opens m p e =
     let ps = of-pairs good opens todo p in
     let f : Answered good opens t m todo (Some u) = subst (Answered good opens t m todo) e (answered good opens t m todo ps) in
@@ -254,7 +254,7 @@ abbrev named : Sort → Bool → ℕ → Label
 named k false i = param k i
 named k true i = placeholder k i
 
-module _ (good : Label → Bool) (s : Terms) (n : ℕ) where
+module _ (good : Label → Bool) (s : ChosenTerms) (n : ℕ) where
   -- what a placeholder is read as
   abbrev seat : Sort → ℕ → Label
   seat k i = label_in (as_place k (term_at s.own.terms i))
@@ -405,11 +405,11 @@ module _ (good : Label → Bool) (s : Terms) (n : ℕ) where
     reads-marked in_autos (tree l none none) h = end-at l h.0
     reads-marked in_autos (tree l c o) h = absurd h
 
-    all-solve : (bs : List Binding) → AllTrees good bs → Every (Stands s) bs → Solves assigned bs
+    all-solve : (bs : List Binding) → AllTrees good bs → Every (UnknownStands s) bs → Solves assigned bs
     all-solve [] a h = assigned-sorted
     all-solve (b ∷ bs) a h = (ap mark h.0 ∙ sym (reads-marked in_terms b.value a.0), all-solve bs a.1 h.1)
 
-    all-stood : (bs : List Binding) → AllTrees good bs → Solves assigned bs → Every (Stands s) bs
+    all-stood : (bs : List Binding) → AllTrees good bs → Solves assigned bs → Every (UnknownStands s) bs
     all-stood [] a h = tt
     all-stood (b ∷ bs) a h = (mark-apart (tree_of (s.unknowns b.sort b.var)) (reads b.value) (h.0 ∙ reads-marked in_terms b.value a.0), all-stood bs a.1 h.1)
 
@@ -417,7 +417,7 @@ module _ (good : Label → Bool) (s : Terms) (n : ℕ) where
     all-same [] a h = tt
     all-same (e ∷ todo) a h = (reads-marked in_terms e.0 a.0.1 ∙ ap mark h.0 ∙ sym (reads-marked in_terms e.1 a.1.1), all-same todo a.2 h.1)
 
-    unified_keeps : (opens : HasLifetimes good) (t : TableTrees) (todo : Worklist) → IsMade good t → ArePairsOfTrees good todo → Hold s t → Every (AreOne s) todo → (u : TableTrees) × (unified t todo ≡ Some u) × Hold s u
+    unified_keeps : (opens : HasLifetimes good) (t : TableTrees) (todo : Worklist) → IsMadeTable good t → ArePairsOfTrees good todo → Hold s t → Every (AreOne s) todo → (u : TableTrees) × (unified t todo ≡ Some u) × Hold s u
     unified_keeps opens t todo m ps hold ones = by (unified t todo) refl (answered good opens t m todo ps)
       where
         old : Solves assigned t.bindings
@@ -484,7 +484,7 @@ module _ (good : Label → Bool) (n : ℕ) where
     bounded-values bs (omega (arith, b)) h.1,
   )
 
-  bounded-pairs : (todo : Worklist) → top_of_pairs todo ≤ n → Every (IsPair good) todo → ArePairsOfTrees (bounded good n) todo
+  bounded-pairs : (todo : Worklist) → top_of_pairs todo ≤ n → Every (IsTermPair good) todo → ArePairsOfTrees (bounded good n) todo
   bounded-pairs [] b h = tt
   bounded-pairs (e ∷ todo) b h = (
     (h.0.0.single, bounded-trees in_terms e.0 (omega (arith, b)) (trees-of good terms e.0 h.0.0.made)),
@@ -492,7 +492,7 @@ module _ (good : Label → Bool) (n : ℕ) where
     bounded-pairs todo (omega (arith, b)) h.1,
   )
 
-  bounded-table : (t : TableTrees) → top_of_values t.bindings ≤ n → IsMade good t → IsMade (bounded good n) t
+  bounded-table : (t : TableTrees) → top_of_values t.bindings ≤ n → IsMadeTable good t → IsMadeTable (bounded good n) t
   bounded-table t b m = record {
     acyclic = m.acyclic;
     values = bounded-values t.bindings b m.values;
@@ -502,7 +502,7 @@ module _ (good : Label → Bool) (n : ℕ) where
   bounded-lower : (k : Sort) (i : ℕ) → bounded good n (placeholder k i) ≡ true → i < n
   bounded-lower k i g = let e : ltb i n ≡ true = right (good (placeholder k i)) (ltb i n) g in grind (arith, nat_tests, e)
 
-  bounded-apart : (s : Terms) → IsApart good s → IsApart (bounded good n) s
+  bounded-apart : (s : ChosenTerms) → IsApart good s → IsApart (bounded good n) s
   bounded-apart s a = record {
     sorted = a.sorted;
     no_parameter = λ k i v g. a.no_parameter k i v (left (good (param k i)) true g);

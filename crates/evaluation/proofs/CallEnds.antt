@@ -15,24 +15,24 @@ use Rattle.evaluation.specs.declared.error.EvalError.{EvalError}
 use Rattle.evaluation.specs.declared.error.EvalError.TheVariants.{NoSolution, Fault}
 use Rattle.infer_table.specs.Values.{values_of}
 use Rattle.infer_table.specs.Responses.{AnswerTrees, answer_trees}
-use Rattle.evaluation.specs.Context.{Context, NestedGoal, NestedHeld, IsReady}
-use Rattle.evaluation.specs.Evaluating.{Question, goals_trees, evaluation}
-use Rattle.evaluation.specs.OwnAnswers.{Says, answer_of}
-use Rattle.evaluation.specs.Ends.{EndsIn, IsSettled, IsAnswered, CallEnds, AnswerEnds}
+use Rattle.evaluation.specs.Context.{Context, NestedGoal, NestedHeld, IsReadyContext}
+use Rattle.evaluation.specs.Evaluating.{AskedQuestion, goals_trees, evaluation}
+use Rattle.evaluation.specs.OwnAnswers.{OwnAnswerSays, answer_of}
+use Rattle.evaluation.specs.Ends.{EndsIn, ContextIsSettled, ContextIsAnswered, CallEnds, AnswerEnds}
 use Rattle.evaluation.specs.Steps.{RoundsEnd, SameRounds}
 use Rattle.evaluation.proofs.OwnAnswers.{same-answer}
 use Rattle.evaluation.proofs.Undone.{same-context}
 
 abbrev RoundsRun : TypingMode → Type 0
-RoundsRun mode = Run Question (Option AnswerTrees) (Option (Rounds (evaluation mode)))
+RoundsRun mode = Run AskedQuestion (Option AnswerTrees) (Option (Rounds (evaluation mode)))
 
 -- a context whose rounds ended stays ready without its replies
-pub ready-settled : (es : List Entry) (mid new : Context) (left : List NestedGoal) → new ≡ record mid { nested = left; replies = [] } → IsReady es mid → NestedHeld es left → IsReady es new
+pub ready-settled : (es : List Entry) (mid new : Context) (left : List NestedGoal) → new ≡ record mid { nested = left; replies = [] } → IsReadyContext es mid → NestedHeld es left → IsReadyContext es new
 ready-settled es mid new left e r h =
-    let there : IsReady es (record mid { nested = left; replies = [] }) = record { table = r.table; values = r.values; nested = h; replies = tt } in
-    subst (IsReady es) (sym e) there
+    let there : IsReadyContext es (record mid { nested = left; replies = [] }) = record { table = r.table; values = r.values; nested = h; replies = tt } in
+    subst (IsReadyContext es) (sym e) there
 
-says-rest : (old new : List Entry) (c : Context) (ns : List NestedGoal) (rs : List (Option CanonicalResponse)) (r : CanonicalResponse) (k : Certainty) → Says old new c r k → Says old new (record c { nested = ns; replies = rs }) r k
+says-rest : (old new : List Entry) (c : Context) (ns : List NestedGoal) (rs : List (Option CanonicalResponse)) (r : CanonicalResponse) (k : Certainty) → OwnAnswerSays old new c r k → OwnAnswerSays old new (record c { nested = ns; replies = rs }) r k
 says-rest old new c ns rs r Yes h = record { held = h.held; form = h.form; values = h.values; constraints = h.constraints; agrees = h.agrees; numbered = h.numbered }
 says-rest old new c ns rs r (Maybe Ambiguity) h = record { held = h.held; form = h.form; values = h.values; constraints = h.constraints; agrees = h.agrees; numbered = h.numbered }
 says-rest old new c ns rs r (Maybe Overflow) h = record { held = h.held; variables = h.variables; values = h.values; constraints = h.constraints }
@@ -45,7 +45,7 @@ module _ (mode : TypingMode) (es : List Entry) (old mid new : Context) (left : L
       (ap (λ (c : Context). c.values) settled ∙ ap (λ (c : Context). c.values) made) refl (ap (λ (c : Context). c.replies) settled)
 
   is-settled : (terms : List Entry) → table_trees es mid.table ≡ table_trees terms mid.table → goals_trees es left ≡ goals_trees terms left
-      → (c : Certainty) (o : Rounds (evaluation mode)) → SameRounds mode terms mid.table left c o → IsSettled mode es old new o
+      → (c : Certainty) (o : Rounds (evaluation mode)) → SameRounds mode terms mid.table left c o → ContextIsSettled mode es old new o
   is-settled terms t g c o h =
       record {
         table = h.table ∙ sym t ∙ ap (table_trees es) (sym (ap (λ (x : Context). x.table) settled));
@@ -54,7 +54,7 @@ module _ (mode : TypingMode) (es : List Entry) (old mid new : Context) (left : L
       }
 
   -- the certainty of the rounds is answered
-  pub call-ready : (c : Certainty) (r : RoundsRun mode) → EndsIn (λ o more. SameRounds mode es mid.table left c o) r → EndsIn (λ o more. IsSettled mode es old new o × (o.certainty ≡ c)) r
+  pub call-ready : (c : Certainty) (r : RoundsRun mode) → EndsIn (λ o more. SameRounds mode es mid.table left c o) r → EndsIn (λ o more. ContextIsSettled mode es old new o × (o.certainty ≡ c)) r
   call-ready c (ready None more) h = absurd h
   call-ready c (ready (Some o) more) h = (is-settled es refl refl c o h, h.certainty_is)
   call-ready c (waits q) h = absurd h
@@ -62,19 +62,19 @@ module _ (mode : TypingMode) (es : List Entry) (old mid new : Context) (left : L
   -- the context's own answer is given, made with further terms
   pub call-answered : (terms : List Entry) → Keeps terms es → table_trees es mid.table ≡ table_trees terms mid.table → goals_trees es left ≡ goals_trees terms left
       → values_of es mid.values ≡ values_of terms mid.values
-      → (given c : Certainty) (answer : CanonicalResponse) (r : RoundsRun mode) → answer.certainty ≡ joined given c → Says terms es mid answer (joined given c)
+      → (given c : Certainty) (answer : CanonicalResponse) (r : RoundsRun mode) → answer.certainty ≡ joined given c → OwnAnswerSays terms es mid answer (joined given c)
       → answer_trees es answer ≡ answer_of mid.variables (values_of terms mid.values) (table_trees terms mid.table) (joined given c)
-      → EndsIn (λ o more. SameRounds mode terms mid.table left c o) r → EndsIn (λ o more. IsAnswered mode es old new given answer o) r
+      → EndsIn (λ o more. SameRounds mode terms mid.table left c o) r → EndsIn (λ o more. ContextIsAnswered mode es old new given answer o) r
   call-answered terms k t g v given c answer (ready None more) a s i h = absurd h
   call-answered terms k t g v given c answer (waits q) a s i h = absurd h
   call-answered terms k t g v given c answer (ready (Some o) more) a s i h =
-      let said : Says terms es new answer (joined given c) = subst (λ x. Says terms es x answer (joined given c)) (sym settled) (says-rest terms es mid left [] answer (joined given c) s) in
+      let said : OwnAnswerSays terms es new answer (joined given c) = subst (λ x. OwnAnswerSays terms es x answer (joined given c)) (sym settled) (says-rest terms es mid left [] answer (joined given c) s) in
       record {
         settled = is-settled terms t g c o h;
         certainty_is = a ∙ ap (joined given) (sym h.certainty_is);
         terms = terms;
         keeps = k;
-        says = subst (λ x. Says terms es new answer (joined given x)) (sym h.certainty_is) said;
+        says = subst (λ x. OwnAnswerSays terms es new answer (joined given x)) (sym h.certainty_is) said;
         is = i
             ∙ same-answer _ _ _ _ _ _ _ _ (ap (λ (x : Context). x.variables) made) (sym v ∙ ap (λ (x : Context). values_of es x.values) made) (sym h.table)
             (ap (joined given) (sym h.certainty_is));

@@ -18,7 +18,7 @@ use Rattle.evaluation.specs.Rounds.{Rounds, rounds}
 use Rattle.evaluation.specs.Table.{operations, workings}
 use Rattle.evaluation.specs.Candidate.{Spec}
 use Rattle.evaluation.specs.Candidate as Frames
-use Rattle.evaluation.specs.Correspondences.{RoundsEnd}
+use Rattle.evaluation.specs.Correspondences.{RoundsEndTogether}
 use Rattle.evaluation.proofs.Correspondences.{Alike, alike_followed, alike_runs, rounds_alike}
 use Rattle.evaluation.specs.Content as Asked
 use Rattle.evaluation.specs.Instances.{put_in, goal_put_in}
@@ -29,7 +29,7 @@ use Rattle.evaluation.proofs.Equating.{made-in-turn, none-some, some-is}
 use Rattle.evaluation.proofs.TableBeginning.{begin-made}
 use Rattle.evaluation.proofs.Fresh.{fresh-made, recorded-made}
 use Rattle.evaluation.specs.Tables.{frame_tables}
-use Rattle.evaluation.specs.Evaluating.{Question, NestedTrees, evaluation}
+use Rattle.evaluation.specs.Evaluating.{AskedQuestion, NestedTrees, evaluation}
 use Rattle.evaluation.specs.OwnAnswers.{answer_of}
 use Rattle.evaluation.specs.Frames.{FrameTrees, begun, own_values, unknowns, with_unknowns, pair_filled, solved, nested_filled}
 use Rattle.evaluation.specs.Frames as Code
@@ -102,9 +102,9 @@ module _ (mode : TypingMode) (coinductive : Bool) (kinds own : List CanonicalVar
 
   -- ---- the answer
   abbrev Ends : Option (Rounds (operations frame_tables)) → Option (Rounds (evaluation mode)) → Type 0
-  Ends a b = OnBoth (RoundsEnd (operations frame_tables) (evaluation mode) (in_rounds mode coinductive kinds labels)) a b
+  Ends a b = OnBoth (RoundsEndTogether (operations frame_tables) (evaluation mode) (in_rounds mode coinductive kinds labels)) a b
 
-  abbrev Same : Script Asked.Question (Option AnswerTrees) (Option AnswerTrees) → Script Question (Option AnswerTrees) (Option AnswerTrees) → Type 0
+  abbrev Same : Script Asked.NestedQuestion (Option AnswerTrees) (Option AnswerTrees) → Script AskedQuestion (Option AnswerTrees) (Option AnswerTrees) → Type 0
   Same s t = Alike (operations frame_tables) (evaluation mode) (in_rounds mode coinductive kinds labels) (λ (a b : Option AnswerTrees). a ≡ b) s t
 
   own-are : own_labels kinds labels ≡ labels_from 0 0 0 0 kinds

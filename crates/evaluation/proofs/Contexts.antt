@@ -10,7 +10,7 @@ use Rattle.infer_table.proofs.Numbers.{clauses-held-later}
 use Rattle.evaluation.specs.Lists.{Every}
 use Rattle.infer_table.specs.Responses.{ResponseHeld}
 use Rattle.evaluation.specs.Readings.{ResultHeld}
-use Rattle.evaluation.specs.Context.{Context, NestedGoal, GoalIsHeld, NestedHeld, IsReady}
+use Rattle.evaluation.specs.Context.{Context, NestedGoal, GoalIsHeld, NestedHeld, IsReadyContext}
 
 pub nested-later : (old new : List Entry) → Keeps old new → (ns : List NestedGoal) → NestedHeld old ns → NestedHeld new ns
 nested-later old new k [] h = tt
@@ -33,7 +33,7 @@ replies-later old new k [] h = tt
 replies-later old new k (r ∷ rs) h = (reply-later old new k r h.0, replies-later old new k rs h.1)
 
 -- a context stays ready with another table
-pub ready-with-table : (old new : List Entry) (c : Context) (t : Table) → Keeps old new → IsReady old c → Ready new t → IsReady new (record c { table = t })
+pub ready-with-table : (old new : List Entry) (c : Context) (t : Table) → Keeps old new → IsReadyContext old c → Ready new t → IsReadyContext new (record c { table = t })
 ready-with-table old new c t k h r =
     record {
       table = r;
@@ -42,7 +42,7 @@ ready-with-table old new c t k h r =
       replies = replies-later old new k c.replies h.replies;
     }
 
-pub context-later : (old new : List Entry) → Keeps old new → (c : Context) → IsReady old c → IsReady new c
+pub context-later : (old new : List Entry) → Keeps old new → (c : Context) → IsReadyContext old c → IsReadyContext new c
 context-later old new k c h = ready-with-table old new c c.table k h (ready-later old new c.table k h.table)
 
 pub every-more : {A : Type 0} (P : A → Type 0) (xs : List A) (x : A) → Every P xs → P x → Every P (xs ++ x ∷ [])
@@ -50,16 +50,16 @@ every-more P [] x h p = (p, tt)
 every-more P (y ∷ ys) x h p = (h.0, every-more P ys x h.1 p)
 
 -- a context stays ready with one more goal, or one more reply
-pub ready-added : (es : List Entry) (c d : Context) (n : NestedGoal) → d ≡ record c { nested = c.nested ++ n ∷ [] } → IsReady es c → GoalIsHeld es n → IsReady es d
+pub ready-added : (es : List Entry) (c d : Context) (n : NestedGoal) → d ≡ record c { nested = c.nested ++ n ∷ [] } → IsReadyContext es c → GoalIsHeld es n → IsReadyContext es d
 ready-added es c d n e r h =
-    let there : IsReady es (record c { nested = c.nested ++ n ∷ [] }) = record { table = r.table; values = r.values; nested = every-more (GoalIsHeld es) c.nested n r.nested h; replies = r.replies } in
-    subst (IsReady es) (sym e) there
+    let there : IsReadyContext es (record c { nested = c.nested ++ n ∷ [] }) = record { table = r.table; values = r.values; nested = every-more (GoalIsHeld es) c.nested n r.nested h; replies = r.replies } in
+    subst (IsReadyContext es) (sym e) there
 
-pub ready-replied : (es : List Entry) (c d : Context) (a : Option CanonicalResponse) → d ≡ record c { replies = c.replies ++ a ∷ [] } → IsReady es c → ResultHeld es a → IsReady es d
+pub ready-replied : (es : List Entry) (c d : Context) (a : Option CanonicalResponse) → d ≡ record c { replies = c.replies ++ a ∷ [] } → IsReadyContext es c → ResultHeld es a → IsReadyContext es d
 ready-replied es c d a e r h =
-    let there : IsReady es (record c { replies = c.replies ++ a ∷ [] }) = record { table = r.table; values = r.values; nested = r.nested; replies = every-more (ResultHeld es) c.replies a r.replies h } in
-    subst (IsReady es) (sym e) there
+    let there : IsReadyContext es (record c { replies = c.replies ++ a ∷ [] }) = record { table = r.table; values = r.values; nested = r.nested; replies = every-more (ResultHeld es) c.replies a r.replies h } in
+    subst (IsReadyContext es) (sym e) there
 
 -- a context that is as before stays ready
-pub ready-same : (old new : List Entry) (c d : Context) → Keeps old new → d ≡ c → IsReady old c → IsReady new d
-ready-same old new c d k e h = subst (IsReady new) (sym e) (context-later old new k c h)
+pub ready-same : (old new : List Entry) (c d : Context) → Keeps old new → d ≡ c → IsReadyContext old c → IsReadyContext new d
+ready-same old new c d k e h = subst (IsReadyContext new) (sym e) (context-later old new k c h)

@@ -11,8 +11,8 @@ use Rattle.evaluation.specs.Operations.{Operations, Workings, is_yes}
 use Rattle.evaluation.specs.Replays.{run}
 use Rattle.evaluation.specs.Rounds.{Round, Rounds, kept, judged, applied, replied, round, settled, next_round, rounds}
 use Rattle.evaluation.specs.Candidate.{Spec, Considered, Next, consider, answer, used_numbers, IsHistory, answered, equated, candidate, goes_on, frame}
-use Rattle.evaluation.specs.History.{Reply, begin, entered, ignored, evaluated, finished, Position, between, inside, request, told, position, asks, IsReply, CameInOrder}
-use Rattle.evaluation.specs.Correspondences.{Correspondence, IsCorrespondence, Answers, AreAnswers, AreReplies, Runs, RoundEnds, RoundsEnd, RoundsCorrespond, CandidateCorrespondence, IsCandidateCorrespondence, Results, Specs, CandidatesCorrespond, BothConsidered, BothNext, Handlers, Replies, Requests, FramesCorrespond}
+use Rattle.evaluation.specs.History.{Reply, begin, entered, ignored, evaluated, finished, Position, between, inside, request, told, position, asks, IsAwaitedReply, CameInOrder}
+use Rattle.evaluation.specs.Correspondences.{Correspondence, IsCorrespondence, AnswersCorrespond, AreAnswers, RepliesCorrespond, Runs, RoundEndsTogether, RoundsEndTogether, RoundsCorrespond, CandidateCorrespondence, IsCandidateCorrespondence, Results, Specs, CandidatesCorrespond, BothConsidered, BothNext, Handlers, Replies, Requests, FramesCorrespond}
 use Rattle.evaluation.proofs.Histories.{step, holds}
 
 abbrev first_or : ℕ → List ℕ → ℕ
@@ -25,7 +25,7 @@ rest_of (n ∷ ns) = ns
 
 module _ {Question Response OtherQuestion OtherResponse : Type 0} (one : Operations Question Response) (other : Operations OtherQuestion OtherResponse) (c : Correspondence one other) where
   abbrev Answer : Question → Option Response → Option OtherResponse → Type 0
-  Answer q a b = Answers one other c q a b
+  Answer q a b = AnswersCorrespond one other c q a b
 
   -- the scripts ask corresponding questions while the answers correspond, and end with what R holds of
   abbrev pub Alike : {X Y : Type 0} → (X → Y → Type 0) → Script Question (Option Response) X → Script OtherQuestion (Option OtherResponse) Y → Type 0
@@ -61,11 +61,11 @@ module _ {Question Response OtherQuestion OtherResponse : Type 0} (one : Operati
     -- ---- a round
     abbrev RoundAlike : List one.Nested → List other.Nested → Type 0
     RoundAlike ns ms =
-        (T : one.Table) (U : other.Table) → c.Tables T U → Alike (OnBoth (RoundEnds one other c)) (round one ns T) (round other ms U)
+        (T : one.Table) (U : other.Table) → c.Tables T U → Alike (OnBoth (RoundEndsTogether one other c)) (round one ns T) (round other ms U)
 
     kept_alike : (q : Question) (n : one.Nested) (m : other.Nested) (r : Response) (s : OtherResponse) → c.Goals n m → c.Responses q r s
-        → (x : Option (Round one)) (y : Option (Round other)) → OnBoth (RoundEnds one other c) x y
-        → Alike (OnBoth (RoundEnds one other c)) (kept one n r x) (kept other m s y)
+        → (x : Option (Round one)) (y : Option (Round other)) → OnBoth (RoundEndsTogether one other c) x y
+        → Alike (OnBoth (RoundEndsTogether one other c)) (kept one n r x) (kept other m s y)
     kept_alike q n m r s g h None None e = tt
     kept_alike q n m r s g h (Some x) (Some y) e = record {
       table = e.table;
@@ -78,17 +78,17 @@ module _ {Question Response OtherQuestion OtherResponse : Type 0} (one : Operati
 
     judged_alike : (q : Question) (n : one.Nested) (m : other.Nested) (ns : List one.Nested) (ms : List other.Nested) (r : Response) (s : OtherResponse)
         → c.Goals n m → c.Responses q r s → RoundAlike ns ms → (T : one.Table) (U : other.Table) → c.Tables T U → (b d : Bool) → b ≡ d
-        → Alike (OnBoth (RoundEnds one other c)) (judged one (round one ns) n r T b) (judged other (round other ms) m s U d)
+        → Alike (OnBoth (RoundEndsTogether one other c)) (judged one (round one ns) n r T b) (judged other (round other ms) m s U d)
     judged_alike q n m ns ms r s g h rest T U t true true e = rest T U t
     judged_alike q n m ns ms r s g h rest T U t false false e =
-        alike_followed (OnBoth (RoundEnds one other c)) (OnBoth (RoundEnds one other c)) (kept one n r) (kept other m s) (λ x y k. kept_alike q n m r s g h x y k)
+        alike_followed (OnBoth (RoundEndsTogether one other c)) (OnBoth (RoundEndsTogether one other c)) (kept one n r) (kept other m s) (λ x y k. kept_alike q n m r s g h x y k)
         (round one ns T) (round other ms U) (rest T U t)
     judged_alike q n m ns ms r s g h rest T U t true false e = absurd (cc)
     judged_alike q n m ns ms r s g h rest T U t false true e = absurd (cc)
 
     applied_alike : (q : Question) (n : one.Nested) (m : other.Nested) (ns : List one.Nested) (ms : List other.Nested) (r : Response) (s : OtherResponse)
         → c.Goals n m → c.Responses q r s → RoundAlike ns ms → (o : Option one.Table) (p : Option other.Table) → OnBoth c.Tables o p
-        → Alike (OnBoth (RoundEnds one other c)) (applied one (round one ns) n r o) (applied other (round other ms) m s p)
+        → Alike (OnBoth (RoundEndsTogether one other c)) (applied one (round one ns) n r o) (applied other (round other ms) m s p)
     applied_alike q n m ns ms r s g h rest None None t = tt
     applied_alike q n m ns ms r s g h rest (Some T) (Some U) t = judged_alike q n m ns ms r s g h rest T U t (is_yes one r) (is_yes other s) (same_yes q r s h)
     applied_alike q n m ns ms r s g h rest None (Some U) t = absurd t
@@ -96,7 +96,7 @@ module _ {Question Response OtherQuestion OtherResponse : Type 0} (one : Operati
 
     replied_alike : (n : one.Nested) (m : other.Nested) (ns : List one.Nested) (ms : List other.Nested) → c.Goals n m → RoundAlike ns ms
         → (T : one.Table) (U : other.Table) → c.Tables T U → (a : Option Response) (b : Option OtherResponse) → Answer (one.question T n) a b
-        → Alike (OnBoth (RoundEnds one other c)) (replied one (round one ns) T n a) (replied other (round other ms) U m b)
+        → Alike (OnBoth (RoundEndsTogether one other c)) (replied one (round one ns) T n a) (replied other (round other ms) U m b)
     replied_alike n m ns ms g rest T U t None None h = tt
     replied_alike n m ns ms g rest T U t (Some r) (Some s) h =
         applied_alike (one.question T n) n m ns ms r s g h rest (one.apply T n r) (other.apply U m s) (laws.apply T U n m r s t g h)
@@ -113,11 +113,11 @@ module _ {Question Response OtherQuestion OtherResponse : Type 0} (one : Operati
     abbrev RoundsAlike : ℕ → Type 0
     RoundsAlike limit =
         (ns : List one.Nested) (ms : List other.Nested) → Pairwise c.Goals ns ms → (T : one.Table) (U : other.Table) → c.Tables T U
-        → Alike (OnBoth (RoundsEnd one other c)) (rounds one limit ns T) (rounds other limit ms U)
+        → Alike (OnBoth (RoundsEndTogether one other c)) (rounds one limit ns T) (rounds other limit ms U)
 
     settled_alike : (limit : ℕ) → RoundsAlike limit → (ns : List one.Nested) (ms : List other.Nested) → Pairwise c.Goals ns ms
         → (T : one.Table) (U : other.Table) → c.Tables T U → (x y : Certainty) → x ≡ y → (b d : Bool) → b ≡ d
-        → Alike (OnBoth (RoundsEnd one other c)) (settled one (rounds one limit) ns T x b) (settled other (rounds other limit) ms U y d)
+        → Alike (OnBoth (RoundsEndTogether one other c)) (settled one (rounds one limit) ns T x b) (settled other (rounds other limit) ms U y d)
     settled_alike limit rest ns ms g T U t x y e true true f = rest ns ms g T U t
     settled_alike limit rest [] [] g T U t x y e false false f = record { table = t; left = tt; certainty = refl }
     settled_alike limit rest (n ∷ ns) (m ∷ ms) g T U t x y e false false f = record { table = t; left = g; certainty = ap unsettled e }
@@ -126,8 +126,8 @@ module _ {Question Response OtherQuestion OtherResponse : Type 0} (one : Operati
     settled_alike limit rest ns ms g T U t x y e true false f = absurd (cc)
     settled_alike limit rest ns ms g T U t x y e false true f = absurd (cc)
 
-    next_alike : (limit : ℕ) → RoundsAlike limit → (x : Option (Round one)) (y : Option (Round other)) → OnBoth (RoundEnds one other c) x y
-        → Alike (OnBoth (RoundsEnd one other c)) (next_round one (rounds one limit) x) (next_round other (rounds other limit) y)
+    next_alike : (limit : ℕ) → RoundsAlike limit → (x : Option (Round one)) (y : Option (Round other)) → OnBoth (RoundEndsTogether one other c) x y
+        → Alike (OnBoth (RoundsEndTogether one other c)) (next_round one (rounds one limit) x) (next_round other (rounds other limit) y)
     next_alike limit rest None None e = tt
     next_alike limit rest (Some x) (Some y) e = settled_alike limit rest x.left y.left e.left x.table y.table e.table x.certainty y.certainty e.certainty x.changed y.changed e.changed
     next_alike limit rest None (Some y) e = absurd e
@@ -136,14 +136,14 @@ module _ {Question Response OtherQuestion OtherResponse : Type 0} (one : Operati
     pub rounds_alike : (limit : ℕ) → RoundsAlike limit
     rounds_alike zero ns ms g T U t = record { table = t; left = g; certainty = refl }
     rounds_alike (suc limit) ns ms g T U t =
-        alike_followed (OnBoth (RoundEnds one other c)) (OnBoth (RoundsEnd one other c)) (next_round one (rounds one limit)) (next_round other (rounds other limit))
+        alike_followed (OnBoth (RoundEndsTogether one other c)) (OnBoth (RoundsEndTogether one other c)) (next_round one (rounds one limit)) (next_round other (rounds other limit))
         (λ x y e. next_alike limit (λ ks ls h V W v. rounds_alike limit ks ls h V W v) x y e) (round one ns T) (round other ms U) (round_alike ns ms g T U t)
 
     pub rounds_correspond : RoundsCorrespond one other c
     rounds_correspond = record {
-      of_round = λ ns ms T U replies others g t h. alike_runs (OnBoth (RoundEnds one other c)) (round one ns T) (round other ms U) (round_alike ns ms g T U t) replies others h;
+      of_round = λ ns ms T U replies others g t h. alike_runs (OnBoth (RoundEndsTogether one other c)) (round one ns T) (round other ms U) (round_alike ns ms g T U t) replies others h;
       of_rounds = λ limit ns ms T U replies others g t h.
-          alike_runs (OnBoth (RoundsEnd one other c)) (rounds one limit ns T) (rounds other limit ms U) (rounds_alike limit ns ms g T U t) replies others h;
+          alike_runs (OnBoth (RoundsEndTogether one other c)) (rounds one limit ns T) (rounds other limit ms U) (rounds_alike limit ns ms g T U t) replies others h;
     }
 
 module _ {Question Response OtherQuestion OtherResponse : Type 0} (one : Workings Question Response) (other : Workings OtherQuestion OtherResponse) (c : CandidateCorrespondence one other) where
@@ -154,7 +154,7 @@ module _ {Question Response OtherQuestion OtherResponse : Type 0} (one : Working
   Same R s t = Alike one.operations other.operations c.rounds R s t
 
   abbrev Ended : Option (Rounds one.operations) → Option (Rounds other.operations) → Type 0
-  Ended a b = OnBoth (RoundsEnd one.operations other.operations c.rounds) a b
+  Ended a b = OnBoth (RoundsEndTogether one.operations other.operations c.rounds) a b
 
   module _ (laws : IsCandidateCorrespondence one other c) where
     answered_alike : (x y : Certainty) → x ≡ y → (a : Option (Rounds one.operations)) (b : Option (Rounds other.operations)) → Ended a b
@@ -274,7 +274,7 @@ module _ {Question Response OtherQuestion OtherResponse : Type 0} (one : Working
   abbrev Anything : Question → Option Response → Type 0
   Anything q a = Unit {0}
 
-  told_alike : (p : Position Question (Option Response)) (x : Reply (Option Response)) → IsReply Anything p x
+  told_alike : (p : Position Question (Option Response)) (x : Reply (Option Response)) → IsAwaitedReply Anything p x
       → (q : Place) (y : OtherReply) → Replies one other c p x y → PositionsAlike p q → PositionsAlike (told x p) (told y q)
   told_alike =
       step Anything (λ p x after. (q : Place) (y : OtherReply) → Replies one other c p x y → PositionsAlike p q → PositionsAlike after (told y q))
@@ -295,9 +295,9 @@ module _ {Question Response OtherQuestion OtherResponse : Type 0} (one : Working
 
   module _ (f : Frame Question (Option Response)) (g : Frame OtherQuestion (Option OtherResponse)) (alike : FramesAlike [] f g) where
     abbrev Stays : List (Reply (Option Response)) → Position Question (Option Response) → Type 0
-    Stays heard p = (position f heard ≡ p) × ((replies : List OtherReply) → AreReplies one other c f heard replies → PositionsAlike p (position g replies))
+    Stays heard p = (position f heard ≡ p) × ((replies : List OtherReply) → RepliesCorrespond one other c f heard replies → PositionsAlike p (position g replies))
 
-    started : (replies : List OtherReply) → AreReplies one other c f (begin ∷ []) replies → PositionsAlike (between [] [] f) (position g replies)
+    started : (replies : List OtherReply) → RepliesCorrespond one other c f (begin ∷ []) replies → PositionsAlike (between [] [] f) (position g replies)
     started (begin ∷ []) h = alike
     started (begin ∷ y ∷ replies) h = absurd h.1
     started [] h = absurd h
@@ -306,16 +306,16 @@ module _ {Question Response OtherQuestion OtherResponse : Type 0} (one : Working
     starts : Stays (begin ∷ []) (between [] [] f)
     starts = (refl, started)
 
-    goes_to : (heard : List (Reply (Option Response))) (p : Position Question (Option Response)) (x : Reply (Option Response)) → IsReply Anything p x → Stays heard p
-        → (replies : List OtherReply) → AreReplies one other c f (x ∷ heard) replies → PositionsAlike (told x p) (position g replies)
+    goes_to : (heard : List (Reply (Option Response))) (p : Position Question (Option Response)) (x : Reply (Option Response)) → IsAwaitedReply Anything p x → Stays heard p
+        → (replies : List OtherReply) → RepliesCorrespond one other c f (x ∷ heard) replies → PositionsAlike (told x p) (position g replies)
     goes_to heard p x i stays [] h = absurd h
     goes_to heard p x i stays (y ∷ replies) h = told_alike p x i (position g replies) y (subst (λ z. Replies one other c z x y) stays.0 h.0) (stays.1 replies h.1)
 
-    goes : (heard : List (Reply (Option Response))) (p : Position Question (Option Response)) (x : Reply (Option Response)) → IsReply Anything p x → Stays heard p → Stays (x ∷ heard) (told x p)
+    goes : (heard : List (Reply (Option Response))) (p : Position Question (Option Response)) (x : Reply (Option Response)) → IsAwaitedReply Anything p x → Stays heard p → Stays (x ∷ heard) (told x p)
     goes heard p x i stays = (ap (told x) stays.0, goes_to heard p x i stays)
 
     -- alike frames make corresponding requests
-    pub asks_alike : (heard : List (Reply (Option Response))) (replies : List OtherReply) → AreReplies one other c f heard replies → CameInOrder Anything f heard
+    pub asks_alike : (heard : List (Reply (Option Response))) (replies : List OtherReply) → RepliesCorrespond one other c f heard replies → CameInOrder Anything f heard
         → Requests one other c (asks f heard) (asks g replies)
     asks_alike heard replies h came = requests_alike (position f heard) (position g replies) ((holds Anything f Stays starts goes heard came).1 replies h)
 

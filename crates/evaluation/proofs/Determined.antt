@@ -10,7 +10,7 @@ use Rattle.infer_table.specs.declared.canonical.CanonicalVarKind.TheVariants.{Ty
 use Rattle.infer_table.proofs.SolutionLaws.{is_variable-equal, is_variable-self}
 use Rattle.evaluation.specs.Lists.{Every, IsAmong}
 use Rattle.evaluation.specs.Instances.{read_with, put_in, default_label, of_sort, is_place, as_place, first_term, other_terms, term_at}
-use Rattle.evaluation.specs.Content.{Values, Fact, Terms, given, fits, standing, reading_of}
+use Rattle.evaluation.specs.Content.{Values, Fact, ChosenTerms, given, fits, standing, reading_of}
 use Rattle.evaluation.specs.FrameTables.{good_in, AreOwn, FrameTable, IsMadeFrame, HaveValues, Allows, Nested, slot_at, goal_in, question, fact}
 use Rattle.evaluation.specs.Finite.{default_terms, IsFree, IsDetermined, OwnDetermine}
 use Rattle.type_terms.proofs.Made.{false-true}
@@ -23,13 +23,13 @@ use Rattle.evaluation.proofs.Nodes.{AreNodes, nodes-proper, nodes-put, nodes-res
 
 -- ---- variables that can be all terms of their sort
 abbrev CanBeAll : FrameTable → Sort → Label → Type 0
-CanBeAll t j m = (x : Trees) → is_a j x ≡ true → (r : Terms) × Allows t r × (reading_of r m ≡ x)
+CanBeAll t j m = (x : Trees) → is_a j x ≡ true → (r : ChosenTerms) × Allows t r × (reading_of r m ≡ x)
 
 one-root : (l : Label) (c d : Trees) (a b : Label) → tree l c none ≡ leaf a → tree l d none ≡ leaf b → a ≡ b
 one-root l c d a b e f = cc
 
 -- what does not begin with an unknown is read with one root, or as a placeholder
-rigid-root : (p q : Terms) (x : Label) (d : Trees) (a b : Label) → is_rigid x ≡ true → ((k : Sort) → is_place k (leaf a) ≡ false) → read_with (standing p) (tree x d none) ≡ leaf a → read_with (standing q) (tree x d none) ≡ leaf b → a ≡ b
+rigid-root : (p q : ChosenTerms) (x : Label) (d : Trees) (a b : Label) → is_rigid x ≡ true → ((k : Sort) → is_place k (leaf a) ≡ false) → read_with (standing p) (tree x d none) ≡ leaf a → read_with (standing q) (tree x d none) ≡ leaf b → a ≡ b
 rigid-root p q (infer i w) d a b h n e f = absurd (false-true h)
 rigid-root p q (placeholder of_type i) d a b h n e f =
     let x = as_place of_type (term_at p.own.terms i) in
@@ -53,7 +53,7 @@ rigid-root p q l d a b h n e f = one-root _ _ _ a b e f
 never-rigid : (t : FrameTable) (j : Sort) (m : Label) (x : Label) (d : Trees) → HasValues j → CanBeAll t j m → resolved t.content.bindings (leaf m) ≡ tree x d none → is_rigid x ≡ true → ⊥
 never-rigid t j m x d g can e h = by j g can
   where
-    read-as : (r : Terms) (z : Trees) → Allows t r → reading_of r m ≡ z → read_with (standing r) (tree x d none) ≡ z
+    read-as : (r : ChosenTerms) (z : Trees) → Allows t r → reading_of r m ≡ z → read_with (standing r) (tree x d none) ≡ z
     read-as r z a q = ap (read_with (standing r)) (sym e) ∙ read-resolved (good_in t) r t.content.bindings a.made.table.values a.hold (leaf m) ∙ q
 
     apart : bool ≡ char → ⊥
@@ -88,7 +88,7 @@ with-default-sorted k v u h j w = by (is_variable j w k v) refl
     by true e = default-sort k ∙ sym (is_variable-equal j k w v e).0
     by false e = h j w
 
-reading-unknown : (s : Terms) (k : Sort) → HasValues k → (v : ℕ) → reading_of s (infer k v) ≡ tree_of (s.unknowns k v)
+reading-unknown : (s : ChosenTerms) (k : Sort) → HasValues k → (v : ℕ) → reading_of s (infer k v) ≡ tree_of (s.unknowns k v)
 reading-unknown s of_type g v = refl
 reading-unknown s of_const g v = refl
 reading-unknown s of_lifetime g v = absurd g
@@ -98,7 +98,7 @@ goal-nodes : (t : FrameTable) → IsMadeFrame t → (x : Trees) → AreNodes (re
 goal-nodes t made x =
     nodes-resolved t.kinds t.content.ty_vars t.content.const_vars t.content.bindings made.table.values (put_in (slot_at t.labels) x) (nodes-put t.kinds t.content.ty_vars t.content.const_vars t.labels made.leaves x)
 
-module _ (t : FrameTable) (s : Terms) (a : Allows t s) (k : Sort) (g : HasValues k) (v : ℕ) where
+module _ (t : FrameTable) (s : ChosenTerms) (a : Allows t s) (k : Sort) (g : HasValues k) (v : ℕ) where
   abbrev bindings : List Binding
   bindings = t.content.bindings
 
@@ -108,13 +108,13 @@ module _ (t : FrameTable) (s : Terms) (a : Allows t s) (k : Sort) (g : HasValues
   base-sorted : (j : Sort) (w : ℕ) → sort_of (base j w).0 ≡ j
   base-sorted j w = with-default-sorted k v s.unknowns a.sorted j w
 
-  abbrev low : Terms
+  abbrev low : ChosenTerms
   low = based (good_in t) t.content a.made.table.values a.made.table.acyclic s.own base base-sorted
 
-  abbrev filled : Terms
+  abbrev filled : ChosenTerms
   filled = completed (good_in t) t.content a.made.table.values a.made.table.acyclic s.own base base-sorted
 
-  abbrev other : Terms
+  abbrev other : ChosenTerms
   other = record { own = s.own; slots = map (reading_of filled) t.labels; unknowns = filled.unknowns; proper = s.own.proper && fits (map Some t.kinds) s.own.terms }
 
   other-reads : (x : Trees) → IsProper x → read_with (standing other) x ≡ read_with (standing low) (resolved bindings x)
@@ -162,7 +162,7 @@ module _ (t : FrameTable) (s : Terms) (a : Allows t s) (k : Sort) (g : HasValues
   IsOwnValue ts = (j : Sort) × (i : ℕ) × (reading_of s (infer k v) ≡ of_sort j (term_at ts i))
 
   abbrev AreFreeFrom : List CanonicalVarKind → List Label → Type 0
-  AreFreeFrom ks labels = (x : Trees) → (r : Terms) × Allows t r × HaveValues ks (map (λ z. x) ks) (map (reading_of r) labels)
+  AreFreeFrom ks labels = (x : Trees) → (r : ChosenTerms) × Allows t r × HaveValues ks (map (λ z. x) ks) (map (reading_of r) labels)
 
   later : (ts : List Trees) (T : Type 0) → IsOwnValue (other_terms ts) ⊎ T → IsOwnValue ts ⊎ T
   later ts T (inl x) = inl (x.0, suc x.1, x.2)
@@ -244,7 +244,7 @@ open-in-clause (param k v) x = record { children = x.children; node = x.node; is
 open-in-clause (placeholder k v) x = record { children = x.children; node = x.node; is_open = x.is_open }
 open-in-clause l x = absurd (false-true x.is_open)
 
-module _ (t : FrameTable) (n : Nested) (free : IsFree t) (determined : IsDetermined t n) (s : Terms) (a : Allows t s) where
+module _ (t : FrameTable) (n : Nested) (free : IsFree t) (determined : IsDetermined t n) (s : ChosenTerms) (a : Allows t s) where
   leaf-node : (l : Label) → StandsInGoal (goal_in t n) l → IsOpenNode kind_of_leaf l
   leaf-node l (inl i) = open-in-clause l (open-node kind_in_clause (goal_in t n).environment (goal-nodes t a.made n.goal.environment) l i)
   leaf-node l (inr i) = open-node kind_of_leaf (goal_in t n).predicate (goal-nodes t a.made n.goal.predicate) l i
@@ -274,7 +274,7 @@ module _ (t : FrameTable) (n : Nested) (free : IsFree t) (determined : IsDetermi
       (every-leaf kind_in_clause (λ l. IsAmong (reading_of s l) (s.own.terms ++ default_terms)) [] (goal_in t n).environment tt (λ l i. leaf-made l (inl i)))
       (λ l i. leaf-made l (inr i))
 
-terms-of : (s : Terms) (choices : List Trees) (ls : List Label) → Every (λ l. IsAmong (reading_of s l) choices) ls → AreOf choices (map kind_of_leaf ls) (map (reading_of s) ls)
+terms-of : (s : ChosenTerms) (choices : List Trees) (ls : List Label) → Every (λ l. IsAmong (reading_of s l) choices) ls → AreOf choices (map kind_of_leaf ls) (map (reading_of s) ls)
 terms-of s choices [] h = tt
 terms-of s choices (l ∷ ls) h = (h.0, terms-of s choices ls h.1)
 

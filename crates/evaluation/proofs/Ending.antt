@@ -17,8 +17,8 @@ use Rattle.evaluation.specs.declared.context.EvalStep.TheVariants.{Ready, Ask}
 use Rattle.evaluation.specs.declared.error.EvalError.{EvalError}
 use Rattle.evaluation.specs.declared.error.EvalError.TheVariants.{NoSolution, Fault}
 use Rattle.evaluation.specs.Context.{Context}
-use Rattle.evaluation.specs.Ends.{IsRefused, Awaits, EndsIn, IsAnswered, AnswerEnds}
-use Rattle.evaluation.specs.Evaluating.{Question, NestedTrees, evaluation, question_of, goals_trees, replies_trees}
+use Rattle.evaluation.specs.Ends.{RunIsRefused, Awaits, EndsIn, ContextIsAnswered, AnswerEnds}
+use Rattle.evaluation.specs.Evaluating.{AskedQuestion, NestedTrees, evaluation, question_of, goals_trees, replies_trees}
 use Rattle.evaluation.proofs.OwnAnswers.{same-answer}
 use Rattle.evaluation.specs.Frames.{FrameTrees, begun, fresh, equate, nested_filled}
 use Rattle.evaluation.specs.Trial.{SpecTrees, answered, asked, equated, candidate}
@@ -28,18 +28,18 @@ use Rattle.infer_table.specs.declared.canonical.CanonicalVarKind.{CanonicalVarKi
 
 module _ (mode : TypingMode) (es : List Entry) (old new : Context) (t : FrameTrees) (c : Certainty) (kinds : old.variables ≡ t.kinds) (own : values_of es old.values ≡ t.own) where
   abbrev RoundsRun : Type 0
-  RoundsRun = Run Question (Option AnswerTrees) (Option (Rounds (evaluation mode)))
+  RoundsRun = Run AskedQuestion (Option AnswerTrees) (Option (Rounds (evaluation mode)))
 
-  refused-so : (r : RoundsRun) → IsRefused r → IsRefused (onward (answered mode t c) r)
+  refused-so : (r : RoundsRun) → RunIsRefused r → RunIsRefused (onward (answered mode t c) r)
   refused-so (ready None more) h = tt
   refused-so (ready (Some o) more) h = absurd h
   refused-so (waits q) h = absurd h
 
-  waits-so : (r : RoundsRun) (q : Question) → Awaits r q → Awaits (onward (answered mode t c) r) q
+  waits-so : (r : RoundsRun) (q : AskedQuestion) → Awaits r q → Awaits (onward (answered mode t c) r) q
   waits-so (ready o more) q h = absurd h
   waits-so (waits p) q h = h
 
-  ready-so : (answer : CanonicalResponse) (r : RoundsRun) → EndsIn (λ o more. IsAnswered mode es old new c answer o) r
+  ready-so : (answer : CanonicalResponse) (r : RoundsRun) → EndsIn (λ o more. ContextIsAnswered mode es old new c answer o) r
       → EndsIn (λ a more. answer_trees es answer ≡ a) (onward (answered mode t c) r)
   ready-so answer (ready None more) h = absurd h
   ready-so answer (ready (Some o) more) h = h.is ∙ same-answer _ _ _ _ o.table o.table (joined c o.certainty) (joined c o.certainty) kinds own refl refl

@@ -4,7 +4,7 @@ use Rattle.evaluation.specs.declared.TheConstants.{FIXPOINT_STEP_LIMIT}
 use Rattle.evaluation.specs.Lists.{IsAmong, IsNoneOf}
 use Rattle.evaluation.specs.Table.{Tables, IsTable}
 use Rattle.evaluation.specs.Frame.{Finished}
-use Rattle.evaluation.specs.Law.{AnsweredYes, Counts, IsInstance, Covers}
+use Rattle.evaluation.specs.Law.{AnsweredYes, Counts, IsInstance, AnswerCovers}
 use Rattle.evaluation.specs.Handler.{Handled, AnswerWithin, IsHandler, FollowsFrom}
 use Rattle.evaluation.specs.History.{finished_in, ignored_in}
 use Rattle.evaluation.specs.Promises.{frame_of_goal, Anything, Fair, DefiniteYesFollows, AnswerCoversGoal, IsBounded, KeepsNumber, IgnoresFinishedOnce}
@@ -64,7 +64,7 @@ module _ {Question Response : Type 0} (t : Tables Question Response) (laws : IsT
 
   pub covers_goal : AnswerCoversGoal t h
   covers_goal w heard a came e =
-      at_the_end (Covers t (h.Proves w)) (FrameCovers t laws h handler FIXPOINT_STEP_LIMIT w) (frame_of_goal t h)
+      at_the_end (AnswerCovers t (h.Proves w)) (FrameCovers t laws h handler FIXPOINT_STEP_LIMIT w) (frame_of_goal t h)
       (frame_covers t laws h handler FIXPOINT_STEP_LIMIT w (suc h.candidates) [] [] tt refl tt) heard a came e
 
   -- ---- no question and no answer is wider than the handler allows

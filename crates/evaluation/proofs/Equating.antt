@@ -10,9 +10,9 @@ use Rattle.infer_table.proofs.SolutionLaws.{is_sort-equal as is-sort}
 use Rattle.evaluation.specs.Lists.{Every}
 use Rattle.evaluation.specs.Instances.{put_in, default_label, as_place, term_at}
 use Rattle.type_terms.specs.Made.{Standing, terms, bounds, traits, is_leaf_label, is_made}
-use Rattle.evaluation.specs.Content.{Values, Terms, standing, given}
-use Rattle.evaluation.specs.Equations.{AreOne, Hold, IsTerm, IsPair, HasLifetimes, IsMade, IsAfter, IsApart}
-use Rattle.evaluation.specs.FrameTables.{is_good, FrameTable, IsMadeFrame, Allows, AllowsApart, label_at, label_of_sort, slot_at, Equation, is_open_label, term_of, Meets, pair_in, and_then, in_turn, good_in, pairs_in}
+use Rattle.evaluation.specs.Content.{Values, ChosenTerms, standing, given}
+use Rattle.evaluation.specs.Equations.{AreOne, Hold, IsTermOf, IsTermPair, HasLifetimes, IsMadeTable, IsAfter, IsApart}
+use Rattle.evaluation.specs.FrameTables.{is_good, FrameTable, IsMadeFrame, Allows, AllowsApart, label_at, label_of_sort, slot_at, Equation, is_open_label, term_of, EquationIsMet, pair_in, and_then, in_turn, good_in, pairs_in}
 use Rattle.evaluation.specs.TableOperations.{with_content}
 use Rattle.std.specs.Prelude.{option_map}
 use Rattle.evaluation.proofs.Reading.{read-put, append-none}
@@ -224,21 +224,21 @@ single-put good ls h (tree l c o) s = subst (λ z. Single (put_in (slot_at ls) (
 pub slots-of : (t : FrameTable) → IsMadeFrame t → AreSlots (good_in t) t.labels
 slots-of t made = frame-slots t.kinds t.content.ty_vars t.content.const_vars t.labels made.leaves
 
-pair-terms : (t : FrameTable) → IsMadeFrame t → (e : Equation) → IsPair (good_in t) (pair_in t e)
+pair-terms : (t : FrameTable) → IsMadeFrame t → (e : Equation) → IsTermPair (good_in t) (pair_in t e)
 pair-terms t made e = (one e.left, one e.right)
   where
-    one : (v : Value) → IsTerm (good_in t) (put_in (slot_at t.labels) (term_of v))
+    one : (v : Value) → IsTermOf (good_in t) (put_in (slot_at t.labels) (term_of v))
     one v = record {
       single = single-put (good_in t) t.labels (slots-of t made) (term_of v) (term-single v);
       made = made-put (good_in t) t.labels (slots-of t made) terms (term_of v) (term-made v);
     }
 
-pub pairs-terms : (t : FrameTable) → IsMadeFrame t → (es : List Equation) → Every (IsPair (good_in t)) (pairs_in t es)
+pub pairs-terms : (t : FrameTable) → IsMadeFrame t → (es : List Equation) → Every (IsTermPair (good_in t)) (pairs_in t es)
 pairs-terms t made [] = tt
 pairs-terms t made (e ∷ es) = (pair-terms t made e, pairs-terms t made es)
 
 -- the equation is met exactly where its pair is read as one term
-pub pair-reads : (t : FrameTable) (s : Terms) → Allows t s → (e : Equation) → (AreOne s (pair_in t e) → Meets e s) × (Meets e s → AreOne s (pair_in t e))
+pub pair-reads : (t : FrameTable) (s : ChosenTerms) → Allows t s → (e : Equation) → (AreOne s (pair_in t e) → EquationIsMet e s) × (EquationIsMet e s → AreOne s (pair_in t e))
 pair-reads t s a e =
     let side = λ (v : Value). read-put (standing s) (given s.slots) (slot_at t.labels) (put-in-slots s a.sorted t.labels a.slots) (term_of v) in
     (λ h. sym (side e.left) ∙ h ∙ side e.right, λ h. side e.left ∙ h ∙ sym (side e.right))
@@ -254,25 +254,25 @@ module _ (good : Label → Bool) (opens : HasLifetimes good) where
   -- what equations in turn leave
   pub record InTurn (t : TableTrees) (todo : Worklist) (u : TableTrees) : Type 0 where
     pub after : IsAfter good t u
-    pub only : (s : Terms) → Hold s u → Hold s t × Every (AreOne s) todo
+    pub only : (s : ChosenTerms) → Hold s u → Hold s t × Every (AreOne s) todo
 
-  in-turn-on : (t w u : TableTrees) (e : Trees × Trees) (todo : Worklist) → IsAfter good t w → ((s : Terms) → Hold s w → Hold s t × Every (AreOne s) (e ∷ [])) → InTurn w todo u → InTurn t (e ∷ todo) u
+  in-turn-on : (t w u : TableTrees) (e : Trees × Trees) (todo : Worklist) → IsAfter good t w → ((s : ChosenTerms) → Hold s w → Hold s t × Every (AreOne s) (e ∷ [])) → InTurn w todo u → InTurn t (e ∷ todo) u
   in-turn-on t w u e todo a f x = record {
     after = record { made = x.after.made; ty_vars = x.after.ty_vars ∙ a.ty_vars; const_vars = x.after.const_vars ∙ a.const_vars };
     only = λ s h. let y = x.only s h in let z = f s y.0 in (z.0, (z.1.0, y.1));
   }
 
-  pub in-turn-narrows : (todo : Worklist) (t u : TableTrees) → IsMade good t → Every (IsPair good) todo → in_turn todo t ≡ Some u → InTurn t todo u
+  pub in-turn-narrows : (todo : Worklist) (t u : TableTrees) → IsMadeTable good t → Every (IsTermPair good) todo → in_turn todo t ≡ Some u → InTurn t todo u
   in-turn-narrows [] t u m p e = subst (InTurn t []) (some-is t u e) (record { after = record { made = m; ty_vars = refl; const_vars = refl }; only = λ s h. (h, tt) })
   in-turn-narrows (x ∷ todo) t u m p e = by (unified t (x ∷ [])) refl e (λ w n q. in-turn-narrows todo w u n p.1 q)
     where
-      by : (o : Option TableTrees) → unified t (x ∷ []) ≡ o → and_then (in_turn todo) o ≡ Some u → ((w : TableTrees) → IsMade good w → in_turn todo w ≡ Some u → InTurn w todo u) → InTurn t (x ∷ todo) u
+      by : (o : Option TableTrees) → unified t (x ∷ []) ≡ o → and_then (in_turn todo) o ≡ Some u → ((w : TableTrees) → IsMadeTable good w → in_turn todo w ≡ Some u → InTurn w todo u) → InTurn t (x ∷ todo) u
       by None q e f = none-some u (InTurn t (x ∷ todo) u) e
       by (Some w) q e f =
           let a = equations_stay_made good t (x ∷ []) w opens m (p.0, tt) q in
           in-turn-on t w u x todo a (equations_narrow good t (x ∷ []) w opens m (p.0, tt) q) (f w a.made e)
 
-  pub in-turn-keeps : (todo : Worklist) (t : TableTrees) (s : Terms) → IsMade good t → Every (IsPair good) todo → IsApart good s → Hold s t → Every (AreOne s) todo
+  pub in-turn-keeps : (todo : Worklist) (t : TableTrees) (s : ChosenTerms) → IsMadeTable good t → Every (IsTermPair good) todo → IsApart good s → Hold s t → Every (AreOne s) todo
       → (u : TableTrees) × (in_turn todo t ≡ Some u) × Hold s u
   in-turn-keeps [] t s m p a h o = (t, refl, h)
   in-turn-keeps (x ∷ todo) t s m p a h o =
@@ -291,7 +291,7 @@ frame-after t made u a =
     let same : is_good t.kinds t.content.ty_vars t.content.const_vars ≡ is_good t.kinds u.ty_vars u.const_vars =
     ap (λ n. is_good t.kinds n t.content.const_vars) (sym a.ty_vars) ∙ ap (λ n. is_good t.kinds u.ty_vars n) (sym a.const_vars) in
     record {
-      table = subst (λ g. IsMade g u) same a.made;
+      table = subst (λ g. IsMadeTable g u) same a.made;
       leaves = subst (λ (g : Label → Bool). Every (λ l. is_made g terms (leaf l) ≡ true) t.labels) same made.leaves;
       own = made.own;
     }
@@ -310,7 +310,7 @@ with-content-is t (Some c) u e = (c, refl, some-is (with_content t c) u e)
 
 -- ---- the laws of equations over frames
 -- terms that tell the placeholders of a table apart lose nothing, nor do those with other unknowns
-pub further-apart : (t : FrameTable) (s r : Terms) (a b : ℕ) → AllowsApart t s → r.own ≡ s.own → IsSorted r.unknowns → IsApart (is_good t.kinds a b) r
+pub further-apart : (t : FrameTable) (s r : ChosenTerms) (a b : ℕ) → AllowsApart t s → r.own ≡ s.own → IsSorted r.unknowns → IsApart (is_good t.kinds a b) r
 further-apart t s r a b h e sorted = record { sorted = sorted; no_parameter = parameter; apart = placeholders }
   where
     parameter : (k : Sort) (i : ℕ) → HasValues k → is_good t.kinds a b (param k i) ≡ true → ⊥
@@ -327,5 +327,5 @@ further-apart t s r a b h e sorted = record { sorted = sorted; no_parameter = pa
         → as_place k (term_at r.own.terms i) ≡ as_place k (term_at r.own.terms j) → i ≡ j
     placeholders k i j v g g' q = h.apart k i j g g' (subst (λ (o : Values). as_place k (term_at o.terms i) ≡ as_place k (term_at o.terms j)) e q) (value-sort k v)
 
-pub is-apart : (t : FrameTable) (s : Terms) → AllowsApart t s → IsApart (good_in t) s
+pub is-apart : (t : FrameTable) (s : ChosenTerms) → AllowsApart t s → IsApart (good_in t) s
 is-apart t s h = further-apart t s s t.content.ty_vars t.content.const_vars h refl h.allowed.sorted

@@ -7,7 +7,7 @@ use Rattle.infer_table.specs.declared.canonical.CanonicalVarKind.{CanonicalVarKi
 use Rattle.evaluation.specs.Lists.{IsAmong}
 use Rattle.evaluation.proofs.Unfold.{among-left, among-right, among-map, among-parts}
 use Rattle.evaluation.specs.Instances.{default_label, of_sort, is_place, as_place, term_at}
-use Rattle.evaluation.specs.Content.{Values, Question}
+use Rattle.evaluation.specs.Content.{Values, NestedQuestion}
 use Rattle.evaluation.specs.Finite.{default_terms, each_before, lists_of, marked, made_of, MadeOfIsClosed}
 use Rattle.type_terms.proofs.Made.{false-true}
 use Rattle.evaluation.proofs.Questions.{sort-of-sort, not-of-sort}
@@ -72,7 +72,7 @@ each-of c (k ∷ ks) (u ∷ us) h t (inl e) = subst (λ z. IsAmong z c) (sym e) 
 each-of c (k ∷ ks) (u ∷ us) h t (inr a) = each-of c ks us h.1 t a
 
 -- ---- values
-pub made-hold : (q : Question) (v : Values) (b : Bool) (ts : List Trees) → AreOf (v.terms ++ default_terms) q.form.kinds ts → IsAmong (marked b ts) (made_of q v)
+pub made-hold : (q : NestedQuestion) (v : Values) (b : Bool) (ts : List Trees) → AreOf (v.terms ++ default_terms) q.form.kinds ts → IsAmong (marked b ts) (made_of q v)
 made-hold q v b ts h = by b (lists-hold (v.terms ++ default_terms) q.form.kinds ts h)
   where
     by : (b : Bool) → IsAmong ts (lists_of (v.terms ++ default_terms) q.form.kinds) → IsAmong (marked b ts) (made_of q v)
@@ -83,7 +83,7 @@ made-hold q v b ts h = by b (lists-hold (v.terms ++ default_terms) q.form.kinds 
         among-right (marked false ts) (map (marked true) (lists_of (v.terms ++ default_terms) q.form.kinds)) (map (marked false) (lists_of (v.terms ++ default_terms) q.form.kinds))
         (among-map (marked false) ts (lists_of (v.terms ++ default_terms) q.form.kinds) a)
 
-pub made-are : (q : Question) (v w : Values) → IsAmong w (made_of q v) → AreOf (v.terms ++ default_terms) q.form.kinds w.terms
+pub made-are : (q : NestedQuestion) (v w : Values) → IsAmong w (made_of q v) → AreOf (v.terms ++ default_terms) q.form.kinds w.terms
 made-are q v w a =
     by (among-parts w (map (marked true) (lists_of (v.terms ++ default_terms) q.form.kinds)) (map (marked false) (lists_of (v.terms ++ default_terms) q.form.kinds)) a)
   where

@@ -7,7 +7,7 @@ use Rattle.evaluation.specs.Lists.{Every, SomeOf, IsAmong, IsNoneOf, IsDistinct}
 use Rattle.evaluation.specs.Frame.{Finished, numbers}
 use Rattle.evaluation.specs.Table.{Tables, workings, IsTable}
 use Rattle.evaluation.specs.Candidate.{Spec, Considered, Next, consider, answer, candidate, goes_on, frame, IsHistory, used_numbers}
-use Rattle.evaluation.specs.Law.{IsYes, AnsweredYes, Counts, IsInstance, AgreesTo, Covers, Realizes}
+use Rattle.evaluation.specs.Law.{IsYes, AnsweredYes, Counts, IsInstance, AgreesTo, AnswerCovers, Realizes}
 use Rattle.evaluation.specs.Handler.{Handled, IsHandler, FollowsFrom}
 use Rattle.evaluation.specs.Promises.{Anything}
 use Rattle.evaluation.proofs.ListLaws.{Every-mono, Every-at, Every-among, Every-map, SomeOf-both, SomeOf-found, SomeOf-at}
@@ -136,16 +136,16 @@ module _ {Question Response : Type 0} (t : Tables Question Response) (laws : IsT
 
     abbrev Covering : ℕ → Type 0
     Covering fuel = (seen : List (Considered (workings t))) (heard : Heard t h) → IsHistory (workings t) h.next seen → Matches t h seen heard → Every IsCovered seen
-        → FrameLeads (Covers t (h.Proves w)) FrameCovers heard (frame (workings t) limit h.begin h.next fuel seen)
+        → FrameLeads (AnswerCovers t (h.Proves w)) FrameCovers heard (frame (workings t) limit h.begin h.next fuel seen)
 
     covers_on : (fuel : ℕ) (seen : List (Considered (workings t))) (heard : Heard t h) (n : Next (workings t)) → h.next seen ≡ n → IsHistory (workings t) h.next seen → Matches t h seen heard → Every IsCovered seen → Covering fuel
-        → FrameLeads (Covers t (h.Proves w)) FrameCovers heard (goes_on (workings t) limit h.begin h.next (frame (workings t) limit h.begin h.next fuel) seen n)
+        → FrameLeads (AnswerCovers t (h.Proves w)) FrameCovers heard (goes_on (workings t) limit h.begin h.next (frame (workings t) limit h.begin h.next fuel) seen n)
     covers_on fuel seen heard (answer a ignored) e hist m d rest = λ v p.
         let law = handler.answer seen a ignored hist e in
         law.merged w v (SomeOf-both IsCovered (λ c. Realizes t (h.Proves w) h.begin v c.spec) (λ c. AgreesTo t c.response v) (λ c f r. f v r) seen d (law.cover w v p))
     covers_on fuel seen heard (consider c) e hist m d rest =
-        Leads-mono (Covers t (h.Proves w)) (λ replies a. (v : t.Values) → Realizes t (h.Proves w) h.begin v c → AgreesTo t a v)
-        (λ replies a. (n : ℕ) → IsNoneOf n (numbers heard) → FrameLeads (Covers t (h.Proves w)) FrameCovers ((n, replies) ∷ heard) (frame (workings t) limit h.begin h.next fuel (record { spec = c; response = a; number = n } ∷ seen)))
+        Leads-mono (AnswerCovers t (h.Proves w)) (λ replies a. (v : t.Values) → Realizes t (h.Proves w) h.begin v c → AgreesTo t a v)
+        (λ replies a. (n : ℕ) → IsNoneOf n (numbers heard) → FrameLeads (AnswerCovers t (h.Proves w)) FrameCovers ((n, replies) ∷ heard) (frame (workings t) limit h.begin h.next fuel (record { spec = c; response = a; number = n } ∷ seen)))
         (λ replies a g n new. rest (record { spec = c; response = a; number = n } ∷ seen) ((n, replies) ∷ heard) (e, new_number t h n seen heard m new, hist) (ap (λ ns. n ∷ ns) m) (g, d))
         [] (candidate (workings t) limit h.begin c) (candidate_keeps t laws (h.Proves w) limit h.begin c)
 

@@ -11,7 +11,7 @@ use Rattle.infer_table.proofs.Places.{place, trees-of, trees-proper}
 use Rattle.evaluation.specs.Lists.{Every}
 use Rattle.evaluation.specs.Instances.{read_with, of_sort}
 use Rattle.type_terms.specs.Made.{Standing, terms, is_made}
-use Rattle.evaluation.specs.Content.{Values, Terms, standing, Stands}
+use Rattle.evaluation.specs.Content.{Values, ChosenTerms, standing, UnknownStands}
 use Rattle.evaluation.specs.Equations.{IsValue, Hold}
 use Rattle.type_terms.proofs.Made.{false-true}
 use Rattle.evaluation.proofs.Reading.{append-none, read-append, GiveOne, same-standing}
@@ -68,14 +68,14 @@ every-member P (b ∷ bs) f = (f b (inl refl), every-member P bs (λ c m. f c (i
 
 -- ---- terms for all unknowns, by terms for those without value
 module _ (good : Label → Bool) (t : TableTrees) (values : Every (IsValue good) t.bindings) (acyclic : Acyclic t.bindings) (own : Values) (base : Assignment) (base_sorted : (k : Sort) (v : ℕ) → sort_of (base k v).0 ≡ k) where
-  abbrev pub based : Terms
+  abbrev pub based : ChosenTerms
   based = record { own = own; slots = []; unknowns = base; proper = true }
 
   -- what the unknown resolves to, read
   abbrev pub resolved_node : Assignment
   resolved_node k v = node_of k (of_sort k (read_with (standing based) (resolved t.bindings (leaf (infer k v)))))
 
-  abbrev pub completed : Terms
+  abbrev pub completed : ChosenTerms
   completed = record { own = own; slots = []; unknowns = resolved_node; proper = true }
 
   one-is-a : (k : Sort) (x : Trees) → HasValues k → IsOne k x → is_a k x ≡ true
@@ -126,7 +126,7 @@ module _ (good : Label → Bool) (t : TableTrees) (values : Every (IsValue good)
 
   -- so each unknown stands for its value
   pub completed-holds : Hold completed t
-  completed-holds = every-member (Stands completed) t.bindings (λ b m.
+  completed-holds = every-member (UnknownStands completed) t.bindings (λ b m.
       let i = member-value t.bindings values b m in
       node-reads b.sort b.var i.sort
       ∙ ap (read_with (standing based)) (resolved-bound t.bindings b.sort b.var b.value acyclic (value-of t.bindings acyclic b m))

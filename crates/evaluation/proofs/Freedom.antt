@@ -14,7 +14,7 @@ use Rattle.infer_table.proofs.UnifyFacts.{same-is}
 use Rattle.evaluation.specs.Lists.{Every}
 use Rattle.evaluation.specs.Instances.{read_with, of_sort, first_term, other_terms, term_at}
 use Rattle.type_terms.specs.Made.{terms, is_made}
-use Rattle.evaluation.specs.Content.{Values, Terms, fits, standing, reading_of}
+use Rattle.evaluation.specs.Content.{Values, ChosenTerms, fits, standing, reading_of}
 use Rattle.evaluation.specs.FrameTables.{kind_at, is_placeholder_of, is_good, AreOwn, FrameTable, IsMadeFrame, HaveValues, Allows}
 use Rattle.evaluation.specs.TableAnswers.{is_variable_itself, are_variables, has_values, own_labels, answer_leaves, numbered, value_numbered, respond}
 use Rattle.infer_table.specs.declared.certainty.Certainty.TheVariants.{Yes}
@@ -237,7 +237,7 @@ module _ (t : FrameTable) (made : IsMadeFrame t) where
     base-sorted : (k : Sort) (n : ℕ) → sort_of (base k n).0 ≡ k
     base-sorted k n = (node-is k (chosen_value value k n own v.terms)).sort
 
-    abbrev whole : Terms
+    abbrev whole : ChosenTerms
     whole = completed good t.content made.table.values made.table.acyclic v base base-sorted
 
     label-of : (x y : Label) (c : Trees) → leaf x ≡ tree y c none → x ≡ y
@@ -329,7 +329,7 @@ module _ (t : FrameTable) (made : IsMadeFrame t) (v : Values) (free : AreFree (v
   have-all place (PlaceholderTy ∷ ks) (l ∷ labels) ts o m r = have-all (suc place) ks labels (other_terms ts) o.1 m.1 (rest-on place PlaceholderTy ks l labels ts r)
   have-all place (PlaceholderConst ∷ ks) (l ∷ labels) ts o m r = have-all (suc place) ks labels (other_terms ts) o.1 m.1 (rest-on place PlaceholderConst ks l labels ts r)
 
-  abbrev final : Terms
+  abbrev final : ChosenTerms
   final = record {
     own = v;
     slots = map (reading_of (whole t made v free)) t.labels;
@@ -349,7 +349,7 @@ module _ (t : FrameTable) (made : IsMadeFrame t) (v : Values) (free : AreFree (v
   }
 
 -- where the answer is a yes without values, the variables of the goal can have all values
-pub respond_free : (t : FrameTable) → IsMadeFrame t → has_values (respond t Yes) ≡ false → (v : Values) → (s : Terms) × Allows t s × (s.own ≡ v)
+pub respond_free : (t : FrameTable) → IsMadeFrame t → has_values (respond t Yes) ≡ false → (v : Values) → (s : ChosenTerms) × Allows t s × (s.own ≡ v)
 respond_free t made h v =
     let free = all-free t made 0 t.kinds t.labels made.leaves (not-false (are_variables 0 (map (value_numbered t) (own_labels t.kinds t.labels))) h) in
     (final t made v free, final-allowed t made v free, refl)

@@ -3,7 +3,7 @@ use Rattle.std.proofs.Common.{◌≡◌, ℕ, ◌+◌, ◌≤◌, ◌<◌, List,
 use Rattle.evaluation.specs.Lists.{Every, IsAmong, IsNoneOf, IsDistinct}
 use Rattle.evaluation.specs.Script.{Script, done, ask}
 use Rattle.evaluation.specs.Frame.{Frame, considers, answers, Finished, numbers}
-use Rattle.evaluation.specs.History.{Request, evaluate, ignore_candidate, returns, Reply, begin, entered, ignored, evaluated, finished, Position, between, inside, request, told, position, asks, IsReply, CameInOrder, finished_at, ignored_at, finished_in, ignored_in, results, others}
+use Rattle.evaluation.specs.History.{Request, evaluate, ignore_candidate, returns, Reply, begin, entered, ignored, evaluated, finished, Position, between, inside, request, told, position, asks, IsAwaitedReply, CameInOrder, finished_at, ignored_at, finished_in, ignored_in, results, others}
 use Rattle.evaluation.proofs.Scripts.{Leads, Asks, Within, FrameLeads, FrameAsks, RequestsAtMost}
 
 -- the newest first, turned round, before some more
@@ -40,7 +40,7 @@ module _ {Q A : Type 0} (R : Q → A → Type 0) where
       → C (inside heard replies (ask q k) go) (evaluated a) (inside heard ((q, a) ∷ replies) (k a) go))
       → ((heard : List (Finished Q A)) (replies : List (Q × A)) (a : A) (go : A → ℕ → Frame Q A) (n : ℕ) → IsNoneOf n (numbers heard)
       → C (inside heard replies (done a) go) (finished n) (between ((n, replies) ∷ heard) [] (go a n)))
-      → (p : Position Q A) (reply : Reply A) → IsReply R p reply → C p reply (told reply p)
+      → (p : Position Q A) (reply : Reply A) → IsAwaitedReply R p reply → C p reply (told reply p)
   step C e g r f (between heard gone (considers s go)) entered i = e heard gone s go
   step C e g r f (between heard gone (answers a (n ∷ ns))) ignored i = g heard gone a n ns
   step C e g r f (inside heard replies (ask q k) go) (evaluated a) i = r heard replies q k go a i
@@ -53,7 +53,7 @@ module _ {Q A : Type 0} (R : Q → A → Type 0) where
 
   -- what holds at the beginning and is kept by each reply
   pub holds : (f : Frame Q A) (Inv : List (Reply A) → Position Q A → Type 0) → Inv (begin ∷ []) (between [] [] f)
-      → ((heard : List (Reply A)) (p : Position Q A) (reply : Reply A) → IsReply R p reply → Inv heard p → Inv (reply ∷ heard) (told reply p))
+      → ((heard : List (Reply A)) (p : Position Q A) (reply : Reply A) → IsAwaitedReply R p reply → Inv heard p → Inv (reply ∷ heard) (told reply p))
       → (heard : List (Reply A)) → CameInOrder R f heard → Inv heard (position f heard)
   holds f Inv start on [] h = absurd h
   holds f Inv start on (begin ∷ []) h = start
@@ -114,7 +114,7 @@ module _ {Q A : Type 0} (R : Q → A → Type 0) where
   LeftAfter questions rest (evaluated a) p = (left : ℕ) × (left < questions) × LeftAt left rest p
   LeftAfter questions rest reply p = (left : ℕ) × (left < rest) × LeftAt questions left p
 
-  left_on : (questions rest : ℕ) (p : Position Q A) (reply : Reply A) → IsReply R p reply → LeftAt questions rest p → LeftAfter questions rest reply (told reply p)
+  left_on : (questions rest : ℕ) (p : Position Q A) (reply : Reply A) → IsAwaitedReply R p reply → LeftAt questions rest p → LeftAfter questions rest reply (told reply p)
   left_on questions rest =
       step (λ p reply q. LeftAt questions rest p → LeftAfter questions rest reply q)
       (λ before gone s go l. (l.0 + 1, (let x = l.1 in omega (arith, x)), (l.0, omega arith, l.2)))
@@ -126,7 +126,7 @@ module _ {Q A : Type 0} (R : Q → A → Type 0) where
   LeftNow questions rest heard p = (more : ℕ) × (left : ℕ) × (results heard + more ≤ questions) × (others heard + left ≤ rest) × LeftAt more left p
 
   now_on : (questions rest : ℕ) (heard : List (Reply A)) (p : Position Q A) (reply : Reply A) (x : LeftNow questions rest heard p) → LeftAfter x.0 x.1 reply (told reply p)
-      → (IsReply R p reply → LeftNow questions rest (reply ∷ heard) (told reply p))
+      → (IsAwaitedReply R p reply → LeftNow questions rest (reply ∷ heard) (told reply p))
   now_on questions rest heard p (evaluated a) x y i = (y.0, x.1, (let a = x.2 in let b = y.1 in omega (arith, a, b)), x.3, y.2)
   now_on questions rest heard p reply x y i = (x.0, y.0, x.2, (let a = x.3 in let b = y.1 in omega (arith, a, b)), y.2)
 

@@ -1,7 +1,7 @@
 -- A proof ends with a rule whose premises have proofs.
 use Rattle.std.proofs.Common.{Bool, true, false, if◌then◌else◌, List, [], ◌∷◌, ◌⊎◌, inl, inr, sym, subst}
 use Rattle.evaluation.specs.Lists.{Every, IsAmong}
-use Rattle.evaluation.specs.Proof.{Continues, facts, HasProof}
+use Rattle.evaluation.specs.Proof.{EntriesContinue, facts, FactHasProof}
 use Rattle.evaluation.proofs.ListLaws.{Every-mono}
 
 module _ (Fact : Type 0) (FollowsBy : Fact → List Fact → Type 0) (coinductive : Fact → Bool) where
@@ -13,7 +13,7 @@ module _ (Fact : Type 0) (FollowsBy : Fact → List Fact → Type 0) (coinductiv
   premises_among all earlier true ps sub e = e
   premises_among all earlier false ps sub e = Every-mono (λ p. IsAmong p earlier) (λ p. IsAmong p all) sub ps e
 
-  concludes : (all earlier : List Fact) (entries : List (Fact × List Fact)) → Continues Fact FollowsBy coinductive all earlier entries
+  concludes : (all earlier : List Fact) (entries : List (Fact × List Fact)) → EntriesContinue Fact FollowsBy coinductive all earlier entries
       → ((p : Fact) → IsAmong p earlier ⊎ IsAmong p (facts Fact FollowsBy coinductive entries) → IsAmong p all)
       → (f : Fact) → IsAmong f (facts Fact FollowsBy coinductive entries) → Concludes all f
   concludes all earlier [] c sub f i = absurd i
@@ -22,8 +22,8 @@ module _ (Fact : Type 0) (FollowsBy : Fact → List Fact → Type 0) (coinductiv
   concludes all earlier (e ∷ entries) c sub f (inr i) =
       concludes all (e.0 ∷ earlier) entries c.2 (λ p j. elim j [ inl k ↦ elim k [ inl x ↦ sub p (inr (inl x)) | inr y ↦ sub p (inl y) ] | inr k ↦ sub p (inr (inr k)) ]) f i
 
-  pub last_rule : (f : Fact) → HasProof Fact FollowsBy coinductive f → (premises : List Fact) × FollowsBy f premises × Every (HasProof Fact FollowsBy coinductive) premises
+  pub last_rule : (f : Fact) → FactHasProof Fact FollowsBy coinductive f → (premises : List Fact) × FollowsBy f premises × Every (FactHasProof Fact FollowsBy coinductive) premises
   last_rule f h =
       let all = facts Fact FollowsBy coinductive h.0 in
       let x = concludes all [] h.0 h.1 (λ p i. elim i [ inl a ↦ absurd a | inr b ↦ b ]) f h.2 in
-      (x.0, x.1, Every-mono (λ p. IsAmong p all) (HasProof Fact FollowsBy coinductive) (λ p i. (h.0, h.1, i)) x.0 x.2)
+      (x.0, x.1, Every-mono (λ p. IsAmong p all) (FactHasProof Fact FollowsBy coinductive) (λ p i. (h.0, h.1, i)) x.0 x.2)

@@ -6,14 +6,14 @@ use Rattle.infer_table.specs.declared.certainty.Certainty.{Certainty}
 use Rattle.infer_table.specs.Certainties.{unsettled, all_joined, is_certain}
 use Rattle.evaluation.specs.Operations.{is_yes}
 use Rattle.evaluation.specs.Table.{Tables, operations, IsTable}
-use Rattle.evaluation.specs.Merge.{TellsApart, IsTest, is_always_applicable, common, or_else, merge_by, flounder, merge_or_flounder, IsMerge}
+use Rattle.evaluation.specs.Merge.{TellsResponsesApart, IsTest, is_always_applicable, common, or_else, merge_by, flounder, merge_or_flounder, IsMergeOfResponses}
 use Rattle.evaluation.proofs.ListLaws.{Every-at, both-left, both-right, not-true}
 use Rattle.evaluation.proofs.Gains.{yes_certain, unsettled_no}
 
 pub always_is_test : {Question Response : Type 0} (t : Tables Question Response) → IsTest t (is_always_applicable t)
 always_is_test t r a = both-left (is_yes (operations t) r) (not (t.has_regions r)) a
 
-module _ {Question Response : Type 0} (t : Tables Question Response) (laws : IsTable t) (applicable : Response → Bool) (is_test : IsTest t applicable) (same : Response → Response → Bool) (is_same : TellsApart same)
+module _ {Question Response : Type 0} (t : Tables Question Response) (laws : IsTable t) (applicable : Response → Bool) (is_test : IsTest t applicable) (same : Response → Response → Bool) (is_same : TellsResponsesApart same)
     (begin : t.Table) (says_nothing : (c : Certainty) → t.has_values (t.respond begin c) ≡ false) where
   -- one of the list, that agrees with all that one of the list agrees with
   abbrev IsChosen : List Response → Option Response → Type 0
@@ -71,14 +71,14 @@ module _ {Question Response : Type 0} (t : Tables Question Response) (laws : IsT
   taken r None = r
   taken r (Some s) = s
 
-  merged_chosen : (rs : List Response) (r : Response) → IsChosen rs (Some r) → IsMerge t begin rs (Some r)
+  merged_chosen : (rs : List Response) (r : Response) → IsChosen rs (Some r) → IsMergeOfResponses t begin rs (Some r)
   merged_chosen rs r c = record {
     yes = λ y. c.0;
     covers = c.1;
     within = λ n b w. Every-at (λ s. t.number_in s ≤ n) (λ s. Some r ≡ Some s) (t.number_in r ≤ n) (λ s l e. subst (λ z. t.number_in z ≤ n) (sym (ap (taken r) e)) l) rs w c.0;
   }
 
-  floundered : (rs : List Response) → IsMerge t begin rs (flounder t begin rs)
+  floundered : (rs : List Response) → IsMergeOfResponses t begin rs (flounder t begin rs)
   floundered [] = record { yes = λ y. absurd y; covers = λ v s. absurd s; within = λ n b w. tt }
   floundered (r ∷ rs) =
       let c = all_joined (map t.certainty (r ∷ rs)) in
@@ -88,9 +88,9 @@ module _ {Question Response : Type 0} (t : Tables Question Response) (laws : IsT
         within = λ n b w. laws.respond_within n begin (unsettled c) b;
       }
 
-  merged_or : (rs : List Response) (a : Option Response) → IsChosen rs a → IsMerge t begin rs (or_else a (flounder t begin rs))
+  merged_or : (rs : List Response) (a : Option Response) → IsChosen rs a → IsMergeOfResponses t begin rs (or_else a (flounder t begin rs))
   merged_or rs None c = floundered rs
   merged_or rs (Some r) c = merged_chosen rs r c
 
-  pub merge_is : (rs : List Response) → IsMerge t begin rs (merge_or_flounder t applicable same begin rs)
+  pub merge_is : (rs : List Response) → IsMergeOfResponses t begin rs (merge_or_flounder t applicable same begin rs)
   merge_is rs = merged_or rs (merge_by applicable same rs) (chosen rs)

@@ -10,7 +10,7 @@ use Rattle.infer_table.specs.declared.canonical.CanonicalVarKind.{CanonicalVarKi
 use Rattle.evaluation.specs.Lists.{Every}
 use Rattle.evaluation.specs.Instances.{read_with, put_in, default_label, as_place, term_at}
 use Rattle.type_terms.specs.Made.{Standing, terms, bounds, traits, is_leaf_label, is_made}
-use Rattle.evaluation.specs.Content.{Terms, standing, reading_of}
+use Rattle.evaluation.specs.Content.{ChosenTerms, standing, reading_of}
 use Rattle.evaluation.specs.Equations.{IsValue}
 use Rattle.evaluation.specs.FrameTables.{is_good, label_at, label_of_sort, slot_at}
 use Rattle.type_terms.proofs.Made.{false-true, left, right, no-tree, made-ordinary, IsLast, last-bound, last-trait, never-dynamic, never-dynamic-bound, never-principal}
@@ -211,7 +211,7 @@ split-one j k x y a b p q e =
 below-tree : (l m : Label) (c d : Trees) → tree l c none ≡ tree m d none → c ≡ d
 below-tree l m c d e = cc
 
-module _ (s r : Terms) (sorted : (k : Sort) (v : ℕ) → sort_of (s.unknowns k v).0 ≡ k) (sorted_too : (k : Sort) (v : ℕ) → sort_of (r.unknowns k v).0 ≡ k) where
+module _ (s r : ChosenTerms) (sorted : (k : Sort) (v : ℕ) → sort_of (s.unknowns k v).0 ≡ k) (sorted_too : (k : Sort) (v : ℕ) → sort_of (r.unknowns k v).0 ≡ k) where
   read-below : (m : Label) (c : Trees) → IsNode m c → read_with (standing s) (tree m c none) ≡ read_with (standing r) (tree m c none) → (c ≡ none) ⊎ (read_with (standing s) c ≡ read_with (standing r) c)
   read-below (infer k v) c n e = inl n
   read-below (placeholder k i) c n e = inl n
@@ -264,7 +264,7 @@ or-right true b e = absurd (false-true (sym e))
 or-right false b e = e
 
 -- two readings that differ at one unknown alone are equal where it does not stand
-module _ (s r : Terms) (own : s.own ≡ r.own) (k : Sort) (v : ℕ) (others : (j : Sort) (w : ℕ) → is_variable j w k v ≡ false → s.unknowns j w ≡ r.unknowns j w) where
+module _ (s r : ChosenTerms) (own : s.own ≡ r.own) (k : Sort) (v : ℕ) (others : (j : Sort) (w : ℕ) → is_variable j w k v ≡ false → s.unknowns j w ≡ r.unknowns j w) where
   standing-placeholder : (j : Sort) (i : ℕ) → standing s (placeholder j i) ≡ standing r (placeholder j i)
   standing-placeholder of_type i = ap (λ o. Some (as_place of_type (term_at o.terms i))) own
   standing-placeholder of_const i = ap (λ o. Some (as_place of_const (term_at o.terms i))) own

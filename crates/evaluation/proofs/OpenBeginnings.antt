@@ -13,7 +13,7 @@ use Rattle.evaluation.specs.declared.resuming.Evaluation.{Evaluation}
 use Rattle.evaluation.specs.declared.resuming.OpenRound.{OpenRound}
 use Rattle.evaluation.specs.OpenRounds.{rest_of}
 use Rattle.infer_table.specs.Responses.{AnswerTrees, answer_trees}
-use Rattle.evaluation.specs.Ends.{IsRefused, Awaits, EndsIn}
+use Rattle.evaluation.specs.Ends.{RunIsRefused, Awaits, EndsIn}
 use Rattle.evaluation.specs.Replays.{ready, waits, run}
 use Rattle.evaluation.specs.declared.error.EvalError.{EvalError}
 use Rattle.evaluation.specs.declared.error.EvalError.TheVariants.{NoSolution, Fault}
@@ -27,7 +27,7 @@ use Rattle.evaluation.specs.Frames.{FrameTrees, begun, fresh, equate, nested_fil
 use Rattle.evaluation.specs.Rounds.{Rounds, rounds}
 use Rattle.evaluation.specs.Script.{Script, done, ask, followed}
 use Rattle.evaluation.specs.Trial.{SpecTrees, premises_trees, answered, asked, candidate}
-use Rattle.evaluation.specs.OpenCandidates.{Asking, finished, rest_script, rounds_script, after_reply, StandsAt, OpenHeld}
+use Rattle.evaluation.specs.OpenCandidates.{CandidateAsking, finished, rest_script, rounds_script, after_reply, StandsAt, OpenHeld}
 use Rattle.evaluation.specs.OpenShortages.{OpenRunsOut, RunsOutOnly}
 use Rattle.evaluation.specs.Replayed.{after, IsReplayed, EndsAsReplayed, ResumingReplays, BeginningReplays}
 use Rattle.evaluation.specs.Shortages.{CandidateRunsOut}
@@ -64,14 +64,14 @@ run-after-done (ask p l) [] x e = absurd (cc)
 run-after-done (ask p l) (a ∷ replies) x e = run-after-done (l a) replies x e
 
 module _ (mode : TypingMode) (kinds : List CanonicalVarKind) (s : SpecTrees) where
-  abbrev whole : Asking
+  abbrev whole : CandidateAsking
   whole = candidate mode (begun kinds) s
 
   as-replayed : (es : List Entry) (replies : List (Option AnswerTrees)) (result : Result CandidateStep EvalError) → StandsAt es (after whole replies) result
       → IfOk result (RunsOutOnly (λ more. CandidateRunsOut mode kinds s (replies ++ more)) es) → EndsAsReplayed mode kinds s es replies result
   as-replayed es replies (Err (Fault fault)) h l = tt
   as-replayed es replies (Err NoSolution) h l =
-      let there = run-after-done whole replies None h in subst IsRefused (sym there.1) tt
+      let there = run-after-done whole replies None h in subst RunIsRefused (sym there.1) tt
   as-replayed es replies (Ok (IsReady answer)) h l =
       let there = run-after-done whole replies (Some (answer_trees es answer)) h in subst (EndsIn (λ a more. answer_trees es answer ≡ a)) (sym there.1) refl
   as-replayed es replies (Ok (Ask waiting input source)) h l = (

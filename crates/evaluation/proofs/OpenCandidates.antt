@@ -24,7 +24,7 @@ use Rattle.evaluation.specs.declared.resuming.Evaluation.{Evaluation}
 use Rattle.evaluation.specs.declared.resuming.OpenRound.{OpenRound}
 use Rattle.evaluation.specs.declared.resuming.OpenCandidate.{OpenCandidate}
 use Rattle.evaluation.specs.Context.{NestedGoal, NestedHeld, GoalIsHeld, nested_goal}
-use Rattle.evaluation.specs.Evaluating.{Question, question_of, nested_trees, goals_trees, put_into, evaluation, certainty_with, goal_values, values_asked, IsAskedBy}
+use Rattle.evaluation.specs.Evaluating.{AskedQuestion, question_of, nested_trees, goals_trees, put_into, evaluation, certainty_with, goal_values, values_asked, IsAskedBy}
 use Rattle.evaluation.specs.OpenRounds.{SoFar, with_goal, rest_of, after_answer}
 use Rattle.evaluation.specs.Operations.{is_yes}
 use Rattle.evaluation.specs.OwnAnswers.{answer_of}
@@ -33,7 +33,7 @@ use Rattle.evaluation.specs.Rounds.{Rounds}
 use Rattle.evaluation.specs.Runs.{with_response}
 use Rattle.evaluation.specs.Script.{done, ask, followed}
 use Rattle.evaluation.specs.Trial.{premises_trees}
-use Rattle.evaluation.specs.OpenCandidates.{Asking, finished, so_far, rest_script, after_reply, EvaluationHeld, OpenHeld, brings_values, is_definite}
+use Rattle.evaluation.specs.OpenCandidates.{CandidateAsking, finished, so_far, rest_script, after_reply, EvaluationHeld, OpenHeld, brings_values, is_definite}
 use Rattle.evaluation.proofs.LaterTrees.{goal-trees-later, goals-trees-later}
 use Rattle.evaluation.proofs.OpenRounds.{rounds-go-on}
 
@@ -88,14 +88,14 @@ module _ (old new : List Entry) (k : Keeps old new) where
       let pt = table-kept old new k o.evaluation.table he.table in
       let later : (a : Option AnswerTrees) → after_reply new o a ≡ after_reply old o a = λ a i. followed (finished o.evaluation.mode o.evaluation.variables.items (pv i) o.evaluation.certainty)
       (after_answer (evaluation o.evaluation.mode) (record { limit = o.rounds_left; left = pl i; changed = o.round.changed; certainty = o.round.certainty }) (pt i) (pn i) (pg i) a) in
-      ap (λ (z : Question). ask z (after_reply old o)) q ∙ sym (ap (ask (question_of new input o.goal.0)) (λ i a. later a i))
+      ap (λ (z : AskedQuestion). ask z (after_reply old o)) q ∙ sym (ap (ask (question_of new input o.goal.0)) (λ i a. later a i))
 
 -- ---- the end of a round
 module _ (es : List Entry) (e : Evaluation) (limit : ℕ) (r : OpenRound) where
   abbrev this-round : SoFar (evaluation e.mode)
   this-round = so_far e.mode es limit r
 
-  abbrev after-rounds : Option (Rounds (evaluation e.mode)) → Asking
+  abbrev after-rounds : Option (Rounds (evaluation e.mode)) → CandidateAsking
   after-rounds = finished e.mode e.variables.items (values_of es e.own.items) e.certainty
 
   pub last-round : (ls : List NestedGoal) → goals_trees es ls ≡ goals_trees es (map nested_goal r.left.items) → r.changed ≡ false
@@ -131,7 +131,7 @@ module _ (old new : List Entry) (k : Keeps old new) (o : OpenCandidate) (h : Ope
   abbrev before : SoFar (evaluation o.evaluation.mode)
   before = so_far o.evaluation.mode old o.rounds_left o.round
 
-  abbrev at-end : Option (Rounds (evaluation o.evaluation.mode)) → Asking
+  abbrev at-end : Option (Rounds (evaluation o.evaluation.mode)) → CandidateAsking
   at-end = finished o.evaluation.mode o.evaluation.variables.items (values_of old o.evaluation.own.items) o.evaluation.certainty
 
   pub applies : (u : Option TableTrees) → with_response old o.evaluation.table o.values.items r ≡ u
@@ -146,7 +146,7 @@ module _ (old new : List Entry) (k : Keeps old new) (o : OpenCandidate) (h : Ope
 
   module _ (T : Table) (put : with_response old o.evaluation.table o.values.items r ≡ Some (table_trees new T)) where
     -- what is left, in the terms of before
-    abbrev earlier : SoFar (evaluation o.evaluation.mode) → Asking
+    abbrev earlier : SoFar (evaluation o.evaluation.mode) → CandidateAsking
     earlier s = followed at-end (rest_of (evaluation o.evaluation.mode) s (premises_trees old o.goals.items) (table_trees new T))
 
     pub definite-later : (b : Bool) → is_definite new r ≡ b → is_yes (evaluation o.evaluation.mode) the-answer ≡ b
@@ -165,7 +165,7 @@ module _ (old new : List Entry) (k : Keeps old new) (o : OpenCandidate) (h : Ope
         (applies (Some (table_trees new T)) put) (definite-later false y))
 
     -- with the new table, in the terms of now
-    abbrev now : OpenRound → Asking
+    abbrev now : OpenRound → CandidateAsking
     now s = rest_script new (record o.evaluation { table = T }) o.rounds_left s o.goals.items
 
     pg : premises_trees new o.goals.items ≡ premises_trees old o.goals.items

@@ -7,7 +7,7 @@ use Rattle.infer_table.specs.declared.certainty.MaybeCause.TheVariants.{Ambiguit
 use Rattle.infer_table.specs.Certainties.{joined, unsettled}
 use Rattle.evaluation.specs.Script.{Script, done, ask, followed}
 use Rattle.evaluation.specs.Operations.{Operations, is_yes}
-use Rattle.evaluation.specs.Rounds.{Round, Asking, kept, judged, applied, round, settled, next_round, rounds}
+use Rattle.evaluation.specs.Rounds.{Round, RoundAsking, kept, judged, applied, round, settled, next_round, rounds}
 use Rattle.evaluation.specs.OpenRounds.{SoFar, new_round, with_goal, behind, onward_from, rest_of, after_answer}
 
 -- ---- scripts that follow one another
@@ -65,7 +65,7 @@ module _ {Question Response : Type 0} (t : Operations Question Response) where
     pub again : (s : SoFar t) (limit : ℕ) (T : t.Table) → s.changed ≡ true → s.limit ≡ suc limit → rest_of t s [] T ≡ rest_of t (new_round t limit) s.left T
 
   abbrev Ended : Type 0
-  Ended = Asking t (Option (Round t))
+  Ended = RoundAsking t (Option (Round t))
 
   -- ---- the laws
   asks : (s : SoFar t) (n : t.Nested) (ns : List t.Nested) (T : t.Table) → rest_of t s (n ∷ ns) T ≡ ask (t.question T n) (after_answer t s T n ns)

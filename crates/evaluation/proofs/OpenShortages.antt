@@ -25,7 +25,7 @@ use Rattle.evaluation.specs.declared.resuming.OpenCandidate.{OpenCandidate}
 use Rattle.evaluation.specs.declared.resuming.OpenRound.{OpenRound}
 use Rattle.evaluation.specs.Context.{NestedHeld, nested_goal}
 use Rattle.evaluation.specs.Evaluating.{NestedTrees, nested_trees, goal_values, put_into, evaluation, certainty_with}
-use Rattle.evaluation.specs.OpenCandidates.{so_far, EvaluationHeld, OpenHeld, IsOver, AsksAtMost, brings_values, is_definite}
+use Rattle.evaluation.specs.OpenCandidates.{so_far, EvaluationHeld, OpenHeld, CandidateIsOver, AsksAtMost, brings_values, is_definite}
 use Rattle.evaluation.specs.OpenRounds.{SoFar, new_round, with_goal, rest_of}
 use Rattle.evaluation.specs.OpenShortages.{OpenRoundRunsOut, form, reply, dropped, kept, again, no_answer, RestRunsOut, WholeRunsOut, OpenRunsOut, RunsOutOnly}
 use Rattle.evaluation.specs.Operations.{is_yes}
@@ -147,11 +147,11 @@ open-later old new k o h rs x =
     (sym (goals-trees-later old new k (map nested_goal (o.goal ∷ o.goals.items)) (h.goal, h.goals))) (sym (table-kept old new k o.evaluation.table h.evaluation.table)) x
 
 -- ---- a candidate that has answered
-pub over-only : (P : List (Option AnswerTrees) → Type 0) (es : List Entry) (s : CandidateStep) → IsOver s → RunsOutOnly P es s
+pub over-only : (P : List (Option AnswerTrees) → Type 0) (es : List Entry) (s : CandidateStep) → CandidateIsOver s → RunsOutOnly P es s
 over-only P es (Ready answer) h = tt
 over-only P es (Ask waiting input source) h = absurd h
 
-pub over-most : (n : ℕ) (s : CandidateStep) → IsOver s → AsksAtMost n s
+pub over-most : (n : ℕ) (s : CandidateStep) → CandidateIsOver s → AsksAtMost n s
 over-most n (Ready answer) h = tt
 over-most n (Ask waiting input source) h = absurd h
 

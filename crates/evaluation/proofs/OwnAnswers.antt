@@ -24,7 +24,7 @@ use Rattle.infer_table.specs.declared.response.CanonicalResponse.{CanonicalRespo
 use Rattle.infer_table.specs.Responses.{AnswerTrees, answer_trees, as_goal, response_form, answer_leaves, numbered_by, ResponseHeld}
 use Rattle.infer_table.specs.Covers.{Agrees, AreNumbered}
 use Rattle.evaluation.specs.Context.{Context}
-use Rattle.evaluation.specs.OwnAnswers.{known, known_values, known_constraints, SaysWhatIsKnown, SaysNothing, kinds_in, values_in, known_answer, answer_of}
+use Rattle.evaluation.specs.OwnAnswers.{known, known_values, known_constraints, SaysWhatIsKnown, OwnAnswerSaysNothing, kinds_in, values_in, known_answer, answer_of}
 
 pub says-known : (old new : List Entry) (c : Context) (x : Result CanonicalResponse Fault)
     → IfOk x (λ r. ResponseHeld new r)
@@ -91,11 +91,11 @@ known-is old new law c r k e h =
     }) (sym (row-of old c.values))
 
 -- and what says nothing one of the kinds of variables
-pub nothing-is : (new : List Entry) (c : Context) (r : CanonicalResponse) (k : Certainty) → r.certainty ≡ k → SaysNothing new c r
+pub nothing-is : (new : List Entry) (c : Context) (r : CanonicalResponse) (k : Certainty) → r.certainty ≡ k → OwnAnswerSaysNothing new c r
     → answer_trees new r ≡ record { kinds = c.variables; certainty = k; values = variables_from 0 c.variables; constraints = none }
 nothing-is new c r k e h = same-parts _ _ _ _ _ _ _ _ h.variables e h.values (ap (constraints_trees new) h.constraints)
 
-pub nothing-held : (new : List Entry) (c : Context) (r : CanonicalResponse) → SaysNothing new c r → ResponseHeld new r
+pub nothing-held : (new : List Entry) (c : Context) (r : CanonicalResponse) → OwnAnswerSaysNothing new c r → ResponseHeld new r
 nothing-held new c r h = record { values = h.held; constraints = subst (AllConstraintsHeld new) (sym h.constraints) tt }
 
 pub same-answer : (ks ls : List CanonicalVarKind) (vs ws : List Value) (t u : TableTrees) (c d : Certainty) → ks ≡ ls → vs ≡ ws → t ≡ u → c ≡ d → answer_of ks vs t c ≡ answer_of ls ws u d

@@ -6,10 +6,10 @@ use Rattle.evaluation.specs.Lists.{Every, SomeOf, IsAmong, IsNoneOf, IsDistinct}
 use Rattle.evaluation.specs.Table.{Tables, workings, IsTable}
 use Rattle.evaluation.specs.Candidate.{Spec, Considered, used_numbers}
 use Rattle.evaluation.specs.Law.{IsYes, AgreesTo, Realizes}
-use Rattle.evaluation.specs.Handler.{Handled, AnswerWithin, IsLawful}
-use Rattle.evaluation.specs.Merge.{if_there, or_else, responses, TellsApart, IsTest, merge_or_flounder, IsMerge}
+use Rattle.evaluation.specs.Handler.{Handled, AnswerWithin, CandidateIsLawful}
+use Rattle.evaluation.specs.Merge.{if_there, or_else, responses, TellsResponsesApart, IsTest, merge_or_flounder, IsMergeOfResponses}
 use Rattle.evaluation.proofs.ListLaws.{Every-mono, SomeOf-mono, Every-at}
-use Rattle.evaluation.specs.Plans.{Keeps, each_of, nested_in}
+use Rattle.evaluation.specs.Plans.{KeepsLaws, each_of, nested_in}
 use Rattle.evaluation.proofs.Plans.{keeps_more, keeps_each, goes_through}
 use Rattle.evaluation.specs.PlanAnswers.{all_merged, kept_merged, first_passing, numbers_but, taken_or_merged, first_taken, passes, if_so}
 use Rattle.evaluation.proofs.Merges.{merge_is}
@@ -130,16 +130,16 @@ module _ {Question Response : Type 0} (t : Tables Question Response) where
       by true e later = later
       by false e later = λ i. elim i [ inl g ↦ differ false e refl g | inr j ↦ later j ]
 
-  module _ (laws : IsTable t) (applicable : Response → Bool) (is_test : IsTest t applicable) (same : Response → Response → Bool) (is_same : TellsApart same)
+  module _ (laws : IsTable t) (applicable : Response → Bool) (is_test : IsTest t applicable) (same : Response → Response → Bool) (is_same : TellsResponsesApart same)
       (h : Handled t) (says_nothing : (c : Certainty) → t.has_values (t.respond h.begin c) ≡ false) (begins_within : t.TableWithin h.widest h.begin) where
     abbrev pub IsCovered : List (Considered (workings t)) → Type 0
     IsCovered seen = (w : h.World) (v : t.Values) → h.Proves w (h.goal v) → SomeOf (λ (c : Considered (workings t)). Realizes t (h.Proves w) h.begin v c.spec) seen
 
-    merge_of : (seen : List (Considered (workings t))) → IsMerge t h.begin (responses t seen) (merge_or_flounder t applicable same h.begin (responses t seen))
+    merge_of : (seen : List (Considered (workings t))) → IsMergeOfResponses t h.begin (responses t seen) (merge_or_flounder t applicable same h.begin (responses t seen))
     merge_of seen = merge_is t laws applicable is_test same is_same h.begin says_nothing (responses t seen)
 
     -- all responses merged
-    pub all_merged_keeps : (room left : ℕ) (seen : List (Considered (workings t))) → IsCovered seen → Keeps t h room left seen (all_merged t applicable same h.begin seen)
+    pub all_merged_keeps : (room left : ℕ) (seen : List (Considered (workings t))) → IsCovered seen → KeepsLaws t h room left seen (all_merged t applicable same h.begin seen)
     all_merged_keeps room left seen covered = λ d. record {
       cover = covered;
       yes = λ y.
@@ -152,8 +152,8 @@ module _ {Question Response : Type 0} (t : Tables Question Response) where
     }
 
     -- a list of rules is a plan: one lawful candidate after the other, and then all responses merged
-    pub list_keeps : (specs : List (Spec (workings t))) → Every (IsLawful t h) specs → ((w : h.World) (v : t.Values) → h.Proves w (h.goal v) → SomeOf (Realizes t (h.Proves w) h.begin v) specs)
-        → length specs ≤ h.candidates → nested_in t specs ≤ h.number → Keeps t h h.candidates h.number [] (each_of t specs (all_merged t applicable same h.begin) [])
+    pub list_keeps : (specs : List (Spec (workings t))) → Every (CandidateIsLawful t h) specs → ((w : h.World) (v : t.Values) → h.Proves w (h.goal v) → SomeOf (Realizes t (h.Proves w) h.begin v) specs)
+        → length specs ≤ h.candidates → nested_in t specs ≤ h.number → KeepsLaws t h h.candidates h.number [] (each_of t specs (all_merged t applicable same h.begin) [])
     list_keeps specs each cover few asks =
         keeps_more t h (length specs + 0) h.candidates (nested_in t specs + 0) h.number [] (each_of t specs (all_merged t applicable same h.begin) []) (omega (arith, few)) (omega (arith, asks))
         (keeps_each t h 0 0 specs (all_merged t applicable same h.begin) [] each
@@ -161,7 +161,7 @@ module _ {Question Response : Type 0} (t : Tables Question Response) where
 
     module _ (no_world : h.World → ⊥) (kept : Considered (workings t) → Bool) where
       -- those that are kept merged, where no solutions are looked for
-      pub kept_merged_keeps : (room left : ℕ) (seen : List (Considered (workings t))) → Keeps t h room left seen (kept_merged t applicable same h.begin kept seen)
+      pub kept_merged_keeps : (room left : ℕ) (seen : List (Considered (workings t))) → KeepsLaws t h room left seen (kept_merged t applicable same h.begin kept seen)
       kept_merged_keeps room left seen = λ d. record {
         cover = λ w v p. absurd (no_world w);
         yes = λ y.
@@ -197,7 +197,7 @@ module _ {Question Response : Type 0} (t : Tables Question Response) where
           by (Some d) p = (inr p.0, p.1)
 
       taken : (room left : ℕ) (seen : List (Considered (workings t))) (o : Option (Considered (workings t))) → IsPassing (filter kept seen) o
-          → Keeps t h room left seen (taken_or_merged t applicable same h.begin (filter kept seen) o)
+          → KeepsLaws t h room left seen (taken_or_merged t applicable same h.begin (filter kept seen) o)
       taken room left seen None p = kept_merged_keeps room left seen
       taken room left seen (Some c) p = λ d. record {
         cover = λ w v q. absurd (no_world w);
@@ -214,5 +214,5 @@ module _ {Question Response : Type 0} (t : Tables Question Response) where
       }
 
       -- the first that passes is taken, and the others are ignored
-      pub first_taken_keeps : (room left : ℕ) (seen : List (Considered (workings t))) → Keeps t h room left seen (first_taken t applicable same h.begin kept seen)
+      pub first_taken_keeps : (room left : ℕ) (seen : List (Considered (workings t))) → KeepsLaws t h room left seen (first_taken t applicable same h.begin kept seen)
       first_taken_keeps room left seen = taken room left seen (first_passing t applicable same h.begin (filter kept seen)) (passing (filter kept seen))

@@ -12,7 +12,7 @@ use Rattle.evaluation.specs.Lists.{Every}
 use Rattle.infer_table.proofs.WithoutCanonical.{IsNoCanonical, clean-parts, clean-node, clean-append, clean-replace}
 use Rattle.evaluation.specs.Instances.{read_with, goal_read, put_in, default_label, of_sort, is_place, as_place, term_at}
 use Rattle.type_terms.specs.Made.{Standing, terms, bounds, traits, is_made}
-use Rattle.evaluation.specs.Content.{Terms, Fact, given, fits, fits_kind, standing, reading_of, Stands}
+use Rattle.evaluation.specs.Content.{ChosenTerms, Fact, given, fits, fits_kind, standing, reading_of, UnknownStands}
 use Rattle.evaluation.specs.Equations.{IsValue}
 use Rattle.evaluation.specs.FrameTables.{is_good, FrameTable, Allows, Nested, label_at, label_of_sort, slot_at, goal_in, InstanceOfQuestion}
 use Rattle.type_terms.proofs.Made.{false-true, left, right, made-ordinary, no-tree, IsLast, last-bound, last-trait, never-dynamic, never-dynamic-bound, never-principal}
@@ -23,7 +23,7 @@ pub some-none : (x : Trees) (T : Type 0) → Some x ≡ None → T
 some-none x T e = absurd (cc)
 
 -- ---- resolving
-standing-value : (s : Terms) (b : Binding) → HasValues b.sort → standing s (infer b.sort b.var) ≡ Some (tree_of (s.unknowns b.sort b.var))
+standing-value : (s : ChosenTerms) (b : Binding) → HasValues b.sort → standing s (infer b.sort b.var) ≡ Some (tree_of (s.unknowns b.sort b.var))
 standing-value s b h = by b.sort b.var h
   where
     by : (k : Sort) (v : ℕ) → HasValues k → standing s (infer k v) ≡ Some (tree_of (s.unknowns k v))
@@ -31,7 +31,7 @@ standing-value s b h = by b.sort b.var h
     by of_const v h = refl
     by of_lifetime v h = absurd h
 
-pub read-resolved : (good : Label → Bool) (s : Terms) (bs : List Binding) → Every (IsValue good) bs → Every (Stands s) bs → (t : Trees) → read_with (standing s) (resolved bs t) ≡ read_with (standing s) t
+pub read-resolved : (good : Label → Bool) (s : ChosenTerms) (bs : List Binding) → Every (IsValue good) bs → Every (UnknownStands s) bs → (t : Trees) → read_with (standing s) (resolved bs t) ≡ read_with (standing s) t
 read-resolved good s [] i h t = refl
 read-resolved good s (b ∷ older) i h t =
     read-replace (standing s) b.sort b.var (resolved older b.value)
@@ -95,7 +95,7 @@ sorted-node p i of_const e v = and-true (is_sort (sort_of p.0) of_const) ∙ ap 
 sorted-node p i of_lifetime e v = absurd v
 
 -- what stands for a leaf is of the leaf's sort
-pub reading-sorted : (s : Terms) → ((k : Sort) (v : ℕ) → sort_of (s.unknowns k v).0 ≡ k) → (j : Sort) (l : Label) → HasValues j → is_a j (reading_of s l) ≡ is_sort (sort_of l) j
+pub reading-sorted : (s : ChosenTerms) → ((k : Sort) (v : ℕ) → sort_of (s.unknowns k v).0 ≡ k) → (j : Sort) (l : Label) → HasValues j → is_a j (reading_of s l) ≡ is_sort (sort_of l) j
 reading-sorted s h j (infer of_type v) k = sorted-node (s.unknowns of_type v) of_type j (h of_type v) k
 reading-sorted s h j (infer of_const v) k = sorted-node (s.unknowns of_const v) of_const j (h of_const v) k
 reading-sorted s h j (placeholder of_type i) k =
@@ -129,14 +129,14 @@ term-at-none : (i : ℕ) → term_at [] i ≡ none
 term-at-none zero = refl
 term-at-none (suc i) = term-at-none i
 
-slot-here : (s : Terms) (k : Sort) (l : Label) (b : Bool) → is_sort (sort_of l) k ≡ b → is_a k (reading_of s l) ≡ is_sort (sort_of l) k → HasValues k
+slot-here : (s : ChosenTerms) (k : Sort) (l : Label) (b : Bool) → is_sort (sort_of l) k ≡ b → is_a k (reading_of s l) ≡ is_sort (sort_of l) k → HasValues k
     → of_sort k (reading_of s l) ≡ read_with (standing s) (leaf (if b then l else default_label k))
 slot-here s k l true e h v = sort-of-sort k (reading_of s l) (h ∙ e)
 slot-here s of_type l false e h v = not-of-sort of_type (reading_of s l) (h ∙ e)
 slot-here s of_const l false e h v = not-of-sort of_const (reading_of s l) (h ∙ e)
 slot-here s of_lifetime l false e h v = absurd v
 
-pub slot-term : (s : Terms) → ((k : Sort) (v : ℕ) → sort_of (s.unknowns k v).0 ≡ k) → (k : Sort) → HasValues k → (ls : List Label) (i : ℕ)
+pub slot-term : (s : ChosenTerms) → ((k : Sort) (v : ℕ) → sort_of (s.unknowns k v).0 ≡ k) → (k : Sort) → HasValues k → (ls : List Label) (i : ℕ)
     → of_sort k (term_at (map (reading_of s) ls) i) ≡ read_with (standing s) (leaf (label_of_sort k (label_at ls i)))
 slot-term s h of_type v [] i = ap (of_sort of_type) (term-at-none i)
 slot-term s h of_const v [] i = ap (of_sort of_const) (term-at-none i)
@@ -145,7 +145,7 @@ slot-term s h k v (l ∷ ls) zero = slot-here s k l (is_sort (sort_of l) k) refl
 slot-term s h k v (l ∷ ls) (suc i) = slot-term s h k v ls i
 
 -- what is put in the place of a canonical variable is read as its slot
-pub put-in-slots : (s : Terms) → ((k : Sort) (v : ℕ) → sort_of (s.unknowns k v).0 ≡ k) → (ls : List Label) → s.slots ≡ map (reading_of s) ls
+pub put-in-slots : (s : ChosenTerms) → ((k : Sort) (v : ℕ) → sort_of (s.unknowns k v).0 ≡ k) → (ls : List Label) → s.slots ≡ map (reading_of s) ls
     → (l : Label) → IsPutIn (standing s) (given s.slots) l (slot_at ls l)
 put-in-slots s h ls e (canonical of_type i) = ap (λ z. Some (of_sort of_type (term_at z i))) e ∙ ap Some (slot-term s h of_type tt ls i)
 put-in-slots s h ls e (canonical of_const i) = ap (λ z. Some (of_sort of_const (term_at z i))) e ∙ ap Some (slot-term s h of_const tt ls i)
@@ -263,7 +263,7 @@ term-place f l (m ∷ ms) h = by (same_label m l) refl h (term-place f l ms)
     by true e q r = ap f (same-label-sound m l e)
     by false e q r = r q
 
-module _ (s : Terms) (sorted : (k : Sort) (v : ℕ) → sort_of (s.unknowns k v).0 ≡ k) (ls : List Label) where
+module _ (s : ChosenTerms) (sorted : (k : Sort) (v : ℕ) → sort_of (s.unknowns k v).0 ≡ k) (ls : List Label) where
   abbrev leaves_read : List Trees
   leaves_read = map (reading_of s) ls
 
@@ -332,13 +332,13 @@ module _ (s : Terms) (sorted : (k : Sort) (v : ℕ) → sort_of (s.unknowns k v)
   fits-label static = refl
   fits-label l = refl
 
-fits-leaves : (s : Terms) → ((k : Sort) (v : ℕ) → sort_of (s.unknowns k v).0 ≡ k) → (ls : List Label) → fits (map kind_of_leaf ls) (map (reading_of s) ls) ≡ true
+fits-leaves : (s : ChosenTerms) → ((k : Sort) (v : ℕ) → sort_of (s.unknowns k v).0 ≡ k) → (ls : List Label) → fits (map kind_of_leaf ls) (map (reading_of s) ls) ≡ true
 fits-leaves s h [] = refl
 fits-leaves s h (l ∷ ls) = ap (λ b. b && fits (map kind_of_leaf ls) (map (reading_of s) ls)) (fits-label s h ls l) ∙ fits-leaves s h ls
 
 -- ---- instances
 -- the canonical form read with what stands for its leaves is the goal
-read-form : (s : Terms) → ((k : Sort) (v : ℕ) → sort_of (s.unknowns k v).0 ≡ k) → (g : GoalTrees) → HasNoCanonical g.environment → HasNoCanonical g.predicate
+read-form : (s : ChosenTerms) → ((k : Sort) (v : ℕ) → sort_of (s.unknowns k v).0 ≡ k) → (g : GoalTrees) → HasNoCanonical g.environment → HasNoCanonical g.predicate
     → goal_read (given (map (reading_of s) (goal_leaves g))) (renamed (canonical_label (goal_leaves g)) g) ≡ goal_read (standing s) g
 read-form s h g e p =
     let ls = goal_leaves g in
@@ -363,7 +363,7 @@ same-goals a b c d x y = cc
 pub excludes-canonical : (t : FrameTable) → ExcludesCanonical (is_good t.kinds t.content.ty_vars t.content.const_vars)
 excludes-canonical t k i = refl
 
-read-goal-in : (t : FrameTable) (n : Nested) (s : Terms) → Allows t s → goal_read (standing s) (goal_in t n) ≡ goal_read (given s.slots) n.goal
+read-goal-in : (t : FrameTable) (n : Nested) (s : ChosenTerms) → Allows t s → goal_read (standing s) (goal_in t n) ≡ goal_read (given s.slots) n.goal
 read-goal-in t n s a =
     let part = λ (x : Trees). read-resolved (is_good t.kinds t.content.ty_vars t.content.const_vars) s t.content.bindings a.made.table.values a.hold (put_in (slot_at t.labels) x)
     ∙ read-put (standing s) (given s.slots) (slot_at t.labels) (put-in-slots s a.sorted t.labels a.slots) x in

@@ -9,7 +9,7 @@ use Rattle.infer_table.proofs.SolutionLaws.{is_variable-equal}
 use Rattle.type_terms.proofs.Made.{false-true}
 use Rattle.evaluation.specs.Lists.{Every}
 use Rattle.evaluation.specs.Instances.{read_with, put_in, as_place, term_at}
-use Rattle.evaluation.specs.Content.{Values, Terms, standing, reading_of, Stands}
+use Rattle.evaluation.specs.Content.{Values, ChosenTerms, standing, reading_of, UnknownStands}
 
 pub read-append : (s : Label → Option Trees) (x y : Trees) → read_with s (x +++ y) ≡ read_with s x +++ read_with s y
 read-append s none y = refl
@@ -22,7 +22,7 @@ pub read-leaf : (s : Label → Option Trees) (l : Label) (x : Trees) → s l ≡
 read-leaf s l x e = ap (λ z. placed z (tree (erase_label l) none none) +++ none) e ∙ append-none x
 
 -- lifetimes are read as one
-pub lifetime-stands : (s : Terms) (l : Label) → is_sort (sort_of l) of_lifetime ≡ true → standing s l ≡ Some (leaf static)
+pub lifetime-stands : (s : ChosenTerms) (l : Label) → is_sort (sort_of l) of_lifetime ≡ true → standing s l ≡ Some (leaf static)
 lifetime-stands s (param of_lifetime i) h = refl
 lifetime-stands s (placeholder of_lifetime i) h = refl
 lifetime-stands s (infer of_lifetime i) h = refl
@@ -31,7 +31,7 @@ lifetime-stands s (bound of_lifetime i j) h = refl
 lifetime-stands s static h = refl
 lifetime-stands s l h = absurd (false-true h)
 
-pub read-lifetime : (s : Terms) (l : Label) (c : Trees) → is_sort (sort_of l) of_lifetime ≡ true → read_with (standing s) (tree l c none) ≡ leaf static
+pub read-lifetime : (s : ChosenTerms) (l : Label) (c : Trees) → is_sort (sort_of l) of_lifetime ≡ true → read_with (standing s) (tree l c none) ≡ leaf static
 read-lifetime s l c h = ap (λ z. placed z (tree (erase_label l) (read_with (standing s) c) none) +++ none) (lifetime-stands s l h)
 
 -- ---- replacing a variable by what it stands for
@@ -112,7 +112,7 @@ GiveOne u w (infer of_type v) = u of_type v ≡ w of_type v
 GiveOne u w (infer of_const v) = u of_const v ≡ w of_const v
 GiveOne u w l = Unit {0}
 
-pub same-standing : (a b : Terms) → a.own ≡ b.own → (l : Label) → GiveOne a.unknowns b.unknowns l → standing a l ≡ standing b l
+pub same-standing : (a b : ChosenTerms) → a.own ≡ b.own → (l : Label) → GiveOne a.unknowns b.unknowns l → standing a l ≡ standing b l
 same-standing a b e (infer of_type v) f = ap (λ z. Some (tree_of z)) f
 same-standing a b e (infer of_const v) f = ap (λ z. Some (tree_of z)) f
 same-standing a b e (infer of_lifetime v) f = refl
@@ -130,7 +130,7 @@ same-standing a b e (bound of_const i j) f = refl
 same-standing a b e (bound of_lifetime i j) f = refl
 same-standing a b e l f = refl
 
-pub same-read : (a b : Terms) → a.own ≡ b.own → (x : Trees) → EachLabel (GiveOne a.unknowns b.unknowns) x → read_with (standing a) x ≡ read_with (standing b) x
+pub same-read : (a b : ChosenTerms) → a.own ≡ b.own → (x : Trees) → EachLabel (GiveOne a.unknowns b.unknowns) x → read_with (standing a) x ≡ read_with (standing b) x
 same-read a b e none h = refl
 same-read a b e (tree l c o) h =
     ap (λ z. placed z (tree (erase_label l) (read_with (standing a) c) none) +++ read_with (standing a) o) (same-standing a b e l h.0)
@@ -150,16 +150,16 @@ give-each : (u w : Assignment) → u ≡ w → (x : Trees) → EachLabel (GiveOn
 give-each u w e none = tt
 give-each u w e (tree l c o) = (give-one u w e l, give-each u w e c, give-each u w e o)
 
-pub reads-same : (a b : Terms) → a.own ≡ b.own → a.unknowns ≡ b.unknowns → (x : Trees) → read_with (standing a) x ≡ read_with (standing b) x
+pub reads-same : (a b : ChosenTerms) → a.own ≡ b.own → a.unknowns ≡ b.unknowns → (x : Trees) → read_with (standing a) x ≡ read_with (standing b) x
 reads-same a b e f x = same-read a b e x (give-each a.unknowns b.unknowns f x)
 
 pub cons : {A : Type 0} (x y : A) (xs ys : List A) → x ≡ y → xs ≡ ys → x ∷ xs ≡ y ∷ ys
 cons x y xs ys e f = cc
 
-pub same-map : (a b : Terms) → a.own ≡ b.own → a.unknowns ≡ b.unknowns → (ls : List Label) → map (reading_of a) ls ≡ map (reading_of b) ls
+pub same-map : (a b : ChosenTerms) → a.own ≡ b.own → a.unknowns ≡ b.unknowns → (ls : List Label) → map (reading_of a) ls ≡ map (reading_of b) ls
 same-map a b e f [] = refl
 same-map a b e f (l ∷ ls) = cons _ _ _ _ (reads-same a b e f (leaf l)) (same-map a b e f ls)
 
-pub same-hold : (a b : Terms) → a.own ≡ b.own → a.unknowns ≡ b.unknowns → (bs : List Binding) → Every (Stands a) bs → Every (Stands b) bs
+pub same-hold : (a b : ChosenTerms) → a.own ≡ b.own → a.unknowns ≡ b.unknowns → (bs : List Binding) → Every (UnknownStands a) bs → Every (UnknownStands b) bs
 same-hold a b e f [] h = tt
 same-hold a b e f (x ∷ bs) h = (sym (ap (λ (u : Assignment). tree_of (u x.sort x.var)) f) ∙ h.0 ∙ reads-same a b e f x.value, same-hold a b e f bs h.1)

@@ -8,7 +8,7 @@ use Rattle.evaluation.specs.Instances.{read_with, default_label, of_sort, term_a
 use Rattle.evaluation.specs.Content.{given}
 use Rattle.type_terms.proofs.Made.{false-true, left, right, no-tree, made-ordinary, IsLast, last-bound, last-trait, never-dynamic, never-dynamic-bound, never-principal}
 use Rattle.evaluation.proofs.Equating.{single-of}
-use Rattle.evaluation.specs.Variables.{StandsIn}
+use Rattle.evaluation.specs.Variables.{LabelStandsIn}
 
 -- ---- made terms have leaves
 -- a lifetime, a variable or a number has no children
@@ -57,7 +57,7 @@ Agree xs ys k i = of_sort k (term_at xs i) ≡ of_sort k (term_at ys i)
 
 -- on each variable that stands in the trees
 abbrev pub AgreeIn : List Trees → List Trees → Trees → Type 0
-AgreeIn xs ys t = (k : Sort) (i : ℕ) → HasValues k → StandsIn (canonical k i) t → Agree xs ys k i
+AgreeIn xs ys t = (k : Sort) (i : ℕ) → HasValues k → LabelStandsIn (canonical k i) t → Agree xs ys k i
 
 same-parts : (x : Option Trees) (l : Label) (c d o p : Trees) → c ≡ d → o ≡ p → placed x (tree l c none) +++ o ≡ placed x (tree l d none) +++ p
 same-parts x l c d o p a b = ap (λ z. placed x (tree l z none) +++ o) a ∙ ap (λ z. placed x (tree l d none) +++ z) b
@@ -170,5 +170,5 @@ reads-determine xs ys (tree l c o) h e k i v (inr (inr s)) = reads-determine xs 
 reads-determine xs ys (tree l c o) h e k i v (inr (inl s)) = by (parts xs ys l c o e).below (λ f. reads-determine xs ys c h.1 f k i v s)
   where
     by : (is_leaf_label l ≡ true) ⊎ (read_with (given xs) c ≡ read_with (given ys) c) → (read_with (given xs) c ≡ read_with (given ys) c → Agree xs ys k i) → Agree xs ys k i
-    by (inl a) f = absurd (subst (StandsIn (canonical k i)) (h.0 a) s)
+    by (inl a) f = absurd (subst (LabelStandsIn (canonical k i)) (h.0 a) s)
     by (inr a) f = f a

@@ -23,7 +23,7 @@ use Rattle.evaluation.specs.Replays.{Run, ready, waits, run, onward}
 use Rattle.evaluation.specs.Rounds.{Round, kept, round}
 use Rattle.infer_table.specs.Responses.{AnswerTrees, answer_trees}
 use Rattle.evaluation.specs.Context.{NestedGoal, NestedHeld}
-use Rattle.evaluation.specs.Evaluating.{Question, NestedTrees, nested_trees, goals_trees, replies_trees, put_into, evaluation, IsAskedBy, values_asked}
+use Rattle.evaluation.specs.Evaluating.{AskedQuestion, NestedTrees, nested_trees, goals_trees, replies_trees, put_into, evaluation, IsAskedBy, values_asked}
 use Rattle.evaluation.specs.Steps.{RoundEnds}
 use Rattle.evaluation.specs.declared.error.EvalError.{EvalError}
 use Rattle.evaluation.specs.declared.error.EvalError.TheVariants.{NoSolution, Fault}
@@ -44,7 +44,7 @@ put-earlier old new k t d n vs r h v o e =
 
 module _ (mode : TypingMode) where
   abbrev RoundRun : Type 0
-  RoundRun = Run Question (Option AnswerTrees) (Option (Round (evaluation mode)))
+  RoundRun = Run AskedQuestion (Option AnswerTrees) (Option (Round (evaluation mode)))
 
   module _ (es : List Entry) (T : Table) where
     -- no goal is left to ask

@@ -13,8 +13,8 @@ use Rattle.evaluation.specs.Replays.{Run, ready, waits, run, onward}
 use Rattle.evaluation.specs.Rounds.{Round, Rounds, round, rounds, settled, next_round}
 use Rattle.infer_table.specs.Responses.{AnswerTrees}
 use Rattle.evaluation.specs.Context.{NestedGoal}
-use Rattle.evaluation.specs.Evaluating.{Question, NestedTrees, goals_trees, replies_trees, evaluation, certainty_with}
-use Rattle.evaluation.specs.Ends.{IsRefused, Awaits, EndsIn}
+use Rattle.evaluation.specs.Evaluating.{AskedQuestion, NestedTrees, goals_trees, replies_trees, evaluation, certainty_with}
+use Rattle.evaluation.specs.Ends.{RunIsRefused, Awaits, EndsIn}
 use Rattle.evaluation.specs.Steps.{RoundEnds, RoundsEnd, SameRounds}
 use Rattle.evaluation.specs.declared.error.EvalError.{EvalError}
 use Rattle.evaluation.specs.declared.error.EvalError.TheVariants.{NoSolution, Fault}
@@ -23,10 +23,10 @@ use Rattle.evaluation.proofs.RunRounds.{run-rounds}
 
 module _ (mode : TypingMode) where
   abbrev RoundRun : Type 0
-  RoundRun = Run Question (Option AnswerTrees) (Option (Round (evaluation mode)))
+  RoundRun = Run AskedQuestion (Option AnswerTrees) (Option (Round (evaluation mode)))
 
   abbrev RoundsRun : Type 0
-  RoundsRun = Run Question (Option AnswerTrees) (Option (Rounds (evaluation mode)))
+  RoundsRun = Run AskedQuestion (Option AnswerTrees) (Option (Rounds (evaluation mode)))
 
   -- the number of rounds is used up
   pub rounds-limit : (es : List Entry) (T : Table) (limit : ℕ) (left : List NestedGoal) (rs : List (Option AnswerTrees)) → limit ≡ 0
@@ -41,12 +41,12 @@ module _ (mode : TypingMode) where
     abbrev rest : RoundRun → RoundsRun
     rest r = onward (next_round (evaluation mode) (rounds (evaluation mode) limit)) r
 
-    refused-rest : (r : RoundRun) → IsRefused r → IsRefused (rest r)
+    refused-rest : (r : RoundRun) → RunIsRefused r → RunIsRefused (rest r)
     refused-rest (ready None more) h = h
     refused-rest (ready (Some o) more) h = absurd h
     refused-rest (waits q) h = absurd h
 
-    awaits-rest : (r : RoundRun) (q : Question) → Awaits r q → Awaits (rest r) q
+    awaits-rest : (r : RoundRun) (q : AskedQuestion) → Awaits r q → Awaits (rest r) q
     awaits-rest (ready o more) q h = absurd h
     awaits-rest (waits p) q h = h
 
@@ -93,8 +93,8 @@ module _ (mode : TypingMode) where
     whole = sym (ap (λ n. run (rounds (evaluation mode) n ns t) rs) e ∙ run-rounds (evaluation mode) before ns t rs)
 
     -- a refused goal
-    pub rounds-refused : IsRefused (run (round (evaluation mode) ns t) rs) → IsRefused (run (rounds (evaluation mode) limit ns t) rs)
-    rounds-refused h = subst (λ (x : RoundsRun). IsRefused x) whole (refused-rest before (run (round (evaluation mode) ns t) rs) h)
+    pub rounds-refused : RunIsRefused (run (round (evaluation mode) ns t) rs) → RunIsRefused (run (rounds (evaluation mode) limit ns t) rs)
+    rounds-refused h = subst (λ (x : RoundsRun). RunIsRefused x) whole (refused-rest before (run (round (evaluation mode) ns t) rs) h)
 
     -- a refusal, or a fault
     pub rounds-fault : (es : List Entry) (T : Table) (left : List NestedGoal) (x : EvalError) → RoundEnds mode es T [] left (run (round (evaluation mode) ns t) rs) (Err x)
@@ -103,7 +103,7 @@ module _ (mode : TypingMode) where
     rounds-fault es T left NoSolution h = rounds-refused h
 
     -- no reply is there
-    pub rounds-waits : (q : Question) → Awaits (run (round (evaluation mode) ns t) rs) q → Awaits (run (rounds (evaluation mode) limit ns t) rs) q
+    pub rounds-waits : (q : AskedQuestion) → Awaits (run (round (evaluation mode) ns t) rs) q → Awaits (run (rounds (evaluation mode) limit ns t) rs) q
     rounds-waits q h = subst (λ (x : RoundsRun). Awaits x q) whole (awaits-rest before (run (round (evaluation mode) ns t) rs) q h)
 
     module _ (es : List Entry) (T : Table) (left : List NestedGoal) (changed : Bool) (certainty : Certainty) (replies : Bor (List (Option CanonicalResponse)))

@@ -28,13 +28,13 @@ use Rattle.infer_table.proofs.Values.{cut-at}
 use Rattle.evaluation.specs.Context.{NestedGoal}
 use Rattle.evaluation.specs.Ends.{EndsIn}
 use Rattle.evaluation.specs.Errors.{eval_error}
-use Rattle.evaluation.specs.Evaluating.{Question, NestedTrees, goals_trees, replies_trees, evaluation}
+use Rattle.evaluation.specs.Evaluating.{AskedQuestion, NestedTrees, goals_trees, replies_trees, evaluation}
 use Rattle.evaluation.specs.declared.TheConstants.{FIXPOINT_STEP_LIMIT}
 use Rattle.evaluation.specs.Frames.{FrameTrees, begun, fresh, pair_filled}
 use Rattle.evaluation.specs.Readings.{EquationHeld}
 use Rattle.evaluation.specs.Replays.{Run, ready, waits, run}
 use Rattle.evaluation.specs.Rounds.{round, rounds}
-use Rattle.evaluation.specs.Shortages.{RoundRunsOut, RoundsRunOut, first, further, HasNoAnswer, EvaluationRunsOut, answer, LackNumbers, SolvingRunsOut, here, next, EquationsRunOut, NestedRunsOut, CandidateRunsOut, equations, nested}
+use Rattle.evaluation.specs.Shortages.{RoundRunsOut, RoundsRunOut, first, further, HasNoAnswer, EvaluationRunsOut, answer, LackNumbers, SolvingRunsOut, here, next, FrameEquationsRunOut, NestedRunsOut, CandidateRunsOut, equations, nested}
 use Rattle.evaluation.specs.Steps.{RoundEnds, SameRound, SameRounds}
 use Rattle.evaluation.specs.Trial.{SpecTrees, equations_trees}
 use Rattle.evaluation.specs.TrialEnds.{IsTried}
@@ -89,7 +89,7 @@ same-answer-lacks {ks = ks} {ls = ls} {vs = vs} {ws = ws} {t = t} {u = u} {c = c
     subst (λ x. HasNoAnswer ls ws u x) i (subst (λ (x : TableTrees). HasNoAnswer ls ws x c) g (subst (λ x. HasNoAnswer ls x t c) f (subst (λ x. HasNoAnswer x vs t c) e h)))
 
 -- what a run ended with
-pub ended-with : {X : Type 0} (P : X → List (Option AnswerTrees) → Type 0) (r : Run Question (Option AnswerTrees) (Option X)) → EndsIn P r
+pub ended-with : {X : Type 0} (P : X → List (Option AnswerTrees) → Type 0) (r : Run AskedQuestion (Option AnswerTrees) (Option X)) → EndsIn P r
     → (o : X) × (more : List (Option AnswerTrees)) × (r ≡ ready (Some o) more) × P o more
 ended-with P (ready None more) h = absurd h
 ended-with P (ready (Some o) more) h = (o, more, refl, h)
@@ -165,8 +165,8 @@ same-evaluation {n = n} {ks = ks} {ls = ls} {vs = vs} {ws = ws} c {gs = gs} {hs 
 
 -- ---- candidates
 module _ (mode : TypingMode) (kinds : List CanonicalVarKind) (s : SpecTrees) (rs : List (Option AnswerTrees)) (t : FrameTrees) (begun-so : t ≡ fresh (begun kinds) s.kinds) where
-  pub equations-run-out : EquationsRunOut t s.equations → CandidateRunsOut mode kinds s rs
-  equations-run-out h = equations (subst (λ (z : FrameTrees). EquationsRunOut z s.equations) begun-so h)
+  pub equations-run-out : FrameEquationsRunOut t s.equations → CandidateRunsOut mode kinds s rs
+  equations-run-out h = equations (subst (λ (z : FrameTrees). FrameEquationsRunOut z s.equations) begun-so h)
 
 -- a trial in which the equations hold
 pub tried-run-out : (mode : TypingMode) (kinds : List CanonicalVarKind) (s : SpecTrees) (rs : List (Option AnswerTrees)) (t : FrameTrees) → IsTried kinds s t → NestedRunsOut mode s.nested s.certainty t rs → CandidateRunsOut mode kinds s rs

@@ -9,13 +9,13 @@ use Rattle.infer_table.specs.declared.canonical.CanonicalVarKind.TheVariants.{Ty
 use Rattle.infer_table.specs.Raw.{sort_of_kind}
 use Rattle.infer_table.proofs.SolutionLaws.{is_sort-equal as is-sort}
 use Rattle.evaluation.specs.Instances.{default_label, of_sort, as_place, first_term, other_terms, term_at}
-use Rattle.evaluation.specs.Content.{Values, fits_kind, fits, Terms, reading_of}
+use Rattle.evaluation.specs.Content.{Values, fits_kind, fits, ChosenTerms, reading_of}
 use Rattle.evaluation.specs.FrameTables.{kind_at, IsOwn, AreOwn, FrameTable, HaveValues, Allows}
 use Rattle.evaluation.specs.TableAnswers.{is_kind_of}
 use Rattle.type_terms.proofs.Made.{false-true, left, right}
 use Rattle.evaluation.proofs.Reading.{append-none, EachLabel, read-lifetime}
 use Rattle.evaluation.proofs.Labels.{IsGoodLabel, made-labels}
-use Rattle.evaluation.specs.Variables.{StandsIn, is_variable_over}
+use Rattle.evaluation.specs.Variables.{LabelStandsIn, is_variable_over}
 use Rattle.evaluation.proofs.Readings.{AgreeIn}
 
 -- ---- slots
@@ -30,7 +30,7 @@ own_slot Region x = leaf static
 some-kind : (j k : CanonicalVarKind) → Some j ≡ Some k → j ≡ k
 some-kind j k e = cc
 
-first-slot : (s : Terms) (place : ℕ) (k : CanonicalVarKind) (ks : List CanonicalVarKind) (l : Label) (ls : List Label) (ts : List Trees) → IsOwn place k l
+first-slot : (s : ChosenTerms) (place : ℕ) (k : CanonicalVarKind) (ks : List CanonicalVarKind) (l : Label) (ls : List Label) (ts : List Trees) → IsOwn place k l
     → HaveValues (k ∷ ks) ts (map (reading_of s) (l ∷ ls)) → first_term ts ≡ term_at s.own.terms place → reading_of s l ≡ own_slot k (first_term ts)
 first-slot s place Ty ks l ls ts o h e = sym h.0
 first-slot s place Const ks l ls ts o h e = sym h.0
@@ -45,7 +45,7 @@ other-values PlaceholderTy ks ts x xs h = h
 other-values PlaceholderConst ks ts x xs h = h
 other-values Region ks ts x xs h = h
 
-slots-from : (s : Terms) (place : ℕ) (ks : List CanonicalVarKind) (ls : List Label) (ts : List Trees) → AreOwn place ks ls → HaveValues ks ts (map (reading_of s) ls)
+slots-from : (s : ChosenTerms) (place : ℕ) (ks : List CanonicalVarKind) (ls : List Label) (ts : List Trees) → AreOwn place ks ls → HaveValues ks ts (map (reading_of s) ls)
     → ((j : ℕ) → term_at ts j ≡ term_at s.own.terms (place + j)) → (i : ℕ) (k : CanonicalVarKind) → kind_at ks i ≡ Some k → term_at (map (reading_of s) ls) i ≡ own_slot k (term_at ts i)
 slots-from s place [] ls ts o h e i k q = absurd (cc)
 slots-from s place (j ∷ ks) [] ts o h e i k q = absurd o
@@ -60,7 +60,7 @@ slots-from s place (j ∷ ks) (l ∷ ls) ts o h e (suc i) k q =
     plus-suc : (n m : ℕ) → n + suc m ≡ suc n + m
     plus-suc n m = omega arith
 
-pub slot-is : (t : FrameTable) (s : Terms) → Allows t s → (i : ℕ) (k : CanonicalVarKind) → kind_at t.kinds i ≡ Some k → term_at s.slots i ≡ own_slot k (term_at s.own.terms i)
+pub slot-is : (t : FrameTable) (s : ChosenTerms) → Allows t s → (i : ℕ) (k : CanonicalVarKind) → kind_at t.kinds i ≡ Some k → term_at s.slots i ≡ own_slot k (term_at s.own.terms i)
 slot-is t s a i k q =
     ap (λ z. term_at z i) a.slots
     ∙ slots-from s 0 t.kinds t.labels s.own.terms a.made.own (subst (HaveValues t.kinds s.own.terms) a.slots a.own) (λ j. ap (term_at s.own.terms) (zero-plus j)) i k q
@@ -69,7 +69,7 @@ slot-is t s a i k q =
     zero-plus j = omega arith
 
 -- ---- the kinds of variables that stand in made terms
-pub each-stands : (P : Label → Type 0) (l : Label) (t : Trees) → EachLabel P t → StandsIn l t → P l
+pub each-stands : (P : Label → Type 0) (l : Label) (t : Trees) → EachLabel P t → LabelStandsIn l t → P l
 each-stands P l none e s = absurd s
 each-stands P l (tree m c o) e (inl q) = subst P q e.0
 each-stands P l (tree m c o) e (inr (inl s)) = each-stands P l c e.1 s
@@ -80,7 +80,7 @@ pub record HasKind (kinds : List CanonicalVarKind) (k : Sort) (i : ℕ) : Type 0
   pub is : kind_at kinds i ≡ Some kind
   pub sort : sort_of_kind kind ≡ k
 
-pub kind-of : (kinds : List CanonicalVarKind) (t : Trees) → is_made (is_variable_over kinds) terms t ≡ true → (k : Sort) (i : ℕ) → StandsIn (canonical k i) t → HasKind kinds k i
+pub kind-of : (kinds : List CanonicalVarKind) (t : Trees) → is_made (is_variable_over kinds) terms t ≡ true → (k : Sort) (i : ℕ) → LabelStandsIn (canonical k i) t → HasKind kinds k i
 kind-of kinds t h k i s = by (kind_at kinds i) refl (each-stands (IsGoodLabel (is_variable_over kinds)) (canonical k i) t (made-labels (is_variable_over kinds) terms t h) s refl)
   where
     by : (o : Option CanonicalVarKind) → kind_at kinds i ≡ o → is_kind_of k o ≡ true → HasKind kinds k i
@@ -116,13 +116,13 @@ own-agrees PlaceholderConst k x e v f = ap (of_sort k) (sym (append-none (as_pla
 own-agrees Region k x e v f = absurd (subst HasValues (sym e) v)
 
 -- where the values fit, the goal is read as with the slots
-pub own-slots-agree : (t : FrameTable) (s : Terms) → Allows t s → fits (map Some t.kinds) s.own.terms ≡ true → (x : Trees) → is_made (is_variable_over t.kinds) terms x ≡ true → AgreeIn s.own.terms s.slots x
+pub own-slots-agree : (t : FrameTable) (s : ChosenTerms) → Allows t s → fits (map Some t.kinds) s.own.terms ≡ true → (x : Trees) → is_made (is_variable_over t.kinds) terms x ≡ true → AgreeIn s.own.terms s.slots x
 own-slots-agree t s a f x h k i v st =
     let y = kind-of t.kinds x h k i st in
     own-agrees y.kind k (term_at s.own.terms i) y.sort v (fits-at t.kinds s.own.terms f i y.kind y.is) ∙ ap (of_sort k) (sym (slot-is t s a i y.kind y.is))
 
 -- the same values have the same slots
-pub slots-agree : (t : FrameTable) (s r : Terms) → Allows t s → Allows t r → s.own ≡ r.own → (x : Trees) → is_made (is_variable_over t.kinds) terms x ≡ true → AgreeIn s.slots r.slots x
+pub slots-agree : (t : FrameTable) (s r : ChosenTerms) → Allows t s → Allows t r → s.own ≡ r.own → (x : Trees) → is_made (is_variable_over t.kinds) terms x ≡ true → AgreeIn s.slots r.slots x
 slots-agree t s r a b e x h k i v st =
     let y = kind-of t.kinds x h k i st in
     ap (of_sort k) (slot-is t s a i y.kind y.is ∙ ap (λ (z : Values). own_slot y.kind (term_at z.terms i)) e ∙ sym (slot-is t r b i y.kind y.is))

@@ -4,8 +4,8 @@ use Rattle.evaluation.specs.Lists.{IsAmong}
 use Rattle.evaluation.specs.Table.{Tables, IsTable}
 use Rattle.evaluation.specs.Law.{Counts, IsInstance}
 use Rattle.evaluation.specs.Handler.{IsHandler}
-use Rattle.evaluation.specs.Proof.{Derivation, end, again, by_rule, HasGraph}
-use Rattle.evaluation.specs.System.{System, IsSystem, Follows, YesFollowsFromQuestions, GraphsProve}
+use Rattle.evaluation.specs.Proof.{GoalDerivation, end, again, by_rule, HasGraph}
+use Rattle.evaluation.specs.System.{System, IsSystem, GoalFollows, YesFollowsFromQuestions, GraphsProve}
 use Rattle.evaluation.specs.History.{finished_in, ignored_in}
 use Rattle.evaluation.specs.Promises.{frame_of_goal}
 use Rattle.evaluation.proofs.ListLaws.{Every-mono}
@@ -13,7 +13,7 @@ use Rattle.evaluation.proofs.Ends.{yes_follows}
 use Rattle.evaluation.proofs.Unfold.{Instances, IsInstanceOf, FollowsFromQuestions, graph_unfolds}
 
 module _ {Goal : Type 0} (F G : Goal → List (Goal × Bool) → Type 0) (weaker : (g : Goal) (questions : List (Goal × Bool)) → F g questions → G g questions) where
-  derived_by : (assumed : List Goal) (questions : List (Goal × Bool)) → Derivation Goal F assumed questions → Derivation Goal G assumed questions
+  derived_by : (assumed : List Goal) (questions : List (Goal × Bool)) → GoalDerivation Goal F assumed questions → GoalDerivation Goal G assumed questions
   derived_by assumed [] end = end
   derived_by assumed ((g, true) ∷ rest) (again i d) = again i (derived_by assumed rest d)
   derived_by assumed ((g, k) ∷ rest) (by_rule {premises = premises} f below d) = by_rule (weaker g premises f) (derived_by assumed premises below) (derived_by assumed rest d)
@@ -30,7 +30,7 @@ module _ {Question Response : Type 0} (t : Tables Question Response) (s : System
   abbrev instances_of : t.Values → Instances s.Goal t.Values t.Fact
   instances_of root = record { fact = λ g v. (s.handled g).goal v; values = λ g. s.made_of g root; coinductive = s.coinductive; Rule = s.Rule }
 
-  from_questions : (root : t.Values) (g : s.Goal) (questions : List (s.Goal × Bool)) → Follows t s g questions → FollowsFromQuestions (instances_of root) g questions
+  from_questions : (root : t.Values) (g : s.Goal) (questions : List (s.Goal × Bool)) → GoalFollows t s g questions → FollowsFromQuestions (instances_of root) g questions
   from_questions root g questions follows v i =
       let f = follows v in (
         f.premises,
@@ -48,7 +48,7 @@ module _ {Question Response : Type 0} (t : Tables Question Response) (s : System
 
   pub graphs_prove : GraphsProve t s
   graphs_prove g h v i =
-      graph_unfolds (instances_of v) g (graph_by (Follows t s) (FollowsFromQuestions (instances_of v)) (λ p questions f. from_questions v p questions f) g h) v i
+      graph_unfolds (instances_of v) g (graph_by (GoalFollows t s) (FollowsFromQuestions (instances_of v)) (λ p questions f. from_questions v p questions f) g h) v i
 
 module _ {Question Response : Type 0} (t : Tables Question Response) (tables : IsTable t) (s : System t) (handlers : (g : s.Goal) → IsHandler t (s.handled g)) where
   pub yes_follows_from : YesFollowsFromQuestions t s

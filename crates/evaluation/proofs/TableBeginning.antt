@@ -11,7 +11,7 @@ use Rattle.infer_table.proofs.SolutionLaws.{is_sort-equal as is-sort}
 use Rattle.evaluation.specs.Lists.{Every}
 use Rattle.evaluation.specs.Instances.{default_label, of_sort, first_term, other_terms}
 use Rattle.type_terms.specs.Made.{terms, is_made}
-use Rattle.evaluation.specs.Content.{Values, Terms, fits, reading_of}
+use Rattle.evaluation.specs.Content.{Values, ChosenTerms, fits, reading_of}
 use Rattle.evaluation.specs.FrameTables.{kind_at, is_good, is_placeholder_of, AreOwn, IsMadeFrame, HaveValues, consts_in, labels_from, types_in}
 use Rattle.type_terms.proofs.Made.{false-true, left}
 use Rattle.evaluation.specs.TableOperations.{begin}
@@ -152,7 +152,7 @@ values-sorted ks ts of_const v = const-sorted ks ts v
 values-sorted ks ts of_lifetime v = refl
 
 -- the terms that give the goal's variables these values
-abbrev pub terms_for : List CanonicalVarKind → Values → Terms
+abbrev pub terms_for : List CanonicalVarKind → Values → ChosenTerms
 terms_for kinds v = record {
   own = v;
   slots = map (reading_of (record { own = v; slots = []; unknowns = values_from kinds v.terms; proper = true })) (labels_from 0 0 0 0 kinds);
@@ -171,7 +171,7 @@ plus-zero a = omega arith
 plus-suc : (a n : ℕ) → suc a + n ≡ a + suc n
 plus-suc a n = omega arith
 
-have-values : (kinds : List CanonicalVarKind) (s : Terms) (all : List Trees) → s.unknowns ≡ values_from kinds all → (a b c i : ℕ) (ks : List CanonicalVarKind) (ts : List Trees)
+have-values : (kinds : List CanonicalVarKind) (s : ChosenTerms) (all : List Trees) → s.unknowns ≡ values_from kinds all → (a b c i : ℕ) (ks : List CanonicalVarKind) (ts : List Trees)
     → GivesRest kinds all a b ks ts → HaveValues ks ts (map (reading_of s) (labels_from a b c i ks))
 have-values kinds s all e a b c i [] ts g = tt
 have-values kinds s all e a b c i (Ty ∷ ks) ts g = (

@@ -5,14 +5,14 @@ use Rattle.type_terms.specs.Kinds.{ArgsHeld}
 use Rattle.infer_table.specs.Content.{Ready}
 use Rattle.evaluation.specs.Lists.{Every}
 use Rattle.evaluation.specs.Readings.{ResultHeld}
-use Rattle.evaluation.specs.Context.{Context, NestedHeld, IsReady}
+use Rattle.evaluation.specs.Context.{Context, NestedHeld, IsReadyContext}
 
 -- one with neither goals nor replies
-pub ready-begun : (es : List Entry) (c : Context) → c.nested ≡ [] → c.replies ≡ [] → Ready es c.table → ArgsHeld es c.values → IsReady es c
+pub ready-begun : (es : List Entry) (c : Context) → c.nested ≡ [] → c.replies ≡ [] → Ready es c.table → ArgsHeld es c.values → IsReadyContext es c
 ready-begun es c e f r h = record { table = r; values = h; nested = subst (NestedHeld es) (sym e) tt; replies = subst (Every (ResultHeld es)) (sym f) tt }
 
 -- one that has heard these replies
-pub ready-heard : (es : List Entry) (c d : Context) → d ≡ record c { replies = d.replies } → IsReady es c → Every (ResultHeld es) d.replies → IsReady es d
+pub ready-heard : (es : List Entry) (c d : Context) → d ≡ record c { replies = d.replies } → IsReadyContext es c → Every (ResultHeld es) d.replies → IsReadyContext es d
 ready-heard es c d e r h =
-    let there : IsReady es (record c { replies = d.replies }) = record { table = r.table; values = r.values; nested = r.nested; replies = h } in
-    subst (IsReady es) (sym e) there
+    let there : IsReadyContext es (record c { replies = d.replies }) = record { table = r.table; values = r.values; nested = r.nested; replies = h } in
+    subst (IsReadyContext es) (sym e) there

@@ -11,7 +11,7 @@ use Rattle.infer_table.specs.declared.goal.Goal.{Goal}
 use Rattle.infer_table.specs.declared.response.CanonicalResponse.{CanonicalResponse}
 use Rattle.evaluation.specs.declared.goal.GoalSource.{GoalSource}
 use Rattle.evaluation.specs.Context.{Context, NestedGoal, nested_goal}
-use Rattle.evaluation.specs.Probes.{Continues}
+use Rattle.evaluation.specs.Probes.{ContextContinues}
 
 same-goal : (s t : GoalSource) (xs ys : List Clause) (p q : TraitPredicate) → t ≡ s → ys ≡ xs → q ≡ p
     → ◌≡◌ {A = NestedGoal} (record { source = t; clauses = ys; predicate = q }) (record { source = s; clauses = xs; predicate = p })
@@ -38,5 +38,5 @@ pub same-context : (m m' : TypingMode) (t t' : Table) (ks ks' : List CanonicalVa
 same-context m m' t t' ks ks' vs vs' ns ns' rs rs' a b k c d e = cc
 
 -- with its table and its nested goals put back, a context is as before
-pub put-back : (old new : Context) (t : Table) (ns : List NestedGoal) → Continues old new → t ≡ old.table → ns ≡ old.nested → record new { table = t; nested = ns } ≡ old
+pub put-back : (old new : Context) (t : Table) (ns : List NestedGoal) → ContextContinues old new → t ≡ old.table → ns ≡ old.nested → record new { table = t; nested = ns } ≡ old
 put-back old new t ns k e f = same-context old.mode new.mode old.table t old.variables new.variables old.values new.values old.nested ns old.replies new.replies k.mode e k.variables k.values f k.replies

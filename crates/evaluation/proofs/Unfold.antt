@@ -1,7 +1,7 @@
 -- A proof graph of canonical goals, each with finitely many instances, unfolds to a proof of references.
 use Rattle.std.proofs.Common.{◌≡◌, Bool, true, false, List, [], ◌∷◌, ◌++◌, map, ◌⊎◌, inl, inr, refl, sym, ap, subst, if◌then◌else◌}
 use Rattle.evaluation.specs.Lists.{Every, IsAmong}
-use Rattle.evaluation.specs.Proof.{facts, Continues, HasProof, Derivation, end, again, by_rule, IsDerived, HasGraph}
+use Rattle.evaluation.specs.Proof.{facts, EntriesContinue, FactHasProof, GoalDerivation, end, again, by_rule, GoalIsDerived, HasGraph}
 
 pub among-left : {A : Type 0} (x : A) (xs ys : List A) → IsAmong x xs → IsAmong x (xs ++ ys)
 among-left x [] ys i = absurd i
@@ -70,14 +70,14 @@ module _ (Fact : Type 0) (Rule : Fact → List Fact → Type 0) (coinductive : F
   comes earlier (e ∷ entries) p (inl x) = stays (e.0 ∷ earlier) entries p (inl x)
   comes earlier (e ∷ entries) p (inr i) = comes (e.0 ∷ earlier) entries p i
 
-  Continues-append : (all earlier : List Fact) (xs ys : List Step) → Continues Fact Rule coinductive all earlier xs → Continues Fact Rule coinductive all (grown earlier xs) ys
-      → Continues Fact Rule coinductive all earlier (xs ++ ys)
+  Continues-append : (all earlier : List Fact) (xs ys : List Step) → EntriesContinue Fact Rule coinductive all earlier xs → EntriesContinue Fact Rule coinductive all (grown earlier xs) ys
+      → EntriesContinue Fact Rule coinductive all earlier (xs ++ ys)
   Continues-append all earlier [] ys a b = b
   Continues-append all earlier (x ∷ xs) ys a b = (a.0, a.1, Continues-append all (x.0 ∷ earlier) xs ys a.2 b)
 
   module _ (assumed : List Fact) where
     abbrev Derives : List (Fact × Bool) → Type 0
-    Derives questions = Derivation Fact FollowsBy assumed questions
+    Derives questions = GoalDerivation Fact FollowsBy assumed questions
 
     abbrev written : (questions : List (Fact × Bool)) → Derives questions → List Step
     written [] end = []
@@ -129,7 +129,7 @@ module _ (Fact : Type 0) (Rule : Fact → List Fact → Type 0) (coinductive : F
 
     -- what is written is a part of a proof
     written_stands : (all : List Fact) → ((p : Fact) → IsAmong p assumed → IsAmong p all) → (questions : List (Fact × Bool)) (d : Derives questions) (earlier : List Fact)
-        → ((p : Fact) → IsAmong p (grown earlier (written questions d)) → IsAmong p all) → Continues Fact Rule coinductive all earlier (written questions d)
+        → ((p : Fact) → IsAmong p (grown earlier (written questions d)) → IsAmong p all) → EntriesContinue Fact Rule coinductive all earlier (written questions d)
     written_stands all known [] end earlier sub = tt
     written_stands all known ((g, true) ∷ rest) (again i d) earlier sub = written_stands all known rest d earlier sub
     written_stands all known ((g, b) ∷ rest) (by_rule {premises = premises} f below d) earlier sub =
@@ -142,7 +142,7 @@ module _ (Fact : Type 0) (Rule : Fact → List Fact → Type 0) (coinductive : F
 
     -- ---- all goals of the graph, one after the other
     abbrev AreDerived : List Fact → Type 0
-    AreDerived goals = (h : Fact) → IsAmong h goals → IsDerived Fact FollowsBy assumed h
+    AreDerived goals = (h : Fact) → IsAmong h goals → GoalIsDerived Fact FollowsBy assumed h
 
     abbrev all_written : (goals : List Fact) → AreDerived goals → List Step
     all_written [] d = []
@@ -157,7 +157,7 @@ module _ (Fact : Type 0) (Rule : Fact → List Fact → Type 0) (coinductive : F
         concluded-append (written x.0 x.2) ((h, x.1.0) ∷ all_written goals (λ k j. d k (inr j))) g (inr (inr (each_written goals (λ k j. d k (inr j)) g i)))
 
     all_stand : (all : List Fact) → ((p : Fact) → IsAmong p assumed → IsAmong p all) → (goals : List Fact) (d : AreDerived goals) (earlier : List Fact)
-        → ((p : Fact) → IsAmong p (grown earlier (all_written goals d)) → IsAmong p all) → Continues Fact Rule coinductive all earlier (all_written goals d)
+        → ((p : Fact) → IsAmong p (grown earlier (all_written goals d)) → IsAmong p all) → EntriesContinue Fact Rule coinductive all earlier (all_written goals d)
     all_stand all known [] d earlier sub = tt
     all_stand all known (g ∷ goals) d earlier sub =
         let x = d g (inl refl) in
@@ -177,7 +177,7 @@ module _ (Fact : Type 0) (Rule : Fact → List Fact → Type 0) (coinductive : F
     | inr b ↦ inr (inr b)
   ]
 
-  pub proof_of_graph : (f : Fact) → HasGraph Fact FollowsBy f → HasProof Fact Rule coinductive f
+  pub proof_of_graph : (f : Fact) → HasGraph Fact FollowsBy f → FactHasProof Fact Rule coinductive f
   proof_of_graph f g =
       let entries = all_written g.goals g.goals g.derived in
       let known : (p : Fact) → IsAmong p g.goals → IsAmong p (concluded entries) = λ p i. each_written g.goals g.goals g.derived p i in (
@@ -205,7 +205,7 @@ module _ {Goal Values Fact : Type 0} (m : Instances Goal Values Fact) where
 
   -- each instance of a goal that has a proof graph has a proof
   abbrev pub GraphUnfolds : Type 0
-  GraphUnfolds = (g : Goal) → HasGraph Goal FollowsFromQuestions g → (v : Values) → IsAmong v (m.values g) → HasProof Fact m.Rule m.coinductive (m.fact g v)
+  GraphUnfolds = (g : Goal) → HasGraph Goal FollowsFromQuestions g → (v : Values) → IsAmong v (m.values g) → FactHasProof Fact m.Rule m.coinductive (m.fact g v)
 
 -- ---- a graph of canonical goals is one of references
 module _ {Goal Values Fact : Type 0} (m : Instances Goal Values Fact) where
@@ -234,7 +234,7 @@ module _ {Goal Values Fact : Type 0} (m : Instances Goal Values Fact) where
 
   module _ (goals : List Goal) where
     abbrev Made : List (Fact × Bool) → Type 0
-    Made questions = Derivation Fact Follows (instances goals) questions
+    Made questions = GoalDerivation Fact Follows (instances goals) questions
 
     -- each instance of each of the questions is derived, whatever comes after it
     abbrev Makes : List (Goal × Bool) → Type 0
@@ -244,7 +244,7 @@ module _ {Goal Values Fact : Type 0} (m : Instances Goal Values Fact) where
     all_made questions kind make [] e = end
     all_made questions kind make (p ∷ ps) e = make kind p e.0 (kinded kind ps) (all_made questions kind make ps e.1)
 
-    makes : (questions : List (Goal × Bool)) → Derivation Goal (FollowsFromQuestions m) goals questions → Makes questions
+    makes : (questions : List (Goal × Bool)) → GoalDerivation Goal (FollowsFromQuestions m) goals questions → Makes questions
     makes [] end kind f x rest r = absurd x.2
     makes ((g, true) ∷ questions) (again i d) kind f x rest r = elim x.2 [
       | inl e ↦ (let s = subst (λ z. Made ((m.fact x.0 x.1, z) ∷ rest)) (sym (ap (λ p. p.1) e)) (again (among goals x.0 x.1 (subst (λ z. IsAmong z goals) (sym (ap (λ p. p.0) e)) i) x.3) r) in
@@ -267,7 +267,7 @@ module _ {Goal Values Fact : Type 0} (m : Instances Goal Values Fact) where
         let x = back p.goals f j in
         let d = p.derived x.0 x.2 in
         let y = d.1 x.1 x.3 in
-        subst (λ z. IsDerived Fact Follows (instances p.goals) z) x.4
+        subst (λ z. GoalIsDerived Fact Follows (instances p.goals) z) x.4
         (kinded (m.coinductive (m.fact x.0 x.1)) y.0, (y.0, y.1, refl), all_made p.goals d.0 (m.coinductive (m.fact x.0 x.1)) (λ c h z l t. makes p.goals d.0 d.2 c h z l t) y.0 y.2);
   }
 

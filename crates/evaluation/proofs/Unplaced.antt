@@ -8,7 +8,7 @@ use Rattle.infer_table.specs.declared.canonical.CanonicalVarKind.TheVariants.{Ty
 use Rattle.infer_table.specs.Applying.{table_after}
 use Rattle.evaluation.specs.Lists.{Every}
 use Rattle.evaluation.specs.Instances.{other_terms}
-use Rattle.evaluation.specs.Content.{Values, fits, Terms, reading_of, Stands}
+use Rattle.evaluation.specs.Content.{Values, fits, ChosenTerms, reading_of, UnknownStands}
 use Rattle.evaluation.specs.FrameTables.{kind_at, is_placeholder_of, HaveValues, Allows, FitPlaceholders, AllowsApart}
 use Rattle.type_terms.proofs.Made.{false-true}
 use Rattle.evaluation.specs.FrameTables.{types_in, consts_in, regions_in, labels_from, first_content}
@@ -107,7 +107,7 @@ labels-are ks js h g =
     (labels-same _ _ _ _ _ _ _ _ js (zero-plus (types_in ks)) (zero-plus (consts_in ks)) (zero-plus (regions_in ks)) refl ∙ sym (new-labels (first_content ks) 0 (0 + length ks) js g))
 
 -- without placeholders, a reading looks at the unknowns alone
-same-readings : (s r : Terms) → s.unknowns ≡ r.unknowns → (a b c i : ℕ) (ks : List CanonicalVarKind) → Every IsNotPlace ks → map (reading_of s) (labels_from a b c i ks) ≡ map (reading_of r) (labels_from a b c i ks)
+same-readings : (s r : ChosenTerms) → s.unknowns ≡ r.unknowns → (a b c i : ℕ) (ks : List CanonicalVarKind) → Every IsNotPlace ks → map (reading_of s) (labels_from a b c i ks) ≡ map (reading_of r) (labels_from a b c i ks)
 same-readings s r e a b c i [] h = refl
 same-readings s r e a b c i (Ty ∷ ks) h = cons _ _ _ _ (ap (λ u. tree (u of_type a).0 (u of_type a).1 none) e) (same-readings s r e (suc a) b c (suc i) ks h.1)
 same-readings s r e a b c i (Const ∷ ks) h = cons _ _ _ _ (ap (λ u. tree (u of_const b).0 (u of_const b).1 none) e) (same-readings s r e a (suc b) c (suc i) ks h.1)
@@ -121,7 +121,7 @@ module _ (ks js : List CanonicalVarKind) (h : Every IsNotPlace ks) (g : Every Is
   abbrev together : Values
   together = record { proper = v.proper; terms = all }
 
-  abbrev pub whole : Terms
+  abbrev pub whole : ChosenTerms
   whole = (begins-free (ks ++ js) together).0
 
   pub whole-allowed : Allows (begin (ks ++ js)) whole
@@ -134,7 +134,7 @@ module _ (ks js : List CanonicalVarKind) (h : Every IsNotPlace ks) (g : Every Is
   whole-values = subst (λ (z : Values). HaveValues (ks ++ js) z.terms whole.slots) whole-own whole-allowed.own
 
   -- the values v for the goal's variables, and behind them the rest for the candidate's
-  abbrev pub filled_with : Terms
+  abbrev pub filled_with : ChosenTerms
   filled_with = record { own = v; slots = whole.slots; unknowns = whole.unknowns; proper = v.proper && fits (map Some ks) v.terms }
 
   pub filled-with-allowed : HaveValues ks v.terms whole.slots → AllowsApart (fresh (begin ks) js) filled_with
@@ -142,7 +142,7 @@ module _ (ks js : List CanonicalVarKind) (h : Every IsNotPlace ks) (g : Every Is
     allowed = record {
       made = fresh-made (begin ks) (begin-made ks) js;
       sorted = whole-allowed.sorted;
-      hold = subst (Every (Stands filled_with)) (sym (for-bindings unknown (first_content ks) 0 js)) tt;
+      hold = subst (Every (UnknownStands filled_with)) (sym (for-bindings unknown (first_content ks) 0 js)) tt;
       slots = whole-allowed.slots ∙ same-readings whole filled_with refl 0 0 0 0 (ks ++ js) (both-kinds ks js h g) ∙ ap (map (reading_of filled_with)) (labels-are ks js h g);
       own = own;
       proper = refl;

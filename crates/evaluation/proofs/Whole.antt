@@ -4,7 +4,7 @@ use Rattle.type_terms.specs.Label.{Label, Sort, of_type, of_const, of_lifetime, 
 use Rattle.type_terms.specs.Trees.{Trees, none, tree, leaf, ◌+++◌, erase_label, sort_of}
 use Rattle.infer_table.proofs.SolutionLaws.{is_sort-equal as is-sort}
 use Rattle.evaluation.specs.Instances.{read_with, is_place, as_place, term_at}
-use Rattle.evaluation.specs.Content.{Terms, standing}
+use Rattle.evaluation.specs.Content.{ChosenTerms, standing}
 use Rattle.type_terms.proofs.Made.{false-true}
 use Rattle.evaluation.proofs.Questions.{is-place}
 
@@ -23,7 +23,7 @@ place-one k t h = absurd (false-true h)
 pub as-place-one : (k : Sort) (t : Trees) → (x : Label) × (as_place k t ≡ leaf x) × (sort_of x ≡ k)
 as-place-one k t = place-one k (as_place k t) (is-place k t)
 
-module _ (s : Terms) (sorted : (k : Sort) (v : ℕ) → sort_of (s.unknowns k v).0 ≡ k) where
+module _ (s : ChosenTerms) (sorted : (k : Sort) (v : ℕ) → sort_of (s.unknowns k v).0 ≡ k) where
   abbrev read : Trees → Trees
   read t = read_with (standing s) t
 

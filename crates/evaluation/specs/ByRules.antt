@@ -4,14 +4,14 @@ use Rattle.type_terms.specs.Worlds.{World, Reference}
 use Rattle.type_terms.specs.Rules.{Way, rules, is_coinductive}
 use Rattle.type_terms.specs.Proofs.{In}
 use Rattle.type_terms.specs.Proofs as Model
-use Rattle.evaluation.specs.Proof.{HasProof}
+use Rattle.evaluation.specs.Proof.{FactHasProof}
 
 -- one of the rules that conclude the reference has these premises
 abbrev pub HasRule : World → List Reference → Reference → List Reference → Type 0
 HasRule W E r premises = (way : Way) × In (record { way = way; premises = premises }) (rules W E r)
 
 abbrev pub HasProofByRules : World → List Reference → Reference → Type 0
-HasProofByRules W E r = HasProof Reference (HasRule W E) (λ s. is_coinductive W s.trait) r
+HasProofByRules W E r = FactHasProof Reference (HasRule W E) (λ s. is_coinductive W s.trait) r
 
 -- such a proof is one of the model
 abbrev pub ProofsAreProofs : Type 0

@@ -9,7 +9,7 @@ use Rattle.evaluation.specs.Lists.{IsNoneOf}
 use Rattle.evaluation.specs.Script.{done, followed}
 use Rattle.evaluation.specs.Operations.{Workings}
 use Rattle.evaluation.specs.Frame.{Frame, considers, answers}
-use Rattle.evaluation.specs.Rounds.{Asking, Rounds, rounds}
+use Rattle.evaluation.specs.Rounds.{RoundAsking, Rounds, rounds}
 
 module _ {Question Response : Type 0} (t : Workings Question Response) where
   -- a candidate as data: its source, fresh unknowns, equations and region constraints over them, nested goals, and how sure it can be
@@ -21,15 +21,15 @@ module _ {Question Response : Type 0} (t : Workings Question Response) where
     pub nested : List t.operations.Nested
     pub certainty : Certainty
 
-  abbrev pub answered : Certainty → Option (Rounds t.operations) → Asking t.operations (Option Response)
+  abbrev pub answered : Certainty → Option (Rounds t.operations) → RoundAsking t.operations (Option Response)
   answered c None = done None
   answered c (Some o) = done (Some (t.respond o.table (joined c o.certainty)))
 
-  abbrev pub equated : ℕ → Spec → Option t.operations.Table → Asking t.operations (Option Response)
+  abbrev pub equated : ℕ → Spec → Option t.operations.Table → RoundAsking t.operations (Option Response)
   equated limit s None = done None
   equated limit s (Some U) = followed (answered s.certainty) (rounds t.operations limit s.nested (t.recorded U s.regions))
 
-  abbrev pub candidate : ℕ → t.operations.Table → Spec → Asking t.operations (Option Response)
+  abbrev pub candidate : ℕ → t.operations.Table → Spec → RoundAsking t.operations (Option Response)
   candidate limit T s = equated limit s (t.equate (t.fresh T s.kinds) s.equations)
 
   -- a candidate that was considered, its response, and its number

@@ -57,23 +57,23 @@ pub record Fact : Type 0 where
   pub proper : Bool
 
 -- a canonical goal, and whether the step to it is coinductive
-pub record Question : Type 0 where
+pub record NestedQuestion : Type 0 where
   pub form : CanonicalForm
   pub coinductive : Bool
 
-abbrev pub fact_of : Question → Values → Fact
+abbrev pub fact_of : NestedQuestion → Values → Fact
 fact_of q v = record { trait = trait_of q.form.goal.predicate; goal = goal_read (given v.terms) q.form.goal; proper = v.proper && fits q.form.kinds v.terms }
 
 -- ---- terms
 -- terms for all unknowns; `own` are the values of the goal's variables, and `slots` those of all canonical variables
-pub record Terms : Type 0 where
+pub record ChosenTerms : Type 0 where
   pub own : Values
   pub slots : List Trees
   pub unknowns : Assignment
   pub proper : Bool
 
 -- what stands for an open leaf of a table's terms
-abbrev pub standing : Terms → Label → Option Trees
+abbrev pub standing : ChosenTerms → Label → Option Trees
 standing s (infer of_type v) = Some (tree_of (s.unknowns of_type v))
 standing s (infer of_const v) = Some (tree_of (s.unknowns of_const v))
 standing s (placeholder of_type i) = Some (as_place of_type (term_at s.own.terms i))
@@ -88,9 +88,9 @@ standing s (canonical of_lifetime i) = Some (leaf static)
 standing s (bound of_lifetime k i) = Some (leaf static)
 standing s l = None
 
-abbrev pub reading_of : Terms → Label → Trees
+abbrev pub reading_of : ChosenTerms → Label → Trees
 reading_of s l = read_with (standing s) (leaf l)
 
 -- the unknown stands for its value
-abbrev pub Stands : Terms → Binding → Type 0
-Stands s b = tree_of (s.unknowns b.sort b.var) ≡ read_with (standing s) b.value
+abbrev pub UnknownStands : ChosenTerms → Binding → Type 0
+UnknownStands s b = tree_of (s.unknowns b.sort b.var) ≡ read_with (standing s) b.value

@@ -42,7 +42,7 @@ abbrev pub NestedHeld : List Entry → List NestedGoal → Type 0
 NestedHeld es ns = Every (GoalIsHeld es) ns
 
 -- the handles are an interner's, and the table is one that was made from an empty one
-pub record IsReady (es : List Entry) (c : Context) : Type 0 where
+pub record IsReadyContext (es : List Entry) (c : Context) : Type 0 where
   pub table : Ready es c.table
   pub values : ArgsHeld es c.values
   pub nested : NestedHeld es c.nested

@@ -23,8 +23,8 @@ module _ {Question Response OtherQuestion OtherResponse : Type 0} (one : Operati
 
   module _ (c : Correspondence) where
     -- both refuse the question, or the responses of both correspond
-    abbrev pub Answers : Question → Option Response → Option OtherResponse → Type 0
-    Answers q a b = OnBoth (c.Responses q) a b
+    abbrev pub AnswersCorrespond : Question → Option Response → Option OtherResponse → Type 0
+    AnswersCorrespond q a b = OnBoth (c.Responses q) a b
 
     -- goals ask corresponding questions, corresponding responses do the same to tables, are equally sure, and both hold values or none
     pub record IsCorrespondence : Type 0 where
@@ -38,7 +38,7 @@ module _ {Question Response OtherQuestion OtherResponse : Type 0} (one : Operati
     abbrev pub AreAnswers : {X : Type 0} → Script Question (Option Response) X → List (Option Response) → List (Option OtherResponse) → Type 0
     AreAnswers (done x) answers others = Unit {0}
     AreAnswers (ask q k) [] [] = Unit {0}
-    AreAnswers (ask q k) (a ∷ answers) (b ∷ others) = Answers q a b × AreAnswers (k a) answers others
+    AreAnswers (ask q k) (a ∷ answers) (b ∷ others) = AnswersCorrespond q a b × AreAnswers (k a) answers others
     AreAnswers (ask q k) [] (b ∷ others) = ⊥
     AreAnswers (ask q k) (a ∷ answers) [] = ⊥
 
@@ -49,13 +49,13 @@ module _ {Question Response OtherQuestion OtherResponse : Type 0} (one : Operati
     Runs R (ready x left) (waits q) = ⊥
     Runs R (waits p) (ready y rest) = ⊥
 
-    pub record RoundEnds (x : Round one) (y : Round other) : Type 0 where
+    pub record RoundEndsTogether (x : Round one) (y : Round other) : Type 0 where
       pub table : c.Tables x.table y.table
       pub left : Pairwise c.Goals x.left y.left
       pub changed : x.changed ≡ y.changed
       pub certainty : x.certainty ≡ y.certainty
 
-    pub record RoundsEnd (x : Rounds one) (y : Rounds other) : Type 0 where
+    pub record RoundsEndTogether (x : Rounds one) (y : Rounds other) : Type 0 where
       pub table : c.Tables x.table y.table
       pub left : Pairwise c.Goals x.left y.left
       pub certainty : x.certainty ≡ y.certainty
@@ -63,9 +63,9 @@ module _ {Question Response OtherQuestion OtherResponse : Type 0} (one : Operati
     -- from corresponding tables, corresponding goals and answers lead to corresponding ends of a round and of the rounds
     pub record RoundsCorrespond : Type 0 where
       pub of_round : (ns : List one.Nested) (ms : List other.Nested) (T : one.Table) (U : other.Table) (answers : List (Option Response)) (others : List (Option OtherResponse))
-          → Pairwise c.Goals ns ms → c.Tables T U → AreAnswers (round one ns T) answers others → Runs (OnBoth RoundEnds) (run (round one ns T) answers) (run (round other ms U) others)
+          → Pairwise c.Goals ns ms → c.Tables T U → AreAnswers (round one ns T) answers others → Runs (OnBoth RoundEndsTogether) (run (round one ns T) answers) (run (round other ms U) others)
       pub of_rounds : (limit : ℕ) (ns : List one.Nested) (ms : List other.Nested) (T : one.Table) (U : other.Table) (answers : List (Option Response)) (others : List (Option OtherResponse))
-          → Pairwise c.Goals ns ms → c.Tables T U → AreAnswers (rounds one limit ns T) answers others → Runs (OnBoth RoundsEnd) (run (rounds one limit ns T) answers) (run (rounds other limit ms U) others)
+          → Pairwise c.Goals ns ms → c.Tables T U → AreAnswers (rounds one limit ns T) answers others → Runs (OnBoth RoundsEndTogether) (run (rounds one limit ns T) answers) (run (rounds other limit ms U) others)
 
 -- ---- candidates and frames
 module _ {Question Response OtherQuestion OtherResponse : Type 0} (one : Workings Question Response) (other : Workings OtherQuestion OtherResponse) where
@@ -126,7 +126,7 @@ module _ {Question Response OtherQuestion OtherResponse : Type 0} (one : Working
 
     -- a result answers the question that is asked here
     abbrev pub AnswersAt : Position Question (Option Response) → Option Response → Option OtherResponse → Type 0
-    AnswersAt (inside heard replies (ask q k) go) a b = Answers one.operations other.operations c.rounds q a b
+    AnswersAt (inside heard replies (ask q k) go) a b = AnswersCorrespond one.operations other.operations c.rounds q a b
     AnswersAt position a b = ⊥
 
     abbrev pub Replies : Position Question (Option Response) → Reply (Option Response) → Reply (Option OtherResponse) → Type 0
@@ -138,11 +138,11 @@ module _ {Question Response OtherQuestion OtherResponse : Type 0} (one : Working
     Replies place _ _ = ⊥
 
     -- the replies to the frame, the newest first, correspond each to the other's in its place
-    abbrev pub AreReplies : Frame Question (Option Response) → List (Reply (Option Response)) → List (Reply (Option OtherResponse)) → Type 0
-    AreReplies f [] [] = Unit {0}
-    AreReplies f (x ∷ heard) (y ∷ replies) = Replies (position f heard) x y × AreReplies f heard replies
-    AreReplies f [] (y ∷ replies) = ⊥
-    AreReplies f (x ∷ heard) [] = ⊥
+    abbrev pub RepliesCorrespond : Frame Question (Option Response) → List (Reply (Option Response)) → List (Reply (Option OtherResponse)) → Type 0
+    RepliesCorrespond f [] [] = Unit {0}
+    RepliesCorrespond f (x ∷ heard) (y ∷ replies) = Replies (position f heard) x y × RepliesCorrespond f heard replies
+    RepliesCorrespond f [] (y ∷ replies) = ⊥
+    RepliesCorrespond f (x ∷ heard) [] = ⊥
 
     abbrev pub Requests : Request Question (Option Response) → Request OtherQuestion (Option OtherResponse) → Type 0
     Requests (evaluate p) (evaluate q) = c.rounds.Questions p q
@@ -157,5 +157,5 @@ module _ {Question Response OtherQuestion OtherResponse : Type 0} (one : Working
     FramesCorrespond =
         (limit fuel : ℕ) (T : one.operations.Table) (U : other.operations.Table) (next : List (Considered one) → Next one) (then : List (Considered other) → Next other)
         (heard : List (Reply (Option Response))) (replies : List (Reply (Option OtherResponse)))
-        → c.rounds.Tables T U → Handlers next then → AreReplies (frame one limit T next fuel []) heard replies → CameInOrder (λ q a. Unit {0}) (frame one limit T next fuel []) heard
+        → c.rounds.Tables T U → Handlers next then → RepliesCorrespond (frame one limit T next fuel []) heard replies → CameInOrder (λ q a. Unit {0}) (frame one limit T next fuel []) heard
         → Requests (asks (frame one limit T next fuel []) heard) (asks (frame other limit U then fuel []) replies)

@@ -7,18 +7,18 @@ use Rattle.infer_table.specs.Unification.{TableTrees, Worklist, term_sort, unifi
 use Rattle.evaluation.specs.Lists.{Every}
 use Rattle.evaluation.specs.Instances.{read_with, as_place, term_at}
 use Rattle.type_terms.specs.Made.{terms, is_made}
-use Rattle.evaluation.specs.Content.{Terms, standing, Stands}
+use Rattle.evaluation.specs.Content.{ChosenTerms, standing, UnknownStands}
 
 -- both terms are read as one
-abbrev pub AreOne : Terms → Trees × Trees → Type 0
+abbrev pub AreOne : ChosenTerms → Trees × Trees → Type 0
 AreOne s e = read_with (standing s) e.0 ≡ read_with (standing s) e.1
 
 -- each unknown with a value stands for it
-abbrev pub Hold : Terms → TableTrees → Type 0
-Hold s t = Every (Stands s) t.bindings
+abbrev pub Hold : ChosenTerms → TableTrees → Type 0
+Hold s t = Every (UnknownStands s) t.bindings
 
 -- one term, made of good labels as terms are to be made
-pub record IsTerm (good : Label → Bool) (t : Trees) : Type 0 where
+pub record IsTermOf (good : Label → Bool) (t : Trees) : Type 0 where
   pub single : Single t
   pub made : is_made good terms t ≡ true
 
@@ -30,8 +30,8 @@ pub record IsValue (good : Label → Bool) (b : Binding) : Type 0 where
   pub same_sort : term_sort b.value ≡ b.sort
   pub made : is_made good terms b.value ≡ true
 
-abbrev pub IsPair : (Label → Bool) → Trees × Trees → Type 0
-IsPair good e = IsTerm good e.0 × IsTerm good e.1
+abbrev pub IsTermPair : (Label → Bool) → Trees × Trees → Type 0
+IsTermPair good e = IsTermOf good e.0 × IsTermOf good e.1
 
 -- variables of lifetimes are good labels: they stand for the lifetimes of binders that are opened
 abbrev pub HasLifetimes : (Label → Bool) → Type 0
@@ -43,14 +43,14 @@ pub record AreCounted (good : Label → Bool) (t : TableTrees) : Type 0 where
   pub consts : (v : ℕ) → good (infer of_const v) ≡ true → v < t.const_vars
 
 -- a table whose values are terms, none of which leads back to its own unknown
-pub record IsMade (good : Label → Bool) (t : TableTrees) : Type 0 where
+pub record IsMadeTable (good : Label → Bool) (t : TableTrees) : Type 0 where
   pub acyclic : Acyclic t.bindings
   pub values : Every (IsValue good) t.bindings
   pub counted : AreCounted good t
 
 -- what is asked of terms that no equation may lose: each unknown stands for a term of its sort, there are no parameters, and
 -- different placeholders stand for different terms
-pub record IsApart (good : Label → Bool) (s : Terms) : Type 0 where
+pub record IsApart (good : Label → Bool) (s : ChosenTerms) : Type 0 where
   pub sorted : (k : Sort) (v : ℕ) → sort_of (s.unknowns k v).0 ≡ k
   pub no_parameter : (k : Sort) (i : ℕ) → HasValues k → good (param k i) ≡ true → ⊥
   pub apart : (k : Sort) (i j : ℕ) → HasValues k → good (placeholder k i) ≡ true → good (placeholder k j) ≡ true
@@ -59,22 +59,22 @@ pub record IsApart (good : Label → Bool) (s : Terms) : Type 0 where
 -- what equations leave of a table holds only where the table held, and all equations
 abbrev pub EquationsNarrow : Type 0
 EquationsNarrow =
-    (good : Label → Bool) (t : TableTrees) (todo : Worklist) (u : TableTrees) → HasLifetimes good → IsMade good t → Every (IsPair good) todo
-    → unified t todo ≡ Some u → (s : Terms) → Hold s u → Hold s t × Every (AreOne s) todo
+    (good : Label → Bool) (t : TableTrees) (todo : Worklist) (u : TableTrees) → HasLifetimes good → IsMadeTable good t → Every (IsTermPair good) todo
+    → unified t todo ≡ Some u → (s : ChosenTerms) → Hold s u → Hold s t × Every (AreOne s) todo
 
 -- where the table and all equations hold, these are not refused, and what they leave holds
 abbrev pub EquationsKeep : Type 0
 EquationsKeep =
-    (good : Label → Bool) (t : TableTrees) (todo : Worklist) (s : Terms) → HasLifetimes good → IsMade good t → Every (IsPair good) todo
+    (good : Label → Bool) (t : TableTrees) (todo : Worklist) (s : ChosenTerms) → HasLifetimes good → IsMadeTable good t → Every (IsTermPair good) todo
     → IsApart good s → Hold s t → Every (AreOne s) todo → (u : TableTrees) × (unified t todo ≡ Some u) × Hold s u
 
 -- what they leave is a table of the same unknowns
 pub record IsAfter (good : Label → Bool) (t u : TableTrees) : Type 0 where
-  pub made : IsMade good u
+  pub made : IsMadeTable good u
   pub ty_vars : u.ty_vars ≡ t.ty_vars
   pub const_vars : u.const_vars ≡ t.const_vars
 
 abbrev pub EquationsStayMade : Type 0
 EquationsStayMade =
-    (good : Label → Bool) (t : TableTrees) (todo : Worklist) (u : TableTrees) → HasLifetimes good → IsMade good t → Every (IsPair good) todo
+    (good : Label → Bool) (t : TableTrees) (todo : Worklist) (u : TableTrees) → HasLifetimes good → IsMadeTable good t → Every (IsTermPair good) todo
     → unified t todo ≡ Some u → IsAfter good t u

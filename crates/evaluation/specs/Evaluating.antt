@@ -24,12 +24,12 @@ use Rattle.infer_table.specs.Applied.{applied}
 use Rattle.evaluation.specs.Context.{NestedGoal}
 
 -- a question: a canonical goal, how it is read, and where it comes from
-pub record Question : Type 0 where
+pub record AskedQuestion : Type 0 where
   pub mode : TypingMode
   pub form : CanonicalForm
   pub source : GoalSource
 
-abbrev pub question_of : List Entry → CanonicalInput → GoalSource → Question
+abbrev pub question_of : List Entry → CanonicalInput → GoalSource → AskedQuestion
 question_of es input source = record { mode = input.mode; form = form_of es input; source = source }
 
 -- a goal that is still to be asked, as trees
@@ -59,7 +59,7 @@ unfoldable pub put_into : TableTrees → List Value → AnswerTrees → Option T
 put_into t originals a = if is_answer_to originals a then applied t originals a else Some t
 
 -- what the rounds of an evaluation that reads goals in this mode do with its table
-abbrev pub evaluation : TypingMode → Operations Question AnswerTrees
+abbrev pub evaluation : TypingMode → Operations AskedQuestion AnswerTrees
 evaluation mode =
     record {
       Table = TableTrees;
@@ -73,7 +73,7 @@ evaluation mode =
 -- with the terms `new`, the input asks this goal over this table, whose terms are `old`
 abbrev pub IsAskedBy : TypingMode → List Entry → Table → NestedGoal → List Entry → CanonicalInput → Type 0
 IsAskedBy mode old t n new input =
-    ◌≡◌ {A = Question} (record { mode = mode; form = canonical_form (goal_resolved (content old t.values) (nested_trees old n).goal); source = n.source }) (question_of new input n.source)
+    ◌≡◌ {A = AskedQuestion} (record { mode = mode; form = canonical_form (goal_resolved (content old t.values) (nested_trees old n).goal); source = n.source }) (question_of new input n.source)
 
 -- the values of the variables of that question
 abbrev pub values_asked : List Entry → Table → NestedGoal → List Value

@@ -5,7 +5,7 @@ use Rattle.type_terms.specs.Trees.{Trees, leaf}
 use Rattle.infer_table.specs.declared.canonical.CanonicalVarKind.{CanonicalVarKind}
 use Rattle.evaluation.specs.Lists.{IsAmong}
 use Rattle.evaluation.specs.Instances.{default_label}
-use Rattle.evaluation.specs.Content.{Values, Question, Terms}
+use Rattle.evaluation.specs.Content.{Values, NestedQuestion, ChosenTerms}
 use Rattle.evaluation.specs.FrameTables.{FrameTable, Allows, Nested, question, fact, values_at}
 
 -- what stands where none of the given terms does
@@ -32,24 +32,24 @@ abbrev pub marked : Bool → List Trees → Values
 marked b ts = record { proper = b; terms = ts }
 
 -- all values of a question's variables whose terms are the given ones or defaults
-abbrev pub made_of : Question → Values → List Values
+abbrev pub made_of : NestedQuestion → Values → List Values
 made_of q v = map (marked true) (lists_of (v.terms ++ default_terms) q.form.kinds) ++ map (marked false) (lists_of (v.terms ++ default_terms) q.form.kinds)
 
 -- what is made of terms that are made of others is made of the others
 abbrev pub MadeOfIsClosed : Type 0
-MadeOfIsClosed = (p q : Question) (u v w : Values) → IsAmong v (made_of q u) → IsAmong w (made_of p v) → IsAmong w (made_of p u)
+MadeOfIsClosed = (p q : NestedQuestion) (u v w : Values) → IsAmong v (made_of q u) → IsAmong w (made_of p v) → IsAmong w (made_of p u)
 
 -- ---- goals that a table's own variables determine
 -- the variables with which the table began can have all values
 abbrev pub IsFree : FrameTable → Type 0
-IsFree t = (v : Values) → (s : Terms) × Allows t s × (s.own ≡ v)
+IsFree t = (v : Values) → (s : ChosenTerms) × Allows t s × (s.own ≡ v)
 
 -- the values of these variables determine the nested goal
 abbrev pub IsDetermined : FrameTable → Nested → Type 0
-IsDetermined t n = (s r : Terms) → Allows t s → Allows t r → s.own ≡ r.own → fact n s ≡ fact n r
+IsDetermined t n = (s r : ChosenTerms) → Allows t s → Allows t r → s.own ≡ r.own → fact n s ≡ fact n r
 
 -- of a goal that its own variables determine, a table whose own variables are free knows nothing but their values
 abbrev pub OwnDetermine : Type 0
 OwnDetermine =
     (t : FrameTable) (n : Nested) → IsFree t → IsDetermined t n
-    → (s : Terms) → Allows t s → IsAmong (values_at t n s) (made_of (question t n) s.own)
+    → (s : ChosenTerms) → Allows t s → IsAmong (values_at t n s) (made_of (question t n) s.own)

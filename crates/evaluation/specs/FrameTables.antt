@@ -12,8 +12,8 @@ use Rattle.infer_table.specs.Values.{Value}
 use Rattle.evaluation.specs.Lists.{Every}
 use Rattle.evaluation.specs.Instances.{read_with, goal_read, put_in, goal_put_in, default_label, of_sort, is_place, as_place, first_term, other_terms, term_at}
 use Rattle.type_terms.specs.Made.{terms, is_made}
-use Rattle.evaluation.specs.Content.{Values, fits, given, trait_of, Fact, Question, fact_of, Terms, reading_of}
-use Rattle.evaluation.specs.Equations.{Hold, IsMade}
+use Rattle.evaluation.specs.Content.{Values, fits, given, trait_of, Fact, NestedQuestion, fact_of, ChosenTerms, reading_of}
+use Rattle.evaluation.specs.Equations.{Hold, IsMadeTable}
 use Rattle.infer_table.specs.Leaves.{root_label}
 use Rattle.infer_table.specs.Applying.{values_for}
 use Rattle.infer_table.specs.Applied.{with_constraints}
@@ -76,7 +76,7 @@ good_in t l = is_good t.kinds t.content.ty_vars t.content.const_vars l
 
 -- its terms are made as they are to be
 pub record IsMadeFrame (t : FrameTable) : Type 0 where
-  pub table : IsMade (good_in t) t.content
+  pub table : IsMadeTable (good_in t) t.content
   pub leaves : Every (λ l. is_made (good_in t) terms (leaf l) ≡ true) t.labels
   pub own : AreOwn zero t.kinds t.labels
 
@@ -87,7 +87,7 @@ HaveValues (Ty ∷ ks) ts slots = (of_sort of_type (first_term ts) ≡ first_ter
 HaveValues (Const ∷ ks) ts slots = (of_sort of_const (first_term ts) ≡ first_term slots) × HaveValues ks (other_terms ts) (other_terms slots)
 HaveValues (k ∷ ks) ts slots = HaveValues ks (other_terms ts) (other_terms slots)
 
-pub record Allows (t : FrameTable) (s : Terms) : Type 0 where
+pub record Allows (t : FrameTable) (s : ChosenTerms) : Type 0 where
   pub made : IsMadeFrame t
   pub sorted : IsSorted s.unknowns
   pub hold : Hold s t.content
@@ -96,7 +96,7 @@ pub record Allows (t : FrameTable) (s : Terms) : Type 0 where
   pub proper : s.proper ≡ (s.own.proper && fits (map Some t.kinds) s.own.terms)
 
 -- different placeholders of the goal stand for different terms
-abbrev pub TellsApart : FrameTable → Terms → Type 0
+abbrev pub TellsApart : FrameTable → ChosenTerms → Type 0
 TellsApart t s =
     (k : Sort) (i j : ℕ) → is_placeholder_of k (kind_at t.kinds i) ≡ true → is_placeholder_of k (kind_at t.kinds j) ≡ true
     → as_place k (term_at s.own.terms i) ≡ as_place k (term_at s.own.terms j) → (is_sort k of_lifetime ≡ false) → i ≡ j
@@ -108,7 +108,7 @@ FitPlaceholders (PlaceholderTy ∷ ks) ts = (is_place of_type (first_term ts) �
 FitPlaceholders (PlaceholderConst ∷ ks) ts = (is_place of_const (first_term ts) ≡ true) × FitPlaceholders ks (other_terms ts)
 FitPlaceholders (k ∷ ks) ts = FitPlaceholders ks (other_terms ts)
 
-pub record AllowsApart (t : FrameTable) (s : Terms) : Type 0 where
+pub record AllowsApart (t : FrameTable) (s : ChosenTerms) : Type 0 where
   pub allowed : Allows t s
   pub apart : TellsApart t s
   pub fit : FitPlaceholders t.kinds s.own.terms
@@ -135,19 +135,19 @@ slot_at ls l = None
 abbrev pub goal_in : FrameTable → Nested → GoalTrees
 goal_in t n = goal_resolved t.content.bindings (goal_put_in (slot_at t.labels) n.goal)
 
-abbrev pub question : FrameTable → Nested → Question
+abbrev pub question : FrameTable → Nested → NestedQuestion
 question t n = record { form = canonical_form (goal_in t n); coinductive = n.coinductive }
 
-abbrev pub fact : Nested → Terms → Fact
+abbrev pub fact : Nested → ChosenTerms → Fact
 fact n s = record { trait = trait_of n.goal.predicate; goal = goal_read (given s.slots) n.goal; proper = s.proper }
 
 -- what the terms give to the variables of the question
-abbrev pub values_at : FrameTable → Nested → Terms → Values
+abbrev pub values_at : FrameTable → Nested → ChosenTerms → Values
 values_at t n s = record { proper = s.proper; terms = map (reading_of s) (goal_leaves (goal_in t n)) }
 
 -- an instance of the question is an instance of the nested goal
 abbrev pub InstanceOfQuestion : Type 0
-InstanceOfQuestion = (t : FrameTable) (n : Nested) (s : Terms) → Allows t s → fact_of (question t n) (values_at t n s) ≡ fact n s
+InstanceOfQuestion = (t : FrameTable) (n : Nested) (s : ChosenTerms) → Allows t s → fact_of (question t n) (values_at t n s) ≡ fact n s
 
 -- ---- equations
 -- two values over the canonical variables that are to be equal
@@ -168,8 +168,8 @@ is_open_label l = true
 abbrev pub term_of : Value → Trees
 term_of v = if is_a v.sort v.trees && is_made is_open_label terms v.trees then v.trees else leaf (default_label v.sort)
 
-abbrev pub Meets : Equation → Terms → Type 0
-Meets e s = read_with (given s.slots) (term_of e.left) ≡ read_with (given s.slots) (term_of e.right)
+abbrev pub EquationIsMet : Equation → ChosenTerms → Type 0
+EquationIsMet e s = read_with (given s.slots) (term_of e.left) ≡ read_with (given s.slots) (term_of e.right)
 
 abbrev pub pair_in : FrameTable → Equation → Trees × Trees
 pair_in t e = (put_in (slot_at t.labels) (term_of e.left), put_in (slot_at t.labels) (term_of e.right))

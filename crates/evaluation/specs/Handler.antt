@@ -43,7 +43,7 @@ module _ {Question Response : Type 0} (t : Tables Question Response) where
     pub each : Every P premises
 
   -- the laws of a candidate, whatever was considered before
-  pub record IsLawful (h : Handled) (c : Spec (workings t)) : Type 0 where
+  pub record CandidateIsLawful (h : Handled) (c : Spec (workings t)) : Type 0 where
     -- where its equations hold the goal follows by a rule, unless it says itself that it cannot be sure: what the rule needs is among
     -- what the candidate asks
     pub sound : c.certainty ≡ Yes → (s : t.Assignment) → t.Allows (t.fresh h.begin c.kinds) s → Every (λ e. t.Meets e s) c.equations
@@ -60,13 +60,13 @@ module _ {Question Response : Type 0} (t : Tables Question Response) where
 
   -- the laws of a candidate that is to be considered after these
   pub record IsCandidate (h : Handled) (seen : List (Considered (workings t))) (c : Spec (workings t)) : Type 0 where
-    pub lawful : IsLawful h c
+    pub lawful : CandidateIsLawful h c
     -- there are not too many candidates, and they have not too many nested goals
     pub ends : length seen < h.candidates
     pub asks : length c.nested + nested_of seen ≤ h.number
 
   -- the laws of an answer after these
-  pub record IsAnswer (h : Handled) (seen : List (Considered (workings t))) (a : Option Response) (ignored : List ℕ) : Type 0 where
+  pub record AnswerIsLawful (h : Handled) (seen : List (Considered (workings t))) (a : Option Response) (ignored : List ℕ) : Type 0 where
     -- in every world a solution of the goal is one by a candidate that was considered
     pub cover : (w : h.World) (v : t.Values) → h.Proves w (h.goal v) → SomeOf (λ (c : Considered (workings t)). Realizes t (h.Proves w) h.begin v c.spec) seen
     -- a definite yes is the response of a candidate that is not ignored
@@ -85,4 +85,4 @@ module _ {Question Response : Type 0} (t : Tables Question Response) where
     pub says_nothing : (c : Certainty) → t.has_values (t.respond h.begin c) ≡ false
     pub begins_within : t.TableWithin h.widest h.begin
     pub candidate : (seen : List (Considered (workings t))) (c : Spec (workings t)) → IsHistory (workings t) h.next seen → h.next seen ≡ consider c → IsCandidate h seen c
-    pub answer : (seen : List (Considered (workings t))) (a : Option Response) (ignored : List ℕ) → IsHistory (workings t) h.next seen → h.next seen ≡ answer a ignored → IsAnswer h seen a ignored
+    pub answer : (seen : List (Considered (workings t))) (a : Option Response) (ignored : List ℕ) → IsHistory (workings t) h.next seen → h.next seen ≡ answer a ignored → AnswerIsLawful h seen a ignored

@@ -45,18 +45,18 @@ abbrev pub asks : {Q A : Type 0} → Frame Q A → List (Reply A) → Request Q 
 asks f heard = request (position f heard)
 
 -- the reply is the one that is awaited, a result is as R says, and a candidate's number is a new one
-abbrev pub IsReply : {Q A : Type 0} → (Q → A → Type 0) → Position Q A → Reply A → Type 0
-IsReply R (between heard gone (considers s go)) entered = Unit {0}
-IsReply R (between heard gone (answers a (n ∷ ns))) ignored = Unit {0}
-IsReply R (inside heard replies (ask q k) go) (evaluated a) = R q a
-IsReply R (inside heard replies (done a) go) (finished n) = IsNoneOf n (numbers heard)
-IsReply R position reply = ⊥
+abbrev pub IsAwaitedReply : {Q A : Type 0} → (Q → A → Type 0) → Position Q A → Reply A → Type 0
+IsAwaitedReply R (between heard gone (considers s go)) entered = Unit {0}
+IsAwaitedReply R (between heard gone (answers a (n ∷ ns))) ignored = Unit {0}
+IsAwaitedReply R (inside heard replies (ask q k) go) (evaluated a) = R q a
+IsAwaitedReply R (inside heard replies (done a) go) (finished n) = IsNoneOf n (numbers heard)
+IsAwaitedReply R position reply = ⊥
 
 -- the replies came in order, the newest first and the oldest `begin`, and each result is as R says
 abbrev pub CameInOrder : {Q A : Type 0} → (Q → A → Type 0) → Frame Q A → List (Reply A) → Type 0
 CameInOrder R f [] = ⊥
 CameInOrder R f (begin ∷ []) = Unit {0}
-CameInOrder R f (reply ∷ heard) = IsReply R (position f heard) reply × CameInOrder R f heard
+CameInOrder R f (reply ∷ heard) = IsAwaitedReply R (position f heard) reply × CameInOrder R f heard
 
 -- what was asked and answered in the candidates that are finished
 abbrev pub finished_at : {Q A : Type 0} → Position Q A → List (Finished Q A)

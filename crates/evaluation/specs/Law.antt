@@ -30,12 +30,12 @@ module _ {Question Response : Type 0} (t : Tables Question Response) where
 
   module _ (Proves : t.Fact → Type 0) where
     -- each solution of the question agrees with the answer
-    abbrev pub Covers : Question → Option Response → Type 0
-    Covers q a = (v : t.Values) → Proves (t.fact_of q v) → AgreesTo a v
+    abbrev pub AnswerCovers : Question → Option Response → Type 0
+    AnswerCovers q a = (v : t.Values) → Proves (t.fact_of q v) → AgreesTo a v
 
     -- the nested goal is over the table's unknowns, and its instance has a proof
-    abbrev pub Solves : t.Table → t.Assignment → t.Nested → Type 0
-    Solves T s n = t.Knows T n × Proves (t.fact n s)
+    abbrev pub NestedIsSolved : t.Table → t.Assignment → t.Nested → Type 0
+    NestedIsSolved T s n = t.Knows T n × Proves (t.fact n s)
 
     -- the values are a solution by this candidate: its equations hold, and its nested goals have proofs
     pub record Realizes (T : t.Table) (v : t.Values) (c : Spec (workings t)) : Type 0 where
@@ -43,4 +43,4 @@ module _ {Question Response : Type 0} (t : Tables Question Response) where
       pub allowed : t.AllowsApart (t.fresh T c.kinds) assignment
       pub own : t.own assignment ≡ v
       pub meets : Every (λ e. t.Meets e assignment) c.equations
-      pub solves : Every (Solves (t.fresh T c.kinds) assignment) c.nested
+      pub solves : Every (NestedIsSolved (t.fresh T c.kinds) assignment) c.nested

@@ -56,8 +56,8 @@ same_certainty (Maybe Overflow) (Maybe Overflow) = true
 same_certainty c d = false
 
 -- responses are equal where they are found to be the same
-abbrev pub TellsApart : {Response : Type 0} → (Response → Response → Bool) → Type 0
-TellsApart same = (r s : _) → same r s ≡ true → r ≡ s
+abbrev pub TellsResponsesApart : {Response : Type 0} → (Response → Response → Bool) → Type 0
+TellsResponsesApart same = (r s : _) → same r s ≡ true → r ≡ s
 
 module _ {Question Response : Type 0} (t : Tables Question Response) where
   -- the responses of the candidates that were not refused, in the order in which they were considered
@@ -83,7 +83,7 @@ module _ {Question Response : Type 0} (t : Tables Question Response) where
   merge_or_flounder applicable same begin rs = or_else (merge_by applicable same rs) (flounder begin rs)
 
   -- the answer is a merge of these responses, for a goal whose table begins so
-  pub record IsMerge (begin : t.Table) (rs : List Response) (a : Option Response) : Type 0 where
+  pub record IsMergeOfResponses (begin : t.Table) (rs : List Response) (a : Option Response) : Type 0 where
     -- a definite yes is one of them
     pub yes : IsYes t a → SomeOf (λ r. a ≡ Some r) rs
     -- values that agree with one of them agree with it

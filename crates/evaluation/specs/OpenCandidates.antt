@@ -23,7 +23,7 @@ use Rattle.evaluation.specs.declared.resuming.OpenCandidate.{OpenCandidate}
 use Rattle.evaluation.specs.declared.resuming.CandidateStep.{CandidateStep}
 use Rattle.evaluation.specs.declared.resuming.CandidateStep.TheVariants.{Ready as IsReady, Ask}
 use Rattle.evaluation.specs.Context.{NestedHeld, GoalIsHeld, nested_goal}
-use Rattle.evaluation.specs.Evaluating.{Question, question_of, nested_trees, evaluation, values_asked}
+use Rattle.evaluation.specs.Evaluating.{AskedQuestion, question_of, nested_trees, evaluation, values_asked}
 use Rattle.evaluation.specs.OpenRounds.{SoFar, rest_of, after_answer}
 use Rattle.evaluation.specs.OwnAnswers.{answer_of}
 use Rattle.evaluation.specs.Responses.{is_identity_modulo_regions}
@@ -32,11 +32,11 @@ use Rattle.evaluation.specs.Script.{Script, done, ask, followed}
 use Rattle.evaluation.specs.Trial.{premises_trees}
 
 -- what a candidate's evaluation asks, and ends with; none: refused
-abbrev pub Asking : Type 0
-Asking = Script Question (Option AnswerTrees) (Option AnswerTrees)
+abbrev pub CandidateAsking : Type 0
+CandidateAsking = Script AskedQuestion (Option AnswerTrees) (Option AnswerTrees)
 
 -- the answer that is given after the rounds
-abbrev pub finished : (mode : TypingMode) → List CanonicalVarKind → List Value → Certainty → Option (Rounds (evaluation mode)) → Asking
+abbrev pub finished : (mode : TypingMode) → List CanonicalVarKind → List Value → Certainty → Option (Rounds (evaluation mode)) → CandidateAsking
 finished mode kinds own c None = done None
 finished mode kinds own c (Some o) = done (Some (answer_of kinds own o.table (joined c o.certainty)))
 
@@ -49,23 +49,23 @@ abbrev pub so_far : (mode : TypingMode) → List Entry → ℕ → OpenRound →
 so_far mode es limit r = record { limit = limit; left = premises_trees es r.left.items; changed = r.changed; certainty = r.certainty }
 
 -- what is left of the evaluation, where these goals are still to be asked in the round
-abbrev pub rest_script : List Entry → Evaluation → ℕ → OpenRound → List (GoalSource × Goal) → Asking
+abbrev pub rest_script : List Entry → Evaluation → ℕ → OpenRound → List (GoalSource × Goal) → CandidateAsking
 rest_script es e limit r goals =
     followed (finished e.mode e.variables.items (values_of es e.own.items) e.certainty) (rest_of (evaluation e.mode) (so_far e.mode es limit r) (premises_trees es goals) (table_trees es e.table))
 
 -- the whole of it, where all rounds are still to come
-abbrev pub rounds_script : List Entry → Evaluation → List (GoalSource × Goal) → Asking
+abbrev pub rounds_script : List Entry → Evaluation → List (GoalSource × Goal) → CandidateAsking
 rounds_script es e goals =
     followed (finished e.mode e.variables.items (values_of es e.own.items) e.certainty) (rounds (evaluation e.mode) FIXPOINT_STEP_LIMIT (premises_trees es goals) (table_trees es e.table))
 
 -- what is left of it after the answer that it waits for
-abbrev pub after_reply : List Entry → OpenCandidate → Option AnswerTrees → Asking
+abbrev pub after_reply : List Entry → OpenCandidate → Option AnswerTrees → CandidateAsking
 after_reply es o a =
     followed (finished o.evaluation.mode o.evaluation.variables.items (values_of es o.evaluation.own.items) o.evaluation.certainty)
     (after_answer (evaluation o.evaluation.mode) (so_far o.evaluation.mode es o.rounds_left o.round) (table_trees es o.evaluation.table) (nested_trees es (nested_goal o.goal)) (premises_trees es o.goals.items) a)
 
 -- where a call leaves an evaluation of which this was left: at a question, at its answer, or refused; a fault is no end
-abbrev pub StandsAt : List Entry → Asking → Result CandidateStep EvalError → Type 0
+abbrev pub StandsAt : List Entry → CandidateAsking → Result CandidateStep EvalError → Type 0
 StandsAt es s (Err (Fault fault)) = Unit {0}
 StandsAt es s (Err NoSolution) = s ≡ done None
 StandsAt es s (Ok (IsReady answer)) = s ≡ done (Some (answer_trees es answer))
@@ -90,9 +90,9 @@ CandidateHeld es (IsReady answer) = ResponseHeld es answer
 CandidateHeld es (Ask waiting input source) = OpenHeld es waiting × GoalHeld es input.goal
 
 -- the candidate has answered
-abbrev pub IsOver : CandidateStep → Type 0
-IsOver (IsReady answer) = Unit {0}
-IsOver (Ask waiting input source) = ⊥
+abbrev pub CandidateIsOver : CandidateStep → Type 0
+CandidateIsOver (IsReady answer) = Unit {0}
+CandidateIsOver (Ask waiting input source) = ⊥
 
 -- ---- an answer to a goal of a round
 abbrev pub brings_values : List Entry → CanonicalResponse → Bool

@@ -42,17 +42,17 @@ pub record SaysWhatIsKnown (old new : List Entry) (c : Context) (r : CanonicalRe
   pub numbered : HasNoCanonical (known_values old c) → AreNumbered r.variables.items (args_trees new r.var_values.items)
 
 -- the answer says nothing: each of the input's variables stands for itself
-pub record SaysNothing (new : List Entry) (c : Context) (r : CanonicalResponse) : Type 0 where
+pub record OwnAnswerSaysNothing (new : List Entry) (c : Context) (r : CanonicalResponse) : Type 0 where
   pub held : ArgsHeld new r.var_values.items
   pub variables : r.variables.items ≡ c.variables
   pub values : values_of new r.var_values.items ≡ variables_from 0 c.variables
   pub constraints : r.region_constraints.items ≡ []
 
 -- what an answer of this certainty says: an overflow says nothing
-abbrev pub Says : List Entry → List Entry → Context → CanonicalResponse → Certainty → Type 0
-Says old new c r Yes = SaysWhatIsKnown old new c r
-Says old new c r (Maybe Ambiguity) = SaysWhatIsKnown old new c r
-Says old new c r (Maybe Overflow) = SaysNothing new c r
+abbrev pub OwnAnswerSays : List Entry → List Entry → Context → CanonicalResponse → Certainty → Type 0
+OwnAnswerSays old new c r Yes = SaysWhatIsKnown old new c r
+OwnAnswerSays old new c r (Maybe Ambiguity) = SaysWhatIsKnown old new c r
+OwnAnswerSays old new c r (Maybe Overflow) = OwnAnswerSaysNothing new c r
 
 -- ---- over trees
 -- the kinds that are there

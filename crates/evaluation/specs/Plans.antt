@@ -4,7 +4,7 @@ use Rattle.infer_table.specs.declared.certainty.Certainty.{Certainty}
 use Rattle.evaluation.specs.Lists.{IsNoneOf, IsDistinct}
 use Rattle.evaluation.specs.Table.{Tables, workings, IsFree}
 use Rattle.evaluation.specs.Candidate.{Spec, Considered, Next, consider, answer, used_numbers}
-use Rattle.evaluation.specs.Handler.{Handled, IsLawful, IsAnswer}
+use Rattle.evaluation.specs.Handler.{Handled, CandidateIsLawful, AnswerIsLawful}
 
 module _ {Question Response : Type 0} (t : Tables Question Response) where
   -- a candidate is considered, and its response and number tell how it goes on; or there is an answer, with the numbers of the
@@ -62,19 +62,19 @@ module _ {Question Response : Type 0} (t : Tables Question Response) where
 
   -- each candidate is lawful, there are at most so many more, with at most so many nested goals together, and each answer is
   -- lawful after what led to it
-  abbrev pub Keeps : Handled t → ℕ → ℕ → List (Considered (workings t)) → Plan → Type 0
-  Keeps h room left seen (answers a ignored) = IsDistinct (used_numbers (workings t) seen) → IsAnswer t h seen a ignored
-  Keeps h zero left seen (considers s go) = ⊥
-  Keeps h (suc room) left seen (considers s go) =
-      IsLawful t h s × ((rest : ℕ) × (length s.nested + rest ≤ left)
-      × ((a : Option Response) (n : ℕ) → IsNoneOf n (used_numbers (workings t) seen) → Keeps h room rest (came s a n ∷ seen) (go a n)))
+  abbrev pub KeepsLaws : Handled t → ℕ → ℕ → List (Considered (workings t)) → Plan → Type 0
+  KeepsLaws h room left seen (answers a ignored) = IsDistinct (used_numbers (workings t) seen) → AnswerIsLawful t h seen a ignored
+  KeepsLaws h zero left seen (considers s go) = ⊥
+  KeepsLaws h (suc room) left seen (considers s go) =
+      CandidateIsLawful t h s × ((rest : ℕ) × (length s.nested + rest ≤ left)
+      × ((a : Option Response) (n : ℕ) → IsNoneOf n (used_numbers (workings t) seen) → KeepsLaws h room rest (came s a n ∷ seen) (go a n)))
 
   -- the laws of a plan
   pub record IsPlan (p : Planned) : Type 0 where
     pub begins : IsFree t p.begin
     pub says_nothing : (c : Certainty) → t.has_values (t.respond p.begin c) ≡ false
     pub begins_within : t.TableWithin p.widest p.begin
-    pub keeps : Keeps (planned p) p.candidates p.number [] p.plan
+    pub keeps : KeepsLaws (planned p) p.candidates p.number [] p.plan
 
   -- ---- plans that are made of others
   -- these one after the other, after those of before, and then what is made of them all
@@ -91,9 +91,9 @@ module _ {Question Response : Type 0} (t : Tables Question Response) where
   first_alone s refused held seen = considers s (λ a n. if_refused (refused (came s a n ∷ seen)) (held (came s a n ∷ seen)) a)
 
   -- the second list is what the first one became when these were considered
-  abbrev pub Goes : List (Spec (workings t)) → List (Considered (workings t)) → List (Considered (workings t)) → Type 0
-  Goes [] seen later = later ≡ seen
-  Goes (s ∷ specs) seen later = (a : Option Response) × (n : ℕ) × Goes specs (came s a n ∷ seen) later
+  abbrev pub GoesByConsidering : List (Spec (workings t)) → List (Considered (workings t)) → List (Considered (workings t)) → Type 0
+  GoesByConsidering [] seen later = later ≡ seen
+  GoesByConsidering (s ∷ specs) seen later = (a : Option Response) × (n : ℕ) × GoesByConsidering specs (came s a n ∷ seen) later
 
   -- how many nested goals these candidates have together
   abbrev pub nested_in : List (Spec (workings t)) → ℕ

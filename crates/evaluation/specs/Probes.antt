@@ -6,7 +6,7 @@ use Rattle.infer_table.specs.Content.{Grows}
 use Rattle.evaluation.specs.Context.{Context}
 
 -- the second context has all that the first one has, and more in its table at most; its nested goals may be any
-pub record Continues (old new : Context) : Type 0 where
+pub record ContextContinues (old new : Context) : Type 0 where
   pub mode : new.mode ≡ old.mode
   pub table : Grows old.table new.table
   pub variables : new.variables ≡ old.variables
@@ -29,4 +29,4 @@ module _ {F I T : Type 0} (g : Once F (MutBor Context × (MutBor I × Unit {0}))
 
   -- whatever such a call leaves can be undone
   abbrev pub IsUndoable : Context → I → Type 0
-  IsUndoable c i = (r : T) (d : Context) (j : I) → Returns c i r d j → Continues c d
+  IsUndoable c i = (r : T) (d : Context) (j : I) → Returns c i r d j → ContextContinues c d

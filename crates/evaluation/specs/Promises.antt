@@ -6,9 +6,9 @@ use Rattle.evaluation.specs.Lists.{IsAmong, IsNoneOf}
 use Rattle.evaluation.specs.Table.{Tables, workings}
 use Rattle.evaluation.specs.Frame.{Frame, numbers}
 use Rattle.evaluation.specs.Candidate.{frame}
-use Rattle.evaluation.specs.Law.{IsYes, Counts, IsInstance, AgreesTo, Covers}
+use Rattle.evaluation.specs.Law.{IsYes, Counts, IsInstance, AgreesTo, AnswerCovers}
 use Rattle.evaluation.specs.Handler.{Handled, AnswerWithin, FollowsFrom}
-use Rattle.evaluation.specs.Merge.{TellsApart, IsTest, merge_or_flounder, IsMerge}
+use Rattle.evaluation.specs.Merge.{TellsResponsesApart, IsTest, merge_or_flounder, IsMergeOfResponses}
 use Rattle.evaluation.specs.History.{Request, evaluate, ignore_candidate, returns, Reply, asks, CameInOrder, finished_in, ignored_in, results, others}
 
 module _ {Question Response : Type 0} (t : Tables Question Response) (h : Handled t) where
@@ -36,7 +36,7 @@ module _ {Question Response : Type 0} (t : Tables Question Response) (h : Handle
   -- where each answer covers its question, the frame's answer covers the goal: each solution agrees with it
   abbrev pub AnswerCoversGoal : Type 0
   AnswerCoversGoal =
-      (w : h.World) (heard : History) (a : Option Response) → CameInOrder (Covers t (h.Proves w)) frame_of_goal heard → asked heard ≡ returns a
+      (w : h.World) (heard : History) (a : Option Response) → CameInOrder (AnswerCovers t (h.Proves w)) frame_of_goal heard → asked heard ≡ returns a
       → (v : t.Values) → h.Proves w (h.goal v) → AgreesTo t a v
 
   -- a frame asks at most 8 times the handler's number of questions, and makes at most three other requests for each candidate
@@ -61,5 +61,5 @@ module _ {Question Response : Type 0} (t : Tables Question Response) (h : Handle
   -- for each test that only definite yeses pass, and each test of equality, what is made of responses is a merge of them
   abbrev pub MergesResponses : Type 0
   MergesResponses =
-      (applicable : Response → Bool) → IsTest t applicable → (same : Response → Response → Bool) → TellsApart same
-      → (rs : List Response) → IsMerge t h.begin rs (merge_or_flounder t applicable same h.begin rs)
+      (applicable : Response → Bool) → IsTest t applicable → (same : Response → Response → Bool) → TellsResponsesApart same
+      → (rs : List Response) → IsMergeOfResponses t h.begin rs (merge_or_flounder t applicable same h.begin rs)

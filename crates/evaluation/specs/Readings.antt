@@ -45,7 +45,7 @@ pub record SpecHeld (es : List Entry) (s : CandidateSpec) : Type 0 where
   pub constraints : AllConstraintsHeld es s.region_constraints.items
   pub nested : Every (λ (n : GoalSource × Goal). GoalHeld es n.1) s.nested_goals.items
 
-abbrev pub StepHeld : List Entry → HandlerStep → Type 0
-StepHeld es (Consider s) = SpecHeld es s
-StepHeld es (Answer r ignored) = ResponseHeld es r
-StepHeld es NoSolution = Unit {0}
+abbrev pub HandlerStepHeld : List Entry → HandlerStep → Type 0
+HandlerStepHeld es (Consider s) = SpecHeld es s
+HandlerStepHeld es (Answer r ignored) = ResponseHeld es r
+HandlerStepHeld es NoSolution = Unit {0}

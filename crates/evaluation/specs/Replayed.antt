@@ -9,8 +9,8 @@ use Rattle.evaluation.specs.declared.error.EvalError.TheVariants.{NoSolution, Fa
 use Rattle.evaluation.specs.declared.resuming.OpenCandidate.{OpenCandidate}
 use Rattle.evaluation.specs.declared.resuming.CandidateStep.{CandidateStep}
 use Rattle.evaluation.specs.declared.resuming.CandidateStep.TheVariants.{Ready, Ask}
-use Rattle.evaluation.specs.Ends.{IsRefused, Awaits, EndsIn}
-use Rattle.evaluation.specs.Evaluating.{Question, question_of}
+use Rattle.evaluation.specs.Ends.{RunIsRefused, Awaits, EndsIn}
+use Rattle.evaluation.specs.Evaluating.{AskedQuestion, question_of}
 use Rattle.evaluation.specs.Frames.{begun}
 use Rattle.evaluation.specs.OpenCandidates.{after_reply, StandsAt}
 use Rattle.evaluation.specs.OpenShortages.{OpenRunsOut, RunsOutOnly}
@@ -29,14 +29,14 @@ module _ (mode : TypingMode) (kinds : List CanonicalVarKind) (s : SpecTrees) whe
   -- a candidate that waits has had these replies: it waits where evaluating the candidate of a goal, with variables of these kinds, over
   -- them does, and comes to places where numbers are used up only where that does over more replies
   pub record IsReplayed (es : List Entry) (replies : List (Option AnswerTrees)) (o : OpenCandidate) : Type 0 where
-    pub question : Question
+    pub question : AskedQuestion
     pub waits : after (candidate mode (begun kinds) s) replies ≡ ask question (after_reply es o)
     pub runs_out : (more : List (Option AnswerTrees)) → OpenRunsOut es o more → CandidateRunsOut mode kinds s (replies ++ more)
 
   -- how a call that goes on ends: as evaluating the candidate anew over these replies does
   abbrev pub EndsAsReplayed : List Entry → List (Option AnswerTrees) → Result CandidateStep EvalError → Type 0
   EndsAsReplayed es replies (Err (Fault fault)) = Unit {0}
-  EndsAsReplayed es replies (Err NoSolution) = IsRefused (run (candidate mode (begun kinds) s) replies)
+  EndsAsReplayed es replies (Err NoSolution) = RunIsRefused (run (candidate mode (begun kinds) s) replies)
   EndsAsReplayed es replies (Ok (Ready answer)) = EndsIn (λ a more. answer_trees es answer ≡ a) (run (candidate mode (begun kinds) s) replies)
   EndsAsReplayed es replies (Ok (Ask waiting input source)) = Awaits (run (candidate mode (begun kinds) s) replies) (question_of es input source) × IsReplayed es replies waiting
 

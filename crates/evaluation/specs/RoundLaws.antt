@@ -13,7 +13,7 @@ use Rattle.evaluation.specs.Content as Frames
 use Rattle.evaluation.specs.FrameTables.{FrameTable, IsMadeFrame, Nested, slot_at}
 use Rattle.evaluation.specs.TableAnswers.{IsWellFormed}
 use Rattle.evaluation.specs.Tables.{frame_tables}
-use Rattle.evaluation.specs.Evaluating.{Question, NestedTrees, evaluation}
+use Rattle.evaluation.specs.Evaluating.{AskedQuestion, NestedTrees, evaluation}
 
 -- in this mode, for a goal whose trait is coinductive or not, in tables of these kinds and labels
 module _ (mode : TypingMode) (coinductive : Bool) (kinds : List CanonicalVarKind) (labels : List Label) where
@@ -30,13 +30,13 @@ module _ (mode : TypingMode) (coinductive : Bool) (kinds : List CanonicalVarKind
     pub step_is : n.coinductive ≡ is_coinductive_step coinductive m.source
 
   -- one canonical goal, by a step of one kind
-  pub record AreOneQuestion (p : Frames.Question) (q : Question) : Type 0 where
+  pub record AreOneQuestion (p : Frames.NestedQuestion) (q : AskedQuestion) : Type 0 where
     pub mode_is : q.mode ≡ mode
     pub form_is : p.form ≡ q.form
     pub step_is : p.coinductive ≡ is_coinductive_step coinductive q.source
 
   -- one answer, which is well-formed in itself: whether it is one to the question is for both to see
-  pub record AreOneAnswer (p : Frames.Question) (a b : AnswerTrees) : Type 0 where
+  pub record AreOneAnswer (p : Frames.NestedQuestion) (a b : AnswerTrees) : Type 0 where
     pub is : a ≡ b
     pub fits : IsWellFormed a
 

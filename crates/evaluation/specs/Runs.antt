@@ -22,7 +22,7 @@ use Rattle.evaluation.specs.declared.goal.GoalSource.{GoalSource}
 use Rattle.evaluation.specs.declared.merge.MergeCandidateInfo.{MergeCandidateInfo}
 use Rattle.evaluation.specs.declared.trial.Trial.{Trial}
 use Rattle.evaluation.specs.Context.{Context}
-use Rattle.evaluation.specs.Evaluating.{Question, NestedTrees, goals_trees, replies_trees, put_into, evaluation}
+use Rattle.evaluation.specs.Evaluating.{AskedQuestion, NestedTrees, goals_trees, replies_trees, put_into, evaluation}
 use Rattle.evaluation.specs.Frames.{begun, pair_filled, nested_filled}
 use Rattle.evaluation.specs.OwnAnswers.{answer_of}
 use Rattle.evaluation.specs.Replays.{Run, run}
@@ -34,7 +34,7 @@ use Rattle.evaluation.specs.TrialEnds.{trial_trees}
 
 -- a run over replies, each an answer or a refusal, to an end that may be a refusal too
 abbrev pub RunTo : Type 0 → Type 0
-RunTo X = Run Question (Option AnswerTrees) (Option X)
+RunTo X = Run AskedQuestion (Option AnswerTrees) (Option X)
 
 -- ---- rounds
 -- a round of these goals in a table, over these replies

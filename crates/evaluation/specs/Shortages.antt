@@ -88,8 +88,8 @@ pub data SolvingRunsOut : TableTrees → List (Trees × Trees) → Type 0 where
   here : {t : TableTrees} {e : Trees × Trees} {es : List (Trees × Trees)} → RunsOut t (e ∷ []) → SolvingRunsOut t (e ∷ es)
   next : {t u : TableTrees} {e : Trees × Trees} {es : List (Trees × Trees)} → unified t (e ∷ []) ≡ Some u → SolvingRunsOut u es → SolvingRunsOut t (e ∷ es)
 
-abbrev pub EquationsRunOut : FrameTrees → List (Trees × Trees) → Type 0
-EquationsRunOut t es = SolvingRunsOut t.table (map (pair_filled t.values) es)
+abbrev pub FrameEquationsRunOut : FrameTrees → List (Trees × Trees) → Type 0
+FrameEquationsRunOut t es = SolvingRunsOut t.table (map (pair_filled t.values) es)
 
 -- the nested goals, or the answer
 abbrev pub NestedRunsOut : TypingMode → List NestedTrees → Certainty → FrameTrees → List (Option AnswerTrees) → Type 0
@@ -98,5 +98,5 @@ NestedRunsOut mode ns c t rs = EvaluationRunsOut mode t.kinds t.own c (map (nest
 -- the evaluation of a candidate of a goal with variables of these kinds, over these replies
 pub data CandidateRunsOut (mode : TypingMode) (kinds : List CanonicalVarKind) (s : SpecTrees) (rs : List (Option AnswerTrees)) : Type 0 where
   beginning : BeginningRunsOut kinds s.kinds → CandidateRunsOut mode kinds s rs
-  equations : EquationsRunOut (fresh (begun kinds) s.kinds) s.equations → CandidateRunsOut mode kinds s rs
+  equations : FrameEquationsRunOut (fresh (begun kinds) s.kinds) s.equations → CandidateRunsOut mode kinds s rs
   nested : {t : FrameTrees} → equate (fresh (begun kinds) s.kinds) s.equations ≡ Some t → NestedRunsOut mode s.nested s.certainty (recorded t s.constraints) rs → CandidateRunsOut mode kinds s rs

@@ -52,19 +52,19 @@ next_read es coinductive (Answer r ignored) = answer (Some (answer_trees es r)) 
 next_read es coinductive NoSolution = answer None []
 
 -- what a handler is shown of a candidate that was considered: all but the rest of its spec
-pub record Shown : Type 0 where
+pub record ShownCandidate : Type 0 where
   pub source : CandidateSource
   pub result : Option AnswerTrees
   pub number : ℕ
 
-abbrev pub shown : Considered (workings frame_tables) → Shown
+abbrev pub shown : Considered (workings frame_tables) → ShownCandidate
 shown c = record { source = c.spec.source; result = c.response; number = c.number }
 
-abbrev pub shown_by : List Entry → InCode.Considered → Shown
+abbrev pub shown_by : List Entry → InCode.Considered → ShownCandidate
 shown_by es d = record { source = d.source; result = result_read es d.result; number = d.head_usages }
 
 -- the list, the oldest first, shows this history, the newest first
-abbrev pub Shows : List Shown → List (Considered (workings frame_tables)) → Type 0
+abbrev pub Shows : List ShownCandidate → List (Considered (workings frame_tables)) → Type 0
 Shows xs seen = xs ≡ reverse (map shown seen)
 
 -- ---- what a handler says of a goal, and what it answers

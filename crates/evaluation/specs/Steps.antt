@@ -18,8 +18,8 @@ use Rattle.evaluation.specs.declared.rounds.RoundsStep.{RoundsStep}
 use Rattle.evaluation.specs.declared.rounds.RoundsStep.TheVariants as OfRounds
 use Rattle.infer_table.specs.Responses.{AnswerTrees}
 use Rattle.evaluation.specs.Context.{Context, NestedGoal, NestedHeld, nested_goal}
-use Rattle.evaluation.specs.Ends.{IsRefused, Awaits, EndsIn}
-use Rattle.evaluation.specs.Evaluating.{Question, question_of, goals_trees, replies_trees, evaluation}
+use Rattle.evaluation.specs.Ends.{RunIsRefused, Awaits, EndsIn}
+use Rattle.evaluation.specs.Evaluating.{AskedQuestion, question_of, goals_trees, replies_trees, evaluation}
 
 module _ (mode : TypingMode) (es : List Entry) (T : Table) where
   -- this table, and these goals behind those of before
@@ -30,9 +30,9 @@ module _ (mode : TypingMode) (es : List Entry) (T : Table) where
     pub certainty_is : o.certainty ≡ certainty
 
   -- a fault is no end
-  abbrev pub RoundEnds : List NestedGoal → List NestedGoal → Run Question (Option AnswerTrees) (Option (Round (evaluation mode))) → Result RoundStep EvalError → Type 0
+  abbrev pub RoundEnds : List NestedGoal → List NestedGoal → Run AskedQuestion (Option AnswerTrees) (Option (Round (evaluation mode))) → Result RoundStep EvalError → Type 0
   RoundEnds before after r (Err (Fault fault)) = Unit {0}
-  RoundEnds before after r (Err NoSolution) = IsRefused r
+  RoundEnds before after r (Err NoSolution) = RunIsRefused r
   RoundEnds before after r (Ok (Of.Waits input source)) = Awaits r (question_of es input source)
   RoundEnds before after r (Ok (Of.Ended changed certainty replies)) = EndsIn (λ o more. SameRound before after o changed certainty × (more ≡ replies_trees es replies.now)) r
 
@@ -41,9 +41,9 @@ module _ (mode : TypingMode) (es : List Entry) (T : Table) where
     pub left_is : o.left ≡ goals_trees es left
     pub certainty_is : o.certainty ≡ certainty
 
-  abbrev pub RoundsEnd : Run Question (Option AnswerTrees) (Option (Rounds (evaluation mode))) → Result RoundsStep EvalError → Type 0
+  abbrev pub RoundsEnd : Run AskedQuestion (Option AnswerTrees) (Option (Rounds (evaluation mode))) → Result RoundsStep EvalError → Type 0
   RoundsEnd r (Err (Fault fault)) = Unit {0}
-  RoundsEnd r (Err NoSolution) = IsRefused r
+  RoundsEnd r (Err NoSolution) = RunIsRefused r
   RoundsEnd r (Ok (OfRounds.Waits input source)) = Awaits r (question_of es input source)
   RoundsEnd r (Ok (OfRounds.Ended left certainty)) = EndsIn (λ o more. SameRounds (map nested_goal left.items) certainty o) r
 

@@ -6,7 +6,7 @@ use Rattle.evaluation.specs.Law.{IsYes, Counts, IsInstance}
 use Rattle.evaluation.specs.Handler.{Handled, FollowsFrom}
 use Rattle.evaluation.specs.History.{Reply, returns, asks, CameInOrder, finished_in, ignored_in}
 use Rattle.evaluation.specs.Promises.{frame_of_goal, Anything}
-use Rattle.evaluation.specs.Proof.{HasProof, HasGraph}
+use Rattle.evaluation.specs.Proof.{FactHasProof, HasGraph}
 
 module _ {Question Response : Type 0} (t : Tables Question Response) where
   pub record System : Type 1 where
@@ -30,8 +30,8 @@ module _ {Question Response : Type 0} (t : Tables Question Response) where
 
   module _ (s : System) where
     -- each instance of the goal follows by a rule from instances, by terms of its own values, of these questions
-    abbrev pub Follows : s.Goal → List (s.Goal × Bool) → Type 0
-    Follows g questions =
+    abbrev pub GoalFollows : s.Goal → List (s.Goal × Bool) → Type 0
+    GoalFollows g questions =
         (v : t.Values) → FollowsFrom t (s.handled g) (IsInstance t (λ q. IsAmong (s.goal_of q, t.is_coinductive q) questions × (t.is_coinductive q ≡ (s.handled g).coinductive)) v) v
 
     -- where a frame's answer is a definite yes, its goal follows so from each list that holds the questions that count
@@ -42,8 +42,8 @@ module _ {Question Response : Type 0} (t : Tables Question Response) where
         → (questions : List (s.Goal × Bool))
         → ((q : Question) → Counts t (finished_in (frame_of_goal t (s.handled g)) heard) (ignored_in (frame_of_goal t (s.handled g)) heard) q
         → IsAmong (s.goal_of q, t.is_coinductive q) questions)
-        → Follows g questions
+        → GoalFollows g questions
 
     -- where a goal has a proof graph, each of its instances has a proof
     abbrev pub GraphsProve : Type 0
-    GraphsProve = (g : s.Goal) → HasGraph s.Goal Follows g → (v : t.Values) → IsAmong v (s.made_of g v) → HasProof t.Fact s.Rule s.coinductive ((s.handled g).goal v)
+    GraphsProve = (g : s.Goal) → HasGraph s.Goal GoalFollows g → (v : t.Values) → IsAmong v (s.made_of g v) → FactHasProof t.Fact s.Rule s.coinductive ((s.handled g).goal v)

@@ -57,8 +57,8 @@ ArePicked q [] ts = Unit {0}
 ArePicked q (v ∷ vs) ts = IsPicked q v.sort v.trees (first_term ts) × ArePicked q vs (other_terms ts)
 
 -- the values are an instance of the answer's
-abbrev pub Agrees : AnswerTrees → Values → Type 0
-Agrees a v = (q : Assignment) × IsSorted q × ArePicked q a.values v.terms
+abbrev pub IsInstanceOfAnswer : AnswerTrees → Values → Type 0
+IsInstanceOfAnswer a v = (q : Assignment) × IsSorted q × ArePicked q a.values v.terms
 
 -- ---- the answer that a table gives
 -- the labels of the goal's variables

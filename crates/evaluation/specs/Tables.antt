@@ -4,18 +4,18 @@ use Rattle.type_terms.specs.Trees.{Trees, is_no_tree}
 use Rattle.infer_table.specs.declared.canonical.CanonicalVarKind.{CanonicalVarKind}
 use Rattle.infer_table.specs.Responses.{AnswerTrees}
 use Rattle.evaluation.specs.Table.{Tables}
-use Rattle.evaluation.specs.Content.{Values, Fact, Question, fact_of, Terms}
-use Rattle.evaluation.specs.FrameTables.{FrameTable, IsMadeFrame, Allows, AllowsApart, Nested, question, fact, values_at, Equation, Meets}
-use Rattle.evaluation.specs.TableAnswers.{has_values, Agrees, respond}
+use Rattle.evaluation.specs.Content.{Values, Fact, NestedQuestion, fact_of, ChosenTerms}
+use Rattle.evaluation.specs.FrameTables.{FrameTable, IsMadeFrame, Allows, AllowsApart, Nested, question, fact, values_at, Equation, EquationIsMet}
+use Rattle.evaluation.specs.TableAnswers.{has_values, IsInstanceOfAnswer, respond}
 use Rattle.evaluation.specs.Finite.{made_of}
 use Rattle.evaluation.specs.Widths.{number_of, number_of_values, TableWithin, NestedWithin, EquationWithin}
 use Rattle.evaluation.specs.TableOperations.{equate, fresh, recorded, apply}
 
 -- assignments are terms for all unknowns, references are asked with their clauses, and a number is the greatest count of
 -- children that a node has
-abbrev pub frame_tables : Tables Question AnswerTrees
+abbrev pub frame_tables : Tables NestedQuestion AnswerTrees
 frame_tables = record {
-  Assignment = Terms;
+  Assignment = ChosenTerms;
   Values = Values;
   Fact = Fact;
   Table = FrameTable;
@@ -28,14 +28,14 @@ frame_tables = record {
   AllowsApart = AllowsApart;
   Knows = λ t n. Unit {0};
   fact = fact;
-  Meets = Meets;
+  Meets = EquationIsMet;
   question = question;
   fact_of = fact_of;
   at = values_at;
   own = λ s. s.own;
   made_of = made_of;
   is_coinductive = λ q. q.coinductive;
-  Agrees = Agrees;
+  Agrees = IsInstanceOfAnswer;
   certainty = λ a. a.certainty;
   has_values = has_values;
   has_regions = λ a. not (is_no_tree a.constraints);

@@ -17,7 +17,7 @@ use Rattle.evaluation.specs.declared.TheConstants.{FIXPOINT_STEP_LIMIT}
 use Rattle.evaluation.specs.declared.candidate.CandidateSpec.{CandidateSpec}
 use Rattle.evaluation.specs.declared.goal.GoalSource.{GoalSource}
 use Rattle.evaluation.specs.Context.{nested_goal}
-use Rattle.evaluation.specs.Evaluating.{Question, NestedTrees, goals_trees, evaluation}
+use Rattle.evaluation.specs.Evaluating.{AskedQuestion, NestedTrees, goals_trees, evaluation}
 use Rattle.evaluation.specs.Frames.{FrameTrees, fresh, equate, recorded, nested_filled, respond}
 
 -- a candidate as data, over trees
@@ -46,7 +46,7 @@ spec_trees es s =
 
 module _ (mode : TypingMode) where
   abbrev pub Asking : Type 0
-  Asking = Script Question (Option AnswerTrees) (Option AnswerTrees)
+  Asking = Script AskedQuestion (Option AnswerTrees) (Option AnswerTrees)
 
   -- an answer no surer than the candidate can be; none: refused
   abbrev pub answered : FrameTrees → Certainty → Option (Rounds (evaluation mode)) → Asking

@@ -11,8 +11,8 @@ use Rattle.evaluation.specs.declared.context.EvalStep.{EvalStep}
 use Rattle.evaluation.specs.declared.context.EvalStep.TheVariants.{Ready, Ask}
 use Rattle.evaluation.specs.declared.error.EvalError.{EvalError}
 use Rattle.evaluation.specs.declared.error.EvalError.TheVariants.{NoSolution, Fault}
-use Rattle.evaluation.specs.Ends.{IsRefused, Awaits, EndsIn}
-use Rattle.evaluation.specs.Evaluating.{Question, question_of}
+use Rattle.evaluation.specs.Ends.{RunIsRefused, Awaits, EndsIn}
+use Rattle.evaluation.specs.Evaluating.{AskedQuestion, question_of}
 use Rattle.evaluation.specs.declared.trial.Trial.{Trial}
 use Rattle.evaluation.specs.Frames.{FrameTrees, begun, fresh, equate, recorded}
 use Rattle.evaluation.specs.Trial.{SpecTrees}
@@ -28,8 +28,8 @@ pub record IsTried (kinds : List CanonicalVarKind) (s : SpecTrees) (t : FrameTre
   pub is : t ≡ recorded solved s.constraints
 
 -- a fault is no end
-abbrev pub CandidateEnds : List Entry → Run Question (Option AnswerTrees) (Option AnswerTrees) → Result (EvalStep CanonicalResponse) EvalError → Type 0
+abbrev pub CandidateEnds : List Entry → Run AskedQuestion (Option AnswerTrees) (Option AnswerTrees) → Result (EvalStep CanonicalResponse) EvalError → Type 0
 CandidateEnds es r (Err (Fault fault)) = Unit {0}
-CandidateEnds es r (Err NoSolution) = IsRefused r
+CandidateEnds es r (Err NoSolution) = RunIsRefused r
 CandidateEnds es r (Ok (Ask input source)) = Awaits r (question_of es input source)
 CandidateEnds es r (Ok (Ready answer)) = EndsIn (λ a more. answer_trees es answer ≡ a) r

@@ -15,6 +15,6 @@ is_variable_over kinds (placeholder k v) = false
 is_variable_over kinds l = true
 
 -- the label stands in the trees
-abbrev pub StandsIn : Label → Trees → Type 0
-StandsIn l none = ⊥
-StandsIn l (tree m c o) = (m ≡ l) ⊎ StandsIn l c ⊎ StandsIn l o
+abbrev pub LabelStandsIn : Label → Trees → Type 0
+LabelStandsIn l none = ⊥
+LabelStandsIn l (tree m c o) = (m ≡ l) ⊎ LabelStandsIn l c ⊎ LabelStandsIn l o

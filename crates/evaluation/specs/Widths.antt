@@ -5,7 +5,7 @@ use Rattle.type_terms.specs.Trees.{Trees, none, tree}
 use Rattle.infer_table.specs.Solutions.{Binding}
 use Rattle.infer_table.specs.Values.{Value}
 use Rattle.evaluation.specs.Lists.{Every}
-use Rattle.evaluation.specs.Content.{Question}
+use Rattle.evaluation.specs.Content.{NestedQuestion}
 use Rattle.evaluation.specs.FrameTables.{FrameTable, IsMadeFrame, Nested, Equation}
 
 -- how many trees stand in a row
@@ -32,7 +32,7 @@ width_of_predicates none = zero
 width_of_predicates (tree l c o) = max (count c) (max (width c) (width_of_predicates o))
 
 -- the number of a question is its width, and that of values the greatest width of one of them
-abbrev pub number_of : Question → ℕ
+abbrev pub number_of : NestedQuestion → ℕ
 number_of q = max (width_of_predicates q.form.goal.environment) (width_of_predicates q.form.goal.predicate)
 
 abbrev pub number_of_values : List Value → ℕ

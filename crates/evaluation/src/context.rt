@@ -12,8 +12,8 @@ ghost use Rattle.infer_table.specs.Values.{values_of};
 ghost use Rattle.infer_table.specs.Raw.{IsFull, variables_from};
 ghost use Rattle.infer_table.specs.Responses.{ResponseHeld, answer_trees};
 ghost use Rattle.evaluation.specs.Readings.{ResultHeld};
-ghost use Rattle.evaluation.specs.Context.{Context, IsReady, nested_goal};
-ghost use Rattle.evaluation.specs.OwnAnswers.{SaysWhatIsKnown, SaysNothing, Says, known_answer};
+ghost use Rattle.evaluation.specs.Context.{Context, IsReadyContext, nested_goal};
+ghost use Rattle.evaluation.specs.OwnAnswers.{SaysWhatIsKnown, OwnAnswerSaysNothing, OwnAnswerSays, known_answer};
 ghost use Rattle.infer_table.specs.Unification.{table_trees};
 ghost use Rattle.evaluation.specs.declared.TheConstants.{FIXPOINT_STEP_LIMIT};
 ghost use Rattle.evaluation.specs.Shortages.{KnowsTooMuch, GoalsRunOut, CallRunsOut};
@@ -185,8 +185,8 @@ impl EvalCtxt {
     ) -> Result<(), EvalError>
         requires left { ArgHeld cx.old.entries left }
         requires right { ArgHeld cx.old.entries right }
-        requires ready { IsReady cx.old.entries self.old }
-        ensures ready { IsReady cx.new.entries self.new }
+        requires ready { IsReadyContext cx.old.entries self.old }
+        ensures ready { IsReadyContext cx.new.entries self.new }
         ensures grows { Grows self.old.table self.new.table }
         ensures keeps { Keeps cx.old.entries cx.new.entries }
         ensures limit { cx.new.limit ≡ cx.old.limit }
@@ -217,8 +217,8 @@ impl EvalCtxt {
     ) -> Result<(), EvalError>
         requires left { ArgHeld cx.old.entries left }
         requires right { ArgHeld cx.old.entries right }
-        requires ready { IsReady cx.old.entries self.old }
-        ensures ready { IsReady cx.new.entries self.new }
+        requires ready { IsReadyContext cx.old.entries self.old }
+        ensures ready { IsReadyContext cx.new.entries self.new }
         ensures grows { Grows self.old.table self.new.table }
         ensures keeps { Keeps cx.old.entries cx.new.entries }
         ensures limit { cx.new.limit ≡ cx.old.limit }
@@ -254,11 +254,11 @@ impl EvalCtxt {
         cx: &mut Interner,
         cause: MaybeCause,
     ) -> Result<CanonicalResponse, Fault>
-        requires ready { IsReady cx.old.entries self.now }
+        requires ready { IsReadyContext cx.old.entries self.now }
         ensures keeps { Keeps cx.old.entries cx.new.entries }
         ensures limit { cx.new.limit ≡ cx.old.limit }
         ensures certainty { IfOk result (λ r. r.certainty ≡ Certainty.Maybe cause) }
-        ensures says { IfOk result (λ r. Says cx.old.entries cx.new.entries self.now r (Certainty.Maybe cause)) }
+        ensures says { IfOk result (λ r. OwnAnswerSays cx.old.entries cx.new.entries self.now r (Certainty.Maybe cause)) }
         ensures held { IfOk result (λ r. ResponseHeld cx.new.entries r) }
         ensures is { IfOk result (λ r. answer_trees cx.new.entries r ≡ own_answer cx.old.entries self.now (Certainty.Maybe cause)) }
         ensures full { cause ≡ MaybeCause.Overflow → result ≡ Err Fault.Full → (MAX_INDEX < length self.now.variables) ⊎ IsFull cx.new.entries cx.new.limit }
@@ -274,11 +274,11 @@ impl EvalCtxt {
         cx: &mut Interner,
         certainty: Certainty,
     ) -> Result<CanonicalResponse, Fault>
-        requires ready { IsReady cx.old.entries self.now }
+        requires ready { IsReadyContext cx.old.entries self.now }
         ensures keeps { Keeps cx.old.entries cx.new.entries }
         ensures limit { cx.new.limit ≡ cx.old.limit }
         ensures certainty { IfOk result (λ r. r.certainty ≡ certainty) }
-        ensures says { IfOk result (λ r. Says cx.old.entries cx.new.entries self.now r certainty) }
+        ensures says { IfOk result (λ r. OwnAnswerSays cx.old.entries cx.new.entries self.now r certainty) }
         ensures held { IfOk result (λ r. ResponseHeld cx.new.entries r) }
         ensures is { IfOk result (λ r. answer_trees cx.new.entries r ≡ own_answer cx.old.entries self.now certainty) }
         ensures full { certainty ≡ Certainty.Maybe MaybeCause.Overflow → result ≡ Err Fault.Full → (MAX_INDEX < length self.now.variables) ⊎ IsFull cx.new.entries cx.new.limit }
@@ -298,7 +298,7 @@ impl EvalCtxt {
         cx: &mut Interner,
         certainty: Certainty,
     ) -> Result<CanonicalResponse, Fault>
-        requires ready { IsReady cx.old.entries self.now }
+        requires ready { IsReadyContext cx.old.entries self.now }
         ensures keeps { Keeps cx.old.entries cx.new.entries }
         ensures limit { cx.new.limit ≡ cx.old.limit }
         ensures certainty { IfOk result (λ r. r.certainty ≡ certainty) }
@@ -323,7 +323,7 @@ impl EvalCtxt {
         ensures keeps { Keeps cx.old.entries cx.new.entries }
         ensures limit { cx.new.limit ≡ cx.old.limit }
         ensures certainty { IfOk result (λ r. r.certainty ≡ certainty) }
-        ensures says { IfOk result (λ r. SaysNothing cx.new.entries self.now r) }
+        ensures says { IfOk result (λ r. OwnAnswerSaysNothing cx.new.entries self.now r) }
         ensures held { IfOk result (λ r. ResponseHeld cx.new.entries r) }
         ensures is { IfOk result (λ r. answer_trees cx.new.entries r ≡ record { kinds = self.now.variables; certainty = certainty; values = variables_from 0 self.now.variables; constraints = none }) }
         ensures full { result ≡ Err Fault.Full → (MAX_INDEX < length self.now.variables) ⊎ IsFull cx.new.entries cx.new.limit }
@@ -344,8 +344,8 @@ impl EvalCtxt {
         &mut self,
         cx: &mut Interner,
     ) -> Result<EvalStep<Certainty>, EvalError>
-        requires ready { IsReady cx.old.entries self.old }
-        ensures ready { IsReady cx.new.entries self.new }
+        requires ready { IsReadyContext cx.old.entries self.old }
+        ensures ready { IsReadyContext cx.new.entries self.new }
         ensures grows { Grows self.old.table self.new.table }
         ensures keeps { Keeps cx.old.entries cx.new.entries }
         ensures limit { cx.new.limit ≡ cx.old.limit }
@@ -369,8 +369,8 @@ impl EvalCtxt {
         cx: &mut Interner,
         certainty: Certainty,
     ) -> Result<EvalStep<CanonicalResponse>, EvalError>
-        requires ready { IsReady cx.old.entries self.old }
-        ensures ready { IsReady cx.new.entries self.new }
+        requires ready { IsReadyContext cx.old.entries self.old }
+        ensures ready { IsReadyContext cx.new.entries self.new }
         ensures grows { Grows self.old.table self.new.table }
         ensures keeps { Keeps cx.old.entries cx.new.entries }
         ensures limit { cx.new.limit ≡ cx.old.limit }
@@ -399,8 +399,8 @@ impl EvalCtxt {
 
     /// The rounds over the replies so far. Once they end, the table holds what they put into it; else the context is as before.
     fn evaluate_nested_goals(&mut self, cx: &mut Interner) -> Result<RoundsStep, EvalError>
-        requires ready { IsReady cx.old.entries self.old }
-        ensures ready { IsReady cx.new.entries self.new }
+        requires ready { IsReadyContext cx.old.entries self.old }
+        ensures ready { IsReadyContext cx.new.entries self.new }
         ensures grows { Grows self.old.table self.new.table }
         ensures keeps { Keeps cx.old.entries cx.new.entries }
         ensures limit { cx.new.limit ≡ cx.old.limit }
@@ -426,8 +426,8 @@ impl EvalCtxt {
 
     /// The rounds over the replies so far. The table holds what they put into it, also where they do not end.
     fn run_rounds(&mut self, cx: &mut Interner) -> Result<RoundsStep, EvalError>
-        requires ready { IsReady cx.old.entries self.old }
-        ensures ready { IsReady cx.new.entries self.new }
+        requires ready { IsReadyContext cx.old.entries self.old }
+        ensures ready { IsReadyContext cx.new.entries self.new }
         ensures grows { Grows self.old.table self.new.table }
         ensures keeps { Keeps cx.old.entries cx.new.entries }
         ensures limit { cx.new.limit ≡ cx.old.limit }

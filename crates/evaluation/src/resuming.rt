@@ -13,7 +13,7 @@ ghost use Rattle.evaluation.specs.declared.TheConstants.{FIXPOINT_STEP_LIMIT};
 ghost use Rattle.evaluation.specs.Readings.{ResultHeld};
 ghost use Rattle.evaluation.specs.Shortages.{HasNoAnswer};
 ghost use Rattle.evaluation.specs.Script.{done};
-ghost use Rattle.evaluation.specs.OpenCandidates.{answer_with, rest_script, rounds_script, after_reply, StandsAt, EvaluationHeld, OpenHeld, CandidateHeld, IsOver, brings_values, is_definite, most_questions, questions_left, AsksAtMost};
+ghost use Rattle.evaluation.specs.OpenCandidates.{answer_with, rest_script, rounds_script, after_reply, StandsAt, EvaluationHeld, OpenHeld, CandidateHeld, CandidateIsOver, brings_values, is_definite, most_questions, questions_left, AsksAtMost};
 ghost use Rattle.evaluation.specs.OpenShortages.{RestRunsOut, WholeRunsOut, OpenRunsOut, RunsOutOnly};
 ghost use Rattle.evaluation.specs.Replayed.{BeginningReplays, ResumingReplays};
 
@@ -203,7 +203,7 @@ impl Evaluation {
         ensures limit { cx.new.limit ≡ cx.old.limit }
         ensures held { IfOk result (λ s. CandidateHeld cx.new.entries s) }
         ensures stands { StandsAt cx.new.entries (done (Some (answer_with cx.old.entries self of_goals))) result }
-        ensures over { IfOk result IsOver }
+        ensures over { IfOk result CandidateIsOver }
         ensures full { result ≡ Err (EvalError.Fault Fault.Full) → SomeKindIsFull cx.new.entries cx.new.limit
             ⊎ HasNoAnswer self.variables.items (values_of cx.old.entries self.own.items) (table_trees cx.old.entries self.table) (joined self.certainty of_goals) }
     {

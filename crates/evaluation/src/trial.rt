@@ -14,7 +14,7 @@ ghost use Rattle.infer_table.specs.Responses.{AnswerTrees, answer_trees};
 ghost use Rattle.infer_table.specs.Shortages.{HasNoUnknown};
 ghost use Rattle.evaluation.specs.Lists.{Every};
 ghost use Rattle.evaluation.specs.Readings.{EquationHeld, SpecHeld, ResultHeld};
-ghost use Rattle.evaluation.specs.Context.{IsReady};
+ghost use Rattle.evaluation.specs.Context.{IsReadyContext};
 ghost use Rattle.evaluation.specs.Ends.{AnswerHeld};
 ghost use Rattle.evaluation.specs.Evaluating.{goals_trees, replies_trees};
 ghost use Rattle.evaluation.specs.Frames.{begun, fresh, equate, unknowns, with_unknowns, solved};
@@ -350,12 +350,12 @@ fn add_goals(
     values: &[GenericArgKind],
     goals: &[(GoalSource, Goal)],
 ) -> Result<(), Fault>
-    requires ready { IsReady cx.old.entries context.old }
+    requires ready { IsReadyContext cx.old.entries context.old }
     requires values { ArgsHeld cx.old.entries values.now }
     requires goals { Every (λ n. GoalHeld cx.old.entries n.1) goals.now }
     ensures keeps { Keeps cx.old.entries cx.new.entries }
     ensures limit { cx.new.limit ≡ cx.old.limit }
-    ensures ready { OnOk result (IsReady cx.new.entries context.new) }
+    ensures ready { OnOk result (IsReadyContext cx.new.entries context.new) }
     ensures rest { OnOk result (context.new ≡ record context.old { nested = context.new.nested }) }
     ensures added { OnOk result (goals_trees cx.new.entries context.new.nested ≡ goals_trees cx.old.entries context.old.nested ++ premises_filled cx.old.entries values.now goals.now) }
     ensures full { result ≡ Err Fault.Full → SomeKindIsFull cx.new.entries cx.new.limit }

@@ -1,16 +1,16 @@
 -- Replies that came in order did so whatever the results are to be.
 use Rattle.std.proofs.Common.{List, [], ◌∷◌}
 use Rattle.evaluation.specs.Frame.{Frame}
-use Rattle.evaluation.specs.History.{Reply, begin, entered, ignored, evaluated, finished, Position, position, IsReply, CameInOrder}
+use Rattle.evaluation.specs.History.{Reply, begin, entered, ignored, evaluated, finished, Position, position, IsAwaitedReply, CameInOrder}
 use Rattle.evaluation.proofs.Histories.{step}
 
 module _ {Q A : Type 0} (R : Q → A → Type 0) where
   abbrev Any : Q → A → Type 0
   Any q a = Unit {0}
 
-  reply_anyhow : (p : Position Q A) (reply : Reply A) → IsReply R p reply → IsReply Any p reply
+  reply_anyhow : (p : Position Q A) (reply : Reply A) → IsAwaitedReply R p reply → IsAwaitedReply Any p reply
   reply_anyhow =
-      step R (λ p reply after. IsReply Any p reply) (λ heard gone s go. tt) (λ heard gone a n ns. tt) (λ heard replies q k go a r. tt) (λ heard replies a go n new. new)
+      step R (λ p reply after. IsAwaitedReply Any p reply) (λ heard gone s go. tt) (λ heard gone a n ns. tt) (λ heard replies q k go a r. tt) (λ heard replies a go n new. new)
 
   pub anyhow : (f : Frame Q A) (heard : List (Reply A)) → CameInOrder R f heard → CameInOrder Any f heard
   anyhow f [] h = h

@@ -10,9 +10,9 @@ use Rattle.evaluation.specs.FrameTables.{is_open_label}
 use Rattle.type_terms.proofs.Made.{false-true, is_ordinary}
 use Rattle.evaluation.proofs.Reading.{append-none, IsPutIn, read-put}
 use Rattle.evaluation.proofs.Labels.{IsLeafFor, PutsLeaves, made-put-in, made-more}
-use Rattle.goal_frames.specs.Rules.{Bound, goal_of}
+use Rattle.goal_frames.specs.Rules.{TraitBound, goal_of}
 use Rattle.evaluation.specs.Variables.{is_variable_over}
-use Rattle.goal_frames.specs.Handlers.{moved, behind}
+use Rattle.goal_frames.specs.Handlers.{moved, bound_behind}
 
 -- all but the first n
 abbrev pub dropped : ℕ → List Trees → List Trees
@@ -47,7 +47,7 @@ module _ (n : ℕ) (xs : List Trees) where
   pub read-behind : (t : Trees) → read_with (given xs) (put_in (moved n) t) ≡ read_with (given (dropped n xs)) t
   read-behind t = read-put (given xs) (given (dropped n xs)) (moved n) label-behind t
 
-  pub bound-behind : (b : Bound) → goal_read (given xs) (goal_of (behind n b)) ≡ goal_read (given (dropped n xs)) (goal_of b)
+  pub bound-behind : (b : TraitBound) → goal_read (given xs) (goal_of (bound_behind n b)) ≡ goal_read (given (dropped n xs)) (goal_of b)
   bound-behind b = ap (λ z. record { environment = none; predicate = tree (predicate (of_trait b.trait)) z none }) (read-behind b.arguments)
 
 -- ---- how they are made

@@ -15,9 +15,9 @@ use Rattle.evaluation.specs.Content.{Values, fits_kind, fits, given, fact_of}
 use Rattle.type_terms.proofs.Made.{false-true, left, right}
 use Rattle.evaluation.proofs.Questions.{sort-of-sort, place-is-a}
 use Rattle.evaluation.proofs.Unplaced.{IsNotPlace}
-use Rattle.goal_frames.specs.Rules.{HasNoPlace, IsClosed}
-use Rattle.evaluation.specs.Variables.{StandsIn, is_variable_over}
-use Rattle.goal_frames.specs.Handlers.{Asked, is_variable_label, places_stand}
+use Rattle.goal_frames.specs.Rules.{HasNoPlace, IsClosedFact}
+use Rattle.evaluation.specs.Variables.{LabelStandsIn, is_variable_over}
+use Rattle.goal_frames.specs.Handlers.{BareGoal, is_variable_label, places_stand}
 use Rattle.evaluation.proofs.Readings.{HasLeaves, made-leaves}
 use Rattle.goal_frames.proofs.Asked.{IsAsked}
 
@@ -30,17 +30,17 @@ variable-label : (k : Sort) (i : ℕ) (l : Label) → is_variable_label k i l �
 variable-label k i (canonical s j) h = ap (λ z. canonical z j) (is-sort s k (left (is_sort s k) _ h)) ∙ ap (canonical k) (eqb-true j i (right (is_sort s k) _ h))
 variable-label k i l h = absurd (false-true h)
 
-pub some-stands : (k : Sort) (i : ℕ) (t : Trees) → some_node (is_variable_label k i) t ≡ true → StandsIn (canonical k i) t
+pub some-stands : (k : Sort) (i : ℕ) (t : Trees) → some_node (is_variable_label k i) t ≡ true → LabelStandsIn (canonical k i) t
 some-stands k i none h = absurd (false-true h)
 some-stands k i (tree l c o) h =
     by (or-cases (is_variable_label k i l || some_node (is_variable_label k i) c) (some_node (is_variable_label k i) o) h) (λ e. some-stands k i c e) (λ e. some-stands k i o e)
   where
-    here : (is_variable_label k i l ≡ true) ⊎ (some_node (is_variable_label k i) c ≡ true) → (some_node (is_variable_label k i) c ≡ true → StandsIn (canonical k i) c) → StandsIn (canonical k i) (tree l c o)
+    here : (is_variable_label k i l ≡ true) ⊎ (some_node (is_variable_label k i) c ≡ true) → (some_node (is_variable_label k i) c ≡ true → LabelStandsIn (canonical k i) c) → LabelStandsIn (canonical k i) (tree l c o)
     here (inl e) f = inl (variable-label k i l e)
     here (inr e) f = inr (inl (f e))
 
-    by : ((is_variable_label k i l || some_node (is_variable_label k i) c) ≡ true) ⊎ (some_node (is_variable_label k i) o ≡ true) → (some_node (is_variable_label k i) c ≡ true → StandsIn (canonical k i) c)
-        → (some_node (is_variable_label k i) o ≡ true → StandsIn (canonical k i) o) → StandsIn (canonical k i) (tree l c o)
+    by : ((is_variable_label k i l || some_node (is_variable_label k i) c) ≡ true) ⊎ (some_node (is_variable_label k i) o ≡ true) → (some_node (is_variable_label k i) c ≡ true → LabelStandsIn (canonical k i) c)
+        → (some_node (is_variable_label k i) o ≡ true → LabelStandsIn (canonical k i) o) → LabelStandsIn (canonical k i) (tree l c o)
     by (inl e) f g = here (or-cases (is_variable_label k i l) (some_node (is_variable_label k i) c) e) f
     by (inr e) f g = inr (inr (g e))
 
@@ -84,14 +84,14 @@ no-here xs of_type i c o v h = no-left (of_sort of_type (term_at xs i)) (read_wi
 no-here xs of_const i c o v h = no-left (of_sort of_const (term_at xs i)) (read_with (given xs) o) h
 no-here xs of_lifetime i c o v h = absurd v
 
-no-place-read : (xs : List Trees) (k : Sort) (i : ℕ) → HasValues k → (t : Trees) → HasLeaves t → StandsIn (canonical k i) t → HasNoPlace (read_with (given xs) t) → HasNoPlace (of_sort k (term_at xs i))
+no-place-read : (xs : List Trees) (k : Sort) (i : ℕ) → HasValues k → (t : Trees) → HasLeaves t → LabelStandsIn (canonical k i) t → HasNoPlace (read_with (given xs) t) → HasNoPlace (of_sort k (term_at xs i))
 no-place-read xs k i v none g s h = absurd s
 no-place-read xs k i v (tree l c o) g (inl e) h = no-here xs k i c o v (subst (λ z. HasNoPlace (read_with (given xs) (tree z c o))) e h)
 no-place-read xs k i v (tree l c o) g (inr (inr s)) h = no-place-read xs k i v o g.2 s (no-parts xs l c o h).1
 no-place-read xs k i v (tree l c o) g (inr (inl s)) h = by (no-parts xs l c o h).0 (λ f. no-place-read xs k i v c g.1 s f)
   where
     by : IsFreeBelow xs l c → (HasNoPlace (read_with (given xs) c) → HasNoPlace (of_sort k (term_at xs i))) → HasNoPlace (of_sort k (term_at xs i))
-    by (inl e) f = absurd (subst (StandsIn (canonical k i)) (g.0 e) s)
+    by (inl e) f = absurd (subst (LabelStandsIn (canonical k i)) (g.0 e) s)
     by (inr e) f = f e
 
 place-stands : (k : Sort) (x : Trees) → is_place k x ≡ true → HasNoPlace x → ⊥
@@ -128,7 +128,7 @@ none-places xs t g h i (Ty ∷ ks) ts e p f = (tt, none-places xs t g h (suc i) 
 none-places xs t g h i (Const ∷ ks) ts e p f = (tt, none-places xs t g h (suc i) ks (other_terms ts) (next-places xs i ts e) p (right (fits_kind (Some Const) (term_at ts 0)) _ f))
 none-places xs t g h i (Region ∷ ks) ts e p f = (tt, none-places xs t g h (suc i) ks (other_terms ts) (next-places xs i ts e) p (right (fits_kind (Some Region) (term_at ts 0)) _ f))
 
-pub closed-kinds : (f : CanonicalForm) (a : Asked) → IsAsked f a → (v : Values) → IsClosed (fact_of (record { form = f; coinductive = false }) v) → Every IsNotPlace a.kinds
+pub closed-kinds : (f : CanonicalForm) (a : BareGoal) → IsAsked f a → (v : Values) → IsClosedFact (fact_of (record { form = f; coinductive = false }) v) → Every IsNotPlace a.kinds
 closed-kinds f a h v c =
     none-places v.terms a.bound.arguments (made-leaves (is_variable_over a.kinds) terms a.bound.arguments h.over)
     (subst (λ z. HasNoPlace (goal_read (given v.terms) z).predicate) h.goal c.predicate).0

@@ -16,7 +16,7 @@ use Rattle.evaluation.specs.Promises.{frame_of_goal, Anything, History}
 use Rattle.evaluation.proofs.Kept.{AreSo, questions_so, made_kept}
 use Rattle.evaluation.proofs.ListLaws.{Every-mono, Every-map}
 use Rattle.evaluation.specs.Instances.{put_in}
-use Rattle.evaluation.specs.Content.{Question}
+use Rattle.evaluation.specs.Content.{NestedQuestion}
 use Rattle.evaluation.specs.FrameTables.{kinds_known, good_in, FrameTable, IsMadeFrame, slot_at, goal_in, question}
 use Rattle.type_terms.proofs.Made.{false-true}
 use Rattle.evaluation.proofs.Labels.{made-more}
@@ -25,16 +25,16 @@ use Rattle.evaluation.proofs.Resolved.{made-resolved}
 use Rattle.evaluation.proofs.TableBeginning.{begin-made}
 use Rattle.evaluation.specs.Tables.{frame_tables}
 use Rattle.evaluation.proofs.FrameTableLaws.{tables_are_lawful}
-use Rattle.goal_frames.specs.Rules.{Bound, goal_of, Rule, RuleBook, IsOver, IsRule, AreRules}
-use Rattle.goal_frames.specs.Handlers.{Asked, asked, behind, nested_of_bound, spec_of, candidates_of, handled_by, listing_of, same_answer, applies_always}
+use Rattle.goal_frames.specs.Rules.{TraitBound, goal_of, Rule, RuleBook, BoundIsOver, IsRule, AreRules}
+use Rattle.goal_frames.specs.Handlers.{BareGoal, bare_goal, bound_behind, nested_of_bound, spec_of, candidates_of, handled_by, listing_of, same_answer, applies_always}
 use Rattle.goal_frames.specs.Forms.{is_unnumbered}
 use Rattle.goal_frames.proofs.Listings.{listed-each}
 use Rattle.goal_frames.proofs.Behind.{made-behind}
 use Rattle.goal_frames.proofs.Handlers.{each-spec}
 use Rattle.goal_frames.proofs.Forms.{canonical-goals-are-asked}
 
-abbrev pub IsDecided : Question → Type 0
-IsDecided q = (a : Asked) × (asked q.form ≡ Some a)
+abbrev pub IsDecided : NestedQuestion → Type 0
+IsDecided q = (a : BareGoal) × (bare_goal q.form ≡ Some a)
 
 -- ---- a nested goal over the table's unknowns
 resolved-trait : (bs : List Binding) (i : ℕ) (c : Trees) → resolved bs (tree (predicate (of_trait i)) c none) ≡ tree (predicate (of_trait i)) (resolved bs c) none
@@ -44,12 +44,12 @@ resolved-trait (b ∷ older) i c = ap (replace b.sort b.var (resolved older b.va
 same-goal : (e d p q : Trees) → e ≡ d → p ≡ q → ◌≡◌ {A = GoalTrees} (record { environment = e; predicate = p }) (record { environment = d; predicate = q })
 same-goal e d p q x y = cc
 
-module _ (T : FrameTable) (made : IsMadeFrame T) (kind : Bool) (n : ℕ) (kinds : List CanonicalVarKind) (b : Bound) (over : IsOver kinds b) where
-  abbrev inside : Bound
-  inside = record { trait = b.trait; arguments = resolved T.content.bindings (put_in (slot_at T.labels) (behind n b).arguments) }
+module _ (T : FrameTable) (made : IsMadeFrame T) (kind : Bool) (n : ℕ) (kinds : List CanonicalVarKind) (b : TraitBound) (over : BoundIsOver kinds b) where
+  abbrev inside : TraitBound
+  inside = record { trait = b.trait; arguments = resolved T.content.bindings (put_in (slot_at T.labels) (bound_behind n b).arguments) }
 
-  goal-inside : goal_in T (nested_of_bound kind (behind n b)) ≡ goal_of inside
-  goal-inside = same-goal _ _ _ _ (resolved-none T.content.bindings) (resolved-trait T.content.bindings b.trait (put_in (slot_at T.labels) (behind n b).arguments))
+  goal-inside : goal_in T (nested_of_bound kind (bound_behind n b)) ≡ goal_of inside
+  goal-inside = same-goal _ _ _ _ (resolved-none T.content.bindings) (resolved-trait T.content.bindings b.trait (put_in (slot_at T.labels) (bound_behind n b).arguments))
 
   unnumbered : (l : Label) → good_in T l ≡ true → is_unnumbered l ≡ true
   unnumbered (canonical k i) g = absurd (false-true g)
@@ -58,14 +58,14 @@ module _ (T : FrameTable) (made : IsMadeFrame T) (kind : Bool) (n : ℕ) (kinds 
   made-inside : is_made is_unnumbered terms inside.arguments ≡ true
   made-inside =
       made-more (good_in T) is_unnumbered unnumbered terms inside.arguments
-      (made-resolved (good_in T) T.content.bindings made.table.values terms (put_in (slot_at T.labels) (behind n b).arguments)
-      (made-put (good_in T) T.labels (slots-of T made) terms (behind n b).arguments (made-behind kinds n terms b.arguments over)))
+      (made-resolved (good_in T) T.content.bindings made.table.values terms (put_in (slot_at T.labels) (bound_behind n b).arguments)
+      (made-put (good_in T) T.labels (slots-of T made) terms (bound_behind n b).arguments (made-behind kinds n terms b.arguments over)))
 
-  question-decided : IsDecided (question T (nested_of_bound kind (behind n b)))
-  question-decided = let x = canonical-goals-are-asked inside made-inside in (x.0, ap (λ g. asked (canonical_form g)) goal-inside ∙ x.1)
+  question-decided : IsDecided (question T (nested_of_bound kind (bound_behind n b)))
+  question-decided = let x = canonical-goals-are-asked inside made-inside in (x.0, ap (λ g. bare_goal (canonical_form g)) goal-inside ∙ x.1)
 
 -- ---- the candidates
-each-decided : (book : RuleBook) → AreRules book → (o : Option Asked) → Every (λ (c : Spec (workings frame_tables)). Every (AreSo frame_tables IsDecided IsMadeFrame) c.nested) (candidates_of book o)
+each-decided : (book : RuleBook) → AreRules book → (o : Option BareGoal) → Every (λ (c : Spec (workings frame_tables)). Every (AreSo frame_tables IsDecided IsMadeFrame) c.nested) (candidates_of book o)
 each-decided book rules_are None = (tt, tt)
 each-decided book rules_are (Some a) =
     each-spec (book.coinductive a.bound.trait) a (λ (c : Spec (workings frame_tables)). Every (AreSo frame_tables IsDecided IsMadeFrame) c.nested) book.rules
@@ -73,14 +73,14 @@ each-decided book rules_are (Some a) =
   where
     one : (r : Rule) → IsRule r → r.head.trait ≡ a.bound.trait → Every (AreSo frame_tables IsDecided IsMadeFrame) (spec_of (book.coinductive a.bound.trait) a r).nested
     one r good e =
-        Every-map (AreSo frame_tables IsDecided IsMadeFrame) (λ b. nested_of_bound (book.coinductive a.bound.trait) (behind (length a.kinds) b)) r.premises
-        (Every-mono (IsOver r.kinds) (λ b. AreSo frame_tables IsDecided IsMadeFrame (nested_of_bound (book.coinductive a.bound.trait) (behind (length a.kinds) b)))
+        Every-map (AreSo frame_tables IsDecided IsMadeFrame) (λ b. nested_of_bound (book.coinductive a.bound.trait) (bound_behind (length a.kinds) b)) r.premises
+        (Every-mono (BoundIsOver r.kinds) (λ b. AreSo frame_tables IsDecided IsMadeFrame (nested_of_bound (book.coinductive a.bound.trait) (bound_behind (length a.kinds) b)))
         (λ b over T made. question-decided T made (book.coinductive a.bound.trait) (length a.kinds) r.kinds b over) r.premises good.premises)
 
-pub questions-decided : (book : RuleBook) → AreRules book → (mode : TypingMode) (f : CanonicalForm) (heard : History frame_tables (handled_by book mode f)) (q : Question)
+pub questions-decided : (book : RuleBook) → AreRules book → (mode : TypingMode) (f : CanonicalForm) (heard : History frame_tables (handled_by book mode f)) (q : NestedQuestion)
     → CameInOrder (Anything frame_tables (handled_by book mode f)) (frame_of_goal frame_tables (handled_by book mode f)) heard
     → asks (frame_of_goal frame_tables (handled_by book mode f)) heard ≡ evaluate q → IsDecided q
 questions-decided book rules_are mode f =
     questions_so frame_tables IsDecided IsMadeFrame (made_kept frame_tables tables_are_lawful IsDecided) (handled_by book mode f) (begin-made (kinds_known f.kinds))
-    (λ seen c e. listed-each frame_tables applies_always same_answer (λ (c : Spec (workings frame_tables)). Every (AreSo frame_tables IsDecided IsMadeFrame) c.nested) (listing_of book mode f (kinds_known f.kinds) (asked f))
-    (each-decided book rules_are (asked f)) seen c e)
+    (λ seen c e. listed-each frame_tables applies_always same_answer (λ (c : Spec (workings frame_tables)). Every (AreSo frame_tables IsDecided IsMadeFrame) c.nested) (listing_of book mode f (kinds_known f.kinds) (bare_goal f))
+    (each-decided book rules_are (bare_goal f)) seen c e)

@@ -14,17 +14,17 @@ use Rattle.evaluation.specs.declared.TheConstants.{FIXPOINT_STEP_LIMIT}
 use Rattle.evaluation.specs.Candidate.{Spec, Considered, Next, consider, answer, goes_on}
 use Rattle.evaluation.specs.Frame.{Frame, considers, answers, Finished}
 use Rattle.evaluation.specs.Handler.{Handled, IsHandler}
-use Rattle.evaluation.specs.History.{Reply, begin, entered, ignored, evaluated, finished, between, inside, told, position, IsReply, CameInOrder}
+use Rattle.evaluation.specs.History.{Reply, begin, entered, ignored, evaluated, finished, between, inside, told, position, IsAwaitedReply, CameInOrder}
 use Rattle.evaluation.specs.Promises.{frame_of_goal, Anything}
 use Rattle.evaluation.specs.Script.{Script, done, ask}
 use Rattle.evaluation.specs.Table.{workings}
 use Rattle.evaluation.proofs.ListLaws.{distinct-length, length-map}
 use Rattle.evaluation.proofs.OpenQuestions.{some-left}
-use Rattle.evaluation.specs.Content.{Question}
+use Rattle.evaluation.specs.Content.{NestedQuestion}
 use Rattle.evaluation.specs.Tables.{frame_tables}
-use Rattle.evaluation.specs.StepReadings.{Shown, shown, shown_by, nested_read, spec_read, result_read}
-use Rattle.goal_frames.specs.Places.{Heard, Standing, candidate_of, frame_with, Past, IsBetween, IsNext, with_result, IsFinishing, Stands}
-use Rattle.goal_frames.specs.Frames.{History, HasCome, HasHeard}
+use Rattle.evaluation.specs.StepReadings.{ShownCandidate, shown, shown_by, nested_read, spec_read, result_read}
+use Rattle.goal_frames.specs.Places.{Heard, FrameStanding, candidate_of, frame_with, Past, IsBetween, IsNextCandidate, with_result, IsFinishing, PositionStands}
+use Rattle.goal_frames.specs.Frames.{FrameHistory, HasCome, HasHeard}
 use Rattle.goal_frames.specs.Steps.{AsksFewer, most_questions, steps_after, steps_at, steps_left, StepsFall}
 use Rattle.goal_frames.specs.declared.frame.GoalFrame.{GoalFrame}
 use Rattle.goal_frames.specs.declared.frame.Place.{Place}
@@ -90,31 +90,31 @@ asked-entering s number (InCode.Ignoring r ns at) l f = omega arith
 asked-entering s number InCode.Over l f = omega arith
 
 module _ (h : Handled frame_tables) where
-  abbrev InOrder : History → Type 0
+  abbrev InOrder : FrameHistory → Type 0
   InOrder heard = CameInOrder (Anything frame_tables h) (frame_of_goal frame_tables h) heard
 
-  abbrev place-of : History → Standing
+  abbrev place-of : FrameHistory → FrameStanding
   place-of heard = position (frame_of_goal frame_tables h) heard
 
   -- ---- the number by a frame's position, and by how many questions the open candidate asks still
-  abbrev steps_from : ℕ → Standing → ℕ
+  abbrev steps_from : ℕ → FrameStanding → ℕ
   steps_from left (between heard gone (considers s go)) = steps_after h (length heard)
   steps_from left (between heard gone (answers a ns)) = length ns
   steps_from left (inside heard said (ask q k) go) = left + suc (steps_after h (suc (length heard)))
   steps_from left (inside heard said (done a) go) = suc (steps_after h (suc (length heard)))
 
-  heard-length : (xs : List Shown) (past : Past h xs) → length past.heard ≡ length past.seen
+  heard-length : (xs : List ShownCandidate) (past : Past h xs) → length past.heard ≡ length past.seen
   heard-length xs past =
-      sym (length-map (λ (c : Finished Question Answer). c.0) past.heard) ∙ ap length past.numbers_are ∙ length-map (λ (c : Considered (workings frame_tables)). c.number) past.seen
+      sym (length-map (λ (c : Finished NestedQuestion Answer). c.0) past.heard) ∙ ap length past.numbers_are ∙ length-map (λ (c : Considered (workings frame_tables)). c.number) past.seen
 
-  seen-length : (xs : List Shown) (past : Past h xs) → length xs ≡ length past.seen
+  seen-length : (xs : List ShownCandidate) (past : Past h xs) → length xs ≡ length past.seen
   seen-length xs past = ap length past.shows ∙ length-reverse (map shown past.seen) ∙ length-map shown past.seen
 
-  shown-length : (xs : List Shown) (past : Past h xs) → length xs ≡ length past.heard
+  shown-length : (xs : List ShownCandidate) (past : Past h xs) → length xs ≡ length past.heard
   shown-length xs past = seen-length xs past ∙ sym (heard-length xs past)
 
   -- it is the frame's own
-  same-number : (es : List Entry) (goal : CanonicalInput) (cs : List Code.Considered) (place : Place) (p : Standing) → Stands h es goal (map (shown_by es) cs) place p
+  same-number : (es : List Entry) (goal : CanonicalInput) (cs : List Code.Considered) (place : Place) (p : FrameStanding) → PositionStands h es goal (map (shown_by es) cs) place p
       → steps_at h (length cs) place ≡ steps_from (left_at place) p
   same-number es goal cs InCode.Begun p s = absurd s
   same-number es goal cs (InCode.Entering c) p s =
@@ -132,11 +132,11 @@ module _ (h : Handled frame_tables) where
 
   module _ (lawful : IsHandler frame_tables h) where
     -- where a candidate comes next, there is room for it
-    room : (xs : List Shown) (s : Spec (workings frame_tables)) (n : IsNext h xs s) → length n.past.heard < h.candidates
+    room : (xs : List ShownCandidate) (s : Spec (workings frame_tables)) (n : IsNextCandidate h xs s) → length n.past.heard < h.candidates
     room xs s n = subst (λ k. k < h.candidates) (sym (heard-length xs n.past)) (lawful.candidate n.past.seen s n.past.history n.is).ends
 
     -- ---- the frame asks its handler what comes next
-    next-few : (left : ℕ) (xs : List Shown) (past : Past h xs) (gone : List ℕ) (n : Next (workings frame_tables)) → h.next past.seen ≡ n
+    next-few : (left : ℕ) (xs : List ShownCandidate) (past : Past h xs) (gone : List ℕ) (n : Next (workings frame_tables)) → h.next past.seen ≡ n
         → steps_from left (between past.heard gone (goes_on (workings frame_tables) FIXPOINT_STEP_LIMIT h.begin h.next (frame_with h past.fuel) past.seen n)) ≤ steps_after h (length past.heard)
     next-few left xs past gone (consider s) e = le_refl (steps_after h (length past.heard))
     next-few left xs past gone (answer a ns) e =
@@ -146,45 +146,45 @@ module _ (h : Handled frame_tables) where
         let room-left = past.left in
         up-to ((h.candidates - length past.heard) * (most_questions h + 2)) h.candidates (length ns) (omega (arith, fewer, same, room-left))
 
-    between-few : (left : ℕ) (xs : List Shown) (p : Standing) → IsBetween h xs p → steps_from left p ≤ steps_after h (length xs)
+    between-few : (left : ℕ) (xs : List ShownCandidate) (p : FrameStanding) → IsBetween h xs p → steps_from left p ≤ steps_after h (length xs)
     between-few left xs p b =
         subst (λ n. steps_from left p ≤ steps_after h n) (sym (shown-length xs b.past))
         (subst (λ x. steps_from left x ≤ steps_after h (length b.past.heard)) (sym b.at) (next-few left xs b.past b.gone (h.next b.past.seen) refl))
 
     -- ---- it falls, where the open candidate asked so many questions before, and asks so many after the reply
-    abbrev Falls : ℕ → ℕ → Standing → Reply Answer → Type 0
+    abbrev Falls : ℕ → ℕ → FrameStanding → Reply Answer → Type 0
     Falls before after p reply = steps_from after (told reply p) < steps_from before p
 
-    abbrev IsDueAt : Standing → Reply Answer → Type 0
-    IsDueAt p reply = IsReply (Anything frame_tables h) p reply
+    abbrev IsDueAt : FrameStanding → Reply Answer → Type 0
+    IsDueAt p reply = IsAwaitedReply (Anything frame_tables h) p reply
 
-    entered-falls : (left : ℕ) (hd : Heard) (s : Script Question Answer Answer) (go : Answer → ℕ → Frame Question Answer)
+    entered-falls : (left : ℕ) (hd : Heard) (s : Script NestedQuestion Answer Answer) (go : Answer → ℕ → Frame NestedQuestion Answer)
         → length hd < h.candidates → left ≤ most_questions h → steps_from left (inside hd [] s go) < steps_after h (length hd)
     entered-falls left hd (ask q k) go l few =
         enters-below (steps_after h (length hd)) (steps_after h (suc (length hd))) (most_questions h) left (one-fewer h.candidates (length hd) (most_questions h + 2) l) few
     entered-falls left hd (done a) go l few =
         ends-below (steps_after h (length hd)) (steps_after h (suc (length hd))) (most_questions h) (one-fewer h.candidates (length hd) (most_questions h + 2) l)
 
-    entering-falls : (before after : ℕ) (hd : Heard) (gone : List ℕ) (s : Script Question Answer Answer) (go : Answer → ℕ → Frame Question Answer) (reply : Reply Answer)
+    entering-falls : (before after : ℕ) (hd : Heard) (gone : List ℕ) (s : Script NestedQuestion Answer Answer) (go : Answer → ℕ → Frame NestedQuestion Answer) (reply : Reply Answer)
         → length hd < h.candidates → after ≤ most_questions h → IsDueAt (between hd gone (considers s go)) reply → Falls before after (between hd gone (considers s go)) reply
     entering-falls before after hd gone s go entered l few r = entered-falls after hd s go l few
     entering-falls before after hd gone s go reply l few r = absurd r
 
     -- in a candidate
-    open-falls : (before after : ℕ) (hd : Heard) (said : List (Question × Answer)) (s : Script Question Answer Answer) (go : Answer → ℕ → Frame Question Answer)
+    open-falls : (before after : ℕ) (hd : Heard) (said : List (NestedQuestion × Answer)) (s : Script NestedQuestion Answer Answer) (go : Answer → ℕ → Frame NestedQuestion Answer)
         → after < before → steps_from after (inside hd said s go) < before + suc (steps_after h (suc (length hd)))
     open-falls before after hd said (ask q k) go few = asks-on after before (steps_after h (suc (length hd))) few
     open-falls before after hd said (done a) go few = ends-there after before (steps_after h (suc (length hd))) few
 
-    inside-falls : (before after : ℕ) (hd : Heard) (said : List (Question × Answer)) (q : Question) (k : Answer → Script Question Answer Answer) (go : Answer → ℕ → Frame Question Answer) (reply : Reply Answer)
+    inside-falls : (before after : ℕ) (hd : Heard) (said : List (NestedQuestion × Answer)) (q : NestedQuestion) (k : Answer → Script NestedQuestion Answer Answer) (go : Answer → ℕ → Frame NestedQuestion Answer) (reply : Reply Answer)
         → after < before → IsDueAt (inside hd said (ask q k) go) reply → Falls before after (inside hd said (ask q k) go) reply
     inside-falls before after hd said q k go (evaluated a) few r = open-falls before after hd ((q, a) ∷ said) (k a) go few
     inside-falls before after hd said q k go reply few r = absurd r
 
-    finishing-falls : (before after : ℕ) (xs : List Shown) (source : CandidateSource) (a : Answer) (p : Standing) (f : IsFinishing h xs source a p) (reply : Reply Answer)
+    finishing-falls : (before after : ℕ) (xs : List ShownCandidate) (source : CandidateSource) (a : Answer) (p : FrameStanding) (f : IsFinishing h xs source a p) (reply : Reply Answer)
         → IsDueAt (inside f.next.past.heard f.told (done a) (with_result h f.next)) reply → Falls before after p reply
     finishing-falls before after xs source a p f (finished n) r =
-        let x : Shown = record { source = source; result = a; number = n } in
+        let x : ShownCandidate = record { source = source; result = a; number = n } in
         let there = finishes h lawful xs source a n p f (subst (λ y. IsDueAt y (finished n)) (sym f.at) r) in
         let few = between-few after (xs ++ x ∷ []) (told (finished n) p) there in
         let many : length (xs ++ x ∷ []) ≡ suc (length f.next.past.heard) = one-more xs x ∙ ap suc (shown-length xs f.next.past) in
@@ -201,8 +201,8 @@ module _ (h : Handled frame_tables) where
     begun-falls after begin o = below-next (steps_from after (place-of (begin ∷ []))) (steps_after h 0) (between-few after [] (place-of (begin ∷ [])) (begins h))
     begun-falls after reply o = absurd o.1
 
-    stands-falls : (es : List Entry) (goal : CanonicalInput) (cs : List Code.Considered) (place after : Place) (p : Standing) (reply : Reply Answer) → IsDueAt p reply
-        → Stands h es goal (map (shown_by es) cs) place p → AsksFewer place after → Falls (left_at place) (left_at after) p reply
+    stands-falls : (es : List Entry) (goal : CanonicalInput) (cs : List Code.Considered) (place after : Place) (p : FrameStanding) (reply : Reply Answer) → IsDueAt p reply
+        → PositionStands h es goal (map (shown_by es) cs) place p → AsksFewer place after → Falls (left_at place) (left_at after) p reply
     stands-falls es goal cs InCode.Begun after p reply r s f = absurd s
     stands-falls es goal cs (InCode.Entering c) after p reply r s f =
         let past = s.next.past in
@@ -223,13 +223,13 @@ module _ (h : Handled frame_tables) where
     stands-falls es goal cs InCode.Over after p reply r s f =
         subst (λ x. Falls 0 (left_at after) x reply) (sym s.1.at) (ignoring-falls 0 (left_at after) s.1.heard s.1.gone s.0 [] reply (subst (λ x. IsDueAt x reply) s.1.at r))
 
-    standing-falls : (es : List Entry) (goal : CanonicalInput) (cs : List Code.Considered) (place after : Place) (heard : History) (reply : Reply Answer) → InOrder heard → InOrder (reply ∷ heard)
-        → Stands h es goal (map (shown_by es) cs) place (place-of heard) → AsksFewer place after → steps_from (left_at after) (place-of (reply ∷ heard)) < steps_at h (length cs) place
+    standing-falls : (es : List Entry) (goal : CanonicalInput) (cs : List Code.Considered) (place after : Place) (heard : FrameHistory) (reply : Reply Answer) → InOrder heard → InOrder (reply ∷ heard)
+        → PositionStands h es goal (map (shown_by es) cs) place (place-of heard) → AsksFewer place after → steps_from (left_at after) (place-of (reply ∷ heard)) < steps_at h (length cs) place
     standing-falls es goal cs place after heard reply o on s f =
         subst (λ n. steps_from (left_at after) (place-of (reply ∷ heard)) < n) (sym (same-number es goal cs place (place-of heard) s)) (stands-falls es goal cs place after (place-of heard) reply (due-here h heard o reply on) s f)
 
     -- before the step
-    before-falls : (es : List Entry) (goal : CanonicalInput) (cs : List Code.Considered) (place after : Place) (heard : History) (reply : Reply Answer) → HasCome es h goal cs place heard → InOrder (reply ∷ heard)
+    before-falls : (es : List Entry) (goal : CanonicalInput) (cs : List Code.Considered) (place after : Place) (heard : FrameHistory) (reply : Reply Answer) → HasCome es h goal cs place heard → InOrder (reply ∷ heard)
         → AsksFewer place after → steps_from (left_at after) (place-of (reply ∷ heard)) < steps_at h (length cs) place
     before-falls es goal cs InCode.Begun after heard reply c o f =
         subst (λ x. steps_from (left_at after) (place-of (reply ∷ heard)) < suc (steps_after h (length x))) (sym c.1)
@@ -241,7 +241,7 @@ module _ (h : Handled frame_tables) where
     before-falls es goal cs InCode.Over after heard reply c o f = standing-falls es goal cs InCode.Over after heard reply c.0 o c.1 f
 
     -- and after it
-    number-after : (es : List Entry) (goal : CanonicalInput) (cs : List Code.Considered) (place : Place) (heard : History) (reply : Reply Answer) → HasCome es h goal cs place (reply ∷ heard)
+    number-after : (es : List Entry) (goal : CanonicalInput) (cs : List Code.Considered) (place : Place) (heard : FrameHistory) (reply : Reply Answer) → HasCome es h goal cs place (reply ∷ heard)
         → steps_from (left_at place) (place-of (reply ∷ heard)) ≡ steps_at h (length cs) place
     number-after es goal cs InCode.Begun heard reply c = absurd (none c.0) where
       none : reply ∷ heard ≡ [] → ⊥
@@ -253,7 +253,7 @@ module _ (h : Handled frame_tables) where
     number-after es goal cs InCode.Over heard reply c = sym (same-number es goal cs InCode.Over (place-of (reply ∷ heard)) c.1)
 
     -- a frame that has heard a reply more has fewer steps left
-    pub falls : (old new : List Entry) (before next : GoalFrame) (heard : History) (reply : Reply Answer) → HasHeard old h before heard → InOrder (reply ∷ heard) → HasHeard new h next (reply ∷ heard)
+    pub falls : (old new : List Entry) (before next : GoalFrame) (heard : FrameHistory) (reply : Reply Answer) → HasHeard old h before heard → InOrder (reply ∷ heard) → HasHeard new h next (reply ∷ heard)
         → AsksFewer before.place next.place → steps_left h next < steps_left h before
     falls old new before next heard reply b o a f =
         subst (λ n. n < steps_left h before) (number-after new next.goal next.considered.items next.place heard reply a.came)

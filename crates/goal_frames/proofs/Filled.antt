@@ -9,7 +9,7 @@ use Rattle.infer_table.specs.Raw.{sort_of_kind}
 use Rattle.evaluation.specs.Lists.{Every}
 use Rattle.evaluation.proofs.ListLaws.{Every-mono}
 use Rattle.evaluation.specs.Instances.{of_sort, first_term, other_terms, term_at}
-use Rattle.evaluation.specs.Content.{Values, Terms}
+use Rattle.evaluation.specs.Content.{Values, ChosenTerms}
 use Rattle.evaluation.specs.FrameTables.{kind_at, HaveValues, AllowsApart}
 use Rattle.evaluation.specs.TableOperations.{begin, fresh}
 use Rattle.goal_frames.specs.Rules.{IsUnknown}
@@ -87,7 +87,7 @@ module _ (ks js : List CanonicalVarKind) (h : Every IsNotPlace ks) (g : Every Is
   unplaced = unknowns-unplaced js g
 
   -- the values v for the goal's variables, and behind them these terms for the rule's
-  abbrev pub filled : Terms
+  abbrev pub filled : ChosenTerms
   filled = filled_with ks js h unplaced v all
 
   pub filled-allowed : AllowsApart (fresh (begin ks) js) filled

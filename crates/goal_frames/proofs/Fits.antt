@@ -13,30 +13,30 @@ use Rattle.evaluation.specs.Table.{workings}
 use Rattle.evaluation.proofs.Scripts.{Asks}
 use Rattle.evaluation.proofs.Kept.{AreSo, responds_so, made_kept}
 use Rattle.evaluation.specs.TableAnswers.{IsWellFormed}
-use Rattle.evaluation.specs.Content.{Question}
+use Rattle.evaluation.specs.Content.{NestedQuestion}
 use Rattle.evaluation.specs.FrameTables.{FrameTable, IsMadeFrame, Nested}
 use Rattle.evaluation.proofs.WellFormed.{answers_well_formed}
 use Rattle.evaluation.specs.Tables.{frame_tables}
 use Rattle.evaluation.proofs.FrameTableLaws.{tables_are_lawful}
 use Rattle.evaluation.specs.RoundLaws.{AreOneAnswer}
 
-pub one-answer : (mode : TypingMode) (coinductive : Bool) (kinds : List CanonicalVarKind) (ls : List Label) (p : Question) (a : AnswerTrees) → IsWellFormed a → AreOneAnswer mode coinductive kinds ls p a a
+pub one-answer : (mode : TypingMode) (coinductive : Bool) (kinds : List CanonicalVarKind) (ls : List Label) (p : NestedQuestion) (a : AnswerTrees) → IsWellFormed a → AreOneAnswer mode coinductive kinds ls p a a
 one-answer mode coinductive kinds ls p a f = record { is = refl; fits = f }
 
 abbrev Fits : Option AnswerTrees → Type 0
 Fits None = Unit {0}
 Fits (Some a) = IsWellFormed a
 
-abbrev Any-question : Question → Type 0
+abbrev Any-question : NestedQuestion → Type 0
 Any-question q = Unit {0}
 
-abbrev Any-answer : Question → Option AnswerTrees → Type 0
+abbrev Any-answer : NestedQuestion → Option AnswerTrees → Type 0
 Any-answer q a = Unit {0}
 
-ends-fitting : (s : Script Question (Option AnswerTrees) (Option AnswerTrees)) (replies : List (Option AnswerTrees)) (x : Option AnswerTrees) (more : List (Option AnswerTrees))
+ends-fitting : (s : Script NestedQuestion (Option AnswerTrees) (Option AnswerTrees)) (replies : List (Option AnswerTrees)) (x : Option AnswerTrees) (more : List (Option AnswerTrees))
     → Asks Any-question Any-answer Fits s → run s replies ≡ ready x more → Fits x
 ends-fitting (done y) replies x more h e = subst Fits (same e) h where
-  same : {a b : Option AnswerTrees} {m n : List (Option AnswerTrees)} → ◌≡◌ {A = Run Question (Option AnswerTrees) (Option AnswerTrees)} (ready a m) (ready b n) → a ≡ b
+  same : {a b : Option AnswerTrees} {m n : List (Option AnswerTrees)} → ◌≡◌ {A = Run NestedQuestion (Option AnswerTrees) (Option AnswerTrees)} (ready a m) (ready b n) → a ≡ b
   same r = cc
 ends-fitting (ask q k) [] x more h e = absurd (cc)
 ends-fitting (ask q k) (a ∷ replies) x more h e = ends-fitting (k a) replies x more (h.1 a tt) e

@@ -16,7 +16,7 @@ use Rattle.evaluation.specs.TableAnswers.{is_kind_of, with_kind, kinds_of}
 use Rattle.type_terms.proofs.Made.{false-true, left, right, both, no-tree, is_ordinary, made-ordinary, makes-ordinary, IsLast, last-bound, last-trait, never-dynamic, never-dynamic-bound, never-principal}
 use Rattle.evaluation.proofs.Reading.{EachLabel}
 use Rattle.evaluation.proofs.Nodes.{every-leaf}
-use Rattle.goal_frames.specs.Rules.{Bound}
+use Rattle.goal_frames.specs.Rules.{TraitBound}
 use Rattle.evaluation.specs.Variables.{is_variable_over}
 use Rattle.goal_frames.specs.Handlers.{with_first, all_known, is_variable_label, places_stand, asked_with}
 use Rattle.goal_frames.specs.Forms.{is_unnumbered, CanonicalGoalsAreAsked}
@@ -265,7 +265,7 @@ canonical-goals-are-asked b m =
     let made = made-renumbered ls opens terms b.arguments m (each-listed ls b.arguments (λ l s. leaves-hold kind_of_leaf l [] b.arguments s)) in
     let stand = places ls [] ls x refl fresh
     (every-leaf kind_of_leaf (λ l. some_node (is_variable_label (sort_of l) (place_of l ls)) x ≡ true) [] b.arguments tt (λ l s. stands-numbered ls opens l b.arguments s)) in
-    let here : Bound = record { trait = b.trait; arguments = x } in (
+    let here : TraitBound = record { trait = b.trait; arguments = x } in (
       record { kinds = kinds_of ls; bound = here },
       ap (λ o. asked_with o (Some here)) (known-kinds ls opens)
           ∙ ap (λ z. if z then Some (record { kinds = kinds_of ls; bound = here }) else None) (both (is_made (is_variable_over (kinds_of ls)) terms x) _ made stand),

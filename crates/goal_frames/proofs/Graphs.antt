@@ -6,12 +6,12 @@ use Rattle.search_graph.specs.Proof as Searched
 use Rattle.evaluation.specs.Lists.{IsAmong}
 use Rattle.evaluation.specs.Table.{Tables}
 use Rattle.evaluation.specs.Law.{IsInstance}
-use Rattle.evaluation.specs.Proof.{Derivation, end, again, by_rule, HasGraph}
+use Rattle.evaluation.specs.Proof.{GoalDerivation, end, again, by_rule, HasGraph}
 use Rattle.evaluation.proofs.ListLaws.{Every-mono}
 use Rattle.evaluation.proofs.Unfold.{Instances, IsInstanceOf, FollowsFromQuestions, graph_unfolds}
 use Rattle.goal_frames.specs.Programs.{Programs, ArePrograms}
-use Rattle.goal_frames.specs.Searches.{step_kind, kind_of, Asked, goal_in, Follows}
-use Rattle.goal_frames.specs.Graphs.{GraphsProve}
+use Rattle.goal_frames.specs.Searches.{step_kind, kind_of, GoalInMode, goal_in, FollowsInMode}
+use Rattle.goal_frames.specs.Graphs.{GraphsGiveProofLists}
 
 kind-is : (b : Bool) → is_coinductive (step_kind b) ≡ b
 kind-is true = refl
@@ -34,10 +34,10 @@ told-among {G = G} g k (q ∷ questions) (inr i) = inr (told-among g k questions
 
 module _ {G : Type 0} (F : G → List (G × PathKind) → Type 0) (H : G → List (G × Bool) → Type 0)
     (weaker : (g : G) (questions : List (G × PathKind)) → F g questions → H g (told_apart questions)) where
-  derived : (assumed : List G) (questions : List (G × PathKind)) → Searched.Derivation G F assumed questions → Derivation G H assumed (told_apart questions)
+  derived : (assumed : List G) (questions : List (G × PathKind)) → Searched.Derivation G F assumed questions → GoalDerivation G H assumed (told_apart questions)
   derived assumed [] Searched.end = end
   derived assumed ((g, k) ∷ rest) (Searched.again c i d) =
-      subst (λ z. Derivation G H assumed ((g, z) ∷ told_apart rest)) (sym c) (again (same-among g assumed i) (derived assumed rest d))
+      subst (λ z. GoalDerivation G H assumed ((g, z) ∷ told_apart rest)) (sym c) (again (same-among g assumed i) (derived assumed rest d))
   derived assumed ((g, k) ∷ rest) (Searched.by_rule {premises = premises} f below d) =
       by_rule (weaker g premises f) (derived assumed premises below) (derived assumed rest d)
 
@@ -55,11 +55,11 @@ module _ {G : Type 0} (F : G → List (G × PathKind) → Type 0) (H : G → Lis
 
 module _ {Question Response : Type 0} (t : Tables Question Response) (p : Programs t) (laws : ArePrograms t p) where
   -- the goals with the values that are made of the root's
-  abbrev instances_of : p.World → t.Values → Instances (Asked t p) t.Values t.Fact
+  abbrev instances_of : p.World → t.Values → Instances (GoalInMode t p) t.Values t.Fact
   instances_of w root =
       record { fact = λ g v. (p.handled w g.0 g.1).goal v; values = λ g. p.made_of g.1 root; coinductive = p.coinductive w; Rule = p.Rule w }
 
-  from_questions : (w : p.World) (root : t.Values) (g : Asked t p) (questions : List (Asked t p × PathKind)) → Follows t p w g questions
+  from_questions : (w : p.World) (root : t.Values) (g : GoalInMode t p) (questions : List (GoalInMode t p × PathKind)) → FollowsInMode t p w g questions
       → FollowsFromQuestions (instances_of w root) g (told_apart questions)
   from_questions w root g questions follows v i =
       let f = follows v in
@@ -79,6 +79,6 @@ module _ {Question Response : Type 0} (t : Tables Question Response) (p : Progra
             )) f.premises f.each,
       )
 
-  pub graphs_prove : GraphsProve t p
+  pub graphs_prove : GraphsGiveProofLists t p
   graphs_prove w g h v i =
-      graph_unfolds (instances_of w v) g (graph (Follows t p w) (FollowsFromQuestions (instances_of w v)) (λ q questions f. from_questions w v q questions f) g h) v i
+      graph_unfolds (instances_of w v) g (graph (FollowsInMode t p w) (FollowsFromQuestions (instances_of w v)) (λ q questions f. from_questions w v q questions f) g h) v i

@@ -14,13 +14,13 @@ use Rattle.infer_table.specs.declared.certainty.TypingMode.TheVariants.{Coherenc
 use Rattle.evaluation.specs.Lists.{Every, SomeOf, IsAmong}
 use Rattle.evaluation.specs.Table.{workings}
 use Rattle.evaluation.specs.Candidate.{Spec}
-use Rattle.evaluation.specs.Law.{Solves, Realizes}
-use Rattle.evaluation.specs.Handler.{IsLawful, IsHandler}
+use Rattle.evaluation.specs.Law.{NestedIsSolved, Realizes}
+use Rattle.evaluation.specs.Handler.{CandidateIsLawful, IsHandler}
 use Rattle.evaluation.proofs.ListLaws.{Every-both, Every-map, SomeOf-both, among-all, not-true}
 use Rattle.evaluation.proofs.LastRules.{last_rule}
 use Rattle.evaluation.specs.Instances.{read_with, goal_read}
-use Rattle.evaluation.specs.Content.{Values, fits, given, trait_of, Fact, fact_of, Terms}
-use Rattle.evaluation.specs.FrameTables.{kinds_known, Nested, fact, Meets}
+use Rattle.evaluation.specs.Content.{Values, fits, given, trait_of, Fact, fact_of, ChosenTerms}
+use Rattle.evaluation.specs.FrameTables.{kinds_known, Nested, fact, EquationIsMet}
 use Rattle.evaluation.specs.Widths.{width_of_predicates}
 use Rattle.type_terms.proofs.Made.{false-true, right}
 use Rattle.evaluation.proofs.OperationLaws.{begins-free, begins-within}
@@ -28,8 +28,8 @@ use Rattle.evaluation.specs.TableOperations.{begin, fresh}
 use Rattle.evaluation.specs.Tables.{frame_tables}
 use Rattle.evaluation.proofs.FrameTableLaws.{tables_are_lawful}
 use Rattle.goal_frames.specs.Listings.{listed, IsListing}
-use Rattle.goal_frames.specs.Rules.{Bound, goal_of, Rule, RuleBook, IsOver, IsRule, AreRules, instance_of, IsBy, IsClosed, is_coinductive_trait, is_coinductive, FollowsClosed, HasProofByBook}
-use Rattle.goal_frames.specs.Handlers.{Asked, asked, behind, as_one, nested_of_bound, spec_of, specs_for, unsure, number_of_rules, same_answer, applies_always, has_placeholder, world_of, widest_of, listing_of, handled_by}
+use Rattle.goal_frames.specs.Rules.{TraitBound, goal_of, Rule, RuleBook, BoundIsOver, IsRule, AreRules, instance_of, IsBy, IsClosedFact, is_coinductive_trait, is_coinductive, FollowsClosed, HasProofByBook}
+use Rattle.goal_frames.specs.Handlers.{BareGoal, bare_goal, bound_behind, as_one, nested_of_bound, spec_of, specs_for, unsure, number_of_rules, same_answer, applies_always, has_placeholder, world_of, widest_of, listing_of, handled_by}
 use Rattle.goal_frames.proofs.Listings.{listings-are-lawful}
 use Rattle.evaluation.proofs.Readings.{reads-agree}
 use Rattle.goal_frames.proofs.Behind.{dropped, read-behind, made-behind, made-open}
@@ -44,7 +44,7 @@ use Rattle.evaluation.proofs.Unplaced.{IsNotPlace}
 use Rattle.goal_frames.proofs.Filled.{filled, filled-allowed, filled-agrees}
 
 -- ---- the candidates are the rules
-module _ (kind : Bool) (a : Asked) where
+module _ (kind : Bool) (a : BareGoal) where
   -- what holds of the candidate of each rule of the goal's trait holds of each candidate
   each-if : (P : Spec (workings frame_tables) → Type 0) (r : Rule) (rules : List Rule) (b : Bool) → (r.head.trait == a.bound.trait) ≡ b → (r.head.trait ≡ a.bound.trait → P (spec_of kind a r))
       → Every P (specs_for kind a rules) → Every P (if b then spec_of kind a r ∷ specs_for kind a rules else specs_for kind a rules)
@@ -76,7 +76,7 @@ same-goal-parts : (i j : ℕ) (x y : Trees) → ◌≡◌ {A = GoalTrees} (recor
 same-goal-parts i j x y e = predicate-parts i j x y (ap (λ (z : GoalTrees). z.predicate) e)
 
 -- ---- a goal that is made as canonical forms are
-module _ (book : RuleBook) (rules_are : AreRules book) (mode : TypingMode) (f : CanonicalForm) (a : Asked) (h : IsAsked f a) where
+module _ (book : RuleBook) (rules_are : AreRules book) (mode : TypingMode) (f : CanonicalForm) (a : BareGoal) (h : IsAsked f a) where
   abbrev kind : Bool
   kind = book.coinductive a.bound.trait
 
@@ -102,7 +102,7 @@ module _ (book : RuleBook) (rules_are : AreRules book) (mode : TypingMode) (f : 
       less x y = omega arith
 
   abbrev IsRuleFor : Spec (workings frame_tables) → Type 0
-  IsRuleFor c = IsLawful frame_tables (listed frame_tables applies_always same_answer (listing_of book mode f a.kinds (Some a))) c
+  IsRuleFor c = CandidateIsLawful frame_tables (listed frame_tables applies_always same_answer (listing_of book mode f a.kinds (Some a))) c
 
   listed-rule : (r : Rule) → IsRule r → IsAmong r book.rules → r.head.trait ≡ a.bound.trait → IsRuleFor (spec_of kind a r)
   listed-rule r good i same =
@@ -110,51 +110,51 @@ module _ (book : RuleBook) (rules_are : AreRules book) (mode : TypingMode) (f : 
       record {
         sound = λ y s l m.
             let facts = map (λ n. fact n s) (spec_of kind a r).nested in record { premises = facts; rule = sound f a h r good kind book i same s l m; each = among-all facts };
-        steps = λ y T. same-kind (λ b. behind n b) r.premises;
+        steps = λ y T. same-kind (λ b. bound_behind n b) r.premises;
         determined = λ s t l k m p e. determined f a h r good kind s t l k m p e;
         equations_within = ((goal-within, width-behind number n r.head w.head), tt);
         nested_within = premises-behind number n kind r.premises w.premises;
       }
     where
-      same-kind : (g : Bound → Bound) (bs : List Bound) → Every (λ (m : Nested). m.coinductive ≡ is_coinductive_trait book (trait_of f.goal.predicate)) (map (λ b. nested_of_bound kind (g b)) bs)
+      same-kind : (g : TraitBound → TraitBound) (bs : List TraitBound) → Every (λ (m : Nested). m.coinductive ≡ is_coinductive_trait book (trait_of f.goal.predicate)) (map (λ b. nested_of_bound kind (g b)) bs)
       same-kind g [] = tt
       same-kind g (b ∷ bs) = (sym (ap (λ (z : GoalTrees). is_coinductive_trait book (trait_of z.predicate)) h.goal), same-kind g bs)
 
   -- ---- solutions
-  module _ (v : Values) (closed : IsClosed (goal v)) (r : Rule) (good : IsRule r) (premises : List Fact) (by : IsBy (goal v) premises r) where
+  module _ (v : Values) (closed : IsClosedFact (goal v)) (r : Rule) (good : IsRule r) (premises : List Fact) (by : IsBy (goal v) premises r) where
     no_places : Every IsNotPlace a.kinds
     no_places = closed-kinds f a h v closed
 
-    abbrev terms_of : Terms
+    abbrev terms_of : ChosenTerms
     terms_of = filled a.kinds r.kinds no_places good.kinds v by.values
 
     parts : (a.bound.trait ≡ r.head.trait) × (read_with (given v.terms) a.bound.arguments ≡ read_with (given by.values) r.head.arguments)
     parts = same-goal-parts a.bound.trait r.head.trait (read_with (given v.terms) a.bound.arguments) (read_with (given by.values) r.head.arguments) (sym (ap (goal_read (given v.terms)) h.goal) ∙ by.concludes)
 
-    values-read : (b : Bound) → IsOver r.kinds b → read_with (given (dropped n terms_of.slots)) b.arguments ≡ read_with (given by.values) b.arguments
+    values-read : (b : TraitBound) → BoundIsOver r.kinds b → read_with (given (dropped n terms_of.slots)) b.arguments ≡ read_with (given by.values) b.arguments
     values-read b m = reads-agree (dropped n terms_of.slots) by.values b.arguments (filled-agrees a.kinds r.kinds no_places good.kinds v by.values b.arguments m)
 
     fits-here : fits (map Some a.kinds) v.terms ≡ true
     fits-here = ap (λ z. fits z v.terms) (sym h.kinds) ∙ right v.proper _ closed.proper
 
-    meets : Meets (record { left = as_one a.bound; right = as_one (behind n r.head) }) terms_of
+    meets : EquationIsMet (record { left = as_one a.bound; right = as_one (bound_behind n r.head) }) terms_of
     meets =
         ap (read_with (given terms_of.slots)) (term-one a.bound (made-open a.kinds terms a.bound.arguments h.over))
         ∙ ap (λ z. tree (adt a.bound.trait) z none)
         (sym (reads-agree v.terms terms_of.slots a.bound.arguments
         (own-slots-agree (fresh (begin a.kinds) r.kinds) terms_of (filled-allowed a.kinds r.kinds no_places good.kinds v by.values).allowed fits-here a.bound.arguments h.over))
         ∙ parts.1 ∙ sym (values-read r.head good.head) ∙ sym (read-behind n terms_of.slots r.head.arguments))
-        ∙ ap (λ z. tree (adt z) (read_with (given terms_of.slots) (behind n r.head).arguments) none) parts.0
-        ∙ ap (read_with (given terms_of.slots)) (sym (term-one (behind n r.head) (made-behind r.kinds n terms r.head.arguments good.head)))
+        ∙ ap (λ z. tree (adt z) (read_with (given terms_of.slots) (bound_behind n r.head).arguments) none) parts.0
+        ∙ ap (read_with (given terms_of.slots)) (sym (term-one (bound_behind n r.head) (made-behind r.kinds n terms r.head.arguments good.head)))
 
     proper-is : terms_of.proper ≡ (goal v).proper
     proper-is = ap (λ z. v.proper && fits z v.terms) (sym h.kinds)
 
-    same-instance : (p q : Bool) (b : Bound) (x y : Trees) → p ≡ q → x ≡ y
+    same-instance : (p q : Bool) (b : TraitBound) (x y : Trees) → p ≡ q → x ≡ y
         → ◌≡◌ {A = Fact} (record { trait = Some b.trait; goal = record { environment = none; predicate = tree (predicate (of_trait b.trait)) x none }; proper = p }) (record { trait = Some b.trait; goal = record { environment = none; predicate = tree (predicate (of_trait b.trait)) y none }; proper = q })
     same-instance p q b x y e g = cc
 
-    premise-is : (b : Bound) → IsOver r.kinds b → fact (nested_of_bound kind (behind n b)) terms_of ≡ instance_of (goal v).proper by.values b
+    premise-is : (b : TraitBound) → BoundIsOver r.kinds b → fact (nested_of_bound kind (bound_behind n b)) terms_of ≡ instance_of (goal v).proper by.values b
     premise-is b m = fact-behind kind n terms_of b ∙ same-instance terms_of.proper (goal v).proper b _ _ proper-is (values-read b m)
 
     realizes : Every (HasProofByBook book) premises → Realizes frame_tables (HasProofByBook book) (begin a.kinds) v (spec_of kind a r)
@@ -164,8 +164,8 @@ module _ (book : RuleBook) (rules_are : AreRules book) (mode : TypingMode) (f : 
       own = refl;
       meets = (meets, tt);
       solves =
-          Every-map (Solves frame_tables (HasProofByBook book) (fresh (begin a.kinds) r.kinds) terms_of) (λ b. nested_of_bound kind (behind n b)) r.premises
-          (Every-both (λ b. HasProofByBook book (instance_of (goal v).proper by.values b)) (IsOver r.kinds) (λ b. Unit {0} × HasProofByBook book (fact (nested_of_bound kind (behind n b)) terms_of))
+          Every-map (NestedIsSolved frame_tables (HasProofByBook book) (fresh (begin a.kinds) r.kinds) terms_of) (λ b. nested_of_bound kind (bound_behind n b)) r.premises
+          (Every-both (λ b. HasProofByBook book (instance_of (goal v).proper by.values b)) (BoundIsOver r.kinds) (λ b. Unit {0} × HasProofByBook book (fact (nested_of_bound kind (bound_behind n b)) terms_of))
           (λ b p m. (tt, subst (HasProofByBook book) (sym (premise-is b m)) p)) r.premises
           (from-map (HasProofByBook book) (instance_of (goal v).proper by.values) r.premises (subst (Every (HasProofByBook book)) (sym by.needs) ps)) good.premises);
     }
@@ -202,11 +202,11 @@ no-placeholder (Region ∷ ks) e = (tt, no-placeholder ks e)
 no-placeholder (PlaceholderTy ∷ ks) e = absurd (false-true (sym e))
 no-placeholder (PlaceholderConst ∷ ks) e = absurd (false-true (sym e))
 
-searched-kinds : (mode : TypingMode) (f : CanonicalForm) → asked f ≡ None → world_of mode f → Every IsNotPlace (kinds_known f.kinds)
+searched-kinds : (mode : TypingMode) (f : CanonicalForm) → bare_goal f ≡ None → world_of mode f → Every IsNotPlace (kinds_known f.kinds)
 searched-kinds Coherence f e w = no-placeholder (kinds_known f.kinds) (not-true (has_placeholder (kinds_known f.kinds)) (ap (λ o. is_some o || not (has_placeholder (kinds_known f.kinds))) (sym e) ∙ w))
 searched-kinds PostAnalysis f e w = absurd w
 
-unsure-listing : (book : RuleBook) (mode : TypingMode) (f : CanonicalForm) → asked f ≡ None → IsListing frame_tables applies_always same_answer (listing_of book mode f (kinds_known f.kinds) None)
+unsure-listing : (book : RuleBook) (mode : TypingMode) (f : CanonicalForm) → bare_goal f ≡ None → IsListing frame_tables applies_always same_answer (listing_of book mode f (kinds_known f.kinds) None)
 unsure-listing book mode f e = record {
   begins = λ v. begins-free (kinds_known f.kinds) v;
   says_nothing = λ c. begin-says-nothing (kinds_known f.kinds) c;
@@ -231,11 +231,11 @@ unsure-listing book mode f e = record {
       solves = tt;
     }
 
-listing-at : (book : RuleBook) → AreRules book → (mode : TypingMode) (f : CanonicalForm) (o : Option Asked) → asked f ≡ o → IsListing frame_tables applies_always same_answer (listing_of book mode f (kinds_known f.kinds) o)
+listing-at : (book : RuleBook) → AreRules book → (mode : TypingMode) (f : CanonicalForm) (o : Option BareGoal) → bare_goal f ≡ o → IsListing frame_tables applies_always same_answer (listing_of book mode f (kinds_known f.kinds) o)
 listing-at book rules_are mode f None e = unsure-listing book mode f e
 listing-at book rules_are mode f (Some a) e =
     let h = asked-is f a e in subst (λ ks. IsListing frame_tables applies_always same_answer (listing_of book mode f ks (Some a))) (sym (kinds-are f a h)) (asked-listing book rules_are mode f a h)
 
 pub handlers-are-lawful : (book : RuleBook) → AreRules book → (mode : TypingMode) (f : CanonicalForm) → IsHandler frame_tables (handled_by book mode f)
 handlers-are-lawful book rules_are mode f =
-    listings-are-lawful frame_tables applies_always same_answer tables_are_lawful applies-to-yeses answers-are (listing_of book mode f (kinds_known f.kinds) (asked f)) (listing-at book rules_are mode f (asked f) refl)
+    listings-are-lawful frame_tables applies_always same_answer tables_are_lawful applies-to-yeses answers-are (listing_of book mode f (kinds_known f.kinds) (bare_goal f)) (listing-at book rules_are mode f (bare_goal f) refl)

@@ -7,8 +7,8 @@ use Rattle.evaluation.proofs.Contexts.{reply-later}
 use Rattle.evaluation.proofs.OpenCandidates.{open-held-later}
 use Rattle.evaluation.specs.Handler.{Handled}
 use Rattle.evaluation.specs.Tables.{frame_tables}
-use Rattle.evaluation.specs.StepReadings.{Shown}
-use Rattle.goal_frames.specs.Places.{Standing, Answers, Stands}
+use Rattle.evaluation.specs.StepReadings.{ShownCandidate}
+use Rattle.goal_frames.specs.Places.{FrameStanding, PlaceAnswers, PositionStands}
 use Rattle.goal_frames.specs.Frames.{PlaceHeld, FrameHeld}
 use Rattle.goal_frames.specs.declared.frame.GoalFrame.{GoalFrame}
 use Rattle.goal_frames.specs.declared.frame.Place.{Place}
@@ -42,7 +42,7 @@ module _ (old new : List Entry) (k : Keeps old new) where
   }
 
 -- a frame that has its answer stands there
-pub answers-stand : (h : Handled frame_tables) (es : List Entry) (goal : CanonicalInput) (xs : List Shown) (place : Place) (p : Standing) → Answers es place p → Stands h es goal xs place p
+pub answers-stand : (h : Handled frame_tables) (es : List Entry) (goal : CanonicalInput) (xs : List ShownCandidate) (place : Place) (p : FrameStanding) → PlaceAnswers es place p → PositionStands h es goal xs place p
 answers-stand h es goal xs InCode.Begun p a = a
 answers-stand h es goal xs (InCode.Entering s) p a = absurd a
 answers-stand h es goal xs (InCode.Inside source waiting) p a = absurd a

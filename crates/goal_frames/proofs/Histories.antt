@@ -304,15 +304,15 @@ module _ {C I R F : Type 0} (m : Meaning C I R F) (Q : Type 0) (goal : Q → m.G
     -- ---- the frame's histories
     module _ (T : Q → m.Answer → Type 0)
         (fits : (heard : List (Reply m.Answer)) (q : Q) (a : m.Answer) → CameInOrder T f (replies_of heard) → Frames.asks f (replies_of heard) ≡ Frames.evaluate q → P (goal q) a → T q a) where
-      came_next : (reply last : Reply m.Answer) (heard : List (Reply m.Answer)) → Frames.IsReply T (place (last ∷ heard)) (reply_of reply) → CameInOrder T f (replies_of (last ∷ heard))
+      came_next : (reply last : Reply m.Answer) (heard : List (Reply m.Answer)) → Frames.IsAwaitedReply T (place (last ∷ heard)) (reply_of reply) → CameInOrder T f (replies_of (last ∷ heard))
           → CameInOrder T f (replies_of (reply ∷ last ∷ heard))
       came_next Begin last heard i c = (i, c)
       came_next reply last heard i c = (i, c)
 
       is_reply : (heard : List (Reply m.Answer)) → CameInOrder T f (replies_of heard) → (p : Position Q m.Answer) (reply : Reply m.Answer) → m.asks w g heard ≡ asked p → IsReplyTo m w g heard (asked p) reply → IsReplyBy m P (asked p) reply
-          → Frames.asks f (replies_of heard) ≡ request p → Numbered heard p → Frames.IsReply T p (reply_of reply)
+          → Frames.asks f (replies_of heard) ≡ request p → Numbered heard p → Frames.IsAwaitedReply T p (reply_of reply)
       is_reply heard c =
-          step heard (λ p reply q. Frames.asks f (replies_of heard) ≡ request p → Numbered heard p → Frames.IsReply T p (reply_of reply)) (λ before gone s go e x. tt)
+          step heard (λ p reply q. Frames.asks f (replies_of heard) ≡ request p → Numbered heard p → Frames.IsAwaitedReply T p (reply_of reply)) (λ before gone s go e x. tt)
           (λ before gone a n ns d e x. tt) (λ before replies q k go a d b e x. fits heard q a c e b)
           (λ before replies a go n d e x.
           subst (λ ks. IsNoneOf n ks) (sym x) (subst (λ k. IsNoneOf n (down k)) d (not-below n n (omega arith))))

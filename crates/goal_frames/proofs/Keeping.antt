@@ -16,7 +16,7 @@ use Rattle.infer_table.specs.Responses.{ResponseHeld, answer_trees, SayTheSame}
 use Rattle.goal_frames.specs.declared.store.GoalStore.{GoalStore}
 use Rattle.goal_frames.specs.declared.store.InputId.{InputId}
 use Rattle.goal_frames.specs.declared.store.ResponseId.{ResponseId}
-use Rattle.goal_frames.specs.Stores.{kept_inputs, kept_responses, input_at, response_at, asked_goal, goal_at, answer_at, IsHeld, StandsForInput, StandsForResponse, IsNewInput, IsNewResponse}
+use Rattle.goal_frames.specs.Stores.{kept_inputs, kept_responses, input_at, response_at, asked_goal, goal_at, answer_at, StoreIsHeld, StandsForInput, StandsForResponse, IsNewInput, IsNewResponse}
 use Rattle.goal_frames.proofs.Places.{stands, stands-nowhere, not-found, found-again, inserted-adds, inserted-keeps, inserted-is}
 use Rattle.goal_frames.proofs.Answers.{response-eq, response-back, answers-are}
 use Rattle.goal_frames.proofs.Numbers.{input-back, input-chain, response-chain, goals-are, some-of}
@@ -72,7 +72,7 @@ input-is P old new a e p i k had at = by (inserted-is input.eq old a i k (subst 
     by (inr same) = subst P same p
 
 -- a number that stands for the same goal by its trees stands for the goal
-pub asks-the-same : (es : List Entry) → Lawful es → (s : GoalStore) → IsHeld es s → (i : InputId) (a : CanonicalInput) → GoalHeld es a.goal → goal_at es s i ≡ Some (asked_goal es a) → StandsForInput s i a
+pub asks-the-same : (es : List Entry) → Lawful es → (s : GoalStore) → StoreIsHeld es s → (i : InputId) (a : CanonicalInput) → GoalHeld es a.goal → goal_at es s i ≡ Some (asked_goal es a) → StandsForInput s i a
 asks-the-same es law s held i a h q =
     let k = some-of (asked_goal es) (input_at s i) (asked_goal es a) q in
     (k.0, k.1, goals-are es law a k.0 h (held.inputs i k.0 k.1) (sym k.2))
@@ -112,7 +112,7 @@ response-is P old new a e p i k had at = by (inserted-is response.eq old a i k (
     by (inr same) = subst P same p
 
 -- a number that stands for the same answer trees stands for the answer
-pub says-the-same : (es : List Entry) → Lawful es → (s : GoalStore) → IsHeld es s → (i : ResponseId) (a : CanonicalResponse) → ResponseHeld es a → answer_at es s i ≡ Some (answer_trees es a) → StandsForResponse s i a
+pub says-the-same : (es : List Entry) → Lawful es → (s : GoalStore) → StoreIsHeld es s → (i : ResponseId) (a : CanonicalResponse) → ResponseHeld es a → answer_at es s i ≡ Some (answer_trees es a) → StandsForResponse s i a
 says-the-same es law s held i a h q =
     let k = some-of (answer_trees es) (response_at s i) (answer_trees es a) q in
     (k.0, k.1, answers-are es law a k.0 h (held.responses i k.0 k.1) (sym k.2))

@@ -32,7 +32,7 @@ use Rattle.evaluation.proofs.Later.{equations-held-later, goals-held-later}
 use Rattle.evaluation.specs.Tables.{frame_tables}
 use Rattle.evaluation.specs.Fitting.{AreOver, IsGoalOver, IsValueOver}
 use Rattle.evaluation.specs.Candidates.{labels_of}
-use Rattle.evaluation.specs.StepReadings.{equation_read, nested_read, spec_read, result_read, Shown, shown_by}
+use Rattle.evaluation.specs.StepReadings.{equation_read, nested_read, spec_read, result_read, ShownCandidate, shown_by}
 use Rattle.goal_frames.specs.Fitting.{ResultFits, ConsideredFits, IsEquationOver, IsOver}
 
 one-more : {A : Type 0} (x y : A) (xs ys : List A) → x ≡ y → xs ≡ ys → ◌≡◌ {A = List A} (x ∷ xs) (y ∷ ys)
@@ -61,7 +61,7 @@ module _ (old new : List Entry) (k : Keeps old new) where
   shown-later [] h = refl
   shown-later (d ∷ done) h =
       one-more _ _ _ _ (ap (λ (r : Option AnswerTrees). shown_as d r) (result-later d.result h.0)) (shown-later done h.1) where
-        shown_as : InCode.Considered → Option AnswerTrees → Shown
+        shown_as : InCode.Considered → Option AnswerTrees → ShownCandidate
         shown_as d r = record { source = d.source; result = r; number = d.head_usages }
 
   pub considered-later : (done : List InCode.Considered) → ConsideredHeld old done → ConsideredHeld new done

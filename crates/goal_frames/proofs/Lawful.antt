@@ -9,7 +9,7 @@ use Rattle.search_graph.specs.Meaning.{Meaning, IsReplyBy, AreReplies, premises,
 use Rattle.evaluation.specs.declared.TheConstants.{FIXPOINT_STEP_LIMIT}
 use Rattle.evaluation.specs.Lists.{SomeOf, IsAmong, IsNoneOf}
 use Rattle.evaluation.specs.Table.{Tables, IsTable}
-use Rattle.evaluation.specs.Law.{IsYes, AnsweredYes, Counts, IsInstance, Covers}
+use Rattle.evaluation.specs.Law.{IsYes, AnsweredYes, Counts, IsInstance, AnswerCovers}
 use Rattle.evaluation.specs.Handler.{Handled, AnswerWithin}
 use Rattle.evaluation.specs.Frame.{Frame, Finished}
 use Rattle.evaluation.specs.History as Frames
@@ -18,7 +18,7 @@ use Rattle.evaluation.specs.Promises.{frame_of_goal, Anything, Fair}
 use Rattle.evaluation.proofs.ListLaws.{Every-mono, SomeOf-mono}
 use Rattle.evaluation.proofs.Ends.{is_bounded, yes_follows, covers_goal, keeps_number}
 use Rattle.goal_frames.specs.Programs.{Programs, SaysNothing, ArePrograms}
-use Rattle.goal_frames.specs.Searches.{replies_of, request_of, Handles, kind_of, is_yes_answer, Asked, goal_in, asks, Follows, CoversGoal, AnswersGoal, meaning}
+use Rattle.goal_frames.specs.Searches.{replies_of, request_of, Handles, kind_of, is_yes_answer, GoalInMode, goal_in, asks, FollowsInMode, CoversGoal, AnswersGoal, meaning}
 use Rattle.goal_frames.proofs.Anyhow.{anyhow}
 use Rattle.goal_frames.proofs.Histories.{counted, came, done_returns, evaluates, answer_count-is, told-begin}
 
@@ -44,33 +44,33 @@ module _ {Question Response : Type 0} (t : Tables Question Response) where
   within_larger n k (Some r) le w = omega (arith, w)
 
 module _ {Question Response : Type 0} (t : Tables Question Response) (tables : IsTable t) (p : Programs t) (laws : ArePrograms t p)
-    {C I R F : Type 0} (handles : Handles C I R F p.World (Asked t p) (Option Response)) where
+    {C I R F : Type 0} (handles : Handles C I R F p.World (GoalInMode t p) (Option Response)) where
   abbrev m : Meaning C I R F
   m = meaning t p handles
 
-  abbrev handled : p.World → Asked t p → Handled t
+  abbrev handled : p.World → GoalInMode t p → Handled t
   handled w g = p.handled w g.0 g.1
 
-  abbrev frame : p.World → Asked t p → Frame Question (Option Response)
+  abbrev frame : p.World → GoalInMode t p → Frame Question (Option Response)
   frame w g = frame_of_goal t (handled w g)
 
   -- an answer that says nothing is fair
-  silent_covers : (w : p.World) (g : Asked t p) (a : Option Response) → SaysNothing t p (handled w g) a → CoversGoal t p w g a
+  silent_covers : (w : p.World) (g : GoalInMode t p) (a : Option Response) → SaysNothing t p (handled w g) a → CoversGoal t p w g a
   silent_covers w g None s = λ x v proves. absurd (s x)
   silent_covers w g (Some r) s = λ x v proves. tables.agrees r s.0 v
 
-  silent_within : (w : p.World) (g : Asked t p) (a : Option Response) → SaysNothing t p (handled w g) a → AnswerWithin t (handled w g).widest a
+  silent_within : (w : p.World) (g : GoalInMode t p) (a : Option Response) → SaysNothing t p (handled w g) a → AnswerWithin t (handled w g).widest a
   silent_within w g None s = tt
   silent_within w g (Some r) s = s.1
 
-  fair_if : (w : p.World) (g : Asked t p) (a : Option Response) → AnswersGoal t p w g a → IsFair m w g a
+  fair_if : (w : p.World) (g : GoalInMode t p) (a : Option Response) → AnswersGoal t p w g a → IsFair m w g a
   fair_if w g a answers = record { covers = answers; within = omega arith }
 
-  pub silent : (w : p.World) (g : Asked t p) (a : Option Response) → SaysNothing t p (handled w g) a → IsFair m w g a
+  pub silent : (w : p.World) (g : GoalInMode t p) (a : Option Response) → SaysNothing t p (handled w g) a → IsFair m w g a
   silent w g a s = fair_if w g a (record { covers = silent_covers w g a s; within = silent_within w g a s })
 
   -- ---- one goal, and its history from the first reply on
-  module _ (w : p.World) (g : Asked t p) where
+  module _ (w : p.World) (g : GoalInMode t p) where
     abbrev AreFair : List (Reply (Option Response)) → Type 0
     AreFair heard = AreReplies m (IsFair m w) w g heard
 
@@ -84,9 +84,9 @@ module _ {Question Response : Type 0} (t : Tables Question Response) (tables : I
     came_anyhow = came_by (Anything t (handled w g)) (λ heard q a c e fair. tt)
 
     came_covering : (x : (handled w g).World) (last : Reply (Option Response)) (heard : List (Reply (Option Response))) → AreFair (last ∷ heard)
-        → CameInOrder (Covers t ((handled w g).Proves x)) (frame w g) (replies_of (last ∷ heard))
-    came_covering x = came_by (Covers t ((handled w g).Proves x)) (λ heard q a c e fair v proves.
-        let y = laws.worlds w g.0 g.1 (replies_of heard) q (anyhow (Covers t ((handled w g).Proves x)) (frame w g) (replies_of heard) c) e x in
+        → CameInOrder (AnswerCovers t ((handled w g).Proves x)) (frame w g) (replies_of (last ∷ heard))
+    came_covering x = came_by (AnswerCovers t ((handled w g).Proves x)) (λ heard q a c e fair v proves.
+        let y = laws.worlds w g.0 g.1 (replies_of heard) q (anyhow (AnswerCovers t ((handled w g).Proves x)) (frame w g) (replies_of heard) c) e x in
         fair.covers.covers y.0 v (y.1 ((p.handled w g.0 (p.goal_of q)).goal v) (subst (λ z. (handled w g).Proves x z) ((laws.systems w g.0).instance q v) proves)))
 
     came_within : (last : Reply (Option Response)) (heard : List (Reply (Option Response))) → AreFair (last ∷ heard) → CameInOrder (Fair t (handled w g)) (frame w g) (replies_of (last ∷ heard))
@@ -108,7 +108,7 @@ module _ {Question Response : Type 0} (t : Tables Question Response) (tables : I
         (finished_in (frame w g) (replies_of (last ∷ heard))) c)
 
     follows : (last : Reply (Option Response)) (heard : List (Reply (Option Response))) (a : Option Response) → AreFair (last ∷ heard) → asks t p w g (last ∷ heard) ≡ Done a → is_yes_answer t a ≡ true
-        → Follows t p w g (premises m w g (last ∷ heard))
+        → FollowsInMode t p w g (premises m w g (last ∷ heard))
     follows last heard a r e y v =
         let h = handled w g in
         let law = laws.handlers w g.0 g.1 in
@@ -135,7 +135,7 @@ module _ {Question Response : Type 0} (t : Tables Question Response) (tables : I
         })
 
     -- ---- a question
-    asks_fairly : (q : Asked t p) (k : PathKind) (last : Reply (Option Response)) (heard : List (Reply (Option Response))) → AreFair (last ∷ heard) → asks t p w g (last ∷ heard) ≡ Evaluate q k
+    asks_fairly : (q : GoalInMode t p) (k : PathKind) (last : Reply (Option Response)) (heard : List (Reply (Option Response))) → AreFair (last ∷ heard) → asks t p w g (last ∷ heard) ≡ Evaluate q k
         → (answer_count m (last ∷ heard) < FIXPOINT_STEP_LIMIT * (handled w g).number) × (FIXPOINT_STEP_LIMIT * (handled w q).number ≤ FIXPOINT_STEP_LIMIT * (handled w g).number)
     asks_fairly q k last heard r e =
         let h = handled w g in
@@ -144,14 +144,14 @@ module _ {Question Response : Type 0} (t : Tables Question Response) (tables : I
         let few = (is_bounded t h law).questions (replies_of (last ∷ heard)) z.0 (came_anyhow last heard r) z.1 in
         let less = (laws.numbers w g.0 g.1 z.0 ((keeps_number t tables h law).questions (replies_of (last ∷ heard)) z.0 (came_within last heard r) z.1)).1 in (
           subst (λ n. n < FIXPOINT_STEP_LIMIT * h.number) (answer_count-is m (last ∷ heard)) few,
-          subst (λ (x : Asked t p). FIXPOINT_STEP_LIMIT * (handled w x).number ≤ FIXPOINT_STEP_LIMIT * h.number) z.2 (omega (arith, less)),
+          subst (λ (x : GoalInMode t p). FIXPOINT_STEP_LIMIT * (handled w x).number ≤ FIXPOINT_STEP_LIMIT * h.number) z.2 (omega (arith, less)),
         )
 
     -- ---- before the first reply all is as after it
     begins : asks t p w g [] ≡ asks t p w g (Begin ∷ [])
     begins = ap (λ x. request_of (goal_in t p g.0) (kind_of t) (Frames.request x)) (sym (told-begin (Frames.between [] [] (frame w g))))
 
-    begin_fair : (q : Request (Asked t p) (Option Response)) → IsReplyBy m (IsFair m w) q Begin
+    begin_fair : (q : Request (GoalInMode t p) (Option Response)) → IsReplyBy m (IsFair m w) q Begin
     begin_fair (Evaluate h k) = tt
     begin_fair EnterCandidate = tt
     begin_fair FinishCandidate = tt
@@ -161,16 +161,16 @@ module _ {Question Response : Type 0} (t : Tables Question Response) (tables : I
     begun : AreFair (Begin ∷ [])
     begun = (refl, begin_fair (asks t p w g []), tt)
 
-  sound : (w : p.World) (g : Asked t p) (heard : List (Reply (Option Response))) (a : Option Response) → AreReplies m (IsFair m w) w g heard → asks t p w g heard ≡ Done a → is_yes_answer t a ≡ true
-      → Follows t p w g (premises m w g heard)
+  sound : (w : p.World) (g : GoalInMode t p) (heard : List (Reply (Option Response))) (a : Option Response) → AreReplies m (IsFair m w) w g heard → asks t p w g heard ≡ Done a → is_yes_answer t a ≡ true
+      → FollowsInMode t p w g (premises m w g heard)
   sound w g [] a r e y = follows w g Begin [] a (begun w g) (sym (begins w g) ∙ e) y
   sound w g (last ∷ heard) a r e y = follows w g last heard a r e y
 
-  done_fair : (w : p.World) (g : Asked t p) (heard : List (Reply (Option Response))) (a : Option Response) → AreReplies m (IsFair m w) w g heard → asks t p w g heard ≡ Done a → IsFair m w g a
+  done_fair : (w : p.World) (g : GoalInMode t p) (heard : List (Reply (Option Response))) (a : Option Response) → AreReplies m (IsFair m w) w g heard → asks t p w g heard ≡ Done a → IsFair m w g a
   done_fair w g [] a r e = answers_fairly w g Begin [] a (begun w g) (sym (begins w g) ∙ e)
   done_fair w g (last ∷ heard) a r e = answers_fairly w g last heard a r e
 
-  asks_fair : (w : p.World) (g q : Asked t p) (k : PathKind) (heard : List (Reply (Option Response))) → AreReplies m (IsFair m w) w g heard → asks t p w g heard ≡ Evaluate q k
+  asks_fair : (w : p.World) (g q : GoalInMode t p) (k : PathKind) (heard : List (Reply (Option Response))) → AreReplies m (IsFair m w) w g heard → asks t p w g heard ≡ Evaluate q k
       → (answer_count m heard < FIXPOINT_STEP_LIMIT * (handled w g).number) × (FIXPOINT_STEP_LIMIT * (handled w q).number ≤ FIXPOINT_STEP_LIMIT * (handled w g).number)
   asks_fair w g q k [] r e = asks_fairly w g q k Begin [] (begun w g) (sym (begins w g) ∙ e)
   asks_fair w g q k (last ∷ heard) r e = asks_fairly w g q k last heard r e

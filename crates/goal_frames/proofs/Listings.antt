@@ -5,14 +5,14 @@ use Rattle.evaluation.specs.Lists.{Every}
 use Rattle.evaluation.specs.Table.{Tables, IsTable, workings}
 use Rattle.evaluation.specs.Candidate.{Spec, Considered, Next, consider, answer, IsHistory}
 use Rattle.evaluation.specs.Handler.{IsHandler}
-use Rattle.evaluation.specs.Merge.{if_there, responses, TellsApart, IsTest, merge_or_flounder}
+use Rattle.evaluation.specs.Merge.{if_there, responses, TellsResponsesApart, IsTest, merge_or_flounder}
 use Rattle.evaluation.specs.Plans.{Plan, considers, answers, told, after, wanted, came, each_of}
 use Rattle.evaluation.specs.PlanAnswers.{all_merged}
 use Rattle.evaluation.proofs.Plans.{plan_is_lawful}
 use Rattle.evaluation.proofs.PlanAnswers.{list_keeps}
 use Rattle.goal_frames.specs.Listings.{Listing, plan_of, as_plan, listed, IsListing}
 
-pub listings-are-lawful : {Question Response : Type 0} (t : Tables Question Response) (applicable : Response → Bool) (same : Response → Response → Bool) → IsTable t → IsTest t applicable → TellsApart same
+pub listings-are-lawful : {Question Response : Type 0} (t : Tables Question Response) (applicable : Response → Bool) (same : Response → Response → Bool) → IsTable t → IsTest t applicable → TellsResponsesApart same
     → (l : Listing t) → IsListing t applicable same l → IsHandler t (listed t applicable same l)
 listings-are-lawful t applicable same table is_test same_is l laws =
     plan_is_lawful t (as_plan t applicable same l)

@@ -6,16 +6,16 @@ use Rattle.evaluation.specs.declared.candidate.CandidateSource.{CandidateSource}
 use Rattle.evaluation.specs.Candidate.{Spec, Considered}
 use Rattle.evaluation.specs.Frame.{Frame, answers}
 use Rattle.evaluation.specs.Handler.{Handled, IsHandler}
-use Rattle.evaluation.specs.History.{Reply, begin, entered, ignored, evaluated, finished, between, inside, told, position, IsReply}
+use Rattle.evaluation.specs.History.{Reply, begin, entered, ignored, evaluated, finished, between, inside, told, position, IsAwaitedReply}
 use Rattle.evaluation.specs.Lists.{IsNoneOf}
 use Rattle.evaluation.specs.Promises.{frame_of_goal, Anything}
 use Rattle.evaluation.specs.Script.{Script, done, ask}
 use Rattle.evaluation.specs.Table.{workings}
-use Rattle.evaluation.specs.Content.{Question}
+use Rattle.evaluation.specs.Content.{NestedQuestion}
 use Rattle.evaluation.specs.Tables.{frame_tables}
-use Rattle.evaluation.specs.StepReadings.{Shown, shown}
+use Rattle.evaluation.specs.StepReadings.{ShownCandidate, shown}
 use Rattle.evaluation.specs.Replayed.{after}
-use Rattle.goal_frames.specs.Places.{Heard, Standing, answers_in, candidate_of, frame_with, IsBetween, with_result, IsEntering, IsInside, IsFinishing, IsIgnoring}
+use Rattle.goal_frames.specs.Places.{Heard, FrameStanding, answers_in, candidate_of, frame_with, IsBetween, with_result, IsEntering, IsInside, IsFinishing, IsIgnoring}
 
 -- ---- scripts after answers
 -- the script after one more answer
@@ -36,11 +36,11 @@ abbrev Answer : Type 0
 Answer = Option AnswerTrees
 
 abbrev Asking : Type 0
-Asking = Script Question Answer Answer
+Asking = Script NestedQuestion Answer Answer
 
 module _ (h : Handled frame_tables) where
-  abbrev IsDueAt : Standing → Reply Answer → Type 0
-  IsDueAt p reply = IsReply (Anything frame_tables h) p reply
+  abbrev IsDueAt : FrameStanding → Reply Answer → Type 0
+  IsDueAt p reply = IsAwaitedReply (Anything frame_tables h) p reply
 
   -- the frame begins
   pub begins : IsBetween h [] (position (frame_of_goal frame_tables h) (begin ∷ []))
@@ -53,7 +53,7 @@ module _ (h : Handled frame_tables) where
     add-zero n = omega arith
 
   -- the candidate is open
-  pub enters : (xs : List Shown) (s : Spec (workings frame_tables)) (p : Standing) → IsEntering h xs s p → IsInside h xs s [] (told entered p)
+  pub enters : (xs : List ShownCandidate) (s : Spec (workings frame_tables)) (p : FrameStanding) → IsEntering h xs s p → IsInside h xs s [] (told entered p)
   enters xs s p e = record {
     next = e.next;
     told = [];
@@ -62,12 +62,12 @@ module _ (h : Handled frame_tables) where
   }
 
   -- an answer leads on in the candidate's script
-  answer-leads : (heard : Heard) (said : List (Question × Answer)) (s : Asking) (go : Answer → ℕ → Frame Question Answer) (a : Answer) → IsDueAt (inside heard said s go) (evaluated a)
-      → (more : List (Question × Answer)) × (answers_in more ≡ answers_in said ++ a ∷ []) × (told (evaluated a) (inside heard said s go) ≡ inside heard more (answered_by a s) go)
+  answer-leads : (heard : Heard) (said : List (NestedQuestion × Answer)) (s : Asking) (go : Answer → ℕ → Frame NestedQuestion Answer) (a : Answer) → IsDueAt (inside heard said s go) (evaluated a)
+      → (more : List (NestedQuestion × Answer)) × (answers_in more ≡ answers_in said ++ a ∷ []) × (told (evaluated a) (inside heard said s go) ≡ inside heard more (answered_by a s) go)
   answer-leads heard said (ask q k) go a r = ((q, a) ∷ said, refl, refl)
   answer-leads heard said (done b) go a r = absurd r
 
-  pub hears : (xs : List Shown) (s : Spec (workings frame_tables)) (replies : List Answer) (a : Answer) (p : Standing) → IsInside h xs s replies p → IsDueAt p (evaluated a)
+  pub hears : (xs : List ShownCandidate) (s : Spec (workings frame_tables)) (replies : List Answer) (a : Answer) (p : FrameStanding) → IsInside h xs s replies p → IsDueAt p (evaluated a)
       → IsInside h xs s (replies ++ a ∷ []) (told (evaluated a) p)
   hears xs s replies a p i r =
       let on = answer-leads i.next.past.heard i.told (after (candidate_of h s) replies) (with_result h i.next) a (subst (λ x. IsDueAt x (evaluated a)) i.at r) in
@@ -84,7 +84,7 @@ module _ (h : Handled frame_tables) where
   room (suc m) l n e f = (m, refl, omega (arith, e))
 
   -- the open candidate is finished, and the handler is asked what comes next
-  pub finishes : (lawful : IsHandler frame_tables h) (xs : List Shown) (source : CandidateSource) (a : Answer) (n : ℕ) (p : Standing) → IsFinishing h xs source a p → IsDueAt p (finished n)
+  pub finishes : (lawful : IsHandler frame_tables h) (xs : List ShownCandidate) (source : CandidateSource) (a : Answer) (n : ℕ) (p : FrameStanding) → IsFinishing h xs source a p → IsDueAt p (finished n)
       → IsBetween h (xs ++ record { source = source; result = a; number = n } ∷ []) (told (finished n) p)
   finishes lawful xs source a n p f r =
       let past = f.next.past in
@@ -103,7 +103,7 @@ module _ (h : Handled frame_tables) where
         gone = [];
         at = ap (told (finished n)) f.at ∙ ap (λ m. between ((n, f.told) ∷ past.heard) [] (frame_with h m (c ∷ past.seen))) left.1;
       } where
-        source-is : (s : Spec (workings frame_tables)) → s.source ≡ source → ◌≡◌ {A = Shown} (record { source = source; result = a; number = n }) (record { source = s.source; result = a; number = n })
+        source-is : (s : Spec (workings frame_tables)) → s.source ≡ source → ◌≡◌ {A = ShownCandidate} (record { source = source; result = a; number = n }) (record { source = s.source; result = a; number = n })
         source-is s e = ap (λ z. record { source = z; result = a; number = n }) (sym e)
 
   -- a candidate is ignored, and the next one is to be
@@ -114,7 +114,7 @@ module _ (h : Handled frame_tables) where
   ignored-leads heard gone a (n ∷ ns) zero r = (omega arith, (n ∷ gone, refl))
   ignored-leads heard gone a (n ∷ ns) (suc at) r = let on = ignored-leads heard gone a ns at r in (let l = on.0 in omega (arith, l), on.1)
 
-  pub ignores : (a : Answer) (ns : List ℕ) (at : ℕ) (p : Standing) → IsIgnoring a (drop at ns) p → IsDueAt p ignored
+  pub ignores : (a : Answer) (ns : List ℕ) (at : ℕ) (p : FrameStanding) → IsIgnoring a (drop at ns) p → IsDueAt p ignored
       → (at < length ns) × IsIgnoring a (drop (suc at) ns) (told ignored p)
   ignores a ns at p i r =
       let on = ignored-leads i.heard i.gone a ns at (subst (λ x. IsDueAt x ignored) i.at r) in

@@ -23,7 +23,7 @@ use Rattle.goal_frames.specs.declared.store.InputId.{InputId}
 use Rattle.goal_frames.specs.declared.store.ResponseId.{ResponseId}
 use Rattle.goal_frames.specs.contracts.store.InputIdPartialEq.TheImpl.{ghosts as input-id}
 use Rattle.goal_frames.specs.contracts.store.ResponseIdPartialEq.TheImpl.{ghosts as response-id}
-use Rattle.goal_frames.specs.Stores.{input_at, response_at, AskedGoal, asked_goal, goal_at, answer_at, IsHeld, StandsForGoal, NumbersTellQuestions}
+use Rattle.goal_frames.specs.Stores.{input_at, response_at, AskedGoal, asked_goal, goal_at, answer_at, StoreIsHeld, StandsForGoal, NumbersTellQuestions}
 use Rattle.goal_frames.proofs.Places.{one-place}
 use Rattle.goal_frames.proofs.Answers.{response-eq, response-back, answers-are}
 
@@ -75,13 +75,13 @@ one-input s i j a b h g e = ap (λ n. record { 0 = n }) (one-place input.eq AreE
 pub one-response : (s : GoalStore) (i j : ResponseId) (a b : CanonicalResponse) → response_at s i ≡ Some a → response_at s j ≡ Some b → SayTheSame a b → i ≡ j
 one-response s i j a b h g e = ap (λ n. record { 0 = n }) (one-place response.eq SayTheSame response-eq response-back s.responses.keys s.responses_distinct i.0 j.0 a b h g e)
 
-pub one-goal : (es : List Entry) (s : GoalStore) (i j : InputId) (q : AskedGoal) → Lawful es → IsHeld es s → goal_at es s i ≡ Some q → goal_at es s j ≡ Some q → i ≡ j
+pub one-goal : (es : List Entry) (s : GoalStore) (i j : InputId) (q : AskedGoal) → Lawful es → StoreIsHeld es s → goal_at es s i ≡ Some q → goal_at es s j ≡ Some q → i ≡ j
 one-goal es s i j q law held h g =
     let a = some-of (asked_goal es) (input_at s i) q h in
     let b = some-of (asked_goal es) (input_at s j) q g in
     one-input s i j a.0 b.0 a.1 b.1 (goals-are es law a.0 b.0 (held.inputs i a.0 a.1) (held.inputs j b.0 b.1) (a.2 ∙ sym b.2))
 
-pub one-answer : (es : List Entry) (s : GoalStore) (i j : ResponseId) (q : AnswerTrees) → Lawful es → IsHeld es s → answer_at es s i ≡ Some q → answer_at es s j ≡ Some q → i ≡ j
+pub one-answer : (es : List Entry) (s : GoalStore) (i j : ResponseId) (q : AnswerTrees) → Lawful es → StoreIsHeld es s → answer_at es s i ≡ Some q → answer_at es s j ≡ Some q → i ≡ j
 one-answer es s i j q law held h g =
     let a = some-of (answer_trees es) (response_at s i) q h in
     let b = some-of (answer_trees es) (response_at s j) q g in

@@ -28,15 +28,15 @@ use Rattle.evaluation.specs.OpenShortages.{OpenRunsOut, RunsOutOnly}
 use Rattle.evaluation.specs.Promises.{frame_of_goal, Anything}
 use Rattle.evaluation.specs.Readings.{is_coinductive_step}
 use Rattle.evaluation.specs.Shortages.{CandidateRunsOut}
-use Rattle.evaluation.specs.StepReadings.{Shown, shown_by, spec_read}
+use Rattle.evaluation.specs.StepReadings.{ShownCandidate, shown_by, spec_read}
 use Rattle.evaluation.specs.TableOperations.{begin}
 use Rattle.evaluation.specs.Tables.{frame_tables}
 use Rattle.evaluation.specs.Trial.{spec_trees, candidate}
 use Rattle.evaluation.proofs.OpenBeginnings.{beginning-replays, resuming-replays}
 use Rattle.evaluation.proofs.OpenQuestions.{some-left}
 use Rattle.goal_frames.specs.Fitting.{AnswerFits, IsOver}
-use Rattle.goal_frames.specs.Frames.{History, FrameHeld, HasHeard, IsDue, Steps, RequestHeld, IsRequest, AsksAt, GoesOnWith, IsAtStep}
-use Rattle.goal_frames.specs.Places.{Standing, IsInside, IsWaiting, IsFinishing, ComesTo}
+use Rattle.goal_frames.specs.Frames.{FrameHistory, FrameHeld, HasHeard, ReplyIsDue, FrameSteps, RequestHeld, IsRequestOf, AsksAt, GoesOnWith, IsAtStep}
+use Rattle.goal_frames.specs.Places.{FrameStanding, IsInside, IsWaiting, IsFinishing, ComesTo}
 use Rattle.goal_frames.specs.Searches.{step_kind}
 use Rattle.goal_frames.specs.Steps.{AsksFewer}
 use Rattle.goal_frames.specs.declared.frame.GoalFrame.{GoalFrame}
@@ -55,11 +55,11 @@ every-last P [] x h p = (p, tt)
 every-last P (y ∷ xs) x h p = (h.0, every-last P xs x h.1 p)
 
 -- ---- what it came to, by its evaluation
-module _ (h : Handled frame_tables) (goal : CanonicalInput) (xs : List Shown) (new : List Entry) (step : Result CandidateStep EvalError) where
+module _ (h : Handled frame_tables) (goal : CanonicalInput) (xs : List ShownCandidate) (new : List Entry) (step : Result CandidateStep EvalError) where
   -- a candidate that was entered
   pub begun-comes : (old : List Entry) (s : CandidateSpec) → IsOver goal.variables.items old s → StandsAt new (candidate goal.mode (begun goal.variables.items) (spec_trees old s)) step
       → IfOk step (RunsOutOnly (CandidateRunsOut goal.mode goal.variables.items (spec_trees old s)) new)
-      → (p : Standing) → IsInside h xs (spec_read old h.coinductive s) [] p → ComesTo h new goal xs s.source step p
+      → (p : FrameStanding) → IsInside h xs (spec_read old h.coinductive s) [] p → ComesTo h new goal xs s.source step p
   begun-comes old s over stands later p i = record {
     opened = record {
       spec = spec_read old h.coinductive s;
@@ -74,9 +74,9 @@ module _ (h : Handled frame_tables) (goal : CanonicalInput) (xs : List Shown) (n
   }
 
   -- and one that goes on
-  pub resumed-comes : (old : List Entry) (source : CandidateSource) (waiting : OpenCandidate) (a : Answer) (q : Standing) (w : IsWaiting h old goal xs source waiting q) → AnswerFits a
+  pub resumed-comes : (old : List Entry) (source : CandidateSource) (waiting : OpenCandidate) (a : Answer) (q : FrameStanding) (w : IsWaiting h old goal xs source waiting q) → AnswerFits a
       → StandsAt new (after_reply old waiting a) step → IfOk step (RunsOutOnly (λ more. OpenRunsOut old waiting (a ∷ more)) new)
-      → (p : Standing) → IsInside h xs w.opened.spec (w.opened.replies ++ a ∷ []) p → ComesTo h new goal xs source step p
+      → (p : FrameStanding) → IsInside h xs w.opened.spec (w.opened.replies ++ a ∷ []) p → ComesTo h new goal xs source step p
   resumed-comes old source waiting a q w fits stands later p i = record {
     opened = record {
       spec = w.opened.spec;
@@ -91,8 +91,8 @@ module _ (h : Handled frame_tables) (goal : CanonicalInput) (xs : List Shown) (n
   }
 
 -- ---- what the frame asks then
-module _ (old new : List Entry) (k : Keeps old new) (h : Handled frame_tables) (f : GoalFrame) (held : FrameHeld old f) (begins : h.begin ≡ begin f.goal.variables.items) (source : CandidateSource) (p : Standing) where
-  abbrev shown-then : List Shown
+module _ (old new : List Entry) (k : Keeps old new) (h : Handled frame_tables) (f : GoalFrame) (held : FrameHeld old f) (begins : h.begin ≡ begin f.goal.variables.items) (source : CandidateSource) (p : FrameStanding) where
+  abbrev shown-then : List ShownCandidate
   shown-then = map (shown_by old) f.considered.items
 
   abbrev Comes : Result CandidateStep EvalError → Type 0
@@ -116,7 +116,7 @@ module _ (old new : List Entry) (k : Keeps old new) (h : Handled frame_tables) (
         frame-at old new k f held (Inside source waiting) hs.0,
         hs.1,
         (
-          subst (λ r. IsRequest f.goal.mode new (Evaluate input kind) r) (sym q.1) (q.2.mode_is, sym q.2.form_is, e ∙ ap step_kind (sym q.2.step_is)),
+          subst (λ r. IsRequestOf f.goal.mode new (Evaluate input kind) r) (sym q.1) (q.2.mode_is, sym q.2.form_is, e ∙ ap step_kind (sym q.2.step_is)),
           subst (λ ys. IsWaiting h new f.goal ys source waiting p) (sym (shown-later old new k f.considered.items held.considered)) there,
         ),
       )
@@ -129,7 +129,7 @@ module _ (old new : List Entry) (k : Keeps old new) (h : Handled frame_tables) (
         frame-at old new k f held (Finishing source (Some a)) (hs, fits),
         tt,
         (
-          subst (λ r. IsRequest f.goal.mode new FinishCandidate r) (sym e.0) tt,
+          subst (λ r. IsRequestOf f.goal.mode new FinishCandidate r) (sym e.0) tt,
           subst (λ ys. IsFinishing h ys source (Some (answer_trees new a)) p) (sym (shown-later old new k f.considered.items held.considered)) e.1,
         ),
       )
@@ -141,7 +141,7 @@ module _ (old new : List Entry) (k : Keeps old new) (h : Handled frame_tables) (
         frame-at old new k f held (Finishing source None) (tt, tt),
         tt,
         (
-          subst (λ r. IsRequest f.goal.mode new FinishCandidate r) (sym e.0) tt,
+          subst (λ r. IsRequestOf f.goal.mode new FinishCandidate r) (sym e.0) tt,
           subst (λ ys. IsFinishing h ys source None p) (sym (shown-later old new k f.considered.items held.considered)) e.1,
         ),
       )
@@ -152,15 +152,15 @@ module _ (h : Handled frame_tables) (old new : List Entry) (k : Keeps old new) (
   abbrev moving : GoalFrame
   moving = record f { place = place }
 
-  abbrev place-then : History → Standing
+  abbrev place-then : FrameHistory → FrameStanding
   place-then heard = position (frame_of_goal frame_tables h) (said ∷ heard)
 
   -- where replies came in order, the candidate came to the step
   abbrev CameTo : Type 0
-  CameTo = (heard : History) → HasHeard old h f heard → CameInOrder (Anything frame_tables h) (frame_of_goal frame_tables h) (said ∷ heard) → ComesTo h new f.goal (map (shown_by old) f.considered.items) source step (place-then heard)
+  CameTo = (heard : FrameHistory) → HasHeard old h f heard → CameInOrder (Anything frame_tables h) (frame_of_goal frame_tables h) (said ∷ heard) → ComesTo h new f.goal (map (shown_by old) f.considered.items) source step (place-then heard)
 
-  module _ (due : IsDue old h f said) (came : CameTo) (held : FrameHeld old moving) (stepped : IfOk step (CandidateHeld new)) where
-    pub open-asks : (q : Request CanonicalInput (Option CanonicalResponse)) → GoesOnWith old new h moving source step after q → RequestHeld new q × Steps old h f said new after q
+  module _ (due : ReplyIsDue old h f said) (came : CameTo) (held : FrameHeld old moving) (stepped : IfOk step (CandidateHeld new)) where
+    pub open-asks : (q : Request CanonicalInput (Option CanonicalResponse)) → GoesOnWith old new h moving source step after q → RequestHeld new q × FrameSteps old h f said new after q
     open-asks q goes =
         let there = goes (place-then due.0) k held stepped (came due.0 due.1 due.2) in (
           there.1,
@@ -171,7 +171,7 @@ module _ (h : Handled frame_tables) (old new : List Entry) (k : Keeps old new) (
     open-held (Ok q) goes = (open-asks q goes).0
     open-held (Err e) goes = tt
 
-    pub open-steps : (r : Result (Request CanonicalInput (Option CanonicalResponse)) Fault) → IfOk r (λ q. GoesOnWith old new h moving source step after q) → IfOk r (Steps old h f said new after)
+    pub open-steps : (r : Result (Request CanonicalInput (Option CanonicalResponse)) Fault) → IfOk r (λ q. GoesOnWith old new h moving source step after q) → IfOk r (FrameSteps old h f said new after)
     open-steps (Ok q) goes = (open-asks q goes).1
     open-steps (Err e) goes = tt
 

@@ -14,7 +14,7 @@ use Rattle.evaluation.specs.History.{CameInOrder}
 use Rattle.evaluation.specs.Promises.{frame_of_goal, Anything}
 use Rattle.evaluation.proofs.Ends.{is_bounded, ignores_finished}
 use Rattle.goal_frames.specs.Programs.{Programs, ArePrograms}
-use Rattle.goal_frames.specs.Searches.{replies_of, request_of, Handles, kind_of, Asked, goal_in, asks, meaning}
+use Rattle.goal_frames.specs.Searches.{replies_of, request_of, Handles, kind_of, GoalInMode, goal_in, asks, meaning}
 use Rattle.goal_frames.specs.Orders.{KeepOrder, End}
 use Rattle.goal_frames.proofs.Histories.{came, in_order, long, told-begin}
 
@@ -48,34 +48,34 @@ module _ {C I R F : Type 0} (m : Meaning C I R F) where
   before_begin w g (Done a) i = i
 
 module _ {Question Response : Type 0} (t : Tables Question Response) (p : Programs t) (laws : ArePrograms t p)
-    {C I R F : Type 0} (handles : Handles C I R F p.World (Asked t p) (Option Response)) where
+    {C I R F : Type 0} (handles : Handles C I R F p.World (GoalInMode t p) (Option Response)) where
   abbrev m : Meaning C I R F
   m = meaning t p handles
 
-  abbrev handled : p.World → Asked t p → Handled t
+  abbrev handled : p.World → GoalInMode t p → Handled t
   handled w g = p.handled w g.0 g.1
 
-  abbrev frame : p.World → Asked t p → Frame Question (Option Response)
+  abbrev frame : p.World → GoalInMode t p → Frame Question (Option Response)
   frame w g = frame_of_goal t (handled w g)
 
-  abbrev Heard : p.World → Asked t p → List (Reply (Option Response)) → Type 0
+  abbrev Heard : p.World → GoalInMode t p → List (Reply (Option Response)) → Type 0
   Heard w g heard = AreReplies m (λ q a. Unit {0}) w g heard
 
-  came_anyhow : (w : p.World) (g : Asked t p) (last : Reply (Option Response)) (heard : List (Reply (Option Response))) → Heard w g (last ∷ heard)
+  came_anyhow : (w : p.World) (g : GoalInMode t p) (last : Reply (Option Response)) (heard : List (Reply (Option Response))) → Heard w g (last ∷ heard)
       → CameInOrder (Anything t (handled w g)) (frame w g) (replies_of (last ∷ heard))
   came_anyhow w g last heard r =
       came m Question (goal_in t p g.0) (kind_of t) w g (frame w g) (λ h. refl) (λ q a. Unit {0}) (Anything t (handled w g)) (λ before q a c e fair. tt) last heard r
 
-  ordered_after : (w : p.World) (g : Asked t p) (last : Reply (Option Response)) (heard : List (Reply (Option Response))) → Heard w g (last ∷ heard)
+  ordered_after : (w : p.World) (g : GoalInMode t p) (last : Reply (Option Response)) (heard : List (Reply (Option Response))) → Heard w g (last ∷ heard)
       → IsInOrder m w g (last ∷ heard) (asks t p w g (last ∷ heard))
   ordered_after w g last heard r =
       in_order m Question (goal_in t p g.0) (kind_of t) w g (frame w g) (λ h. refl) (λ q a. Unit {0}) last heard r
       (λ n e. ignores_finished t (handled w g) (laws.handlers w g.0 g.1) (replies_of (last ∷ heard)) n (came_anyhow w g last heard r) e)
 
-  begins : (w : p.World) (g : Asked t p) → asks t p w g [] ≡ asks t p w g (Begin ∷ [])
+  begins : (w : p.World) (g : GoalInMode t p) → asks t p w g [] ≡ asks t p w g (Begin ∷ [])
   begins w g = ap (λ x. request_of (goal_in t p g.0) (kind_of t) (Frames.request x)) (sym (told-begin (Frames.between [] [] (frame w g))))
 
-  ordered : (w : p.World) (g : Asked t p) (heard : List (Reply (Option Response))) → Heard w g heard → IsInOrder m w g heard (asks t p w g heard)
+  ordered : (w : p.World) (g : GoalInMode t p) (heard : List (Reply (Option Response))) → Heard w g heard → IsInOrder m w g heard (asks t p w g heard)
   ordered w g [] r =
       before_begin m w g (asks t p w g [])
       (subst (IsInOrder m w g (Begin ∷ [])) (sym (begins w g)) (ordered_after w g Begin [] (refl, whatever m (asks t p w g []) Begin, tt)))

@@ -21,9 +21,9 @@ use Rattle.evaluation.proofs.Reading.{EachLabel}
 use Rattle.evaluation.proofs.Labels.{IsGoodLabel, made-labels}
 use Rattle.evaluation.specs.Tables.{frame_tables}
 use Rattle.evaluation.specs.Fitting.{is_of_sort, is_slot, AreOver, IsGoalOver, IsValueOver}
-use Rattle.goal_frames.specs.Rules.{Bound, goal_of, Rule, IsOver, IsRule}
+use Rattle.goal_frames.specs.Rules.{TraitBound, goal_of, Rule, BoundIsOver, IsRule}
 use Rattle.evaluation.specs.Variables.{is_variable_over}
-use Rattle.goal_frames.specs.Handlers.{Asked, asked, moved, behind, as_one, nested_of_bound, spec_of, candidates_of}
+use Rattle.goal_frames.specs.Handlers.{BareGoal, bare_goal, moved, bound_behind, as_one, nested_of_bound, spec_of, candidates_of}
 use Rattle.goal_frames.specs.RuleFitting.{slots_of, IsOverSlots, CandidatesFit}
 use Rattle.evaluation.proofs.Readings.{HasLeaves, made-leaves}
 use Rattle.goal_frames.proofs.Behind.{made-behind, made-open}
@@ -120,18 +120,18 @@ module _ (kinds : List CanonicalVarKind) (ls : List Label) where
     over-behind none e g = tt
     over-behind (tree l c o) e g = node-behind l c o e.0 g.0 (over-behind c e.1 g.1) (over-behind o e.2 g.2)
 
-one-over : (ls : List Label) (b : Bound) → is_made is_open_label terms b.arguments ≡ true → AreOver ls b.arguments → IsValueOver ls (as_one b)
+one-over : (ls : List Label) (b : TraitBound) → is_made is_open_label terms b.arguments ≡ true → AreOver ls b.arguments → IsValueOver ls (as_one b)
 one-over ls b m o = record { sort = refl; made = both (is_made is_open_label terms b.arguments) true m refl; over = (refl, λ e. absurd (false-true e), o, tt) }
 
-goal-over : (ls : List Label) (b : Bound) → AreOver ls b.arguments → IsGoalOver ls (goal_of b)
+goal-over : (ls : List Label) (b : TraitBound) → AreOver ls b.arguments → IsGoalOver ls (goal_of b)
 goal-over ls b o = record { environment = tt; predicate = (refl, λ e. absurd (false-true e), o, tt) }
 
-arguments-behind : (kinds own : List CanonicalVarKind) (b : Bound) → IsOver own b → AreOver (slots_of kinds own) (behind (length kinds) b).arguments
+arguments-behind : (kinds own : List CanonicalVarKind) (b : TraitBound) → BoundIsOver own b → AreOver (slots_of kinds own) (bound_behind (length kinds) b).arguments
 arguments-behind kinds own b m =
     over-behind own (slots_of kinds own) (length kinds) (rule-slots kinds own) b.arguments (made-labels (is_variable_over own) terms b.arguments m) (made-leaves (is_variable_over own) terms b.arguments m)
 
 -- ---- candidates
-spec-fits : (kind : Bool) (f : CanonicalForm) (a : Asked) → IsAsked f a → (r : Rule) → IsRule r → IsOverSlots (slots_of a.kinds r.kinds) (spec_of kind a r)
+spec-fits : (kind : Bool) (f : CanonicalForm) (a : BareGoal) → IsAsked f a → (r : Rule) → IsRule r → IsOverSlots (slots_of a.kinds r.kinds) (spec_of kind a r)
 spec-fits kind f a h r good =
     let ls = slots_of a.kinds r.kinds in
     record {
@@ -139,20 +139,20 @@ spec-fits kind f a h r good =
         (
           one-over ls a.bound (made-open a.kinds terms a.bound.arguments h.over)
               (over-labels a.kinds ls (goal-slots a.kinds r.kinds) a.bound.arguments (made-labels (is_variable_over a.kinds) terms a.bound.arguments h.over) (made-leaves (is_variable_over a.kinds) terms a.bound.arguments h.over)),
-          one-over ls (behind (length a.kinds) r.head) (made-behind r.kinds (length a.kinds) terms r.head.arguments good.head) (arguments-behind a.kinds r.kinds r.head good.head),
+          one-over ls (bound_behind (length a.kinds) r.head) (made-behind r.kinds (length a.kinds) terms r.head.arguments good.head) (arguments-behind a.kinds r.kinds r.head good.head),
         ),
         tt,
       );
       constraints = tt;
       nested =
-          Every-map (λ (n : Nested). IsGoalOver ls n.goal) (λ b. nested_of_bound kind (behind (length a.kinds) b)) r.premises
-          (Every-mono (IsOver r.kinds) (λ b. IsGoalOver ls (goal_of (behind (length a.kinds) b))) (λ b m. goal-over ls (behind (length a.kinds) b) (arguments-behind a.kinds r.kinds b m)) r.premises good.premises);
+          Every-map (λ (n : Nested). IsGoalOver ls n.goal) (λ b. nested_of_bound kind (bound_behind (length a.kinds) b)) r.premises
+          (Every-mono (BoundIsOver r.kinds) (λ b. IsGoalOver ls (goal_of (bound_behind (length a.kinds) b))) (λ b m. goal-over ls (bound_behind (length a.kinds) b) (arguments-behind a.kinds r.kinds b m)) r.premises good.premises);
     }
 
 pub candidates-fit : CandidatesFit
-candidates-fit book rules_are f = by (asked f) refl
+candidates-fit book rules_are f = by (bare_goal f) refl
   where
-    by : (o : Option Asked) → asked f ≡ o → Every (λ (c : Spec (workings frame_tables)). IsOverSlots (slots_of (kinds_known f.kinds) c.kinds) c) (candidates_of book o)
+    by : (o : Option BareGoal) → bare_goal f ≡ o → Every (λ (c : Spec (workings frame_tables)). IsOverSlots (slots_of (kinds_known f.kinds) c.kinds) c) (candidates_of book o)
     by None e = (record { equations = tt; constraints = tt; nested = tt }, tt)
     by (Some a) e =
         subst (λ ks. Every (λ (c : Spec (workings frame_tables)). IsOverSlots (slots_of ks c.kinds) c) (candidates_of book (Some a))) (sym (kinds-are f a (asked-is f a e)))

@@ -9,7 +9,7 @@ use Rattle.infer_table.specs.declared.goal.Goal.{Goal}
 use Rattle.infer_table.specs.declared.response.CanonicalResponse.{CanonicalResponse}
 use Rattle.infer_table.specs.Goals.{goal_trees}
 use Rattle.infer_table.specs.Responses.{AnswerTrees}
-use Rattle.evaluation.specs.Ends.{IsRefused, Awaits, EndsIn}
+use Rattle.evaluation.specs.Ends.{RunIsRefused, Awaits, EndsIn}
 use Rattle.evaluation.specs.Evaluating as InCode
 use Rattle.evaluation.specs.Evaluating.{evaluation}
 use Rattle.evaluation.specs.Frames.{begun}
@@ -19,14 +19,14 @@ use Rattle.evaluation.specs.declared.candidate.CandidateSource.{CandidateSource}
 use Rattle.evaluation.specs.declared.candidate.CandidateSpec.{CandidateSpec}
 use Rattle.evaluation.specs.declared.goal.GoalSource.{GoalSource}
 use Rattle.evaluation.specs.Candidate as Frames
-use Rattle.evaluation.specs.Correspondences.{AreAnswers, Answers, Runs}
+use Rattle.evaluation.specs.Correspondences.{AreAnswers, AnswersCorrespond, Runs}
 use Rattle.evaluation.specs.Handler.{Handled}
 use Rattle.evaluation.specs.History.{inside, request, evaluate, finish_candidate}
 use Rattle.evaluation.specs.Lists.{Every, Pairwise}
 use Rattle.evaluation.specs.Replays.{Run, ready, waits, run}
 use Rattle.evaluation.specs.Script.{Script, done, ask}
 use Rattle.evaluation.specs.Table.{operations, workings}
-use Rattle.evaluation.specs.Content.{Question}
+use Rattle.evaluation.specs.Content.{NestedQuestion}
 use Rattle.evaluation.specs.TableAnswers.{IsWellFormed}
 use Rattle.evaluation.specs.FrameTables.{IsMadeFrame}
 use Rattle.evaluation.specs.TableOperations.{begin}
@@ -36,10 +36,10 @@ use Rattle.evaluation.specs.Fitting.{IsGoalOver}
 use Rattle.evaluation.specs.RoundLaws.{AreOneQuestion, in_rounds}
 use Rattle.evaluation.specs.Candidates.{labels_of, AreOneEquation, AreOnePremise, AreOneCandidate}
 use Rattle.evaluation.proofs.Candidates.{candidates-are-one}
-use Rattle.evaluation.specs.StepReadings.{Shown, equation_read, nested_read, spec_read, result_read}
+use Rattle.evaluation.specs.StepReadings.{ShownCandidate, equation_read, nested_read, spec_read, result_read}
 use Rattle.goal_frames.specs.Fitting.{AnswerFits, ResultFits, IsEquationOver, IsOver}
 use Rattle.evaluation.specs.Replayed.{after}
-use Rattle.goal_frames.specs.Places.{Standing, candidate_of, Opened, IsInside, IsAsking, IsFinishing, with_result}
+use Rattle.goal_frames.specs.Places.{FrameStanding, candidate_of, Opened, IsInside, WaitsAtQuestion, IsFinishing, with_result}
 use Rattle.goal_frames.proofs.Fits.{one-answer, candidate-fits}
 
 abbrev Answer : Type 0
@@ -88,11 +88,11 @@ result-fits es None f = tt
 result-fits es (Some r) f = f
 
 module _ (mode : TypingMode) (coinductive : Bool) (kinds : List CanonicalVarKind) (ls : List Label) where
-  answers-are-one : (p : Question) (a : Answer) → AnswerFits a → Answers (operations frame_tables) (evaluation mode) (in_rounds mode coinductive kinds ls) p a a
+  answers-are-one : (p : NestedQuestion) (a : Answer) → AnswerFits a → AnswersCorrespond (operations frame_tables) (evaluation mode) (in_rounds mode coinductive kinds ls) p a a
   answers-are-one p None f = tt
   answers-are-one p (Some a) f = one-answer mode coinductive kinds ls p a f
 
-  replies-are-one : (s : Script Question Answer Answer) (rs : List Answer) → Every AnswerFits rs → AreAnswers (operations frame_tables) (evaluation mode) (in_rounds mode coinductive kinds ls) s rs rs
+  replies-are-one : (s : Script NestedQuestion Answer Answer) (rs : List Answer) → Every AnswerFits rs → AreAnswers (operations frame_tables) (evaluation mode) (in_rounds mode coinductive kinds ls) s rs rs
   replies-are-one (done x) rs f = tt
   replies-are-one (ask q k) [] f = tt
   replies-are-one (ask q k) (a ∷ rs) f = (answers-are-one q a f.0, replies-are-one (k a) rs f.1)
@@ -102,10 +102,10 @@ module _ (h : Handled frame_tables) (mode : TypingMode) (kinds : List CanonicalV
   abbrev labels : List Label
   labels = labels_of kinds o.evaluated.kinds
 
-  abbrev code-run : Run InCode.Question Answer Answer
+  abbrev code-run : Run InCode.AskedQuestion Answer Answer
   code-run = run (candidate mode (begun kinds) o.evaluated) o.replies
 
-  abbrev frame-run : Run Question Answer Answer
+  abbrev frame-run : Run NestedQuestion Answer Answer
   frame-run = run (candidate_of h o.spec) o.replies
 
   runs-are-one : Runs (operations frame_tables) (evaluation mode) (in_rounds mode h.coinductive kinds labels) (λ (a b : Answer). a ≡ b) frame-run code-run
@@ -116,15 +116,15 @@ module _ (h : Handled frame_tables) (mode : TypingMode) (kinds : List CanonicalV
       (replies-are-one mode h.coinductive kinds labels (Frames.candidate (workings frame_tables) FIXPOINT_STEP_LIMIT (begin kinds) o.spec) o.replies o.fit))
 
   -- where the code waits at a question, the frame does
-  waits-too : (a : Run Question Answer Answer) (b : Run InCode.Question Answer Answer) (q : InCode.Question)
+  waits-too : (a : Run NestedQuestion Answer Answer) (b : Run InCode.AskedQuestion Answer Answer) (q : InCode.AskedQuestion)
       → Runs (operations frame_tables) (evaluation mode) (in_rounds mode h.coinductive kinds labels) (λ (x y : Answer). x ≡ y) a b → Awaits b q
-      → (p : Question) × (a ≡ waits p) × AreOneQuestion mode h.coinductive kinds labels p q
+      → (p : NestedQuestion) × (a ≡ waits p) × AreOneQuestion mode h.coinductive kinds labels p q
   waits-too (waits p) (waits r) q r1 w = (p, refl, subst (AreOneQuestion mode h.coinductive kinds labels p) w r1)
   waits-too (ready x more) (waits r) q r1 w = absurd r1
   waits-too a (ready y more) q r1 w = absurd w
 
   -- where the code is ready with an answer, the frame is
-  ends-too : (a : Run Question Answer Answer) (b : Run InCode.Question Answer Answer) (x : AnswerTrees)
+  ends-too : (a : Run NestedQuestion Answer Answer) (b : Run InCode.AskedQuestion Answer Answer) (x : AnswerTrees)
       → Runs (operations frame_tables) (evaluation mode) (in_rounds mode h.coinductive kinds labels) (λ (y z : Answer). y ≡ z) a b → EndsIn (λ y more. x ≡ y) b
       → (more : List Answer) × (a ≡ ready (Some x) more)
   ends-too (ready y more) (ready (Some z) left) x r e = (more, ap (λ w. ready w more) (r ∙ ap Some (sym e)))
@@ -133,8 +133,8 @@ module _ (h : Handled frame_tables) (mode : TypingMode) (kinds : List CanonicalV
   ends-too a (waits q) x r e = absurd e
 
   -- where the code is refused, the frame is
-  refused-too : (a : Run Question Answer Answer) (b : Run InCode.Question Answer Answer)
-      → Runs (operations frame_tables) (evaluation mode) (in_rounds mode h.coinductive kinds labels) (λ (y z : Answer). y ≡ z) a b → IsRefused b
+  refused-too : (a : Run NestedQuestion Answer Answer) (b : Run InCode.AskedQuestion Answer Answer)
+      → Runs (operations frame_tables) (evaluation mode) (in_rounds mode h.coinductive kinds labels) (λ (y z : Answer). y ≡ z) a b → RunIsRefused b
       → (more : List Answer) × (a ≡ ready None more)
   refused-too (ready y more) (ready None left) r e = (more, ap (λ w. ready w more) r)
   refused-too (waits p) (ready None left) r e = absurd r
@@ -147,9 +147,9 @@ module _ (h : Handled frame_tables) (mode : TypingMode) (kinds : List CanonicalV
       let there = ends-too frame-run code-run x runs-are-one e in
       candidate-fits h.begin (subst IsMadeFrame (sym begins) (begin-made kinds)) o.spec o.replies x there.0 there.1
 
-  module _ (xs : List Shown) (p : Standing) (inside_it : IsInside h xs o.spec o.replies p) where
-    pub asks-question : (q : InCode.Question) → Awaits code-run q
-        → (r : Question) × (request p ≡ evaluate r) × AreOneQuestion mode h.coinductive kinds labels r q × IsAsking h xs o.spec o.replies p
+  module _ (xs : List ShownCandidate) (p : FrameStanding) (inside_it : IsInside h xs o.spec o.replies p) where
+    pub asks-question : (q : InCode.AskedQuestion) → Awaits code-run q
+        → (r : NestedQuestion) × (request p ≡ evaluate r) × AreOneQuestion mode h.coinductive kinds labels r q × WaitsAtQuestion h xs o.spec o.replies p
     asks-question q w =
         let there = waits-too frame-run code-run q runs-are-one w in
         let on = waits-after (candidate_of h o.spec) o.replies there.0 there.1 in (
@@ -177,7 +177,7 @@ module _ (h : Handled frame_tables) (mode : TypingMode) (kinds : List CanonicalV
         let there = ends-too frame-run code-run x runs-are-one e in
         ends-with (Some x) (ready-after (candidate_of h o.spec) o.replies (Some x) there.0 there.1)
 
-    pub ends-refused : IsRefused code-run → (request p ≡ finish_candidate) × IsFinishing h xs source None p
+    pub ends-refused : RunIsRefused code-run → (request p ≡ finish_candidate) × IsFinishing h xs source None p
     ends-refused e =
         let there = refused-too frame-run code-run runs-are-one e in
         ends-with None (ready-after (candidate_of h o.spec) o.replies None there.0 there.1)

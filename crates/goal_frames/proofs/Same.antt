@@ -16,7 +16,7 @@ use Rattle.infer_table.proofs.SolutionLaws.{is_sort-equal as is-sort}
 use Rattle.evaluation.specs.Merge.{same_certainty}
 use Rattle.evaluation.specs.TableAnswers.{is_variable_itself, are_variables}
 use Rattle.type_terms.proofs.Made.{left, right}
-use Rattle.evaluation.specs.Merge.{TellsApart, IsTest}
+use Rattle.evaluation.specs.Merge.{TellsResponsesApart, IsTest}
 use Rattle.evaluation.specs.Tables.{frame_tables}
 use Rattle.goal_frames.specs.Handlers.{same_kind, same_kinds, same_values, same_answer, are_own_variables, applies_always}
 
@@ -56,7 +56,7 @@ answer-is : (a b : List CanonicalVarKind) (c d : Certainty) (v w : List Value) (
     → ◌≡◌ {A = AnswerTrees} (record { kinds = a; certainty = c; values = v; constraints = x }) (record { kinds = b; certainty = d; values = w; constraints = y })
 answer-is a b c d v w x y p q r s = cc
 
-pub answers-are : TellsApart same_answer
+pub answers-are : TellsResponsesApart same_answer
 answers-are r s e =
     let f = right (same_kinds r.kinds s.kinds) _ e in
     let g = right (same_certainty r.certainty s.certainty) _ f in

@@ -22,7 +22,7 @@ use Rattle.evaluation.specs.Readings.{ResultHeld, ConsideredHeld, SpecHeld}
 use Rattle.evaluation.specs.Shortages.{CandidateRunsOut}
 use Rattle.evaluation.specs.Trial.{SpecTrees, spec_trees}
 use Rattle.evaluation.specs.Tables.{frame_tables}
-use Rattle.goal_frames.specs.Frames.{FrameHeld, PlaceHeld, IsReply}
+use Rattle.goal_frames.specs.Frames.{FrameHeld, PlaceHeld, ReplyIsMade}
 use Rattle.goal_frames.specs.Shortages.{NextRunsOut, RunsOutAt, FrameRunsOut}
 use Rattle.goal_frames.specs.declared.frame.GoalFrame.{GoalFrame}
 use Rattle.goal_frames.specs.declared.frame.Place.{Place}
@@ -52,7 +52,7 @@ module _ (old new : List Entry) (k : Keeps old new) (h : Handled frame_tables) (
   next-later : (done : List Considered) → ConsideredHeld old done → NextRunsOut old h goal.variables.items done → NextRunsOut new h goal.variables.items done
   next-later done held n = λ seen shows history. n seen (sym (shown-later old new k done held) ∙ shows) history
 
-  at-later : (done : List Considered) → ConsideredHeld old done → (place : Place) → PlaceHeld goal old place → (reply : Reply (Option CanonicalResponse)) → IsReply old reply
+  at-later : (done : List Considered) → ConsideredHeld old done → (place : Place) → PlaceHeld goal old place → (reply : Reply (Option CanonicalResponse)) → ReplyIsMade old reply
       → RunsOutAt old h goal done place reply → RunsOutAt new h goal done place reply
   at-later done held InCode.Begun p reply r n = next-later done held n
   at-later done held (InCode.Entering s) p reply r n =
@@ -74,6 +74,6 @@ module _ (old new : List Entry) (k : Keeps old new) (h : Handled frame_tables) (
   at-later done held InCode.Over p reply r n = absurd n
 
 -- the frame of a grown interner runs out too
-pub frame-runs-out-later : (old new : List Entry) (k : Keeps old new) (h : Handled frame_tables) (f : GoalFrame) → FrameHeld old f → (reply : Reply (Option CanonicalResponse)) → IsReply old reply
+pub frame-runs-out-later : (old new : List Entry) (k : Keeps old new) (h : Handled frame_tables) (f : GoalFrame) → FrameHeld old f → (reply : Reply (Option CanonicalResponse)) → ReplyIsMade old reply
     → FrameRunsOut old h f reply → FrameRunsOut new h f reply
 frame-runs-out-later old new k h f held reply r n = at-later old new k h f.goal f.considered.items held.considered f.place held.place reply r n

@@ -14,13 +14,13 @@ use Rattle.evaluation.specs.declared.resuming.OpenCandidate.{OpenCandidate}
 use Rattle.evaluation.specs.Handler.{Handled, IsHandler}
 use Rattle.evaluation.specs.Frame.{Frame, considers, answers}
 use Rattle.evaluation.specs.Script.{Script, done, ask}
-use Rattle.evaluation.specs.Content.{Question}
-use Rattle.evaluation.specs.History.{Reply, begin, entered, ignored, evaluated, finished, between, inside, request, position, IsReply, CameInOrder}
+use Rattle.evaluation.specs.Content.{NestedQuestion}
+use Rattle.evaluation.specs.History.{Reply, begin, entered, ignored, evaluated, finished, between, inside, request, position, IsAwaitedReply, CameInOrder}
 use Rattle.evaluation.specs.Promises.{frame_of_goal, Anything}
 use Rattle.evaluation.specs.Tables.{frame_tables}
-use Rattle.evaluation.specs.StepReadings.{Shown, spec_read, result_read, shown_by}
-use Rattle.goal_frames.specs.Places.{Heard, Standing, Stands, with_result, candidate_of, IsBetween, IsInside, IsWaiting, IsIgnoring}
-use Rattle.goal_frames.specs.Frames.{History, HasCome, HasHeard, FrameHeld, IsRequest, Steps, reply_read}
+use Rattle.evaluation.specs.StepReadings.{ShownCandidate, spec_read, result_read, shown_by}
+use Rattle.goal_frames.specs.Places.{Heard, FrameStanding, PositionStands, with_result, candidate_of, IsBetween, IsInside, IsWaiting, IsIgnoring}
+use Rattle.goal_frames.specs.Frames.{FrameHistory, HasCome, HasHeard, FrameHeld, IsRequestOf, FrameSteps, reply_read}
 use Rattle.goal_frames.specs.declared.frame.GoalFrame.{GoalFrame}
 use Rattle.goal_frames.specs.declared.frame.Place.{Place}
 use Rattle.goal_frames.specs.declared.frame.Place.TheVariants as InCode
@@ -39,44 +39,44 @@ shown-more es [] c = refl
 shown-more es (d ∷ cs) c = ap (λ xs. shown_by es d ∷ xs) (shown-more es cs c)
 
 module _ (h : Handled frame_tables) where
-  abbrev InOrder : History → Type 0
+  abbrev InOrder : FrameHistory → Type 0
   InOrder heard = CameInOrder (Anything frame_tables h) (frame_of_goal frame_tables h) heard
 
-  abbrev IsDueAt : Standing → Reply Answer → Type 0
-  IsDueAt p reply = IsReply (Anything frame_tables h) p reply
+  abbrev IsDueAt : FrameStanding → Reply Answer → Type 0
+  IsDueAt p reply = IsAwaitedReply (Anything frame_tables h) p reply
 
-  abbrev place-of : History → Standing
+  abbrev place-of : FrameHistory → FrameStanding
   place-of heard = position (frame_of_goal frame_tables h) heard
 
   -- where a frame stands, its replies have come
-  pub has-come : (es : List Entry) (goal : CanonicalInput) (cs : List Code.Considered) (place : Place) (heard : History) → InOrder heard
-      → Stands h es goal (map (shown_by es) cs) place (place-of heard) → HasCome es h goal cs place heard
+  pub has-come : (es : List Entry) (goal : CanonicalInput) (cs : List Code.Considered) (place : Place) (heard : FrameHistory) → InOrder heard
+      → PositionStands h es goal (map (shown_by es) cs) place (place-of heard) → HasCome es h goal cs place heard
   has-come es goal cs InCode.Begun heard o s = absurd s
   has-come es goal cs stage heard o s = (o, s)
 
   -- a frame that goes to where its position is after the reply, and makes the request that is made there, steps
   pub steps-to : (old new : List Entry) (before after : GoalFrame) (reply : Reply Answer) (q : Requests.Request CanonicalInput (Option CanonicalResponse))
-      → ((heard : History) → HasHeard old h before heard → InOrder (reply ∷ heard)
-      → IsRequest before.goal.mode new q (request (place-of (reply ∷ heard))) × Stands h new after.goal (map (shown_by new) after.considered.items) after.place (place-of (reply ∷ heard)))
-      → FrameHeld new after → Steps old h before reply new after q
+      → ((heard : FrameHistory) → HasHeard old h before heard → InOrder (reply ∷ heard)
+      → IsRequestOf before.goal.mode new q (request (place-of (reply ∷ heard))) × PositionStands h new after.goal (map (shown_by new) after.considered.items) after.place (place-of (reply ∷ heard)))
+      → FrameHeld new after → FrameSteps old h before reply new after q
   steps-to old new before after reply q goes held heard b o =
       let there = goes heard b o in
       (record { held = held; came = has-come new after.goal after.considered.items after.place (reply ∷ heard) o there.1 }, there.0)
 
   -- a reply that came in order was due
-  pub due-here : (said : History) → InOrder said → (reply : Reply Answer) → InOrder (reply ∷ said) → IsDueAt (place-of said) reply
+  pub due-here : (said : FrameHistory) → InOrder said → (reply : Reply Answer) → InOrder (reply ∷ said) → IsDueAt (place-of said) reply
   due-here [] i reply o = absurd i
   due-here (x ∷ said) i begin o = o.0
   due-here (x ∷ said) i reply o = o.0
 
-  module _ (es : List Entry) (f : GoalFrame) (heard : History) (b : HasHeard es h f heard) where
+  module _ (es : List Entry) (f : GoalFrame) (heard : FrameHistory) (b : HasHeard es h f heard) where
     abbrev Come : Place → Type 0
     Come place = HasCome es h f.goal f.considered.items place heard
 
-    abbrev shown-here : List Shown
+    abbrev shown-here : List ShownCandidate
     shown-here = map (shown_by es) f.considered.items
 
-    begun-at : (cs : List Code.Considered) (said : History) → said ≡ [] → cs ≡ [] → IsBetween h (map (shown_by es) cs) (place-of (begin ∷ said))
+    begun-at : (cs : List Code.Considered) (said : FrameHistory) → said ≡ [] → cs ≡ [] → IsBetween h (map (shown_by es) cs) (place-of (begin ∷ said))
     begun-at cs said e d = subst (λ x. IsBetween h (map (shown_by es) cs) (place-of (begin ∷ x))) (sym e) (subst (λ x. IsBetween h (map (shown_by es) x) (place-of (begin ∷ []))) (sym d) (begins h))
 
     pub begun-there : f.place ≡ InCode.Begun → IsBetween h shown-here (place-of (begin ∷ heard))
@@ -103,7 +103,7 @@ module _ (h : Handled frame_tables) where
     -- ---- the reply that is due is the one that the place waits for
     pub begun-waits : f.place ≡ InCode.Begun → (reply : InReply.Reply (Option CanonicalResponse)) → InOrder (reply_read es reply ∷ heard) → reply ≡ Replied.Begin
     begun-waits e reply o = let come : Come InCode.Begun = subst Come e b.came in first-is-begin heard come.0 reply o where
-      first-is-begin : (said : History) → said ≡ [] → (reply : InReply.Reply (Option CanonicalResponse)) → InOrder (reply_read es reply ∷ said) → reply ≡ Replied.Begin
+      first-is-begin : (said : FrameHistory) → said ≡ [] → (reply : InReply.Reply (Option CanonicalResponse)) → InOrder (reply_read es reply ∷ said) → reply ≡ Replied.Begin
       first-is-begin [] n Replied.Begin o = refl
       first-is-begin (x ∷ said) n reply o = absurd (cc)
       first-is-begin [] n reply o = absurd o.1
@@ -112,7 +112,7 @@ module _ (h : Handled frame_tables) where
     entering-waits s e reply o =
         let come : Come (InCode.Entering s) = subst Come e b.came in
         only come.1.next.past.heard come.1.gone (candidate_of h (spec_read es h.coinductive s)) (with_result h come.1.next) reply (subst (λ x. IsDueAt x (reply_read es reply)) come.1.at (due-here heard come.0 (reply_read es reply) o)) where
-          only : (hd : Heard) → (gone : List ℕ) → (c : Script Question Answer Answer) → (go : Answer → ℕ → Frame Question Answer)
+          only : (hd : Heard) → (gone : List ℕ) → (c : Script NestedQuestion Answer Answer) → (go : Answer → ℕ → Frame NestedQuestion Answer)
               → (reply : InReply.Reply (Option CanonicalResponse)) → IsDueAt (between hd gone (considers c go)) (reply_read es reply) → reply ≡ Replied.Entered
           only hd gone c go Replied.Entered r = refl
           only hd gone c go reply r = absurd r
@@ -126,7 +126,7 @@ module _ (h : Handled frame_tables) where
         only i.next.past.heard i.told asking.question asking.answered (with_result h i.next) reply
         (subst (λ c. IsDueAt (inside i.next.past.heard i.told c (with_result h i.next)) (reply_read es reply)) asking.waits
         (subst (λ x. IsDueAt x (reply_read es reply)) i.at (due-here heard come.0 (reply_read es reply) o))) where
-          only : (hd : Heard) → (td : List (Question × Answer)) → (q : Question) → (k : Answer → Script Question Answer Answer) → (go : Answer → ℕ → Frame Question Answer)
+          only : (hd : Heard) → (td : List (NestedQuestion × Answer)) → (q : NestedQuestion) → (k : Answer → Script NestedQuestion Answer Answer) → (go : Answer → ℕ → Frame NestedQuestion Answer)
               → (reply : InReply.Reply (Option CanonicalResponse)) → IsDueAt (inside hd td (ask q k) go) (reply_read es reply) → (r : Option CanonicalResponse) × (reply ≡ Replied.Result r)
           only hd td q k go (Replied.Result x) r = (x, refl)
           only hd td q k go reply r = absurd r
@@ -136,7 +136,7 @@ module _ (h : Handled frame_tables) where
     finishing-waits source a e reply o =
         let come : Come (InCode.Finishing source a) = subst Come e b.came in
         only come.1.next.past.heard come.1.told (result_read es a) (with_result h come.1.next) reply (subst (λ x. IsDueAt x (reply_read es reply)) come.1.at (due-here heard come.0 (reply_read es reply) o)) where
-          only : (hd : Heard) → (td : List (Question × Answer)) → (x : Answer) → (go : Answer → ℕ → Frame Question Answer)
+          only : (hd : Heard) → (td : List (NestedQuestion × Answer)) → (x : Answer) → (go : Answer → ℕ → Frame NestedQuestion Answer)
               → (reply : InReply.Reply (Option CanonicalResponse)) → IsDueAt (inside hd td (done x) go) (reply_read es reply) → (n : ℕ) × (reply ≡ Replied.Finished n)
           only hd td y go (Replied.Finished m) r = (m, refl)
           only hd td y go reply r = absurd r

@@ -3,8 +3,8 @@ use Rattle.std.specs.Prelude.{◌≡◌, Bool, true, false, Some}
 use Rattle.type_terms.specs.Label.{Label, canonical}
 use Rattle.type_terms.specs.Made.{terms, is_made}
 use Rattle.infer_table.specs.Canonical.{canonical_form}
-use Rattle.goal_frames.specs.Rules.{Bound, goal_of}
-use Rattle.goal_frames.specs.Handlers.{Asked, asked}
+use Rattle.goal_frames.specs.Rules.{TraitBound, goal_of}
+use Rattle.goal_frames.specs.Handlers.{BareGoal, bare_goal}
 
 -- what may stand in the terms of a goal that is not yet numbered
 abbrev pub is_unnumbered : Label → Bool
@@ -13,4 +13,4 @@ is_unnumbered l = true
 
 -- a goal over a table's unknowns and placeholders has a form that is asked, for the same trait
 abbrev pub CanonicalGoalsAreAsked : Type 0
-CanonicalGoalsAreAsked = (b : Bound) → is_made is_unnumbered terms b.arguments ≡ true → (a : Asked) × (asked (canonical_form (goal_of b)) ≡ Some a) × (a.bound.trait ≡ b.trait)
+CanonicalGoalsAreAsked = (b : TraitBound) → is_made is_unnumbered terms b.arguments ≡ true → (a : BareGoal) × (bare_goal (canonical_form (goal_of b)) ≡ Some a) × (a.bound.trait ≡ b.trait)

@@ -22,12 +22,12 @@ use Rattle.evaluation.specs.History.{Request, evaluate, enter_candidate, finish_
 use Rattle.evaluation.specs.OpenCandidates.{OpenHeld, CandidateHeld}
 use Rattle.evaluation.specs.Promises.{frame_of_goal, Anything}
 use Rattle.evaluation.specs.Readings.{ResultHeld, ConsideredHeld, SpecHeld}
-use Rattle.evaluation.specs.Content.{Question}
+use Rattle.evaluation.specs.Content.{NestedQuestion}
 use Rattle.evaluation.specs.Tables.{frame_tables}
 use Rattle.goal_frames.specs.Searches.{step_kind}
 use Rattle.evaluation.specs.StepReadings.{result_read, shown_by}
 use Rattle.goal_frames.specs.Fitting.{ResultFits, ConsideredFits, IsOver}
-use Rattle.goal_frames.specs.Places.{Standing, ComesTo, Stands, Answers, IsBetween, IsIgnoring}
+use Rattle.goal_frames.specs.Places.{FrameStanding, ComesTo, PositionStands, PlaceAnswers, IsBetween, IsIgnoring}
 use Rattle.goal_frames.specs.declared.frame.GoalFrame.{GoalFrame}
 use Rattle.goal_frames.specs.declared.frame.Place.{Place}
 use Rattle.goal_frames.specs.declared.frame.Place.TheVariants as InCode
@@ -41,18 +41,18 @@ reply_read es (Replied.Finished n) = finished n
 reply_read es Replied.Ignored = ignored
 
 -- a result's handles are an interner's, and its values are terms over its own variables
-abbrev pub IsReply : List Entry → Replies.Reply (Option CanonicalResponse) → Type 0
-IsReply es (Replied.Result r) = ResultHeld es r × ResultFits es r
-IsReply es reply = Unit {0}
+abbrev pub ReplyIsMade : List Entry → Replies.Reply (Option CanonicalResponse) → Type 0
+ReplyIsMade es (Replied.Result r) = ResultHeld es r × ResultFits es r
+ReplyIsMade es reply = Unit {0}
 
 -- the code's request is this one, and what is asked is asked in this mode
-abbrev pub IsRequest : TypingMode → List Entry → Requests.Request CanonicalInput (Option CanonicalResponse) → Request Question (Option AnswerTrees) → Type 0
-IsRequest mode es (Requested.Evaluate input kind) (evaluate q) = (input.mode ≡ mode) × (form_of es input ≡ q.form) × (kind ≡ step_kind q.coinductive)
-IsRequest mode es Requested.EnterCandidate enter_candidate = Unit {0}
-IsRequest mode es Requested.FinishCandidate finish_candidate = Unit {0}
-IsRequest mode es (Requested.IgnoreCandidate n) (ignore_candidate m) = n ≡ m
-IsRequest mode es (Requested.Done r) (returns a) = result_read es r ≡ a
-IsRequest mode es request other = ⊥
+abbrev pub IsRequestOf : TypingMode → List Entry → Requests.Request CanonicalInput (Option CanonicalResponse) → Request NestedQuestion (Option AnswerTrees) → Type 0
+IsRequestOf mode es (Requested.Evaluate input kind) (evaluate q) = (input.mode ≡ mode) × (form_of es input ≡ q.form) × (kind ≡ step_kind q.coinductive)
+IsRequestOf mode es Requested.EnterCandidate enter_candidate = Unit {0}
+IsRequestOf mode es Requested.FinishCandidate finish_candidate = Unit {0}
+IsRequestOf mode es (Requested.IgnoreCandidate n) (ignore_candidate m) = n ≡ m
+IsRequestOf mode es (Requested.Done r) (returns a) = result_read es r ≡ a
+IsRequestOf mode es request other = ⊥
 
 -- the handles of what is asked, or of an answer, are an interner's, and the answer is well-formed
 abbrev pub RequestHeld : List Entry → Requests.Request CanonicalInput (Option CanonicalResponse) → Type 0
@@ -76,44 +76,44 @@ pub record FrameHeld (es : List Entry) (f : GoalFrame) : Type 0 where
   pub fits : ConsideredFits es f.considered.items
   pub place : PlaceHeld f.goal es f.place
 
-abbrev pub History : Type 0
-History = List (Reply (Option AnswerTrees))
+abbrev pub FrameHistory : Type 0
+FrameHistory = List (Reply (Option AnswerTrees))
 
 -- no reply has come yet, or replies came in order and led to where the frame stands
-abbrev pub HasCome : List Entry → Handled frame_tables → CanonicalInput → List Considered → Place → History → Type 0
+abbrev pub HasCome : List Entry → Handled frame_tables → CanonicalInput → List Considered → Place → FrameHistory → Type 0
 HasCome es h goal considered InCode.Begun heard = (heard ≡ []) × (considered ≡ [])
 HasCome es h goal considered place heard =
     CameInOrder (Anything frame_tables h) (frame_of_goal frame_tables h) heard
-    × Stands h es goal (map (shown_by es) considered) place (position (frame_of_goal frame_tables h) heard)
+    × PositionStands h es goal (map (shown_by es) considered) place (position (frame_of_goal frame_tables h) heard)
 
 -- the frame of a goal that its handler means this for has had these replies, the newest first
-pub record HasHeard (es : List Entry) (h : Handled frame_tables) (f : GoalFrame) (heard : History) : Type 0 where
+pub record HasHeard (es : List Entry) (h : Handled frame_tables) (f : GoalFrame) (heard : FrameHistory) : Type 0 where
   pub held : FrameHeld es f
   pub came : HasCome es h f.goal f.considered.items f.place heard
 
 -- the reply is one that the frame waits for
-abbrev pub IsDue : List Entry → Handled frame_tables → GoalFrame → Reply (Option AnswerTrees) → Type 0
-IsDue es h f reply = (heard : History) × HasHeard es h f heard × CameInOrder (Anything frame_tables h) (frame_of_goal frame_tables h) (reply ∷ heard)
+abbrev pub ReplyIsDue : List Entry → Handled frame_tables → GoalFrame → Reply (Option AnswerTrees) → Type 0
+ReplyIsDue es h f reply = (heard : FrameHistory) × HasHeard es h f heard × CameInOrder (Anything frame_tables h) (frame_of_goal frame_tables h) (reply ∷ heard)
 
 -- given the reply, the frame of before becomes the one of after and makes the request
-abbrev pub Steps : List Entry → Handled frame_tables → GoalFrame → Reply (Option AnswerTrees) → List Entry → GoalFrame → Requests.Request CanonicalInput (Option CanonicalResponse) → Type 0
-Steps old h before reply new after request =
-    (heard : History) → HasHeard old h before heard → CameInOrder (Anything frame_tables h) (frame_of_goal frame_tables h) (reply ∷ heard)
-    → HasHeard new h after (reply ∷ heard) × IsRequest before.goal.mode new request (asks (frame_of_goal frame_tables h) (reply ∷ heard))
+abbrev pub FrameSteps : List Entry → Handled frame_tables → GoalFrame → Reply (Option AnswerTrees) → List Entry → GoalFrame → Requests.Request CanonicalInput (Option CanonicalResponse) → Type 0
+FrameSteps old h before reply new after request =
+    (heard : FrameHistory) → HasHeard old h before heard → CameInOrder (Anything frame_tables h) (frame_of_goal frame_tables h) (reply ∷ heard)
+    → HasHeard new h after (reply ∷ heard) × IsRequestOf before.goal.mode new request (asks (frame_of_goal frame_tables h) (reply ∷ heard))
 
 -- ---- frames on their way, at a position
 -- the frame asks its handler what comes next
-abbrev pub AsksHandler : List Entry → Handled frame_tables → GoalFrame → Standing → Type 0
+abbrev pub AsksHandler : List Entry → Handled frame_tables → GoalFrame → FrameStanding → Type 0
 AsksHandler es h f p = IsBetween h (map (shown_by es) f.considered.items) p
 
 -- the frame makes this request, in this mode, and is where it then stands
-abbrev pub AsksAt : TypingMode → List Entry → Handled frame_tables → GoalFrame → Requests.Request CanonicalInput (Option CanonicalResponse) → Standing → Type 0
-AsksAt mode es h f q p = IsRequest mode es q (request p) × Stands h es f.goal (map (shown_by es) f.considered.items) f.place p
+abbrev pub AsksAt : TypingMode → List Entry → Handled frame_tables → GoalFrame → Requests.Request CanonicalInput (Option CanonicalResponse) → FrameStanding → Type 0
+AsksAt mode es h f q p = IsRequestOf mode es q (request p) × PositionStands h es f.goal (map (shown_by es) f.considered.items) f.place p
 
 -- the open candidate of a frame, from this source, came to this: the frame of after makes this request, and is where it then stands
 abbrev pub GoesOnWith : List Entry → List Entry → Handled frame_tables → GoalFrame → CandidateSource → Result CandidateStep EvalError → GoalFrame → Requests.Request CanonicalInput (Option CanonicalResponse) → Type 0
 GoesOnWith old new h before source step after q =
-    (p : Standing) → Keeps old new → FrameHeld old before → IfOk step (CandidateHeld new) → ComesTo h new before.goal (map (shown_by old) before.considered.items) source step p
+    (p : FrameStanding) → Keeps old new → FrameHeld old before → IfOk step (CandidateHeld new) → ComesTo h new before.goal (map (shown_by old) before.considered.items) source step p
     → FrameHeld new after × RequestHeld new q × AsksAt before.goal.mode new h after q p
 
 -- a candidate that waits is the open one, and else none is open
@@ -124,7 +124,7 @@ IsAtStep step place = (source : CandidateSource) × (r : Option CanonicalRespons
 -- one that has this answer, and is to ignore candidates of these numbers, makes this request and is at this place
 abbrev pub IgnoresAt : Option CanonicalResponse → List ℕ → Requests.Request CanonicalInput (Option CanonicalResponse) → Place → Type 0
 IgnoresAt answer numbers q place =
-    (es : List Entry) (mode : TypingMode) (p : Standing) → IsIgnoring (result_read es answer) numbers p → IsRequest mode es q (request p) × Answers es place p
+    (es : List Entry) (mode : TypingMode) (p : FrameStanding) → IsIgnoring (result_read es answer) numbers p → IsRequestOf mode es q (request p) × PlaceAnswers es place p
 
 -- the frame's candidate, from this source, ended with a response of this certainty, or was refused
 abbrev pub IsFinishingWith : CandidateSource → Option Certainty → Place → Type 0

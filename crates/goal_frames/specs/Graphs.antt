@@ -4,10 +4,10 @@ use Rattle.evaluation.specs.Lists.{IsAmong}
 use Rattle.evaluation.specs.Table.{Tables}
 use Rattle.evaluation.specs.Proof as Lists
 use Rattle.goal_frames.specs.Programs.{Programs}
-use Rattle.goal_frames.specs.Searches.{Asked, Follows}
+use Rattle.goal_frames.specs.Searches.{GoalInMode, FollowsInMode}
 
 -- where a goal has a proof graph, each of its instances has a proof list
-abbrev pub GraphsProve : {Question Response : Type 0} (t : Tables Question Response) → Programs t → Type 0
-GraphsProve t p =
-    (w : p.World) (g : Asked t p) → HasProof (Asked t p) (Follows t p w) g → (v : t.Values) → IsAmong v (p.made_of g.1 v)
-    → Lists.HasProof t.Fact (p.Rule w) (p.coinductive w) ((p.handled w g.0 g.1).goal v)
+abbrev pub GraphsGiveProofLists : {Question Response : Type 0} (t : Tables Question Response) → Programs t → Type 0
+GraphsGiveProofLists t p =
+    (w : p.World) (g : GoalInMode t p) → HasProof (GoalInMode t p) (FollowsInMode t p w) g → (v : t.Values) → IsAmong v (p.made_of g.1 v)
+    → Lists.FactHasProof t.Fact (p.Rule w) (p.coinductive w) ((p.handled w g.0 g.1).goal v)

@@ -14,7 +14,7 @@ use Rattle.type_terms.specs.Terms.{Entry, Keeps}
 use Rattle.evaluation.specs.History.{evaluate, asks, CameInOrder}
 use Rattle.evaluation.specs.Promises.{frame_of_goal, Anything, History}
 use Rattle.evaluation.specs.TableAnswers.{respond}
-use Rattle.evaluation.specs.Content.{Values, Fact, Question, fact_of}
+use Rattle.evaluation.specs.Content.{Values, Fact, NestedQuestion, fact_of}
 use Rattle.evaluation.specs.Finite.{made_of}
 use Rattle.evaluation.specs.Widths.{number_of}
 use Rattle.evaluation.specs.TableOperations.{begin}
@@ -76,16 +76,16 @@ module _ (m : Goals) where
     -- the laws of candidates and of answers
     pub handlers : (w : m.World) (mode : TypingMode) (g : CanonicalForm) → IsHandler frame_tables (m.handled w mode g)
     -- a question has the instances of the goal of its form
-    pub instances : (w : m.World) (mode : TypingMode) (q : Question) (v : Values) → fact_of q v ≡ (m.handled w mode q.form).goal v
+    pub instances : (w : m.World) (mode : TypingMode) (q : NestedQuestion) (v : Values) → fact_of q v ≡ (m.handled w mode q.form).goal v
     -- a rule of one goal is a rule
     pub rules : (w : m.World) (mode : TypingMode) (g : CanonicalForm) (f : Fact) (premises : List Fact) → (m.handled w mode g).Rule f premises → m.Rule w f premises
     -- the instances of a goal are coinductive exactly if its trait is
     pub kinds : (w : m.World) (mode : TypingMode) (g : CanonicalForm) (v : Values) → m.coinductive w ((m.handled w mode g).goal v) ≡ (m.handled w mode g).coinductive
     -- a question that is no wider than the terms of a goal's frame asks a goal whose frame makes no wider terms and asks no more questions
-    pub numbers : (w : m.World) (mode : TypingMode) (g : CanonicalForm) (q : Question) → number_of q ≤ (m.handled w mode g).widest
+    pub numbers : (w : m.World) (mode : TypingMode) (g : CanonicalForm) (q : NestedQuestion) → number_of q ≤ (m.handled w mode g).widest
         → ((m.handled w mode q.form).widest ≤ (m.handled w mode g).widest) × ((m.handled w mode q.form).number ≤ (m.handled w mode g).number)
     -- the solutions of the goals that a goal's frame asks are looked for wherever those of the goal are
-    pub worlds : (w : m.World) (mode : TypingMode) (g : CanonicalForm) (heard : History frame_tables (m.handled w mode g)) (q : Question)
+    pub worlds : (w : m.World) (mode : TypingMode) (g : CanonicalForm) (heard : History frame_tables (m.handled w mode g)) (q : NestedQuestion)
         → CameInOrder (Anything frame_tables (m.handled w mode g)) (frame_of_goal frame_tables (m.handled w mode g)) heard
         → asks (frame_of_goal frame_tables (m.handled w mode g)) heard ≡ evaluate q
         → (x : (m.handled w mode g).World) → (y : (m.handled w mode q.form).World) × ((f : Fact) → (m.handled w mode g).Proves x f → (m.handled w mode q.form).Proves y f)
@@ -93,7 +93,7 @@ module _ (m : Goals) where
     pub outside : (w : m.World) (g : CanonicalForm) → (m.handled w PostAnalysis g).World → ⊥
 
 -- the laws of a handler
-pub record IsLawful {Handler : Type 0} (m : HandlerMeaning Handler) : Type 0 where
+pub record HandlerIsLawful {Handler : Type 0} (m : HandlerMeaning Handler) : Type 0 where
   -- handles stay ready while the interner grows, and the same is declared by them
   pub ready_kept : (h : Handler) (old new : List Entry) → Keeps old new → m.IsReady h old → m.IsReady h new
   pub world_kept : (h : Handler) (old new : List Entry) → Keeps old new → m.IsReady h old → m.world h new ≡ m.world h old

@@ -28,14 +28,14 @@ use Rattle.evaluation.specs.Widths.{width_of_predicates, number_of}
 use Rattle.evaluation.specs.TableOperations.{begin}
 use Rattle.evaluation.specs.Tables.{frame_tables}
 use Rattle.goal_frames.specs.Listings.{Listing, listed}
-use Rattle.goal_frames.specs.Rules.{Bound, goal_of, Rule, RuleBook, AreRules, is_coinductive_trait, FollowsByRule, HasProofByBook}
+use Rattle.goal_frames.specs.Rules.{TraitBound, goal_of, Rule, RuleBook, AreRules, is_coinductive_trait, FollowsByRule, HasProofByBook}
 use Rattle.evaluation.specs.Variables.{is_variable_over}
 
 -- ---- goals
 -- a goal without where-clauses, over variables of these kinds
-pub record Asked : Type 0 where
+pub record BareGoal : Type 0 where
   pub kinds : List CanonicalVarKind
-  pub bound : Bound
+  pub bound : TraitBound
 
 abbrev pub with_first : Option CanonicalVarKind → Option (List CanonicalVarKind) → Option (List CanonicalVarKind)
 with_first (Some k) (Some ks) = Some (k ∷ ks)
@@ -47,7 +47,7 @@ abbrev pub all_known : List (Option CanonicalVarKind) → Option (List Canonical
 all_known [] = Some []
 all_known (o ∷ os) = with_first o (all_known os)
 
-abbrev pub bound_of : Trees → Trees → Option Bound
+abbrev pub bound_of : Trees → Trees → Option TraitBound
 bound_of none (tree (predicate (of_trait i)) c none) = Some (record { trait = i; arguments = c })
 bound_of e p = None
 
@@ -62,17 +62,17 @@ places_stand i (PlaceholderTy ∷ ks) t = some_node (is_variable_label of_type i
 places_stand i (PlaceholderConst ∷ ks) t = some_node (is_variable_label of_const i) t && places_stand (suc i) ks t
 places_stand i (k ∷ ks) t = places_stand (suc i) ks t
 
-abbrev pub is_asked : List CanonicalVarKind → Bound → Bool
+abbrev pub is_asked : List CanonicalVarKind → TraitBound → Bool
 is_asked ks b = is_made (is_variable_over ks) terms b.arguments && places_stand 0 ks b.arguments
 
-abbrev pub asked_with : Option (List CanonicalVarKind) → Option Bound → Option Asked
+abbrev pub asked_with : Option (List CanonicalVarKind) → Option TraitBound → Option BareGoal
 asked_with None b = None
 asked_with (Some ks) None = None
 asked_with (Some ks) (Some b) = if is_asked ks b then Some (record { kinds = ks; bound = b }) else None
 
 -- the goal that a canonical form asks, if it is made as such forms are and has no where-clauses
-abbrev pub asked : CanonicalForm → Option Asked
-asked f = asked_with (all_known f.kinds) (bound_of f.goal.environment f.goal.predicate)
+abbrev pub bare_goal : CanonicalForm → Option BareGoal
+bare_goal f = asked_with (all_known f.kinds) (bound_of f.goal.environment f.goal.predicate)
 
 -- ---- candidates
 -- the rule's variables stand behind n others
@@ -80,29 +80,29 @@ abbrev pub moved : ℕ → Label → Option Trees
 moved n (canonical k i) = Some (leaf (canonical k (n + i)))
 moved n l = None
 
-abbrev pub behind : ℕ → Bound → Bound
-behind n b = record { trait = b.trait; arguments = put_in (moved n) b.arguments }
+abbrev pub bound_behind : ℕ → TraitBound → TraitBound
+bound_behind n b = record { trait = b.trait; arguments = put_in (moved n) b.arguments }
 
 -- all arguments as one term
-abbrev pub as_one : Bound → Value
+abbrev pub as_one : TraitBound → Value
 as_one b = record { sort = of_type; trees = tree (adt b.trait) b.arguments none }
 
-abbrev pub nested_of_bound : Bool → Bound → Nested
+abbrev pub nested_of_bound : Bool → TraitBound → Nested
 nested_of_bound kind b = record { goal = goal_of b; coinductive = kind }
 
 -- the rule as a candidate for the goal, with steps of this kind: the goal's arguments are the head's
-abbrev pub spec_of : Bool → Asked → Rule → Spec (workings frame_tables)
+abbrev pub spec_of : Bool → BareGoal → Rule → Spec (workings frame_tables)
 spec_of kind a r = record {
   source = BuiltinImpl Misc;
   kinds = r.kinds;
-  equations = record { left = as_one a.bound; right = as_one (behind (length a.kinds) r.head) } ∷ [];
+  equations = record { left = as_one a.bound; right = as_one (bound_behind (length a.kinds) r.head) } ∷ [];
   regions = none;
-  nested = map (λ b. nested_of_bound kind (behind (length a.kinds) b)) r.premises;
+  nested = map (λ b. nested_of_bound kind (bound_behind (length a.kinds) b)) r.premises;
   certainty = Yes;
 }
 
 -- one for each rule of the goal's trait
-abbrev pub specs_for : Bool → Asked → List Rule → List (Spec (workings frame_tables))
+abbrev pub specs_for : Bool → BareGoal → List Rule → List (Spec (workings frame_tables))
 specs_for kind a [] = []
 specs_for kind a (r ∷ rules) = if r.head.trait == a.bound.trait then spec_of kind a r ∷ specs_for kind a rules else specs_for kind a rules
 
@@ -110,15 +110,15 @@ specs_for kind a (r ∷ rules) = if r.head.trait == a.bound.trait then spec_of k
 abbrev pub unsure : Spec (workings frame_tables)
 unsure = record { source = BuiltinImpl Misc; kinds = []; equations = []; regions = none; nested = []; certainty = Maybe Ambiguity }
 
-abbrev pub candidates_of : RuleBook → Option Asked → List (Spec (workings frame_tables))
+abbrev pub candidates_of : RuleBook → Option BareGoal → List (Spec (workings frame_tables))
 candidates_of book None = unsure ∷ []
 candidates_of book (Some a) = specs_for (book.coinductive a.bound.trait) a book.rules
 
 -- ---- numbers
-abbrev pub width_of : Bound → ℕ
+abbrev pub width_of : TraitBound → ℕ
 width_of b = width_of_predicates (goal_of b).predicate
 
-abbrev pub number_of_premises : List Bound → ℕ
+abbrev pub number_of_premises : List TraitBound → ℕ
 number_of_premises [] = 0
 number_of_premises (b ∷ bs) = suc (width_of b + number_of_premises bs)
 
@@ -170,7 +170,7 @@ has_placeholder (k ∷ ks) = has_placeholder ks
 -- The goal is decided, or it has no placeholder. The placeholders of other goals need not stand in the reference: then two of them can
 -- have one value, and no table has that
 abbrev pub is_searched : CanonicalForm → Bool
-is_searched f = is_some (asked f) || not (has_placeholder (kinds_known f.kinds))
+is_searched f = is_some (bare_goal f) || not (has_placeholder (kinds_known f.kinds))
 
 -- in coherence the rules are those of one set of crates, and outside it no solutions are looked for
 abbrev pub world_of : TypingMode → CanonicalForm → Type 0
@@ -183,7 +183,7 @@ abbrev pub widest_of : RuleBook → CanonicalForm → ℕ
 widest_of book f = max (number_of (record { form = f; coinductive = false })) (number_of_rules book.rules)
 
 -- a goal asked in a mode, with variables of these kinds; whether its trait is coinductive stands in its predicate
-abbrev pub listing_of : RuleBook → TypingMode → CanonicalForm → List CanonicalVarKind → Option Asked → Listing frame_tables
+abbrev pub listing_of : RuleBook → TypingMode → CanonicalForm → List CanonicalVarKind → Option BareGoal → Listing frame_tables
 listing_of book mode f kinds o = record {
   goal = λ v. fact_of (record { form = f; coinductive = false }) v;
   begin = begin kinds;
@@ -197,7 +197,7 @@ listing_of book mode f kinds o = record {
 }
 
 abbrev pub handled_by : RuleBook → TypingMode → CanonicalForm → Handled frame_tables
-handled_by book mode f = listed frame_tables applies_always same_answer (listing_of book mode f (kinds_known f.kinds) (asked f))
+handled_by book mode f = listed frame_tables applies_always same_answer (listing_of book mode f (kinds_known f.kinds) (bare_goal f))
 
 -- whatever form a goal has
 abbrev pub HandlersAreLawful : Type 0

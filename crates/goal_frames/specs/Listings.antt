@@ -5,7 +5,7 @@ use Rattle.evaluation.specs.Lists.{Every, SomeOf}
 use Rattle.evaluation.specs.Table.{Tables, workings, IsFree}
 use Rattle.evaluation.specs.Candidate.{Spec}
 use Rattle.evaluation.specs.Law.{Realizes}
-use Rattle.evaluation.specs.Handler.{Handled, IsLawful}
+use Rattle.evaluation.specs.Handler.{Handled, CandidateIsLawful}
 use Rattle.evaluation.specs.Plans.{Plan, Planned, planned, each_of, nested_in}
 use Rattle.evaluation.specs.PlanAnswers.{all_merged}
 
@@ -49,7 +49,7 @@ module _ {Question Response : Type 0} (t : Tables Question Response) where
       pub begins : IsFree t l.begin
       pub says_nothing : (c : Certainty) → t.has_values (t.respond l.begin c) ≡ false
       pub begins_within : t.TableWithin l.widest l.begin
-      pub each : Every (IsLawful t (listed l)) l.specs
+      pub each : Every (CandidateIsLawful t (listed l)) l.specs
       pub asks : nested_in t l.specs ≤ l.number
       -- in every world a solution of the goal is one by some candidate
       pub cover : (w : l.World) (v : t.Values) → l.Proves w (l.goal v) → SomeOf (Realizes t (l.Proves w) l.begin v) l.specs

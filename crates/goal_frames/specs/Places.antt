@@ -18,45 +18,45 @@ use Rattle.evaluation.specs.Lists.{Every}
 use Rattle.evaluation.specs.Replayed.{after, IsReplayed, EndsAsReplayed}
 use Rattle.evaluation.specs.Script.{Script, done, ask}
 use Rattle.evaluation.specs.Table.{workings}
-use Rattle.evaluation.specs.Content.{Question}
+use Rattle.evaluation.specs.Content.{NestedQuestion}
 use Rattle.evaluation.specs.Tables.{frame_tables}
-use Rattle.evaluation.specs.StepReadings.{Shown, Shows, spec_read, result_read}
+use Rattle.evaluation.specs.StepReadings.{ShownCandidate, Shows, spec_read, result_read}
 use Rattle.evaluation.specs.Trial.{SpecTrees}
 use Rattle.goal_frames.specs.Fitting.{AnswerFits}
 use Rattle.goal_frames.specs.declared.frame.Place.{Place}
 use Rattle.goal_frames.specs.declared.frame.Place.TheVariants as InCode
 
 abbrev pub Heard : Type 0
-Heard = List (Finished Question (Option AnswerTrees))
+Heard = List (Finished NestedQuestion (Option AnswerTrees))
 
-abbrev pub Standing : Type 0
-Standing = Position Question (Option AnswerTrees)
+abbrev pub FrameStanding : Type 0
+FrameStanding = Position NestedQuestion (Option AnswerTrees)
 
 -- the frame has its answer, and candidates of these numbers are to be ignored
-pub record IsIgnoring (a : Option AnswerTrees) (ns : List ℕ) (p : Standing) : Type 0 where
+pub record IsIgnoring (a : Option AnswerTrees) (ns : List ℕ) (p : FrameStanding) : Type 0 where
   pub heard : Heard
   pub gone : List ℕ
   pub at : p ≡ between heard gone (answers a ns)
 
-abbrev pub Answers : List Entry → Place → Standing → Type 0
-Answers es (InCode.Ignoring r ns at) p = IsIgnoring (result_read es r) (drop at ns.items) p
-Answers es InCode.Over p = (a : Option AnswerTrees) × IsIgnoring a [] p
-Answers es place p = ⊥
+abbrev pub PlaceAnswers : List Entry → Place → FrameStanding → Type 0
+PlaceAnswers es (InCode.Ignoring r ns at) p = IsIgnoring (result_read es r) (drop at ns.items) p
+PlaceAnswers es InCode.Over p = (a : Option AnswerTrees) × IsIgnoring a [] p
+PlaceAnswers es place p = ⊥
 
 -- the answers of these questions, the newest first, in the order in which they came
-abbrev pub answers_in : List (Question × Option AnswerTrees) → List (Option AnswerTrees)
+abbrev pub answers_in : List (NestedQuestion × Option AnswerTrees) → List (Option AnswerTrees)
 answers_in [] = []
 answers_in (t ∷ told) = answers_in told ++ t.1 ∷ []
 
 module _ (h : Handled frame_tables) where
-  abbrev pub candidate_of : Spec (workings frame_tables) → Script Question (Option AnswerTrees) (Option AnswerTrees)
+  abbrev pub candidate_of : Spec (workings frame_tables) → Script NestedQuestion (Option AnswerTrees) (Option AnswerTrees)
   candidate_of s = candidate (workings frame_tables) FIXPOINT_STEP_LIMIT h.begin s
 
-  abbrev pub frame_with : ℕ → List (Considered (workings frame_tables)) → Frame Question (Option AnswerTrees)
+  abbrev pub frame_with : ℕ → List (Considered (workings frame_tables)) → Frame NestedQuestion (Option AnswerTrees)
   frame_with fuel seen = frame (workings frame_tables) FIXPOINT_STEP_LIMIT h.begin h.next fuel seen
 
   -- a history of the handler that shows these candidates, and how many there may be still
-  pub record Past (xs : List Shown) : Type 0 where
+  pub record Past (xs : List ShownCandidate) : Type 0 where
     pub seen : List (Considered (workings frame_tables))
     pub shows : Shows xs seen
     pub history : IsHistory (workings frame_tables) h.next seen
@@ -66,43 +66,43 @@ module _ (h : Handled frame_tables) where
     pub numbers_are : numbers heard ≡ used_numbers (workings frame_tables) seen
 
   -- the frame asks its handler what comes next
-  pub record IsBetween (xs : List Shown) (p : Standing) : Type 0 where
+  pub record IsBetween (xs : List ShownCandidate) (p : FrameStanding) : Type 0 where
     pub past : Past xs
     pub gone : List ℕ
     pub at : p ≡ between past.heard gone (frame_with (suc past.fuel) past.seen)
 
   -- the handler wants this candidate to be considered
-  pub record IsNext (xs : List Shown) (s : Spec (workings frame_tables)) : Type 0 where
+  pub record IsNextCandidate (xs : List ShownCandidate) (s : Spec (workings frame_tables)) : Type 0 where
     pub past : Past xs
     pub is : h.next past.seen ≡ consider s
 
   -- then it goes on with the candidate's result and number
-  abbrev pub with_result : {xs : List Shown} → {s : Spec (workings frame_tables)} → IsNext xs s → Option AnswerTrees → ℕ → Frame Question (Option AnswerTrees)
+  abbrev pub with_result : {xs : List ShownCandidate} → {s : Spec (workings frame_tables)} → IsNextCandidate xs s → Option AnswerTrees → ℕ → Frame NestedQuestion (Option AnswerTrees)
   with_result {s = s} n a m = frame_with n.past.fuel (record { spec = s; response = a; number = m } ∷ n.past.seen)
 
-  pub record IsEntering (xs : List Shown) (s : Spec (workings frame_tables)) (p : Standing) : Type 0 where
-    pub next : IsNext xs s
+  pub record IsEntering (xs : List ShownCandidate) (s : Spec (workings frame_tables)) (p : FrameStanding) : Type 0 where
+    pub next : IsNextCandidate xs s
     pub gone : List ℕ
     pub at : p ≡ between next.past.heard gone (considers (candidate_of s) (with_result next))
 
-  pub record IsInside (xs : List Shown) (s : Spec (workings frame_tables)) (replies : List (Option AnswerTrees)) (p : Standing) : Type 0 where
-    pub next : IsNext xs s
-    pub told : List (Question × Option AnswerTrees)
+  pub record IsInside (xs : List ShownCandidate) (s : Spec (workings frame_tables)) (replies : List (Option AnswerTrees)) (p : FrameStanding) : Type 0 where
+    pub next : IsNextCandidate xs s
+    pub told : List (NestedQuestion × Option AnswerTrees)
     pub replies_are : answers_in told ≡ replies
     pub at : p ≡ inside next.past.heard told (after (candidate_of s) replies) (with_result next)
 
   -- and it waits at a question
-  pub record IsAsking (xs : List Shown) (s : Spec (workings frame_tables)) (replies : List (Option AnswerTrees)) (p : Standing) : Type 0 where
+  pub record WaitsAtQuestion (xs : List ShownCandidate) (s : Spec (workings frame_tables)) (replies : List (Option AnswerTrees)) (p : FrameStanding) : Type 0 where
     pub inside : IsInside xs s replies p
-    pub question : Question
-    pub answered : Option AnswerTrees → Script Question (Option AnswerTrees) (Option AnswerTrees)
+    pub question : NestedQuestion
+    pub answered : Option AnswerTrees → Script NestedQuestion (Option AnswerTrees) (Option AnswerTrees)
     pub waits : after (candidate_of s) replies ≡ ask question answered
 
-  pub record IsFinishing (xs : List Shown) (source : CandidateSource) (a : Option AnswerTrees) (p : Standing) : Type 0 where
+  pub record IsFinishing (xs : List ShownCandidate) (source : CandidateSource) (a : Option AnswerTrees) (p : FrameStanding) : Type 0 where
     pub spec : Spec (workings frame_tables)
-    pub next : IsNext xs spec
+    pub next : IsNextCandidate xs spec
     pub source_is : spec.source ≡ source
-    pub told : List (Question × Option AnswerTrees)
+    pub told : List (NestedQuestion × Option AnswerTrees)
     pub at : p ≡ inside next.past.heard told (done a) (with_result next)
 
   -- a candidate of a goal with variables of these kinds, from this source, and replies to its questions: as frames have it, and as
@@ -115,22 +115,22 @@ module _ (h : Handled frame_tables) where
     pub replies : List (Option AnswerTrees)
     pub fit : Every AnswerFits replies
 
-  module _ (es : List Entry) (goal : CanonicalInput) (xs : List Shown) where
+  module _ (es : List Entry) (goal : CanonicalInput) (xs : List ShownCandidate) where
     -- the open candidate waits, where it does after the replies to its questions
-    pub record IsWaiting (source : CandidateSource) (waiting : OpenCandidate) (p : Standing) : Type 0 where
+    pub record IsWaiting (source : CandidateSource) (waiting : OpenCandidate) (p : FrameStanding) : Type 0 where
       pub opened : Opened goal.variables.items source
       pub replayed : IsReplayed goal.mode goal.variables.items opened.evaluated es opened.replies waiting
-      pub asking : IsAsking xs opened.spec opened.replies p
+      pub asking : WaitsAtQuestion xs opened.spec opened.replies p
 
     -- it came to this, as its evaluation does after these replies
-    pub record ComesTo (source : CandidateSource) (step : Result CandidateStep EvalError) (p : Standing) : Type 0 where
+    pub record ComesTo (source : CandidateSource) (step : Result CandidateStep EvalError) (p : FrameStanding) : Type 0 where
       pub opened : Opened goal.variables.items source
       pub ends : EndsAsReplayed goal.mode goal.variables.items opened.evaluated es opened.replies step
       pub inside : IsInside xs opened.spec opened.replies p
 
     -- the position of a frame that has begun is at this place, after these candidates
-    abbrev pub Stands : Place → Standing → Type 0
-    Stands (InCode.Entering s) p = IsEntering xs (spec_read es h.coinductive s) p
-    Stands (InCode.Inside source waiting) p = IsWaiting source waiting p
-    Stands (InCode.Finishing source r) p = IsFinishing xs source (result_read es r) p
-    Stands place p = Answers es place p
+    abbrev pub PositionStands : Place → FrameStanding → Type 0
+    PositionStands (InCode.Entering s) p = IsEntering xs (spec_read es h.coinductive s) p
+    PositionStands (InCode.Inside source waiting) p = IsWaiting source waiting p
+    PositionStands (InCode.Finishing source r) p = IsFinishing xs source (result_read es r) p
+    PositionStands place p = PlaceAnswers es place p

@@ -11,7 +11,7 @@ use Rattle.evaluation.specs.TableOperations.{begin, fresh}
 use Rattle.evaluation.specs.Tables.{frame_tables}
 use Rattle.evaluation.specs.Fitting.{AreOver, IsGoalOver, IsValueOver}
 use Rattle.goal_frames.specs.Rules.{RuleBook, AreRules}
-use Rattle.goal_frames.specs.Handlers.{asked, candidates_of}
+use Rattle.goal_frames.specs.Handlers.{bare_goal, candidates_of}
 
 -- what the canonical variables of a candidate's terms stand for: those of the goal, and behind them the candidate's own
 abbrev pub slots_of : List CanonicalVarKind → List CanonicalVarKind → List Label
@@ -26,4 +26,4 @@ pub record IsOverSlots (labels : List Label) (c : Spec (workings frame_tables)) 
 abbrev pub CandidatesFit : Type 0
 CandidatesFit =
     (book : RuleBook) → AreRules book → (f : CanonicalForm)
-    → Every (λ (c : Spec (workings frame_tables)). IsOverSlots (slots_of (kinds_known f.kinds) c.kinds) c) (candidates_of book (asked f))
+    → Every (λ (c : Spec (workings frame_tables)). IsOverSlots (slots_of (kinds_known f.kinds) c.kinds) c) (candidates_of book (bare_goal f))

@@ -7,27 +7,27 @@ use Rattle.infer_table.specs.Canonical.{GoalTrees}
 use Rattle.infer_table.specs.declared.canonical.CanonicalVarKind.{CanonicalVarKind}
 use Rattle.infer_table.specs.declared.canonical.CanonicalVarKind.TheVariants.{Ty, PlaceholderTy, Const, PlaceholderConst, Region}
 use Rattle.evaluation.specs.Lists.{Every, SomeOf}
-use Rattle.evaluation.specs.Proof.{HasProof}
+use Rattle.evaluation.specs.Proof.{FactHasProof}
 use Rattle.evaluation.specs.Instances.{goal_read}
 use Rattle.evaluation.specs.Content.{given, Fact}
-use Rattle.evaluation.specs.Variables.{is_variable_over, StandsIn}
+use Rattle.evaluation.specs.Variables.{is_variable_over, LabelStandsIn}
 
 -- ---- rules
 -- a trait with its arguments, the self type first: `?0: Show<u8>`
-pub record Bound : Type 0 where
+pub record TraitBound : Type 0 where
   pub trait : ℕ
   pub arguments : Trees
 
 -- without where-clauses
-abbrev pub goal_of : Bound → GoalTrees
+abbrev pub goal_of : TraitBound → GoalTrees
 goal_of b = record { environment = none; predicate = tree (predicate (of_trait b.trait)) b.arguments none }
 
 -- the head holds if the premises do, whatever its variables stand for: of these kinds, in the terms the canonical variables 0, 1, ..
 -- `impl<T: Show> Show for Vec<T>` has one variable, the head `Vec<^0>: Show`, and the premise `^0: Show`
 pub record Rule : Type 0 where
   pub kinds : List CanonicalVarKind
-  pub head : Bound
-  pub premises : List Bound
+  pub head : TraitBound
+  pub premises : List TraitBound
 
 pub record RuleBook : Type 0 where
   pub rules : List Rule
@@ -44,24 +44,24 @@ IsUnknown PlaceholderConst = ⊥
 IsUnknown Region = ⊥
 
 -- the arguments are terms over variables of these kinds
-abbrev pub IsOver : List CanonicalVarKind → Bound → Type 0
-IsOver kinds b = is_made (is_variable_over kinds) terms b.arguments ≡ true
+abbrev pub BoundIsOver : List CanonicalVarKind → TraitBound → Type 0
+BoundIsOver kinds b = is_made (is_variable_over kinds) terms b.arguments ≡ true
 
 -- what stands in a premise stands in the head
-abbrev pub IsDeterminedBy : Bound → Bound → Type 0
-IsDeterminedBy head premise = (k : Sort) (i : ℕ) → StandsIn (canonical k i) premise.arguments → StandsIn (canonical k i) head.arguments
+abbrev pub IsDeterminedBy : TraitBound → TraitBound → Type 0
+IsDeterminedBy head premise = (k : Sort) (i : ℕ) → LabelStandsIn (canonical k i) premise.arguments → LabelStandsIn (canonical k i) head.arguments
 
 pub record IsRule (r : Rule) : Type 0 where
   pub kinds : Every IsUnknown r.kinds
-  pub head : IsOver r.kinds r.head
-  pub premises : Every (IsOver r.kinds) r.premises
+  pub head : BoundIsOver r.kinds r.head
+  pub premises : Every (BoundIsOver r.kinds) r.premises
   pub determined : Every (IsDeterminedBy r.head) r.premises
 
 abbrev pub AreRules : RuleBook → Type 0
 AreRules book = Every IsRule book.rules
 
 -- ---- what follows
-abbrev pub instance_of : Bool → List Trees → Bound → Fact
+abbrev pub instance_of : Bool → List Trees → TraitBound → Fact
 instance_of proper values b = record { trait = Some b.trait; goal = goal_read (given values) (goal_of b); proper = proper }
 
 -- the reference is the head, with some terms for the rule's variables, and the premises are the rule's with the same terms
@@ -77,7 +77,7 @@ HasNoPlace (tree (param k i) c o) = ⊥
 HasNoPlace (tree (placeholder k i) c o) = ⊥
 HasNoPlace (tree l c o) = HasNoPlace c × HasNoPlace o
 
-pub record IsClosed (f : Fact) : Type 0 where
+pub record IsClosedFact (f : Fact) : Type 0 where
   pub proper : f.proper ≡ true
   pub predicate : HasNoPlace f.goal.predicate
 
@@ -95,8 +95,8 @@ module _ (book : RuleBook) where
   FollowsByRule f premises = f.proper ≡ true → SomeOf (IsBy f premises) book.rules
 
   abbrev pub FollowsClosed : Fact → List Fact → Type 0
-  FollowsClosed f premises = IsClosed f × SomeOf (IsBy f premises) book.rules
+  FollowsClosed f premises = IsClosedFact f × SomeOf (IsBy f premises) book.rules
 
   -- solutions are looked for among closed references
   abbrev pub HasProofByBook : Fact → Type 0
-  HasProofByBook f = HasProof Fact FollowsClosed is_coinductive f
+  HasProofByBook f = FactHasProof Fact FollowsClosed is_coinductive f

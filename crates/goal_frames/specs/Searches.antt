@@ -72,38 +72,38 @@ module _ {Question Response : Type 0} (t : Tables Question Response) where
 
   module _ (p : Programs t) where
     -- a goal in the mode in which it is asked
-    abbrev pub Asked : Type 0
-    Asked = p.Mode × p.Goal
+    abbrev pub GoalInMode : Type 0
+    GoalInMode = p.Mode × p.Goal
 
-    abbrev pub goal_in : p.Mode → Question → Asked
+    abbrev pub goal_in : p.Mode → Question → GoalInMode
     goal_in mode q = (mode, p.goal_of q)
 
     -- what the frame of a goal asks after these replies
-    abbrev pub asks : p.World → Asked → List (Reply (Option Response)) → Request Asked (Option Response)
+    abbrev pub asks : p.World → GoalInMode → List (Reply (Option Response)) → Request GoalInMode (Option Response)
     asks w g heard = request_of (goal_in g.0) kind_of (Frames.asks (frame_of_goal t (p.handled w g.0 g.1)) (replies_of heard))
 
     -- each instance of the goal follows by a rule from instances, by terms of its own values, of these questions
-    abbrev pub Follows : p.World → Asked → List (Asked × PathKind) → Type 0
-    Follows w g premises =
+    abbrev pub FollowsInMode : p.World → GoalInMode → List (GoalInMode × PathKind) → Type 0
+    FollowsInMode w g premises =
         (v : t.Values)
         → FollowsFrom t (p.handled w g.0 g.1)
         (IsInstance t (λ q. IsAmong (goal_in g.0 q, kind_of q) premises × (t.is_coinductive q ≡ (p.handled w g.0 g.1).coinductive)) v) v
 
     -- each solution of the goal agrees with the answer
-    abbrev pub CoversGoal : p.World → Asked → Option Response → Type 0
+    abbrev pub CoversGoal : p.World → GoalInMode → Option Response → Type 0
     CoversGoal w g a =
         (x : (p.handled w g.0 g.1).World) (v : t.Values) → (p.handled w g.0 g.1).Proves x ((p.handled w g.0 g.1).goal v) → AgreesTo t a v
 
     -- each solution of the goal agrees with the answer, and the answer's terms are no wider than those of the goal's frame
-    pub record AnswersGoal (w : p.World) (g : Asked) (a : Option Response) : Type 0 where
+    pub record AnswersGoal (w : p.World) (g : GoalInMode) (a : Option Response) : Type 0 where
       pub covers : CoversGoal w g a
       pub within : AnswerWithin t (p.handled w g.0 g.1).widest a
 
-    module _ {C I R F : Type 0} (handles : Handles C I R F p.World Asked (Option Response)) where
+    module _ {C I R F : Type 0} (handles : Handles C I R F p.World GoalInMode (Option Response)) where
       abbrev pub meaning : Meaning C I R F
       meaning = record {
         World = p.World;
-        Goal = Asked;
+        Goal = GoalInMode;
         Answer = Option Response;
         world = handles.world;
         IsFull = handles.IsFull;
@@ -117,7 +117,7 @@ module _ {Question Response : Type 0} (t : Tables Question Response) where
         asks = asks;
         is_yes = is_yes_answer;
         is_ambiguous = is_ambiguous_answer;
-        Follows = Follows;
+        Follows = FollowsInMode;
         initial = λ w g k. p.initial w g.0 g.1 k;
         stack_overflow = λ w g. p.overflow w g.0 g.1;
         fixpoint_overflow = λ w g. p.overflow w g.0 g.1;

@@ -10,7 +10,7 @@ use Rattle.evaluation.specs.Handler.{Handled}
 use Rattle.evaluation.specs.History.{Reply}
 use Rattle.evaluation.specs.OpenCandidates.{questions_left}
 use Rattle.evaluation.specs.Tables.{frame_tables}
-use Rattle.goal_frames.specs.Frames.{IsDue, Steps}
+use Rattle.goal_frames.specs.Frames.{ReplyIsDue, FrameSteps}
 use Rattle.goal_frames.specs.declared.frame.GoalFrame.{GoalFrame}
 use Rattle.goal_frames.specs.declared.frame.Place.{Place}
 use Rattle.goal_frames.specs.declared.frame.Place.TheVariants as InCode
@@ -46,4 +46,4 @@ module _ (h : Handled frame_tables) where
   abbrev pub StepsFall : Type 0
   StepsFall =
       (old new : List Entry) (before after : GoalFrame) (reply : Reply (Option AnswerTrees)) (q : Request CanonicalInput (Option CanonicalResponse))
-      → IsDue old h before reply → Steps old h before reply new after q → AsksFewer before.place after.place → steps_left after < steps_left before
+      → ReplyIsDue old h before reply → FrameSteps old h before reply new after q → AsksFewer before.place after.place → steps_left after < steps_left before

@@ -77,7 +77,7 @@ abbrev pub answer_at : List Entry → GoalStore → ResponseId → Option Answer
 answer_at es s i = option_map (answer_trees es) (response_at s i)
 
 -- the handles of all that is kept are the interner's
-pub record IsHeld (es : List Entry) (s : GoalStore) : Type 0 where
+pub record StoreIsHeld (es : List Entry) (s : GoalStore) : Type 0 where
   pub inputs : (i : InputId) (a : CanonicalInput) → input_at s i ≡ Some a → GoalHeld es a.goal
   pub responses : (i : ResponseId) (r : CanonicalResponse) → response_at s i ≡ Some r → ResponseHeld es r
 
@@ -89,17 +89,17 @@ StandsForGoal es s i m g = goal_at es s i ≡ Some (record { mode = m; form = ca
 -- two numbers are equal exactly if their goals are asked in one mode and a renaming carries the one to the other
 abbrev pub NumbersTellQuestions : Type 0
 NumbersTellQuestions =
-    (es : List Entry) (s : GoalStore) (i j : InputId) (m n : TypingMode) (g h : GoalTrees) → Lawful es → IsHeld es s → IsWithoutCanonical g → IsWithoutCanonical h
+    (es : List Entry) (s : GoalStore) (i j : InputId) (m n : TypingMode) (g h : GoalTrees) → Lawful es → StoreIsHeld es s → IsWithoutCanonical g → IsWithoutCanonical h
     → StandsForGoal es s i m g → StandsForGoal es s j n h → (i ≡ j) ↔ IsOneQuestion m g n h
 
 -- the form of a goal finds the number of any goal that a renaming carries to it
 abbrev pub FindsRenamed : GoalStore → CanonicalInput → Result InputId Fault → Type 0
 FindsRenamed s a r =
-    (es : List Entry) (i : InputId) (g h : GoalTrees) → Lawful es → IsHeld es s → IsCanonicalInput es h a → StandsForGoal es s i a.mode g → AreRenamings g h → r ≡ Ok i
+    (es : List Entry) (i : InputId) (g h : GoalTrees) → Lawful es → StoreIsHeld es s → IsCanonicalInput es h a → StandsForGoal es s i a.mode g → AreRenamings g h → r ≡ Ok i
 
 -- ---- how a store changes
 -- each number of the first stands for the same in the second
-pub record Grows (old new : GoalStore) : Type 0 where
+pub record StoreGrows (old new : GoalStore) : Type 0 where
   pub inputs : (i : InputId) (a : CanonicalInput) → input_at old i ≡ Some a → input_at new i ≡ Some a
   pub responses : (i : ResponseId) (r : CanonicalResponse) → response_at old i ≡ Some r → response_at new i ≡ Some r
 

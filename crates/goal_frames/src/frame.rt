@@ -10,8 +10,8 @@ ghost use Rattle.evaluation.specs.Readings.{ResultHeld, SpecHeld, is_coinductive
 ghost use Rattle.goal_frames.specs.Searches.{step_kind};
 ghost use Rattle.goal_frames.specs.Meanings.{goal_meaning};
 ghost use Rattle.goal_frames.specs.Fitting.{ResultFits};
-ghost use Rattle.goal_frames.specs.Places.{Standing};
-ghost use Rattle.goal_frames.specs.Frames.{FrameHeld, HasHeard, IsDue, IsReply, RequestHeld, Steps, AsksHandler, AsksAt, GoesOnWith, IgnoresAt, IsAtStep, IsFinishingWith, reply_read};
+ghost use Rattle.goal_frames.specs.Places.{FrameStanding};
+ghost use Rattle.goal_frames.specs.Frames.{FrameHeld, HasHeard, ReplyIsDue, ReplyIsMade, RequestHeld, FrameSteps, AsksHandler, AsksAt, GoesOnWith, IgnoresAt, IsAtStep, IsFinishingWith, reply_read};
 ghost use Rattle.goal_frames.specs.Shortages.{NextRunsOut, FrameRunsOut};
 ghost use Rattle.goal_frames.specs.Steps.{AsksFewer};
 
@@ -130,14 +130,14 @@ impl GoalFrame {
         reply: Reply<Option<CanonicalResponse>>,
     ) -> Result<Request<CanonicalInput, Option<CanonicalResponse>>, Fault>
         requires ready { H.meaning.IsReady handler.now cx.old.entries }
-        requires reply { IsReply cx.old.entries reply }
-        requires due { IsDue cx.old.entries (goal_meaning H.meaning handler.now cx.old.entries self.old.goal) self.old (reply_read cx.old.entries reply) }
+        requires reply { ReplyIsMade cx.old.entries reply }
+        requires due { ReplyIsDue cx.old.entries (goal_meaning H.meaning handler.now cx.old.entries self.old.goal) self.old (reply_read cx.old.entries reply) }
         ensures goal { self.new.goal ≡ self.old.goal }
         ensures keeps { Keeps cx.old.entries cx.new.entries }
         ensures limit { cx.new.limit ≡ cx.old.limit }
         ensures held { IfOk result (RequestHeld cx.new.entries) }
         ensures steps { IfOk result (let h = goal_meaning H.meaning handler.now cx.old.entries self.old.goal in
-            Steps cx.old.entries h self.old (reply_read cx.old.entries reply) cx.new.entries self.new) }
+            FrameSteps cx.old.entries h self.old (reply_read cx.old.entries reply) cx.new.entries self.new) }
 
         // `Full` comes only where some kind of term has reached the interner's limit, or numbers are used up.
         ensures full { result ≡ Err Fault.Full → SomeKindIsFull cx.new.entries cx.new.limit
@@ -180,13 +180,13 @@ impl GoalFrame {
     ) -> Result<Request<CanonicalInput, Option<CanonicalResponse>>, Fault>
         requires ready { H.meaning.IsReady handler.now cx.old.entries }
         requires held { FrameHeld cx.old.entries self.old }
-        requires between { (p : Standing) × AsksHandler cx.old.entries (goal_meaning H.meaning handler.now cx.old.entries self.old.goal) self.old p }
+        requires between { (p : FrameStanding) × AsksHandler cx.old.entries (goal_meaning H.meaning handler.now cx.old.entries self.old.goal) self.old p }
         ensures goal { self.new.goal ≡ self.old.goal }
         ensures keeps { Keeps cx.old.entries cx.new.entries }
         ensures limit { cx.new.limit ≡ cx.old.limit }
         ensures held { IfOk result (λ q. FrameHeld cx.new.entries self.new × RequestHeld cx.new.entries q) }
         ensures asks { IfOk result (λ q. let h = goal_meaning H.meaning handler.now cx.old.entries self.old.goal in
-            (p : Standing) → AsksHandler cx.old.entries h self.old p → AsksAt self.old.goal.mode cx.new.entries h self.new q p) }
+            (p : FrameStanding) → AsksHandler cx.old.entries h self.old p → AsksAt self.old.goal.mode cx.new.entries h self.new q p) }
         ensures full { result ≡ Err Fault.Full → SomeKindIsFull cx.new.entries cx.new.limit
             ⊎ NextRunsOut cx.old.entries (goal_meaning H.meaning handler.now cx.old.entries self.old.goal) self.old.goal.variables.items self.old.considered.items }
     {

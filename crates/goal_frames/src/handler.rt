@@ -7,13 +7,13 @@ ghost use Rattle.infer_table.specs.declared.certainty.TypingMode.{TypingMode};
 ghost use Rattle.infer_table.specs.Canonical.{CanonicalForm};
 ghost use Rattle.infer_table.specs.Goals.{GoalHeld};
 ghost use Rattle.evaluation.specs.Promises.{DefiniteYesFollows, AnswerCoversGoal, IsBounded, KeepsNumber, IgnoresFinishedOnce};
-ghost use Rattle.evaluation.specs.Readings.{IsOfTrait, ConsideredHeld, StepHeld};
+ghost use Rattle.evaluation.specs.Readings.{IsOfTrait, ConsideredHeld, HandlerStepHeld};
 ghost use Rattle.evaluation.specs.Tables.{frame_tables};
 ghost use Rattle.evaluation.specs.StepReadings.{HasHistory, IsNextAfter};
 ghost use Rattle.goal_frames.specs.Fitting.{ConsideredFits, StepFits};
 ghost use Rattle.goal_frames.specs.Shortages.{NextRunsOut};
 ghost use Rattle.goal_frames.specs.Meanings.{HandlerMeaning, goal_meaning};
-ghost use Rattle.goal_frames.specs.HandlerPrograms.{IsLawful, HandlersArePrograms};
+ghost use Rattle.goal_frames.specs.HandlerPrograms.{HandlerIsLawful, HandlersArePrograms};
 ghost use Rattle.goal_frames.specs.Steps.{StepsFall};
 
 use evaluation::{Considered, HandlerStep};
@@ -50,7 +50,7 @@ pub trait GoalHandler {
         requires history { HasHistory cx.old.entries (goal_meaning meaning self.now cx.old.entries goal.now) done.now }
         ensures keeps { Keeps cx.old.entries cx.new.entries }
         ensures limit { cx.new.limit ≡ cx.old.limit }
-        ensures held { IfOk result (StepHeld cx.new.entries) }
+        ensures held { IfOk result (HandlerStepHeld cx.new.entries) }
         ensures fits { IfOk result (StepFits goal.now.variables.items cx.new.entries) }
 
         // It is what comes next in each history that the candidates show.
@@ -64,7 +64,7 @@ pub trait GoalHandler {
     fn trait_is_coinductive(&self, def_id: TraitId) -> bool
         ensures { (es : List Entry) (mode : TypingMode) (goal : CanonicalForm) → IsOfTrait def_id.index goal → result ≡ (meaning.goals.handled (meaning.world self.now es) mode goal).coinductive };
 
-    ghost lawful: { IsLawful meaning };
+    ghost lawful: { HandlerIsLawful meaning };
 }
 
 /// The frames of a handler's goals keep all that is promised of frames, and with each step they have fewer left.

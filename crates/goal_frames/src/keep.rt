@@ -6,7 +6,7 @@ ghost use Rattle.type_terms.specs.Terms.{Entry, Lawful};
 ghost use Rattle.type_terms.specs.declared.Fault.TheVariants.{Memory, Full};
 ghost use Rattle.infer_table.specs.Goals.{GoalHeld};
 ghost use Rattle.infer_table.specs.Responses.{ResponseHeld, answer_trees};
-ghost use Rattle.goal_frames.specs.Stores.{kept_inputs, kept_responses, limit_of, room_for_inputs, room_for_responses, StandsForInput, StandsForResponse, IsNewInput, IsNewResponse, AddsInput, AddsResponse, asked_goal, goal_at, answer_at, IsHeld, Grows, FindsRenamed};
+ghost use Rattle.goal_frames.specs.Stores.{kept_inputs, kept_responses, limit_of, room_for_inputs, room_for_responses, StandsForInput, StandsForResponse, IsNewInput, IsNewResponse, AddsInput, AddsResponse, asked_goal, goal_at, answer_at, StoreIsHeld, StoreGrows, FindsRenamed};
 
 use crate::store::{GoalStore, InputId, ResponseId};
 use indexmap::IndexSet;
@@ -22,7 +22,7 @@ impl GoalStore {
         ensures inputs { kept_inputs result ≡ [] }
         ensures responses { kept_responses result ≡ [] }
         ensures limit { limit_of result ≡ limit }
-        ensures held { (es : List Entry) → IsHeld es result }
+        ensures held { (es : List Entry) → StoreIsHeld es result }
     {
         GoalStore {
             inputs: IndexSet::new(alloc),
@@ -39,15 +39,15 @@ impl GoalStore {
     pub fn keep_input(&mut self, input: CanonicalInput) -> Result<InputId, Fault>
         ensures is { IfOk result (λ id. StandsForInput self.new id input) }
         ensures goal { IfOk result (λ id. (es : List Entry) → goal_at es self.new id ≡ Some (asked_goal es input)) }
-        ensures grows { Grows self.old self.new }
+        ensures grows { StoreGrows self.old self.new }
         ensures adds { OnOk result (AddsInput self.old input self.new) }
         ensures responses { kept_responses self.new ≡ kept_responses self.old }
         ensures limit { limit_of self.new ≡ limit_of self.old }
-        ensures held { (es : List Entry) → GoalHeld es input.goal → IsHeld es self.old → IsHeld es self.new }
+        ensures held { (es : List Entry) → GoalHeld es input.goal → StoreIsHeld es self.old → StoreIsHeld es self.new }
 
         // A goal that is there keeps its number, and so does one that asks the same, if under other names.
         ensures found { (id : InputId) → StandsForInput self.old id input → result ≡ Ok id }
-        ensures known { (es : List Entry) (id : InputId) → Lawful es → IsHeld es self.old → GoalHeld es input.goal → goal_at es self.old id ≡ Some (asked_goal es input) → result ≡ Ok id }
+        ensures known { (es : List Entry) (id : InputId) → Lawful es → StoreIsHeld es self.old → GoalHeld es input.goal → goal_at es self.old id ≡ Some (asked_goal es input) → result ≡ Ok id }
         ensures renamed { FindsRenamed self.old input result }
 
         ensures refused { OnErr result (kept_inputs self.new ≡ kept_inputs self.old) }
@@ -64,15 +64,15 @@ impl GoalStore {
     pub fn keep_response(&mut self, response: CanonicalResponse) -> Result<ResponseId, Fault>
         ensures is { IfOk result (λ id. StandsForResponse self.new id response) }
         ensures answer { IfOk result (λ id. (es : List Entry) → answer_at es self.new id ≡ Some (answer_trees es response)) }
-        ensures grows { Grows self.old self.new }
+        ensures grows { StoreGrows self.old self.new }
         ensures adds { OnOk result (AddsResponse self.old response self.new) }
         ensures inputs { kept_inputs self.new ≡ kept_inputs self.old }
         ensures limit { limit_of self.new ≡ limit_of self.old }
-        ensures held { (es : List Entry) → ResponseHeld es response → IsHeld es self.old → IsHeld es self.new }
+        ensures held { (es : List Entry) → ResponseHeld es response → StoreIsHeld es self.old → StoreIsHeld es self.new }
 
         // An answer that is there keeps its number, and so does one that says the same.
         ensures found { (id : ResponseId) → StandsForResponse self.old id response → result ≡ Ok id }
-        ensures known { (es : List Entry) (id : ResponseId) → Lawful es → IsHeld es self.old → ResponseHeld es response → answer_at es self.old id ≡ Some (answer_trees es response) → result ≡ Ok id }
+        ensures known { (es : List Entry) (id : _) → Lawful es → StoreIsHeld es self.old → ResponseHeld es response → answer_at es self.old id ≡ Some (answer_trees es response) → result ≡ Ok id }
 
         ensures refused { OnErr result (kept_responses self.new ≡ kept_responses self.old) }
         ensures absent { OnErr result (IsNewResponse self.old response) }

@@ -4,7 +4,7 @@ ghost use Rattle.type_terms.specs.Terms.{Entry};
 ghost use Rattle.type_terms.specs.declared.Fault.TheVariants.{Memory};
 ghost use Rattle.infer_table.specs.Goals.{GoalHeld};
 ghost use Rattle.infer_table.specs.Responses.{ResponseHeld, answer_trees};
-ghost use Rattle.goal_frames.specs.Stores.{input_at, response_at, HasInput, HasResponse, StandsForInput, StandsForResponse, asked_goal, goal_at, answer_at, IsHeld};
+ghost use Rattle.goal_frames.specs.Stores.{input_at, response_at, HasInput, HasResponse, StandsForInput, StandsForResponse, asked_goal, goal_at, answer_at, StoreIsHeld};
 
 use crate::store::{GoalStore, InputId, ResponseId};
 use infer_table::input::CanonicalInput;
@@ -16,7 +16,7 @@ impl GoalStore {
     pub fn input(&self, id: InputId) -> &CanonicalInput
         requires { HasInput self.now id }
         ensures is { input_at self.now id ≡ Some result.now }
-        ensures held { (es : List Entry) → IsHeld es self.now → GoalHeld es result.now.goal }
+        ensures held { (es : List Entry) → StoreIsHeld es self.now → GoalHeld es result.now.goal }
     {
         match self.inputs.get_index(id.0 as usize) {
             Some(input) => input,
@@ -28,7 +28,7 @@ impl GoalStore {
     pub fn response(&self, id: ResponseId) -> &CanonicalResponse
         requires { HasResponse self.now id }
         ensures is { response_at self.now id ≡ Some result.now }
-        ensures held { (es : List Entry) → IsHeld es self.now → ResponseHeld es result.now }
+        ensures held { (es : List Entry) → StoreIsHeld es self.now → ResponseHeld es result.now }
     {
         match self.responses.get_index(id.0 as usize) {
             Some(response) => response,
@@ -43,7 +43,7 @@ impl GoalStore {
         requires { HasInput self.now id }
         ensures is { IfOk result (StandsForInput self.now id) }
         ensures goal { IfOk result (λ copy. (es : List Entry) → goal_at es self.now id ≡ Some (asked_goal es copy)) }
-        ensures held { IfOk result (λ copy. (es : List Entry) → IsHeld es self.now → GoalHeld es copy.goal) }
+        ensures held { IfOk result (λ copy. (es : List Entry) → StoreIsHeld es self.now → GoalHeld es copy.goal) }
         ensures memory { IfErr result (λ fault. fault ≡ Memory) }
     {
         let copy = self.input(id).clone()?;
@@ -57,7 +57,7 @@ impl GoalStore {
         requires { HasResponse self.now id }
         ensures is { IfOk result (StandsForResponse self.now id) }
         ensures answer { IfOk result (λ copy. (es : List Entry) → answer_at es self.now id ≡ Some (answer_trees es copy)) }
-        ensures held { IfOk result (λ copy. (es : List Entry) → IsHeld es self.now → ResponseHeld es copy) }
+        ensures held { IfOk result (λ copy. (es : List Entry) → StoreIsHeld es self.now → ResponseHeld es copy) }
         ensures memory { IfErr result (λ fault. fault ≡ Memory) }
     {
         let copy = self.response(id).clone()?;

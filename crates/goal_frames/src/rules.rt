@@ -3,7 +3,7 @@
 ghost use Rattle.std.specs.Prelude.{Bool};
 ghost use Rattle.evaluation.specs.Table.{Tables, IsTable};
 ghost use Rattle.evaluation.specs.Handler.{IsHandler};
-ghost use Rattle.evaluation.specs.Merge.{TellsApart, IsTest};
+ghost use Rattle.evaluation.specs.Merge.{TellsResponsesApart, IsTest};
 ghost use Rattle.goal_frames.specs.Listings.{Listing, IsListing, listed};
 ghost use Rattle.goal_frames.specs.Handlers.{HandlersAreLawful};
 ghost use Rattle.goal_frames.specs.RulePrograms.{RulesArePrograms};
@@ -30,7 +30,7 @@ pub trait Listed {
 pub fn listings_are_lawful<L: Listed>()
     requires tables { IsTable L.tables }
     requires test { IsTest L.tables L.applicable }
-    requires told { TellsApart L.same }
+    requires told { TellsResponsesApart L.same }
     requires list { IsListing L.tables L.applicable L.same L.listing }
     ensures { IsHandler L.tables (listed L.tables L.applicable L.same L.listing) }
 {}

@@ -4,8 +4,8 @@ ghost use Rattle.std.specs.Prelude.{Option};
 ghost use Rattle.evaluation.specs.Table.{Tables, IsTable};
 ghost use Rattle.search_graph.specs.Meaning.{IsLawful};
 ghost use Rattle.goal_frames.specs.Programs.{Programs, ArePrograms};
-ghost use Rattle.goal_frames.specs.Searches.{Handles, Asked, meaning};
-ghost use Rattle.goal_frames.specs.Graphs.{GraphsProve};
+ghost use Rattle.goal_frames.specs.Searches.{Handles, GoalInMode, meaning};
+ghost use Rattle.goal_frames.specs.Graphs.{GraphsGiveProofLists};
 ghost use Rattle.goal_frames.specs.Orders.{KeepOrder, End, SilentIsFair};
 
 /// Handlers of goals, the tables that their candidates are evaluated in, and the handles by which a search knows goals and answers.
@@ -26,7 +26,7 @@ pub trait Searching {
 
     ghost Frame: { Type 0 };
 
-    ghost handles: { Handles Context Input Result Frame programs.World (Asked tables programs) (Option Response) };
+    ghost handles: { Handles Context Input Result Frame programs.World (GoalInMode tables programs) (Option Response) };
 }
 
 /// Where the tables and the handlers are lawful, so is what their frames mean to a search: a definite yes of a frame follows by a
@@ -63,5 +63,5 @@ pub fn frames_end<S: Searching>()
 /// goals.
 pub fn graphs_prove<S: Searching>()
     requires { ArePrograms S.tables S.programs }
-    ensures { GraphsProve S.tables S.programs }
+    ensures { GraphsGiveProofLists S.tables S.programs }
 {}

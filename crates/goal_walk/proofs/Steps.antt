@@ -17,7 +17,7 @@ use Rattle.goal_frames.specs.declared.store.ResponseId.{ResponseId}
 use Rattle.type_terms.specs.Terms as Terms
 use Rattle.solver_context.specs.Contexts.{Asked, entries_of, IsInput, IsReady}
 use Rattle.solver_context.specs.Lawful.{steps-kept}
-use Rattle.solver_context.specs.Searching.{solver_meaning, HasHeard, steps_left}
+use Rattle.solver_context.specs.Searching.{solver_meaning, FrameHasHeard, steps_left}
 use Rattle.solver_context.specs.declared.context.SolverCx.{SolverCx}
 use Rattle.goal_walk.specs.Frames.{IsWalked}
 use Rattle.goal_walk.specs.declared.frames.FrameWalk.{FrameWalk}
@@ -82,10 +82,10 @@ module _ {Handler : Type 0} (handler : HandlerMeaning Handler) where
       }
 
   -- the first reply
-  pub begins-due : (c : SolverCx Handler) (goal : Asked) (f : GoalFrame) → HasHeard handler c goal [] f → IsDue m c f Begin
+  pub begins-due : (c : SolverCx Handler) (goal : Asked) (f : GoalFrame) → FrameHasHeard handler c goal [] f → IsDue m c f Begin
   begins-due c goal f h = (goal, [], h, refl)
 
-  pub begun : (c d : SolverCx Handler) → Keeps m c d → (goal : Asked) (f g : GoalFrame) → HasHeard handler c goal [] f → (q : Asking) (cs : Candidates) → Steps m c f Begin d g q
+  pub begun : (c d : SolverCx Handler) → Keeps m c d → (goal : Asked) (f g : GoalFrame) → FrameHasHeard handler c goal [] f → (q : Asking) (cs : Candidates) → Steps m c f Begin d g q
       → cs.open ≡ false → cs.finished.items ≡ [] → IsWalked handler d (record { frame = g; request = q; candidates = cs })
   begun c d k goal f g h q cs s o l =
       let there = s.1 goal [] h refl in

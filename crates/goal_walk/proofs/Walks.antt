@@ -22,7 +22,7 @@ use Rattle.solver_context.specs.Contexts.{entries_of, IsInput, IsReady}
 use Rattle.solver_context.specs.Searching.{solver_meaning}
 use Rattle.solver_context.proofs.Caches.{justified-later}
 use Rattle.solver_context.specs.declared.context.SolverCx.{SolverCx}
-use Rattle.goal_walk.specs.Walking.{Known, IsAskable, HasAsked, IsWalkable, HasWalked, ReferencesHeld, GoalsHeld}
+use Rattle.goal_walk.specs.Walking.{KnownAnswers, WalkIsAskable, WalkHasAsked, IsWalkable, HasWalked, ReferencesHeld, GoalsHeld}
 
 -- ---- handles of an interner that has grown
 pub references-later : (old new : List Entry) → Keeps old new → (rs : List TraitRef) → ReferencesHeld old rs → ReferencesHeld new rs
@@ -55,10 +55,10 @@ ready-later old new k t r = ready-grow old new t t k (λ s. le_refl (variables_o
 
 -- ---- askings and walks, one after the other
 module _ {Handler : Type 0} (handler : HandlerMeaning Handler) where
-  pub asked-none : (g : SearchState) (c : SolverCx Handler) → HasAsked handler g c g c
+  pub asked-none : (g : SearchState) (c : SolverCx Handler) → WalkHasAsked handler g c g c
   asked-none g c = record { depth = refl; keeps = Keeps-refl (solver_meaning handler) c; entries = λ i x h. h }
 
-  pub asked-further : (g h i : SearchState) (c d e : SolverCx Handler) → HasAsked handler g c h d → HasAsked handler h d i e → HasAsked handler g c i e
+  pub asked-further : (g h i : SearchState) (c d e : SolverCx Handler) → WalkHasAsked handler g c h d → WalkHasAsked handler h d i e → WalkHasAsked handler g c i e
   asked-further g h i c d e x y = record {
     depth = y.depth ∙ x.depth;
     keeps = Keeps-trans (solver_meaning handler) c d e x.keeps y.keeps;
@@ -72,24 +72,24 @@ module _ {Handler : Type 0} (handler : HandlerMeaning Handler) where
   walked-further g h i c d e t u v x y = record { asked = asked-further g h i c d e x.asked y.asked; grows = grows-trans t u v x.grows y.grows }
 
   -- after a search
-  pub askable-after : (graph : SearchState) (ks : Known) (c d : SolverCx Handler) → Search.Keeps (solver_meaning handler) c d → (i : InputId) → IsInput handler.IsReady c i
-      → graph.current_depth ≡ 0 → AreJustified (solver_meaning handler) d ks → IsAskable handler graph ks d
+  pub askable-after : (graph : SearchState) (ks : KnownAnswers) (c d : SolverCx Handler) → Search.Keeps (solver_meaning handler) c d → (i : InputId) → IsInput handler.IsReady c i
+      → graph.current_depth ≡ 0 → AreJustified (solver_meaning handler) d ks → WalkIsAskable handler graph ks d
   askable-after graph ks c d k i h e j = record { empty = e; cache = j; ready = (k.inputs i h).0.0 }
 
-  pub asked-after : (graph left : SearchState) (c d : SolverCx Handler) → Search.Keeps (solver_meaning handler) c d → left.root_depth ≡ graph.root_depth → HasAsked handler graph c left d
+  pub asked-after : (graph left : SearchState) (c d : SolverCx Handler) → Search.Keeps (solver_meaning handler) c d → left.root_depth ≡ graph.root_depth → WalkHasAsked handler graph c left d
   asked-after graph left c d k e = record { depth = e; keeps = k; entries = λ i x h. k.held (i, x) h }
 
   -- where the context has grown alone
-  pub askable-later : (graph : SearchState) (ks : Known) (c d : SolverCx Handler) → Search.Keeps (solver_meaning handler) c d → IsReady handler.IsReady d
-      → AreJustified (solver_meaning handler) d ks → IsAskable handler graph ks c → IsAskable handler graph ks d
+  pub askable-later : (graph : SearchState) (ks : KnownAnswers) (c d : SolverCx Handler) → Search.Keeps (solver_meaning handler) c d → IsReady handler.IsReady d
+      → AreJustified (solver_meaning handler) d ks → WalkIsAskable handler graph ks c → WalkIsAskable handler graph ks d
   askable-later graph ks c d k r j x = record { empty = x.empty; cache = j; ready = r }
 
   -- goals can be walked after an asking, and where the context has grown alone
-  pub walkable-asked : (g h : SearchState) (ks ls : Known) (c d : SolverCx Handler) (t u : Table) (rs : List TraitRef) → IsWalkable handler g ks c t rs → IsAskable handler h ls d
+  pub walkable-asked : (g h : SearchState) (ks ls : KnownAnswers) (c d : SolverCx Handler) (t u : Table) (rs : List TraitRef) → IsWalkable handler g ks c t rs → WalkIsAskable handler h ls d
       → Keeps (entries_of c) (entries_of d) → Ready (entries_of d) u → IsWalkable handler h ls d u rs
   walkable-asked g h ks ls c d t u rs x a k r = record { askable = a; table = r; references = references-later (entries_of c) (entries_of d) k rs x.references }
 
-  pub walkable-later : (graph : SearchState) (ks : Known) (c d : SolverCx Handler) (t : Table) (rs : List TraitRef) → Search.Keeps (solver_meaning handler) c d → IsReady handler.IsReady d
+  pub walkable-later : (graph : SearchState) (ks : KnownAnswers) (c d : SolverCx Handler) (t : Table) (rs : List TraitRef) → Search.Keeps (solver_meaning handler) c d → IsReady handler.IsReady d
       → IsWalkable handler graph ks c t rs → IsWalkable handler graph ks d t rs
   walkable-later graph ks c d t rs k r x =
       let same : Keeps (entries_of c) (entries_of d) = λ i e h. k.held (i, e) h in
@@ -99,30 +99,30 @@ module _ {Handler : Type 0} (handler : HandlerMeaning Handler) where
         references = references-later (entries_of c) (entries_of d) same rs x.references;
       }
 
-  pub walkable-met : (g : SearchState) (ks : Known) (c : SolverCx Handler) (t : Table) (rs more : List TraitRef) (r : TraitRef) → IsWalkable handler g ks c t rs
+  pub walkable-met : (g : SearchState) (ks : KnownAnswers) (c : SolverCx Handler) (t : Table) (rs more : List TraitRef) (r : TraitRef) → IsWalkable handler g ks c t rs
       → Has (entries_of c) args_lists r.args.0 → (more ≡ rs) ⊎ (more ≡ rs ++ r ∷ []) → IsWalkable handler g ks c t more
   walkable-met g ks c t rs more r x h m = record { askable = x.askable; table = x.table; references = references-met (entries_of c) rs more r x.references h m }
 
-  pub asked-grown : (g : SearchState) (c d : SolverCx Handler) → Search.Keeps (solver_meaning handler) c d → HasAsked handler g c g d
+  pub asked-grown : (g : SearchState) (c d : SolverCx Handler) → Search.Keeps (solver_meaning handler) c d → WalkHasAsked handler g c g d
   asked-grown g c d k = asked-after g g c d k refl
 
-  pub walked-asked : (g h : SearchState) (c d : SolverCx Handler) (t : Table) → HasAsked handler g c h d → HasWalked handler g c t h d t
+  pub walked-asked : (g h : SearchState) (c d : SolverCx Handler) (t : Table) → WalkHasAsked handler g c h d → HasWalked handler g c t h d t
   walked-asked g h c d t a = record { asked = a; grows = grows-refl t }
 
   -- where the table is put back to what it was
-  pub walkable-back : (g h : SearchState) (ks ls : Known) (c d : SolverCx Handler) (t v : Table) (rs ss : List TraitRef) → IsWalkable handler g ks c t rs → IsAskable handler h ls d
-      → ReferencesHeld (entries_of d) ss → HasAsked handler g c h d → v ≡ t → IsWalkable handler h ls d v ss
+  pub walkable-back : (g h : SearchState) (ks ls : KnownAnswers) (c d : SolverCx Handler) (t v : Table) (rs ss : List TraitRef) → IsWalkable handler g ks c t rs → WalkIsAskable handler h ls d
+      → ReferencesHeld (entries_of d) ss → WalkHasAsked handler g c h d → v ≡ t → IsWalkable handler h ls d v ss
   walkable-back g h ks ls c d t v rs ss x a r k e = record {
     askable = a;
     table = subst (Ready (entries_of d)) (sym e) (ready-later (entries_of c) (entries_of d) k.entries t x.table);
     references = r;
   }
 
-  pub walked-back : (g h : SearchState) (c d : SolverCx Handler) (t v : Table) → HasAsked handler g c h d → v ≡ t → HasWalked handler g c t h d v
+  pub walked-back : (g h : SearchState) (c d : SolverCx Handler) (t v : Table) → WalkHasAsked handler g c h d → v ≡ t → HasWalked handler g c t h d v
   walked-back g h c d t v k e = record { asked = k; grows = subst (Grows t) (sym e) (grows-refl t) }
 
   -- where references stay
-  pub walkable-same : (g : SearchState) (ks : Known) (c : SolverCx Handler) (t : Table) (rs ss : List TraitRef) → IsWalkable handler g ks c t rs → ss ≡ rs → IsWalkable handler g ks c t ss
+  pub walkable-same : (g : SearchState) (ks : KnownAnswers) (c : SolverCx Handler) (t : Table) (rs ss : List TraitRef) → IsWalkable handler g ks c t rs → ss ≡ rs → IsWalkable handler g ks c t ss
   walkable-same g ks c t rs ss x e = record { askable = x.askable; table = x.table; references = subst (ReferencesHeld (entries_of c)) (sym e) x.references }
 
   -- and where the context grows after a walk

@@ -5,7 +5,7 @@ use Rattle.search_graph.specs.declared.delegate.Reply.{Reply}
 use Rattle.infer_table.specs.Responses.{AnswerTrees}
 use Rattle.goal_frames.specs.Meanings.{HandlerMeaning}
 use Rattle.solver_context.specs.Contexts.{Asked}
-use Rattle.solver_context.specs.Searching.{solver_meaning, HasHeard, world_of}
+use Rattle.solver_context.specs.Searching.{solver_meaning, FrameHasHeard, world_of}
 use Rattle.solver_context.specs.declared.context.SolverCx.{SolverCx}
 use Rattle.goal_walk.specs.declared.frames.FrameWalk.{FrameWalk}
 
@@ -16,7 +16,7 @@ module _ {Handler : Type 0} (handler : HandlerMeaning Handler) where
     pub goal : Asked
     pub last : Reply (Option AnswerTrees)
     pub heard : List (Reply (Option AnswerTrees))
-    pub hears : HasHeard handler c goal (last ∷ heard) w.frame
+    pub hears : FrameHasHeard handler c goal (last ∷ heard) w.frame
     pub known : IsRequest (solver_meaning handler) c w.request
     pub asks : request_of (solver_meaning handler) c w.request ≡ (solver_meaning handler).asks (world_of handler c) goal (last ∷ heard)
     pub opened : w.candidates.open ≡ is_open (solver_meaning handler) (last ∷ heard)

@@ -16,8 +16,8 @@ use Rattle.solver_context.specs.Contexts.{entries_of, IsReady}
 use Rattle.solver_context.specs.Searching.{solver_meaning}
 use Rattle.solver_context.specs.declared.context.SolverCx.{SolverCx}
 
-abbrev pub Known : Type 0
-Known = List (KnownResult InputId (Option ResponseId))
+abbrev pub KnownAnswers : Type 0
+KnownAnswers = List (KnownResult InputId (Option ResponseId))
 
 -- The references' arguments are the interner's.
 abbrev pub ReferencesHeld : List Entry → List TraitRef → Type 0
@@ -29,24 +29,24 @@ GoalsHeld es gs = Every (GoalHeld es) gs
 
 module _ {Handler : Type 0} (handler : HandlerMeaning Handler) where
   -- A search can be asked: none runs, the cache is justified, and all handles are the interner's.
-  pub record IsAskable (graph : SearchState) (ks : Known) (c : SolverCx Handler) : Type 0 where
+  pub record WalkIsAskable (graph : SearchState) (ks : KnownAnswers) (c : SolverCx Handler) : Type 0 where
     pub empty : graph.current_depth ≡ 0
     pub cache : AreJustified (solver_meaning handler) c ks
     pub ready : IsReady handler.IsReady c
 
   -- What asking keeps: the depth of the graph, and of the context all that it had.
-  pub record HasAsked (graph : SearchState) (c : SolverCx Handler) (graph_left : SearchState) (d : SolverCx Handler) : Type 0 where
+  pub record WalkHasAsked (graph : SearchState) (c : SolverCx Handler) (graph_left : SearchState) (d : SolverCx Handler) : Type 0 where
     pub depth : graph_left.root_depth ≡ graph.root_depth
     pub keeps : Search.Keeps (solver_meaning handler) c d
     pub entries : Keeps (entries_of c) (entries_of d)
 
   -- Goals of a table can be walked.
-  pub record IsWalkable (graph : SearchState) (ks : Known) (c : SolverCx Handler) (t : Table) (rs : List TraitRef) : Type 0 where
-    pub askable : IsAskable graph ks c
+  pub record IsWalkable (graph : SearchState) (ks : KnownAnswers) (c : SolverCx Handler) (t : Table) (rs : List TraitRef) : Type 0 where
+    pub askable : WalkIsAskable graph ks c
     pub table : Ready (entries_of c) t
     pub references : ReferencesHeld (entries_of c) rs
 
   -- What a walk keeps: what asking does, and of the table all that it had.
   pub record HasWalked (graph : SearchState) (c : SolverCx Handler) (t : Table) (graph_left : SearchState) (d : SolverCx Handler) (u : Table) : Type 0 where
-    pub asked : HasAsked graph c graph_left d
+    pub asked : WalkHasAsked graph c graph_left d
     pub grows : Grows t u

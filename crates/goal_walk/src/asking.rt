@@ -3,8 +3,8 @@
 ghost use Rattle.std.specs.Prelude.{◌≡◌, IfOk, IfSome, Ok};
 ghost use Rattle.type_terms.specs.Kinds.{ArgsHeld};
 ghost use Rattle.infer_table.specs.Goals.{GoalHeld};
-ghost use Rattle.solver_context.specs.Contexts.{IsInput, IsResult};
-ghost use Rattle.goal_walk.specs.Walking.{IsAskable, HasAsked, IsWalkable};
+ghost use Rattle.solver_context.specs.Contexts.{IsInput, ResponseIsMade};
+ghost use Rattle.goal_walk.specs.Walking.{WalkIsAskable, WalkHasAsked, IsWalkable};
 
 use crate::nodes::{Answer, GoalWalk};
 use evaluation::{Certainty, Goal, TypingMode};
@@ -38,11 +38,11 @@ pub(crate) fn result_of<H: GoalHandler>(
     cx: &mut SolverCx<H>,
     input: InputId,
 ) -> Result<Option<Option<ResponseId>>, Fault>
-    requires askable { IsAskable H.meaning graph.old cache.old cx.old }
+    requires askable { WalkIsAskable H.meaning graph.old cache.old cx.old }
     requires input { IsInput H.meaning.IsReady cx.old input }
-    ensures again { IsAskable H.meaning graph.new cache.new cx.new }
-    ensures asked { HasAsked H.meaning graph.old cx.old graph.new cx.new }
-    ensures known { IfOk result (λ o. IfSome o (IsResult H.meaning.IsReady cx.new)) }
+    ensures again { WalkIsAskable H.meaning graph.new cache.new cx.new }
+    ensures asked { WalkHasAsked H.meaning graph.old cx.old graph.new cx.new }
+    ensures known { IfOk result (λ o. IfSome o (ResponseIsMade H.meaning.IsReady cx.new)) }
 {
     let found = graph.evaluate_goal(cache, cx, input, PathKind::Inductive);
     read_result(found)
@@ -53,7 +53,7 @@ fn answer_in<H: GoalHandler>(
     cx: &SolverCx<H>,
     found: Option<Option<ResponseId>>,
 ) -> Result<Answer, Fault>
-    requires { IfSome found (IsResult H.meaning.IsReady cx.now) }
+    requires { IfSome found (ResponseIsMade H.meaning.IsReady cx.now) }
 {
     let Some(outcome) = found else {
         return Ok(Answer::Nothing);
@@ -74,10 +74,10 @@ pub(crate) fn answer_to<H: GoalHandler>(
     cx: &mut SolverCx<H>,
     input: InputId,
 ) -> Result<Answer, Fault>
-    requires askable { IsAskable H.meaning graph.old cache.old cx.old }
+    requires askable { WalkIsAskable H.meaning graph.old cache.old cx.old }
     requires input { IsInput H.meaning.IsReady cx.old input }
-    ensures again { IsAskable H.meaning graph.new cache.new cx.new }
-    ensures asked { HasAsked H.meaning graph.old cx.old graph.new cx.new }
+    ensures again { WalkIsAskable H.meaning graph.new cache.new cx.new }
+    ensures asked { WalkHasAsked H.meaning graph.old cx.old graph.new cx.new }
 {
     let found = result_of(graph, cache, cx, input)?;
     answer_in(cx, found)
@@ -107,7 +107,7 @@ pub(crate) fn meet_goal<H: GoalHandler>(
     requires walkable { IsWalkable H.meaning graph.old cache.old cx.old table.now walk.old.references.items }
     requires goal { GoalHeld cx.old.interner.entries goal.now }
     ensures again { IsWalkable H.meaning graph.new cache.new cx.new table.now walk.new.references.items }
-    ensures asked { HasAsked H.meaning graph.old cx.old graph.new cx.new }
+    ensures asked { WalkHasAsked H.meaning graph.old cx.old graph.new cx.new }
     ensures input { IfOk result (λ m. IsInput H.meaning.IsReady cx.new m.input) }
     ensures values { IfOk result (λ m. ArgsHeld cx.new.interner.entries m.values.items) }
 {

@@ -6,7 +6,7 @@ ghost use Rattle.type_terms.specs.Terms.{Entry};
 ghost use Rattle.infer_table.specs.Content.{Ready, Grows};
 ghost use Rattle.solver_context.specs.Contexts.{IsReady, Advances};
 ghost use Rattle.goal_walk.specs.Frames.{IsWalked};
-ghost use Rattle.goal_walk.specs.Walking.{GoalsHeld, IsAskable, HasAsked};
+ghost use Rattle.goal_walk.specs.Walking.{GoalsHeld, WalkIsAskable, WalkHasAsked};
 
 use crate::asking::result_of;
 use crate::frames::{FrameWalk, Turn};
@@ -28,10 +28,10 @@ fn run_candidate<H: GoalHandler>(
     cx: &mut SolverCx<H>,
     frame: FrameWalk,
 ) -> Result<Option<FrameWalk>, Fault>
-    requires askable { IsAskable H.meaning graph.old cache.old cx.old }
+    requires askable { WalkIsAskable H.meaning graph.old cache.old cx.old }
     requires walked { IsWalked H.meaning cx.old frame }
-    ensures again { IsAskable H.meaning graph.new cache.new cx.new }
-    ensures asked { HasAsked H.meaning graph.old cx.old graph.new cx.new }
+    ensures again { WalkIsAskable H.meaning graph.new cache.new cx.new }
+    ensures asked { WalkHasAsked H.meaning graph.old cx.old graph.new cx.new }
     ensures walked { IfOk result (λ o. IfSome o (IsWalked H.meaning cx.new)) }
 {
     let mut walk = frame;
@@ -51,10 +51,10 @@ fn try_candidate<H: GoalHandler>(
     cx: &mut SolverCx<H>,
     frame: FrameWalk,
 ) -> Result<Option<FrameWalk>, Fault>
-    requires askable { IsAskable H.meaning graph.old cache.old cx.old }
+    requires askable { WalkIsAskable H.meaning graph.old cache.old cx.old }
     requires walked { IsWalked H.meaning cx.old frame }
-    ensures again { IsAskable H.meaning graph.new cache.new cx.new }
-    ensures asked { HasAsked H.meaning graph.old cx.old graph.new cx.new }
+    ensures again { WalkIsAskable H.meaning graph.new cache.new cx.new }
+    ensures asked { WalkHasAsked H.meaning graph.old cx.old graph.new cx.new }
     ensures walked { IfOk result (λ o. IfSome o (IsWalked H.meaning cx.new)) }
 {
     match frame.enter(cx)? {
@@ -106,12 +106,12 @@ pub(crate) fn try_next<H: GoalHandler>(
     values: &[GenericArgKind],
     frame: FrameWalk,
 ) -> Result<Option<Tried>, Fault>
-    requires askable { IsAskable H.meaning graph.old cache.old cx.old }
+    requires askable { WalkIsAskable H.meaning graph.old cache.old cx.old }
     requires walked { IsWalked H.meaning cx.old frame }
     requires table { Ready cx.old.interner.entries table.old }
     requires values { ArgsHeld cx.old.interner.entries values.now }
-    ensures again { IsAskable H.meaning graph.new cache.new cx.new }
-    ensures asked { HasAsked H.meaning graph.old cx.old graph.new cx.new }
+    ensures again { WalkIsAskable H.meaning graph.new cache.new cx.new }
+    ensures asked { WalkHasAsked H.meaning graph.old cx.old graph.new cx.new }
     ensures table { Ready cx.new.interner.entries table.new }
     ensures grows { Grows table.old table.new }
     ensures walked { IfOk result (λ o. IfSome o (λ t. IsWalked H.meaning cx.new t.frame)) }

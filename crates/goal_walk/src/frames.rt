@@ -6,7 +6,7 @@ ghost use Rattle.goal_frames.specs.declared.store.InputId.{InputId};
 ghost use Rattle.search_graph.specs.Meaning as Search;
 ghost use Rattle.search_graph.specs.declared.delegate.Request.TheVariants as Requested;
 ghost use Rattle.search_graph.specs.declared.path_kind.PathKind.{PathKind};
-ghost use Rattle.solver_context.specs.Contexts.{IsInput, IsReady, IsResult};
+ghost use Rattle.solver_context.specs.Contexts.{IsInput, IsReady, ResponseIsMade};
 ghost use Rattle.solver_context.specs.Searching.{solver_meaning, steps_left};
 ghost use Rattle.goal_walk.specs.Frames.{IsWalked};
 
@@ -107,7 +107,7 @@ impl FrameWalk {
     ) -> Result<FrameWalk, Fault>
         requires walked { IsWalked H.meaning cx.old self }
         requires asks { (k : PathKind) × (self.request ≡ Requested.Evaluate input k) }
-        requires answer { IsResult H.meaning.IsReady cx.old answer }
+        requires answer { ResponseIsMade H.meaning.IsReady cx.old answer }
         ensures keeps { Search.Keeps (solver_meaning H.meaning) cx.old cx.new }
         ensures ready { IsReady H.meaning.IsReady cx.new }
         ensures walked { IfOk result (IsWalked H.meaning cx.new) }

@@ -2,7 +2,7 @@
 
 ghost use Rattle.infer_table.specs.Content.{Ready, Grows};
 ghost use Rattle.infer_table.specs.Goals.{GoalHeld};
-ghost use Rattle.goal_walk.specs.Walking.{IsAskable, HasAsked};
+ghost use Rattle.goal_walk.specs.Walking.{WalkIsAskable, WalkHasAsked};
 
 use evaluation::{Goal, HasChanged, TypingMode};
 use goal_frames::GoalHandler;
@@ -36,11 +36,11 @@ fn ask_once<H: GoalHandler>(
     mode: TypingMode,
     goal: &Goal,
 ) -> Result<bool, Fault>
-    requires askable { IsAskable H.meaning graph.old cache.old cx.old }
+    requires askable { WalkIsAskable H.meaning graph.old cache.old cx.old }
     requires table { Ready cx.old.interner.entries table.old }
     requires goal { GoalHeld cx.old.interner.entries goal.now }
-    ensures again { IsAskable H.meaning graph.new cache.new cx.new }
-    ensures asked { HasAsked H.meaning graph.old cx.old graph.new cx.new }
+    ensures again { WalkIsAskable H.meaning graph.new cache.new cx.new }
+    ensures asked { WalkHasAsked H.meaning graph.old cx.old graph.new cx.new }
     ensures table { Ready cx.new.interner.entries table.new }
     ensures grows { Grows table.old table.new }
 {
@@ -58,11 +58,11 @@ pub fn settle<H: GoalHandler>(
     mode: TypingMode,
     goal: &Goal,
 ) -> Result<(), Fault>
-    requires askable { IsAskable H.meaning graph.old cache.old cx.old }
+    requires askable { WalkIsAskable H.meaning graph.old cache.old cx.old }
     requires table { Ready cx.old.interner.entries table.old }
     requires goal { GoalHeld cx.old.interner.entries goal.now }
-    ensures again { IsAskable H.meaning graph.new cache.new cx.new }
-    ensures asked { HasAsked H.meaning graph.old cx.old graph.new cx.new }
+    ensures again { WalkIsAskable H.meaning graph.new cache.new cx.new }
+    ensures asked { WalkHasAsked H.meaning graph.old cx.old graph.new cx.new }
     ensures table { Ready cx.new.interner.entries table.new }
     ensures grows { Grows table.old table.new }
 {

@@ -15,8 +15,8 @@ use Rattle.infer_table.specs.Resolving.{is_root, followed}
 use Rattle.infer_table.specs.Unification.{TableTrees, Extends, equal_constraint, is_recorded, recorded_once, with_binding, with_equal, with_regions, term_sort, variable_at, binds, head_of, object_parts, parts_of, Worklist, pairs, Outcome, refused, onward, bound_to, in_pairs, by_parts, by_variables, by_sort, compared, step}
 use Rattle.infer_table.specs.Numbers.{RunsOut, later}
 use Rattle.infer_table.specs.WellFormed.{is_numbered, IsOfTerms, AllSame}
-use Rattle.infer_table.specs.Worklists.{Reaches}
-use Rattle.infer_table.specs.Related.{HasParts, AreRecorded, Rests, rest_none, rest_same, rest_recorded, rest_waiting, rest_parts}
+use Rattle.infer_table.specs.Worklists.{RunReaches}
+use Rattle.infer_table.specs.Related.{HasParts, RegionsAreRecorded, Rests, rest_none, rest_same, rest_recorded, rest_waiting, rest_parts}
 use Rattle.infer_table.proofs.ExtendFacts.{extends-self, with-binding-adds, with-regions-adds, with-equal-adds}
 use Rattle.infer_table.proofs.Places.{in_terms, in_object, in_autos, AreTrees, IsOneTree, IsOfTrees, ArePairsOfTrees, table-trees}
 use Rattle.infer_table.proofs.ResolveFacts.{followed-unbound}
@@ -102,7 +102,7 @@ module _ (bs cs : List Binding) (next : IsNext bs cs) (old new : Trees) (adds : 
       by (inl e) = ap (λ z. followed z x) e
       by (inr (n, h, e)) = ap (λ z. followed z x) e ∙ ap (λ (z : Bool). if z then followed bs n.value else followed bs x) (lifetime-no-root n (followed bs x) h k)
 
-  recorded-on : (a b : Trees) → AreRecorded bs old a b → AreRecorded cs new a b
+  recorded-on : (a b : Trees) → RegionsAreRecorded bs old a b → RegionsAreRecorded cs new a b
   recorded-on a b q =
       let fa = lifetime-on a q.left in
       let fb = lifetime-on b q.right in
@@ -197,7 +197,7 @@ module _ (t : TableTrees) (ok : IsOfTerms t) where
           pass (a, b) (v ++ rest) is (passes-on t (ps ++ (v ++ rest)) (v ++ rest) rest (parts (step-terms t a b (v ++ rest) (ps ++ (v ++ rest)) t ok h is).0) behind)
 
   -- a run comes to where the steps come
-  pub reaches-passed : (end : Option TableTrees) (u v : Worklist) → Passes t u v → ArePairsOfTrees is_numbered u → Reaches end t u → Reaches end t v
+  pub reaches-passed : (end : Option TableTrees) (u v : Worklist) → Passes t u v → ArePairsOfTrees is_numbered u → RunReaches end t u → RunReaches end t v
   reaches-passed end u v (pass_none w) h r = r
   reaches-passed end u v (pass {left = left} e rest s p) h r =
       let f = step-terms t e.0 e.1 rest left t ok h s in reaches-passed end left v p f.0 (reaches-next end t t e rest left r s refl f.2)

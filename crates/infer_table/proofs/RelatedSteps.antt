@@ -8,17 +8,17 @@ use Rattle.type_terms.specs.Kinds.{ArgHeld, arg_trees}
 use Rattle.type_terms.specs.Kept.{has-later, trees-later}
 use Rattle.infer_table.specs.Constraints.{constraints_trees}
 use Rattle.infer_table.specs.Content.{Table, content, Ready, Grows}
-use Rattle.infer_table.specs.Equations.{AreHeld, SameSolutions, Advances}
+use Rattle.infer_table.specs.Equations.{EquationsHeld, SameSolutions, MakesProgress}
 use Rattle.infer_table.specs.Equated.{EquationsRunOut}
 use Rattle.infer_table.specs.Numbers.{RunsOut}
 use Rattle.infer_table.specs.WellFormed.{is_numbered}
 use Rattle.infer_table.specs.Unification.{TableTrees, table_trees, Worklist, onward, step}
-use Rattle.infer_table.specs.Worklists.{equation_trees, worklist_on, worklist, Reaches, Stands}
+use Rattle.infer_table.specs.Worklists.{equation_trees, worklist_on, worklist, RunReaches, RunStands}
 use Rattle.std.specs.Prelude.{Option, Result, Ok, Err, IsErrAnd, OnOk, OnErr, nat_eq, cond, ◌&&◌}
 use Rattle.std.specs.List.{list_any}
 use Rattle.std.specs.HashSet.{HashSet, contains, Updates, IsUnchanged}
 use Rattle.infer_table.specs.Growth.{grows-refl}
-use Rattle.infer_table.specs.Related.{pair_eq, RestsIn, rest_none, rest_waiting, pair_trees, IsPairOfTypes, IsSettled, IsBegun, AreAbove, AreBelow, AreBegun, Tracks, TracksOpen, Begins}
+use Rattle.infer_table.specs.Related.{pair_eq, RestsIn, rest_none, rest_waiting, pair_trees, IsPairOfTypes, PairIsSettled, IsBegun, AreAbove, BegunBelow, AreBegun, Tracks, TracksOpen, Begins}
 use Rattle.infer_table.specs.declared.terms.Equation.{Equation}
 use Rattle.infer_table.specs.declared.related.Pair.{Pair}
 use Rattle.infer_table.specs.declared.related.Begun.{Begun}
@@ -54,7 +54,7 @@ module _ (es fs : List Entry) (kept : Keeps es fs) (t u : Table) (grows : Grows 
   held-later : (p : Pair) → IsPairOfTypes es p → IsPairOfTypes fs p
   held-later p h = (has-later es fs kept types p.left h.0, has-later es fs kept types p.right h.1)
 
-  settled-on : (p : Pair) → IsSettled es t p → IsSettled fs u p
+  settled-on : (p : Pair) → PairIsSettled es t p → PairIsSettled fs u p
   settled-on p h = record {
     held = held-later p h.held;
     rests = subst (λ (q : Trees × Trees). RestsIn fs u [] (q ∷ [])) (sym (pair-later p h.held))
@@ -100,7 +100,7 @@ module _ (es fs : List Entry) (kept : Keeps es fs) (t u : Table) (grows : Grows 
                 (subst (λ (z : Trees × Trees). RestsIn es t (z ∷ before) (pair_trees es b.pair ∷ [])) (sym first) (f same.0)));
           }
 
-  all-on : (xs : List Begun) → AreBegun es t (e ∷ w) xs → AreBelow (suc (length w)) xs → AreBegun fs u v xs
+  all-on : (xs : List Begun) → AreBegun es t (e ∷ w) xs → BegunBelow (suc (length w)) xs → AreBegun fs u v xs
   all-on [] h lt = tt
   all-on (x ∷ xs) h lt = (begun-on x h.0 lt.0, h.1, all-on xs h.2 lt.1)
 
@@ -119,21 +119,21 @@ module _ (es fs : List Entry) (kept : Keeps es fs) (t u : Table) (grows : Grows 
     rests = λ q. subst (λ (z : Trees × Trees). RestsIn fs u ps (z ∷ [])) (sym (pair-later p h ∙ is)) (rests (sym q));
   }
 
-  below-above : (xs : List Begun) (b : Begun) → AreBegun fs u v xs → AreBelow (suc b.left) xs → IsBegun fs u v b → AreBegun fs u v (xs ++ b ∷ [])
+  below-above : (xs : List Begun) (b : Begun) → AreBegun fs u v xs → BegunBelow (suc b.left) xs → IsBegun fs u v b → AreBegun fs u v (xs ++ b ∷ [])
   below-above [] b h lt g = (g, tt, tt)
   below-above (x ∷ xs) b h lt g = let p = lt.0 in (h.0, last-above x.left xs b h.1 (omega (arith, p)), below-above xs b h.2 lt.1 g)
 
   pub tracks-begun : (q : Equation) → equation_trees es q ≡ e → ArgHeld es q.left → ArgHeld es q.right → (old new : Related) → TracksOpen es t (e ∷ w) old → new.settled ≡ old.settled → Begins q (length w) t.region_vars old.begun.items new.begun.items → Tracks fs u v new
   tracks-begun q is hl hr old new h same (inl nothing) =
       let k = tracks-on old h in
-      record { settled = subst (λ s. (p : Pair) → contains pair_eq s p ≡ true → IsSettled fs u p) (sym same) k.settled; begun = subst (AreBegun fs u v) (sym nothing) k.begun }
+      record { settled = subst (λ s. (p : Pair) → contains pair_eq s p ≡ true → PairIsSettled fs u p) (sym same) k.settled; begun = subst (AreBegun fs u v) (sym nothing) k.begun }
   tracks-begun q is hl hr old new h same (inr (a, b, ea, eb, more)) =
       let k = tracks-on old h in
       let p : Pair = record { left = a.0; right = b.0 } in
       let held : IsPairOfTypes es p = (subst (ArgHeld es) ea hl, subst (ArgHeld es) eb hr) in
       let trees : pair_trees es p ≡ e = sym (ap (λ z. (arg_trees es z, arg_trees es q.right)) ea ∙ ap (λ z. (trees_at es a.0, arg_trees es z)) eb) ∙ is in
       record {
-        settled = subst (λ s. (p : Pair) → contains pair_eq s p ≡ true → IsSettled fs u p) (sym same) k.settled;
+        settled = subst (λ s. (p : Pair) → contains pair_eq s p ≡ true → PairIsSettled fs u p) (sym same) k.settled;
         begun = subst (AreBegun fs u v) (sym more) (below-above old.begun.items (record { pair = p; left = length w; lifetimes = t.region_vars }) k.begun h.undone (begun-new p held trees));
       }
 
@@ -162,12 +162,12 @@ module _ (es : List Entry) (t : Table) (w : Worklist) where
   begun-last (x ∷ xs) b h = let p = begun-last xs b h.2 in ((h.0, (above-last x.left xs b h.1).0, p.0), p.1)
 
   -- where it is not done, none is
-  pub all-below : (xs : List Begun) (b : Begun) → AreBegun es t w (xs ++ b ∷ []) → b.left < length w → AreBelow (length w) (xs ++ b ∷ [])
+  pub all-below : (xs : List Begun) (b : Begun) → AreBegun es t w (xs ++ b ∷ []) → b.left < length w → BegunBelow (length w) (xs ++ b ∷ [])
   all-below [] b h lt = (lt, tt)
   all-below (x ∷ xs) b h lt = let p = (above-last x.left xs b h.1).1 in (omega (arith, p, lt), all-below xs b h.2 lt)
 
   -- where it is done, and no lifetime was opened since, it needs nothing done any more
-  pub done-settled : (b : Begun) → IsBegun es t w b → length w ≤ b.left → b.lifetimes ≡ t.region_vars → IsSettled es t b.pair
+  pub done-settled : (b : Begun) → IsBegun es t w b → length w ≤ b.left → b.lifetimes ≡ t.region_vars → PairIsSettled es t b.pair
   done-settled b h le r = record { held = h.held; rests = subst (λ (z : Worklist). RestsIn es t z (pair_trees es b.pair ∷ [])) (by h.before h.list) (h.rests r) }
     where
       by : (before : Worklist) → w ≡ before ++ h.after → before ≡ []
@@ -186,15 +186,15 @@ module _ (es : List Entry) (t : Table) (w : Worklist) (old : Related) (b : Begun
   -- it is not done, and stays
   pub stays-open : (new : Related) → new.settled ≡ old.settled → (ok : Bool) → new.begun.items ≡ (if ok then xs ++ b ∷ [] else xs) → b.left < length w → TracksOpen es t w new
   stays-open new same true e lt = record {
-    tracked = record { settled = subst (λ s. (p : Pair) → contains pair_eq s p ≡ true → IsSettled es t p) (sym same) h.settled; begun = subst (AreBegun es t w) (sym e) (subst (AreBegun es t w) is h.begun) };
-    undone = subst (AreBelow (length w)) (sym e) (all-below es t w xs b (subst (AreBegun es t w) is h.begun) lt);
+    tracked = record { settled = subst (λ s. (p : Pair) → contains pair_eq s p ≡ true → PairIsSettled es t p) (sym same) h.settled; begun = subst (AreBegun es t w) (sym e) (subst (AreBegun es t w) is h.begun) };
+    undone = subst (BegunBelow (length w)) (sym e) (all-below es t w xs b (subst (AreBegun es t w) is h.begun) lt);
   }
   stays-open new same false e lt = record {
-    tracked = record { settled = subst (λ s. (p : Pair) → contains pair_eq s p ≡ true → IsSettled es t p) (sym same) h.settled; begun = subst (AreBegun es t w) (sym e) parts.0 };
-    undone = subst (AreBelow (length w)) (sym e) (first xs (all-below es t w xs b (subst (AreBegun es t w) is h.begun) lt));
+    tracked = record { settled = subst (λ s. (p : Pair) → contains pair_eq s p ≡ true → PairIsSettled es t p) (sym same) h.settled; begun = subst (AreBegun es t w) (sym e) parts.0 };
+    undone = subst (BegunBelow (length w)) (sym e) (first xs (all-below es t w xs b (subst (AreBegun es t w) is h.begun) lt));
   }
     where
-      first : (ys : List Begun) → AreBelow (length w) (ys ++ b ∷ []) → AreBelow (length w) ys
+      first : (ys : List Begun) → BegunBelow (length w) (ys ++ b ∷ []) → BegunBelow (length w) ys
       first [] g = tt
       first (y ∷ ys) g = (g.0, first ys g.1)
 
@@ -202,21 +202,21 @@ module _ (es : List Entry) (t : Table) (w : Worklist) (old : Related) (b : Begun
   pub is-done : (new : Related) → new.begun.items ≡ xs → length w ≤ b.left → b.lifetimes ≡ t.region_vars → ((p : Pair) → contains pair_eq new.settled p ≡ true → (contains pair_eq old.settled p ≡ true) ⊎ (p ≡ b.pair)) → Tracks es t w new
   is-done new e le r one = record { settled = λ p c. by p (one p c); begun = subst (AreBegun es t w) (sym e) parts.0 }
     where
-      by : (p : Pair) → (contains pair_eq old.settled p ≡ true) ⊎ (p ≡ b.pair) → IsSettled es t p
+      by : (p : Pair) → (contains pair_eq old.settled p ≡ true) ⊎ (p ≡ b.pair) → PairIsSettled es t p
       by p (inl c) = h.settled p c
-      by p (inr q) = subst (IsSettled es t) (sym q) (done-settled es t w b parts.1 le r)
+      by p (inr q) = subst (PairIsSettled es t) (sym q) (done-settled es t w b parts.1 le r)
 
   -- it is not kept
   pub is-dropped : (new : Related) → new.settled ≡ old.settled → new.begun.items ≡ xs → Tracks es t w new
-  is-dropped new same e = record { settled = subst (λ s. (p : Pair) → contains pair_eq s p ≡ true → IsSettled es t p) (sym same) h.settled; begun = subst (AreBegun es t w) (sym e) parts.0 }
+  is-dropped new same e = record { settled = subst (λ s. (p : Pair) → contains pair_eq s p ≡ true → PairIsSettled es t p) (sym same) h.settled; begun = subst (AreBegun es t w) (sym e) parts.0 }
 
 pub no-items : (xs : List Begun) → length xs ≡ 0 → xs ≡ []
 no-items [] e = refl
 no-items (x ∷ xs) e = cc
 
 -- nothing is begun
-pub none-begun : (es : List Entry) (t : Table) (w : Worklist) (new : Related) → ((p : Pair) → contains pair_eq new.settled p ≡ true → IsSettled es t p) → new.begun.items ≡ [] → TracksOpen es t w new
-none-begun es t w new s e = record { tracked = record { settled = s; begun = subst (AreBegun es t w) (sym e) tt }; undone = subst (AreBelow (length w)) (sym e) tt }
+pub none-begun : (es : List Entry) (t : Table) (w : Worklist) (new : Related) → ((p : Pair) → contains pair_eq new.settled p ≡ true → PairIsSettled es t p) → new.begun.items ≡ [] → TracksOpen es t w new
+none-begun es t w new s e = record { tracked = record { settled = s; begun = subst (AreBegun es t w) (sym e) tt }; undone = subst (BegunBelow (length w)) (sym e) tt }
 
 -- a pair that is put into a set
 pub settled-one : {S E : Type 0} (old new : HashSet Pair S) (pair : Pair) (r : Result Bool E) → OnOk r (Updates pair_eq old new pair true) → OnErr r (IsUnchanged old new) → (p : Pair) → contains pair_eq new p ≡ true
@@ -230,11 +230,11 @@ settled-one old new pair (Ok ok) u e p h = by (nat_eq pair.left p.left) refl (na
 settled-one old new pair (Err x) u e p h = inl (subst (λ ks. list_any (pair_eq p) ks ≡ true) e h)
 
 -- ---- an equation that is left out, in code
-pairs-on : (es : List Entry) → Lawful es → (todo : List Equation) (w : Worklist) → AreHeld es todo → ArePairsOfTrees is_numbered w → ArePairsOfTrees is_numbered (worklist_on es todo w)
+pairs-on : (es : List Entry) → Lawful es → (todo : List Equation) (w : Worklist) → EquationsHeld es todo → ArePairsOfTrees is_numbered w → ArePairsOfTrees is_numbered (worklist_on es todo w)
 pairs-on es law [] w h g = g
 pairs-on es law (e ∷ todo) w h g = pairs-on es law todo (equation_trees es e ∷ w) h.2 (one-tree (arg_trees es e.left) (arg-term es law e.left h.0), one-tree (arg_trees es e.right) (arg-term es law e.right h.1), g)
 
-module _ (es : List Entry) (law : Lawful es) (t : Table) (ready : Ready es t) (todo : List Equation) (held : AreHeld es todo) (q : Equation) (hl : ArgHeld es q.left) (hr : ArgHeld es q.right)
+module _ (es : List Entry) (law : Lawful es) (t : Table) (ready : Ready es t) (todo : List Equation) (held : EquationsHeld es todo) (q : Equation) (hl : ArgHeld es q.left) (hr : ArgHeld es q.right)
     (rests : RestsIn es t [] (equation_trees es q ∷ [])) where
   one-pair : (w : Worklist) → ArePairsOfTrees is_numbered w → ArePairsOfTrees is_numbered (equation_trees es q ∷ w)
   one-pair w g = (one-tree (arg_trees es q.left) (arg-term es law q.left hl), one-tree (arg_trees es q.right) (arg-term es law q.right hr), g)
@@ -245,10 +245,10 @@ module _ (es : List Entry) (law : Lawful es) (t : Table) (ready : Ready es t) (t
   passed : (w : Worklist) → ArePairsOfTrees is_numbered (equation_trees es q ∷ w) → Passes (table_trees es t) (equation_trees es q ∷ w) w
   passed w h = passes (table_trees es t) (ready-terms es law t ready) (equation_trees es q ∷ []) w rests h
 
-  pub skip-stands : (end : Option TableTrees) → Stands end es t (todo ++ q ∷ []) → Stands end es t todo
+  pub skip-stands : (end : Option TableTrees) → RunStands end es t (todo ++ q ∷ []) → RunStands end es t todo
   skip-stands end r =
       reaches-passed (table_trees es t) (ready-terms es law t ready) end (equation_trees es q ∷ worklist es todo) (worklist es todo) (passed (worklist es todo) all-pairs) all-pairs
-      (subst (λ (w : Worklist). Reaches end (table_trees es t) w) (worklist-last es todo q) r)
+      (subst (λ (w : Worklist). RunReaches end (table_trees es t) w) (worklist-last es todo q) r)
 
   pub skip-out : EquationsRunOut es t todo → EquationsRunOut es t (todo ++ q ∷ [])
   skip-out r =
@@ -258,7 +258,7 @@ module _ (es : List Entry) (law : Lawful es) (t : Table) (ready : Ready es t) (t
   pub skip-same : SameSolutions es t (todo ++ q ∷ []) es t todo
   skip-same = drop-same es t todo q (λ s g. (same-passed (table_trees es t) (ready-terms es law t ready) s (equation_trees es q ∷ []) [] (passed [] (one-pair [] tt)) (one-pair [] tt) g tt).0)
 
-  pub skip-advances : Advances es t (todo ++ q ∷ []) es t todo false
+  pub skip-advances : MakesProgress es t (todo ++ q ∷ []) es t todo false
   skip-advances = drop-advances es t todo q t refl law ready hl
 
 -- an error that is handed on as it is

@@ -27,7 +27,7 @@ pub record HasParts (x y : Trees) (ps : Worklist) : Type 0 where
   pub parts : (i j : ℕ) → pairs (parts_of i x) (parts_of j y) ≡ Some ps
 
 -- two lifetimes of which it is recorded that they are to be equal
-pub record AreRecorded (bs : List Binding) (cs : Trees) (a b : Trees) : Type 0 where
+pub record RegionsAreRecorded (bs : List Binding) (cs : Trees) (a b : Trees) : Type 0 where
   pub lifetime : term_sort a ≡ of_lifetime
   pub left : term_sort (followed bs a) ≡ of_lifetime
   pub right : term_sort (followed bs b) ≡ of_lifetime
@@ -38,7 +38,7 @@ pub record AreRecorded (bs : List Binding) (cs : Trees) (a b : Trees) : Type 0 w
 pub data Rests : List Binding → Trees → Worklist → Worklist → Type 0 where
   rest_none : {bs : List Binding} {cs : Trees} {waiting : Worklist} → Rests bs cs waiting []
   rest_same : {bs : List Binding} {cs : Trees} {waiting rest : Worklist} (a b : Trees) → is_sort (term_sort a) (term_sort b) ≡ true → followed bs a ≡ followed bs b → Rests bs cs waiting rest → Rests bs cs waiting ((a, b) ∷ rest)
-  rest_recorded : {bs : List Binding} {cs : Trees} {waiting rest : Worklist} (a b : Trees) → is_sort (term_sort a) (term_sort b) ≡ true → AreRecorded bs cs a b → Rests bs cs waiting rest → Rests bs cs waiting ((a, b) ∷ rest)
+  rest_recorded : {bs : List Binding} {cs : Trees} {waiting rest : Worklist} (a b : Trees) → is_sort (term_sort a) (term_sort b) ≡ true → RegionsAreRecorded bs cs a b → Rests bs cs waiting rest → Rests bs cs waiting ((a, b) ∷ rest)
   rest_waiting : {bs : List Binding} {cs : Trees} {waiting rest : Worklist} (before after : Worklist) (a b : Trees) → waiting ≡ before ++ (a, b) ∷ after → Rests bs cs waiting rest → Rests bs cs waiting ((a, b) ∷ rest)
   rest_parts : {bs : List Binding} {cs : Trees} {waiting rest : Worklist} (a b : Trees) (ps : Worklist) → is_sort (term_sort a) (term_sort b) ≡ true → HasValues (term_sort a) → HasParts (followed bs a) (followed bs b) ps
       → Rests bs cs waiting ps → Rests bs cs waiting rest → Rests bs cs waiting ((a, b) ∷ rest)
@@ -58,7 +58,7 @@ abbrev pub IsPairOfTypes : List Entry → Pair → Type 0
 IsPairOfTypes es p = Has es types p.left × Has es types p.right
 
 -- a pair needs nothing done any more
-pub record IsSettled (es : List Entry) (t : Table) (p : Pair) : Type 0 where
+pub record PairIsSettled (es : List Entry) (t : Table) (p : Pair) : Type 0 where
   pub held : IsPairOfTypes es p
   pub rests : RestsIn es t [] (pair_trees es p ∷ [])
 
@@ -77,9 +77,9 @@ abbrev pub AreAbove : ℕ → List Begun → Type 0
 AreAbove n [] = Unit {0}
 AreAbove n (b ∷ rest) = (n ≤ b.left) × AreAbove n rest
 
-abbrev pub AreBelow : ℕ → List Begun → Type 0
-AreBelow n [] = Unit {0}
-AreBelow n (b ∷ rest) = (b.left < n) × AreBelow n rest
+abbrev pub BegunBelow : ℕ → List Begun → Type 0
+BegunBelow n [] = Unit {0}
+BegunBelow n (b ∷ rest) = (b.left < n) × BegunBelow n rest
 
 abbrev pub AreBegun : List Entry → Table → Worklist → List Begun → Type 0
 AreBegun es t todo [] = Unit {0}
@@ -91,10 +91,10 @@ Begins e n r old new = (new ≡ old) ⊎ ((a b : Ty) × (e.left ≡ AType a) × 
 
 -- what is kept of the pairs is so
 pub record Tracks (es : List Entry) (t : Table) (todo : Worklist) (r : Related) : Type 0 where
-  pub settled : (p : Pair) → contains pair_eq r.settled p ≡ true → IsSettled es t p
+  pub settled : (p : Pair) → contains pair_eq r.settled p ≡ true → PairIsSettled es t p
   pub begun : AreBegun es t todo r.begun.items
 
 -- and no pair that was begun is done
 pub record TracksOpen (es : List Entry) (t : Table) (todo : Worklist) (r : Related) : Type 0 where
   pub tracked : Tracks es t todo r
-  pub undone : AreBelow (length todo) r.begun.items
+  pub undone : BegunBelow (length todo) r.begun.items

@@ -8,7 +8,7 @@ use Rattle.type_terms.specs.Trees.{none}
 use Rattle.type_terms.specs.Terms.{Entry}
 use Rattle.term_folds.specs.declared.predicate.TraitRef.{TraitRef}
 use Rattle.infer_table.specs.Goals.{ClausesHeld}
-use Rattle.declarations.specs.Applied.{AllHeld}
+use Rattle.declarations.specs.Applied.{TraitRefsHeld}
 use Rattle.text_definitions.specs.Declarations.{Declarations, Question}
 use Rattle.workspace.specs.Views.{question_of}
 use Rattle.workspace.specs.declared.declared.QuestionEntry.{QuestionEntry}
@@ -28,6 +28,6 @@ is-question d entries e k h =
     (get_or d.questions k no_question, record { counted = omega arith; there = ap (slice_get d.questions) back ∙ slice_get-get_or d.questions k no_question within })
 
 -- references as where-clauses
-pub clauses-held : (es : List Entry) (rs : List TraitRef) → AllHeld es rs → ClausesHeld es (where_clauses rs)
+pub clauses-held : (es : List Entry) (rs : List TraitRef) → TraitRefsHeld es rs → ClausesHeld es (where_clauses rs)
 clauses-held es [] h = tt
 clauses-held es (r ∷ rs) h = (h.0, clauses-held es rs h.1)

@@ -10,7 +10,7 @@ use Rattle.assembly_laws.specs.Candidates.{kinds_of_params}
 use Rattle.assembly_laws.specs.DeclaredWell.{is_declared_well}
 use Rattle.assembly_laws.proofs.DeclaredWell.{tests-tell}
 use Rattle.candidate_assembly.specs.Headers.{var_kind, StandInHeader}
-use Rattle.candidate_assembly.specs.Ready.{IsReady}
+use Rattle.candidate_assembly.specs.Ready.{AreReadyDeclarations}
 use Rattle.candidate_assembly.proofs.WellDeclared.{well-declared-have-candidates}
 use Rattle.declarations.specs.Applied.{HaveBounds}
 use Rattle.declarations.specs.Merges.{Each}
@@ -18,7 +18,7 @@ use Rattle.view_lowering.specs.TextLaws.{TextsAreDeclaredWell}
 use Rattle.view_lowering.specs.Ready.{OfTexts, FieldsSpeak, HeadersTell, kind_of_sort, TellsKinds}
 
 abbrev AreReady : List Entry → Items → Type 0
-AreReady es decls = AreHeld es decls → IsReady es decls
+AreReady es decls = AreHeld es decls → AreReadyDeclarations es decls
 
 one-kind : (p : GenericParamKind) → var_kind p ≡ kind_of_sort (sort_of_param p)
 one-kind Lifetime = refl

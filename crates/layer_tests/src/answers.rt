@@ -94,7 +94,7 @@ struct Case {
 /// What the text asks.
 fn case_of(alloc: Global, cx: &mut Interner, workspace: &Workspace) -> Result<Case, Fault>
     requires { (bytes : List ℕ) × TextGives bytes (Ok workspace.now) }
-    ensures ready { IfOk result (λ case. solver.IsReady cx.new.entries case.solver.declarations) }
+    ensures ready { IfOk result (λ case. solver.AreReadyDeclarations cx.new.entries case.solver.declarations) }
     ensures table { IfOk result (λ case. Ready cx.new.entries case.posed.table) }
     ensures goal { IfOk result (λ case. GoalHeld cx.new.entries case.posed.goal) }
 {
@@ -108,7 +108,7 @@ fn case_of(alloc: Global, cx: &mut Interner, workspace: &Workspace) -> Result<Ca
 
 /// What the text asks, read.
 fn read_case(alloc: Global, cx: &mut Interner, text: &[u8]) -> Result<Case, Fault>
-    ensures ready { IfOk result (λ case. solver.IsReady cx.new.entries case.solver.declarations) }
+    ensures ready { IfOk result (λ case. solver.AreReadyDeclarations cx.new.entries case.solver.declarations) }
     ensures table { IfOk result (λ case. Ready cx.new.entries case.posed.table) }
     ensures goal { IfOk result (λ case. GoalHeld cx.new.entries case.posed.goal) }
 {

@@ -5,7 +5,7 @@ ghost use Rattle.infer_table.specs.Goals.{GoalHeld};
 ghost use Rattle.evaluation.specs.Readings.{ConsideredHeld};
 ghost use Rattle.goal_frames.specs.Fitting.{ConsideredFits};
 ghost use Rattle.text_definitions.specs.Text.{TextGives};
-ghost use Rattle.candidate_assembly.specs.Ready.{IsReady, IsDecided};
+ghost use Rattle.candidate_assembly.specs.Ready.{AreReadyDeclarations, IsWellPosedGoal};
 
 use crate::samples::empty_table;
 use crate::texts::{add_question, goal_at, read, view};
@@ -92,7 +92,7 @@ fn by_trait(
     decls: &Declarations,
     goal: &CanonicalInput,
 ) -> Result<Option<CandidateSpec>, Fault>
-    requires { IsDecided cx.old.entries decls.now goal.now }
+    requires { IsWellPosedGoal cx.old.entries decls.now goal.now }
     ensures { Keeps cx.old.entries cx.new.entries }
 {
     let def_id = goal.goal.predicate.trait_ref.def_id;
@@ -120,7 +120,7 @@ fn by_bound_or_impl(
     decls: &Declarations,
     goal: &CanonicalInput,
 ) -> Result<Option<CandidateSpec>, Fault>
-    requires { IsDecided cx.old.entries decls.now goal.now }
+    requires { IsWellPosedGoal cx.old.entries decls.now goal.now }
     ensures { Keeps cx.old.entries cx.new.entries }
 {
     match consider_object_bound_candidate(alloc, cx, decls, goal, 0)? {
@@ -137,7 +137,7 @@ fn considered(
     decls: &Declarations,
     goal: &CanonicalInput,
 ) -> Result<Option<CandidateSpec>, Fault>
-    requires { IsDecided cx.old.entries decls.now goal.now }
+    requires { IsWellPosedGoal cx.old.entries decls.now goal.now }
     ensures { Keeps cx.old.entries cx.new.entries }
 {
     match by_trait(alloc, cx, decls, goal)? {
@@ -195,7 +195,7 @@ fn is_last(
     goal: &CanonicalInput,
     first: &Option<CandidateSpec>,
 ) -> Result<bool, Fault>
-    requires { IsDecided cx.old.entries decls.now goal.now }
+    requires { IsWellPosedGoal cx.old.entries decls.now goal.now }
     ensures { Keeps cx.old.entries cx.new.entries }
 {
     let done = refused(alloc, first)?;
@@ -211,7 +211,7 @@ fn is_assembled(
     goal: &CanonicalInput,
     wanted: Wanted,
 ) -> Result<bool, Fault>
-    requires { IsDecided cx.old.entries decls.now goal.now }
+    requires { IsWellPosedGoal cx.old.entries decls.now goal.now }
     ensures { Keeps cx.old.entries cx.new.entries }
 {
     let first = assemble_and_evaluate_candidates(alloc, cx, decls, goal, true, &[])?;
@@ -229,7 +229,7 @@ fn is_considered(
     goal: &CanonicalInput,
     wanted: Wanted,
 ) -> Result<bool, Fault>
-    requires { IsDecided cx.old.entries decls.now goal.now }
+    requires { IsWellPosedGoal cx.old.entries decls.now goal.now }
     ensures { Keeps cx.old.entries cx.new.entries }
 {
     let own = considered(alloc, cx, decls, goal)?;
@@ -244,7 +244,7 @@ fn has_candidate(
     goal: &CanonicalInput,
     wanted: Wanted,
 ) -> Result<bool, Fault>
-    requires { IsDecided cx.old.entries decls.now goal.now }
+    requires { IsWellPosedGoal cx.old.entries decls.now goal.now }
     ensures { Keeps cx.old.entries cx.new.entries }
 {
     if !is_assembled(alloc, cx, decls, goal, wanted)? {
@@ -262,8 +262,8 @@ fn is_row(
     place: u32,
     told: Option<Told>,
 ) -> Result<bool, Fault>
-    requires { IsReady cx.old.entries decls.now }
-    ensures { IfOk result (λ _. IsReady cx.new.entries decls.now) }
+    requires { AreReadyDeclarations cx.old.entries decls.now }
+    ensures { IfOk result (λ _. AreReadyDeclarations cx.new.entries decls.now) }
 {
     let (goal, premises) = question(alloc, cx, workspace, place)?;
     if !is_decided(cx, decls, &goal) {
@@ -284,7 +284,7 @@ fn first_row_that_differs(
     workspace: &Workspace,
     rows: &[Row],
 ) -> Result<Option<u32>, Fault>
-    requires { IsReady cx.old.entries decls.now }
+    requires { AreReadyDeclarations cx.old.entries decls.now }
 {
     for (row, place) in rows.iter().zip(0..u32::MAX) {
         if !is_row(alloc, cx, decls, workspace, place, row.1)? {

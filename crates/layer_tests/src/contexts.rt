@@ -1,7 +1,7 @@
 //! Evaluations: their goals, their equations, and the answers that they give up with.
 ghost use Rattle.type_terms.specs.Terms.{Keeps};
-ghost use Rattle.evaluation.specs.Context.{IsReady};
-ghost use Rattle.evaluation.specs.Probes.{Continues};
+ghost use Rattle.evaluation.specs.Context.{IsReadyContext};
+ghost use Rattle.evaluation.specs.Probes.{ContextContinues};
 
 use crate::goals::{Sample, begun, make, shown};
 use evaluation::{EvalCtxt, EvalError, GoalSource};
@@ -19,9 +19,9 @@ fn equate(
     left: Sample,
     right: Sample,
 ) -> Result<(), EvalError>
-    requires { IsReady cx.old.entries context.old }
-    ensures ready { IsReady cx.new.entries context.new }
-    ensures continues { Continues context.old context.new }
+    requires { IsReadyContext cx.old.entries context.old }
+    ensures ready { IsReadyContext cx.new.entries context.new }
+    ensures continues { ContextContinues context.old context.new }
     ensures keeps { Keeps cx.old.entries cx.new.entries }
 {
     let left = make(cx, left)?;
@@ -36,8 +36,8 @@ fn relate(
     left: Sample,
     right: Sample,
 ) -> Result<(), EvalError>
-    requires { IsReady cx.old.entries context.old }
-    ensures { IsReady cx.new.entries context.new }
+    requires { IsReadyContext cx.old.entries context.old }
+    ensures { IsReadyContext cx.new.entries context.new }
 {
     let left = make(cx, left)?;
     let right = make(cx, right)?;
@@ -56,8 +56,8 @@ fn probe_equation(
     left: Sample,
     right: Sample,
 ) -> Result<(), EvalError>
-    requires { IsReady cx.old.entries context.old }
-    ensures { IsReady cx.new.entries context.new }
+    requires { IsReadyContext cx.old.entries context.old }
+    ensures { IsReadyContext cx.new.entries context.new }
 {
     context.probe(cx, move |context, cx| equate(context, cx, left, right))?
 }

@@ -2,7 +2,7 @@
 ghost use Rattle.std.specs.Prelude.{List, IfOk, Some};
 ghost use Rattle.type_terms.specs.Terms.{Entry, Has, Keeps, types};
 ghost use Rattle.infer_table.specs.Goals.{GoalHeld};
-ghost use Rattle.evaluation.specs.Context.{IsReady};
+ghost use Rattle.evaluation.specs.Context.{IsReadyContext};
 ghost use Rattle.evaluation.specs.Readings.{ResultHeld};
 
 use evaluation::EvalCtxt;
@@ -55,7 +55,7 @@ pub(crate) fn shown(alloc: Global, cx: &mut Interner, sample: Sample) -> Result<
 
 /// An evaluation in a table with one unknown type, which is the value of the input's variable.
 pub(crate) fn begun(alloc: Global, cx: &mut Interner) -> Result<EvalCtxt, Fault>
-    ensures { IfOk result (λ context. IsReady cx.new.entries context) }
+    ensures { IfOk result (λ context. IsReadyContext cx.new.entries context) }
 {
     cx.lawful();
     let mut table = InferCtxt::new(alloc);

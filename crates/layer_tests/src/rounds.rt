@@ -1,7 +1,7 @@
 //! The rounds in which nested goals are asked, over the replies that are brought.
 ghost use Rattle.std.specs.Prelude.{IfOk, Some};
 ghost use Rattle.evaluation.specs.Readings.{ResultHeld};
-ghost use Rattle.evaluation.specs.Context.{IsReady};
+ghost use Rattle.evaluation.specs.Context.{IsReadyContext};
 
 use crate::goals::{Sample, begun, holds, if_byte, is_type, make, shown};
 use evaluation::{EvalCtxt, EvalError, EvalStep, GoalSource};
@@ -13,7 +13,7 @@ use type_terms::interner::Interner;
 
 /// An evaluation with the goal that the type is `Show`.
 fn begun_with(alloc: Global, cx: &mut Interner, sample: Sample) -> Result<EvalCtxt, Fault>
-    ensures { IfOk result (λ context. IsReady cx.new.entries context) }
+    ensures { IfOk result (λ context. IsReadyContext cx.new.entries context) }
 {
     let mut context = begun(alloc, cx)?;
     let goal = shown(alloc, cx, sample)?;
@@ -23,9 +23,9 @@ fn begun_with(alloc: Global, cx: &mut Interner, sample: Sample) -> Result<EvalCt
 
 /// Brings a reply over this interner.
 fn hear(_cx: &Interner, context: &mut EvalCtxt, answer: CanonicalResponse) -> Result<(), Fault>
-    requires ready { IsReady _cx.now.entries context.old }
+    requires ready { IsReadyContext _cx.now.entries context.old }
     requires held { ResultHeld _cx.now.entries (Some answer) }
-    ensures { IsReady _cx.now.entries context.new }
+    ensures { IsReadyContext _cx.now.entries context.new }
 {
     context.reply(Some(answer))?;
     Ok(())
@@ -33,8 +33,8 @@ fn hear(_cx: &Interner, context: &mut EvalCtxt, answer: CanonicalResponse) -> Re
 
 /// Brings the reply that the type is `u8`.
 fn hear_byte(alloc: Global, cx: &mut Interner, context: &mut EvalCtxt) -> Result<(), Fault>
-    requires { IsReady cx.old.entries context.old }
-    ensures { IsReady cx.new.entries context.new }
+    requires { IsReadyContext cx.old.entries context.old }
+    ensures { IsReadyContext cx.new.entries context.new }
 {
     let byte = if_byte(alloc, cx)?;
     hear(cx, context, byte)
@@ -42,8 +42,8 @@ fn hear_byte(alloc: Global, cx: &mut Interner, context: &mut EvalCtxt) -> Result
 
 /// How sure it is that the goals hold, or none where a reply is waited for.
 fn evaluate(cx: &mut Interner, context: &mut EvalCtxt) -> Result<Option<Certainty>, EvalError>
-    requires { IsReady cx.old.entries context.old }
-    ensures { IsReady cx.new.entries context.new }
+    requires { IsReadyContext cx.old.entries context.old }
+    ensures { IsReadyContext cx.new.entries context.new }
 {
     match context.try_evaluate_added_goals(cx)? {
         EvalStep::Ready(certainty) => Ok(Some(certainty)),
@@ -73,7 +73,7 @@ fn a_goal_is_asked_and_dropped_where_it_holds(rt: HostRuntime) -> Result<(), Eva
 
 /// Whether the answer is a yes by which the type is `u8`.
 fn is_byte(cx: &mut Interner, context: &mut EvalCtxt) -> Result<bool, EvalError>
-    requires { IsReady cx.old.entries context.old }
+    requires { IsReadyContext cx.old.entries context.old }
 {
     let yes = Certainty::Yes;
     match context.evaluate_added_goals_and_make_canonical_response(cx, yes)? {

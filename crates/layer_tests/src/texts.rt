@@ -4,7 +4,7 @@ ghost use Rattle.type_terms.specs.Terms.{Keeps};
 ghost use Rattle.infer_table.specs.Goals.{GoalHeld};
 ghost use Rattle.text_definitions.specs.Text.{TextGives};
 ghost use Rattle.layer_tests.specs.Clauses.{where_clauses};
-ghost use Rattle.candidate_assembly.specs.Ready.{IsReady};
+ghost use Rattle.candidate_assembly.specs.Ready.{AreReadyDeclarations};
 
 use declarations::declarations::Declarations;
 use infer_table::goal::Goal;
@@ -71,7 +71,7 @@ fn view_of(
 ) -> Result<Declarations, Fault>
     requires text { (bytes : List ℕ) × TextGives bytes (Ok workspace.now) }
     requires there { crate_id.index < length workspace.now.crates }
-    ensures ready { IfOk result (λ decls. IsReady cx.new.entries decls) }
+    ensures ready { IfOk result (λ decls. AreReadyDeclarations cx.new.entries decls) }
 {
     impls_begin_declared();
     texts_are_declared_well();
@@ -89,7 +89,7 @@ pub(crate) fn view(
     workspace: &Workspace,
 ) -> Result<Declarations, Fault>
     requires text { (bytes : List ℕ) × TextGives bytes (Ok workspace.now) }
-    ensures ready { IfOk result (λ decls. IsReady cx.new.entries decls) }
+    ensures ready { IfOk result (λ decls. AreReadyDeclarations cx.new.entries decls) }
 {
     let asker = asker(workspace)?;
     view_of(alloc, cx, workspace, asker)

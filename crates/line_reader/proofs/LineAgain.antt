@@ -7,7 +7,7 @@ use Rattle.std.proofs.lemmas.List.{length-append}
 use Rattle.text_definitions.specs.Words.{comma, plus, open_angle, close_angle, colon, for_word, const_word, dyn_word}
 use Rattle.text_definitions.specs.Tokens.{Token, keyword, name, lifetime, sign}
 use Rattle.text_definitions.specs.Syntax.{TypeTree, of_primitive, never_type, variable_type, named, reference_to, pointer_to, slice_of, array_of, tuple_of, fn_of, fn_to, dyn_of, Types, no_types, and_type, Item, bound_item, Items, no_items, and_item, Params, no_params, Bound, Clause, Line, crate_line, struct_line, trait_line, impl_line, prove_line, refute_line, later_line, supers_line, type_spelling, more_items, more_names, uses_spelling, param_spellings, behind, in_angles, params_spelling, bound_spelling, clause_spelling, bounds_spelling, where_spelling, fields_spelling, spelling}
-use Rattle.line_reader.specs.Follows.{Follows}
+use Rattle.line_reader.specs.Follows.{IsCompleteType}
 use Rattle.line_reader.specs.TokenSteps.{NoAngle}
 use Rattle.line_reader.proofs.TypeAt.{◌>>=◌, type_at, bound_at, clause_at, type_again, bound_again, clause_again}
 use Rattle.line_reader.proofs.LineAt.{names_at, uses_at, Param, lifetime_param, type_param, const_param, param_spelling, param_list, param_first, more_params, consts_of, with_type, with_lifetime, with_consts, types_of, ordered, in_order, params_at, as_fields, fields_at, bound_first, items_bounds, as_bounds, bounds_at, clauses_at, more_clauses, where_at, after_for, if_end, struct_at, trait_at, impl_at, prove_at, refute_at, line_at}
@@ -134,7 +134,7 @@ where-again (k ∷ ks) =
     let more = clauses-length ks in
     clauses-again (length ts) k ks (omega (arith, e, one, more))
 
-where-follows : (ks : List Clause) → Follows (where_spelling (map clause_spelling ks))
+where-follows : (ks : List Clause) → IsCompleteType (where_spelling (map clause_spelling ks))
 where-follows [] = tt
 where-follows (k ∷ ks) = tt
 

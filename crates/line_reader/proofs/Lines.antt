@@ -11,11 +11,11 @@ use Rattle.line_reader.specs.TokenSteps.{NoAngle}
 use Rattle.line_reader.specs.declared.line_error.LineError.{LineError}
 use Rattle.line_reader.specs.declared.line_error.LineError.TheVariants as errors
 use Rattle.line_reader.specs.Cells.{Cell}
-use Rattle.line_reader.specs.Follows.{Follows}
+use Rattle.line_reader.specs.Follows.{IsCompleteType}
 use Rattle.line_reader.specs.Statement.{Statement, crate_statement, struct_statement, trait_statement, impl_statement, prove_statement, refute_statement, later_statement, supers_statement, param_list, bound_onto, bound_span, clause_onto, clause_spans, header_onto, header_spans, all_onto, all_spans, line_cells, line_statement}
 use Rattle.line_reader.specs.Parts.{Progress, ◌>>=◌, crate_at, struct_at, trait_at, impl_at, prove_at, refute_at, later_at, supers_at, auto_front, fundamental_front, statement_front, statement_at, line_at, written_in}
 use Rattle.line_reader.specs.Lines.{ReadsLine, SaysLine}
-use Rattle.line_reader.specs.Steps.{Gives}
+use Rattle.line_reader.specs.Steps.{GivesAlone}
 use Rattle.line_reader.specs.Views.{read_of}
 use Rattle.line_reader.specs.declared.statement.LineRead.{LineRead}
 use Rattle.line_reader.proofs.IsPart.{Found, IsPart, Any, bind-some, if-some, spell_both, onto_both, both-part, given-part, behind-part}
@@ -33,8 +33,8 @@ supers-fit : (bs : List Bound) (r : List Token) → IsEnd r → NotAngle (supers
 supers-fit [] r h = at-end NotAngle refl r h
 supers-fit (b ∷ bs) r h = refl
 
-clauses-fit : (ks : List Clause) (r : List Token) → IsEnd r → Follows (clauses_spelling ks ++ r)
-clauses-fit [] r h = at-end Follows tt r h
+clauses-fit : (ks : List Clause) (r : List Token) → IsEnd r → IsCompleteType (clauses_spelling ks ++ r)
+clauses-fit [] r h = at-end IsCompleteType tt r h
 clauses-fit (k ∷ ks) r h = tt
 
 header-fits : (x : Clause × List Clause) (r : List Token) → IsEnd r → NotAngle (spell_both header_spelling clauses_spelling x ++ r)
@@ -241,18 +241,18 @@ written-again : (line : List ℕ) (l : Line) → IsWritten line l → written_in
 unfolding written_in
 written-again line l w = ap (λ ts. ts >>= line_at) w ∙ line-again l
 
-pub is-found : (line : List ℕ) (r : Result LineRead LineError) → Gives read_of r (written_in line) → IfOk r (λ x. SaysLine line x)
+pub is-found : (line : List ℕ) (r : Result LineRead LineError) → GivesAlone read_of r (written_in line) → IfOk r (λ x. SaysLine line x)
 is-found line (Ok x) g = let n = written-takes line (read_of x) g in (n.0, n.1, (n.2, n.3))
 is-found line (Err e) g = tt
 
-pub is-only : (line : List ℕ) (r : Result LineRead LineError) → Gives read_of r (written_in line) → (l : Line) → IsWritten line l → IfOk r (λ x. ReadsLine l x)
+pub is-only : (line : List ℕ) (r : Result LineRead LineError) → GivesAlone read_of r (written_in line) → (l : Line) → IsWritten line l → IfOk r (λ x. ReadsLine l x)
 is-only line (Ok x) g l w =
     let s : read_of x ≡ (line_statement l, line_cells l) = same_Some (read_of x) (line_statement l, line_cells l) (sym g ∙ written-again line l w) in
     (ap (λ (z : Statement × List Cell). z.0) s, ap (λ (z : Statement × List Cell). z.1) s)
 is-only line (Err e) g l w = tt
 
-pub is-refused : (line : List ℕ) (r : Result LineRead LineError) → Gives read_of r (written_in line) → IsErrOf r errors.Syntax → (l : Line) → IsWritten line l → ⊥
+pub is-refused : (line : List ℕ) (r : Result LineRead LineError) → GivesAlone read_of r (written_in line) → IsErrOf r errors.Syntax → (l : Line) → IsWritten line l → ⊥
 is-refused line r g e l w =
-    let none : written_in line ≡ None = subst (λ x. Gives read_of x (written_in line)) e g in
+    let none : written_in line ≡ None = subst (λ x. GivesAlone read_of x (written_in line)) e g in
     let some = written-again line l w in
     absurd cc

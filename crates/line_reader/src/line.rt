@@ -5,7 +5,7 @@ ghost use Rattle.text_definitions.specs.Written.{IsWritten, is_ascii, is_blank};
 ghost use Rattle.line_reader.specs.TokenViews.{tokens_in};
 ghost use Rattle.line_reader.specs.Lines.{ReadsLine, SaysLine};
 ghost use Rattle.line_reader.specs.Parts.{auto_front, fundamental_front, statement_at, line_at, written_in};
-ghost use Rattle.line_reader.specs.Steps.{Reads, Gives};
+ghost use Rattle.line_reader.specs.Steps.{Reads, GivesAlone};
 ghost use Rattle.line_reader.specs.Views.{statement_of, read_of};
 
 use crate::cursor::Cursor;
@@ -82,7 +82,7 @@ pub fn is_blank(line: &[u8]) -> bool
 /// The line that these tokens spell.
 #[tactic(auto, unfolding(crate::specs::Parts::line_at))]
 fn read_tokens<'a>(alloc: Global, tokens: &[Token<'a>]) -> Result<LineRead<'a>, LineError>
-    ensures { Gives read_of result (line_at (tokens_in tokens.now)) }
+    ensures { GivesAlone read_of result (line_at (tokens_in tokens.now)) }
 {
     let mut reader = Reader {
         alloc,
@@ -103,7 +103,7 @@ fn read_tokens<'a>(alloc: Global, tokens: &[Token<'a>]) -> Result<LineRead<'a>, 
 
 #[tactic(auto, unfolding(crate::specs::Parts::written_in))]
 fn read(alloc: Global, line: &[u8]) -> Result<LineRead<'_>, LineError>
-    ensures { Gives read_of result (written_in line.now) }
+    ensures { GivesAlone read_of result (written_in line.now) }
 {
     let Some(found) = tokens(alloc, line)? else {
         return Err(LineError::Syntax);

@@ -12,21 +12,21 @@ use Rattle.line_reader.specs.Cells.{Cell}
 use Rattle.name_resolution.specs.Resolved as resolved
 use Rattle.name_resolution.specs.Resolved.{ResolvedCell, optional_region, region_of, length_cell, dyn_before, last_region, principals, principals_count, type_before, types_before, args_before, arg_before, item_before, items_before}
 use Rattle.name_resolution.specs.Back.{binder_back, type_back, types_back, args_back, arg_back, item_back, items_back, count_above, down_to}
-use Rattle.name_resolution.specs.Machine.{Sight, items, params, Found, using, keeping, deepening, deeper, Place, type_place, arg_place, types_inside, items_inside, args_inside, Frame, State, visiting, going, sort_misfits, name_misfits, is_const_place, name_cells, fn_frame, shape_autos, shape_principals, last_item_region, inside_step, outer_scope, step, run, Reaches}
+use Rattle.name_resolution.specs.Machine.{Sight, items, params, Found, using, keeping, deepening, deeper, Place, type_place, arg_place, types_inside, items_inside, args_inside, WalkFrame, WalkState, visiting, going, sort_misfits, name_misfits, is_const_place, name_cells, fn_frame, shape_autos, shape_principals, last_item_region, inside_step, outer_scope, step, run, WalkReaches}
 use Rattle.name_resolution.specs.Machine.{sinking, finished}
 use Rattle.name_resolution.specs.Laws.{with_arg, with_args, MachineResolves, ArgsResolved}
 use Rattle.name_resolution.proofs.Counting.{if-true, if-false, is-eq, not-eq, same, longer, further, down, binder-extends, types-extends, type-extends, args-extends, count-types, count-output, count-args, shapes-above, names-of, arg-longer, type-longer, item-longer}
 use Rattle.name_resolution.proofs.Uses.{using-append, using-none, using-swap, using-first, sink-suc, sink-one, sink-max, sink-none, sink-at}
 
 -- ---- what one state leads to
-pub record Leads (v : Sight) (x z : State) : Type 0 where
-  pub on : (y : State) → Reaches v z y → Reaches v x y
+pub record Leads (v : Sight) (x z : WalkState) : Type 0 where
+  pub on : (y : WalkState) → WalkReaches v z y → WalkReaches v x y
 
-pub leads-step : (v : Sight) (x z : State) → step v x ≡ z → Leads v x z
+pub leads-step : (v : Sight) (x z : WalkState) → step v x ≡ z → Leads v x z
 leads-step v x z e = record { on = λ y h. (suc h.0, ap (run v h.0) e ∙ h.1) }
 
-leads-is : (v : Sight) (x z : State) → x ≡ z → Leads v x z
-leads-is v x z e = record { on = λ y h. subst (λ w. Reaches v w y) (sym e) h }
+leads-is : (v : Sight) (x z : WalkState) → x ≡ z → Leads v x z
+leads-is v x z e = record { on = λ y h. subst (λ w. WalkReaches v w y) (sym e) h }
 
 -- ---- what is kept
 abbrev celled : List ResolvedCell → Found → Found
@@ -215,31 +215,31 @@ last-item ps s (lifetime_item n) no_items r = refl
 last-item ps s i (and_item j is) r = last-item ps s j is (item_back i r)
 
 -- ---- what is open
-leads-close : (v : Sight) (f : Frame) (fs : List Frame) (s : List (List (List ℕ))) (r q : List Cell) (a : Found) → length r ≡ f.inner → down_to f.start r ≡ q → Leads v (going (f ∷ fs) s r a) (going fs (outer_scope f.binds s) q a)
+leads-close : (v : Sight) (f : WalkFrame) (fs : List WalkFrame) (s : List (List (List ℕ))) (r q : List Cell) (a : Found) → length r ≡ f.inner → down_to f.start r ≡ q → Leads v (going (f ∷ fs) s r a) (going fs (outer_scope f.binds s) q a)
 leads-close v f fs s r q a e d =
     leads-step v (going (f ∷ fs) s r a) (going fs (outer_scope f.binds s) q a)
     (if-true (length r == f.inner) (going fs (outer_scope f.binds s) (down_to f.start r) a) (inside_step v f.holds f fs s r a) (is-eq (length r) f.inner e) ∙ ap (λ x. going fs (outer_scope f.binds s) x a) d)
 
-leads-inside : (v : Sight) (f : Frame) (fs : List Frame) (s : List (List (List ℕ))) (r : List Cell) (a : Found) (x : State) → f.inner < length r → inside_step v f.holds f fs s r a ≡ x → Leads v (going (f ∷ fs) s r a) x
+leads-inside : (v : Sight) (f : WalkFrame) (fs : List WalkFrame) (s : List (List (List ℕ))) (r : List Cell) (a : Found) (x : WalkState) → f.inner < length r → inside_step v f.holds f fs s r a ≡ x → Leads v (going (f ∷ fs) s r a) x
 leads-inside v f fs s r a x h e =
     leads-step v (going (f ∷ fs) s r a) x
     (if-false (length r == f.inner) (going fs (outer_scope f.binds s) (down_to f.start r) a) (inside_step v f.holds f fs s r a) (not-eq (length r) f.inner h) ∙ e)
 
-abbrev args_frame : Frame → List Sort → ℕ → Frame
+abbrev args_frame : WalkFrame → List Sort → ℕ → WalkFrame
 args_frame f ks k = record f { holds = args_inside ks k }
 
-abbrev types_frame : Option ℕ → Bool → Bool → ℕ → ℕ → Frame
+abbrev types_frame : Option ℕ → Bool → Bool → ℕ → ℕ → WalkFrame
 types_frame room kept binds start inner = record { start = start; inner = inner; binds = binds; holds = types_inside; room = room; is_kept = kept }
 
-abbrev items_frame : Option ℕ → Bool → ℕ → Frame
+abbrev items_frame : Option ℕ → Bool → ℕ → WalkFrame
 items_frame room kept start = record { start = start; inner = start; binds = false; holds = items_inside; room = room; is_kept = kept }
 
 infixl 30 ◌▸◌
-◌▸◌ : {v : Sight} {x z w : State} → Leads v x z → Leads v z w → Leads v x w
+◌▸◌ : {v : Sight} {x z w : WalkState} → Leads v x z → Leads v z w → Leads v x w
 f ▸ g = record { on = λ y h. f.on y (g.on y h) }
 
 -- ---- a name with arguments, with their number
-abbrev named_frame : Sight → Place → List ℕ → ℕ → Frame
+abbrev named_frame : Sight → Place → List ℕ → ℕ → WalkFrame
 named_frame v pl n start = record { start = start; inner = start; binds = false; holds = types_inside; room = deeper pl.room; is_kept = pl.is_kept && not (is_const_place pl.kind) }
 
 abbrev named_found : Sight → Place → List ℕ → Found → ℕ → Found
@@ -264,7 +264,7 @@ dyn_found v pl a is r ns k = using v (sort_misfits pl.kind ++ dyn_use is ∷ [])
 abbrev is_bound_kept : Sight → Bool → List ℕ → Bool
 is_bound_kept v kept n = kept && not (is_auto_name (items v) n)
 
-abbrev bound_frame : Sight → Frame → List ℕ → ℕ → ℕ → Frame
+abbrev bound_frame : Sight → WalkFrame → List ℕ → ℕ → ℕ → WalkFrame
 bound_frame v f n start inner = record { start = start; inner = inner; binds = true; holds = types_inside; room = f.room; is_kept = is_bound_kept v f.is_kept n }
 
 abbrev bound_found : Sight → Bool → List (List (List ℕ)) → List ℕ → Found → List (List ℕ) → ℕ → Found
@@ -318,7 +318,7 @@ with-output v pl s b ts o a =
     ∙ ap (λ us. using v (type_misfits pl.kind (fn_to b ts o) ++ us) (sinking pl.room (type_depth (items v) (fn_to b ts o)) (keeping pl.is_kept (type_before (items v) (params v) s pl.kind (fn_to b ts o)) a)))
     (append_assoc (binder_uses s b) (items_use k ∷ []) ws)
 
-fn-to-found : (v : Sight) (pl : Place) (fs : List Frame) (s : List (List (List ℕ))) (b : List (List ℕ)) (ts : Types) (o : TypeTree) (r : List Cell) (a : Found)
+fn-to-found : (v : Sight) (pl : Place) (fs : List WalkFrame) (s : List (List (List ℕ))) (b : List (List ℕ)) (ts : Types) (o : TypeTree) (r : List Cell) (a : Found)
     → Leads v (visiting (type_place (deeper pl.room) pl.is_kept) (fn_frame pl (length r) (length (binder_back b r)) ∷ fs) (b ∷ s) (type_back o (types_back ts (binder_back b r))) (fn_to_found v pl s a b (suc (types_count ts))))
     (going (fn_frame pl (length r) (length (binder_back b r)) ∷ fs) (b ∷ s) (types_back ts (binder_back b r))
     (with_arg v (b ∷ s) (type_place (deeper pl.room) pl.is_kept) (type_arg o) (fn_to_found v pl s a b (suc (types_count ts)))))
@@ -357,7 +357,7 @@ with-dyn v pl s i is a =
     with-inside v pl (dyn_of i is) (dyn_use (item_shape i ∷ item_shapes is) ∷ []) (items_uses (items v) s (and_item i is)) (items_depth (items v) (and_item i is)) (items_before (items v) (params v) s (and_item i is))
     (dyn_before (last_region (params v) s i is) (with_auto (items v) i (autos (items v) is)) (principals_count (items v) i (principals (items v) is))) a (plain-misfits pl.kind (dyn_of i is) refl) refl
 
-dyn-found : (v : Sight) (pl : Place) (fs : List Frame) (s : List (List (List ℕ))) (i : Item) (is : Items) (r : List Cell) (a : Found)
+dyn-found : (v : Sight) (pl : Place) (fs : List WalkFrame) (s : List (List (List ℕ))) (i : Item) (is : Items) (r : List Cell) (a : Found)
     → ((x : Found) → items_frame (deeper pl.room) pl.is_kept (length r) ≡ items_frame (deeper pl.room) pl.is_kept (length r) → length r ≤ length (item_back i r)
     → Leads v (going (items_frame (deeper pl.room) pl.is_kept (length r) ∷ fs) s (items_back is (item_back i r)) x) (going (items_frame (deeper pl.room) pl.is_kept (length r) ∷ fs) s (item_back i r) (with_items v s (deeper pl.room) pl.is_kept is x)))
     → ((x : Found) → length r ≤ length r
@@ -387,7 +387,7 @@ dyn-found v pl fs s i is r a others first =
     ▸ leads-is v _ _ (ap (going fs s r) (and-item v s (deeper pl.room) pl.is_kept i is x ∙ with-dyn v pl s i is a))
 
 mutual
-  pub at-type : (t : TypeTree) (v : Sight) (pl : Place) (fs : List Frame) (s : List (List (List ℕ))) (r : List Cell) (a : Found)
+  pub at-type : (t : TypeTree) (v : Sight) (pl : Place) (fs : List WalkFrame) (s : List (List (List ℕ))) (r : List Cell) (a : Found)
       → Leads v (visiting pl fs s (type_back t r) a) (going fs s r (with_arg v s pl (type_arg t) a))
   at-type (of_primitive l) v pl fs s r a =
       leads-step v _ _ (ap (going fs s r) (misfits-plain v pl.kind pl.room pl.is_kept l (of_primitive l) a (plain-misfits pl.kind (of_primitive l) refl)))
@@ -470,7 +470,7 @@ mutual
       (λ x e h. at-items is v fs (items_frame (deeper pl.room) pl.is_kept (length r)) s (item_back i r) x refl h)
       (λ x h. at-item i v fs (items_frame (deeper pl.room) pl.is_kept (length r)) s r x refl h)
 
-  pub at-types : (ts : Types) (v : Sight) (fs : List Frame) (f : Frame) (s : List (List (List ℕ))) (r : List Cell) (a : Found) → f.holds ≡ types_inside → f.inner ≤ length r
+  pub at-types : (ts : Types) (v : Sight) (fs : List WalkFrame) (f : WalkFrame) (s : List (List (List ℕ))) (r : List Cell) (a : Found) → f.holds ≡ types_inside → f.inner ≤ length r
       → Leads v (going (f ∷ fs) s (types_back ts r) a) (going (f ∷ fs) s r (with_types v s f.room f.is_kept ts a))
   at-types no_types v fs f s r a e h = leads-is v _ _ (ap (going (f ∷ fs) s r) (with-nothing v f.room f.is_kept a))
   at-types (and_type t ts) v fs f s r a e h =
@@ -484,7 +484,7 @@ mutual
       ▸ at-type t v (type_place f.room f.is_kept) (f ∷ fs) s r x
       ▸ leads-is v _ _ (ap (going (f ∷ fs) s r) (and-type v s f.room f.is_kept t ts a))
 
-  pub at-args : (args : Args) (v : Sight) (fs : List Frame) (f : Frame) (ks : List Sort) (i : ℕ) (s : List (List (List ℕ))) (r : List Cell) (a : Found) → f.inner ≤ length r
+  pub at-args : (args : Args) (v : Sight) (fs : List WalkFrame) (f : WalkFrame) (ks : List Sort) (i : ℕ) (s : List (List (List ℕ))) (r : List Cell) (a : Found) → f.inner ≤ length r
       → Leads v (going (args_frame f ks (i + args_count args) ∷ fs) s (args_back args r) a) (going (args_frame f ks i ∷ fs) s r (with_args v s (drop i ks) f.room f.is_kept args a))
   at-args no_args v fs f ks i s r a h =
       let e : i + 0 ≡ i = omega arith in
@@ -504,7 +504,7 @@ mutual
       ▸ leads-is v _ _ (ap (λ z. going (args_frame f ks i ∷ fs) s r (with_arg v s pl x (with_args v s z f.room f.is_kept args a))) (drop-other i ks)
       ∙ ap (going (args_frame f ks i ∷ fs) s r) (and-arg v s (drop i ks) f.room f.is_kept x args a))
 
-  pub at-arg : (x : Arg) (v : Sight) (pl : Place) (fs : List Frame) (s : List (List (List ℕ))) (r : List Cell) (a : Found)
+  pub at-arg : (x : Arg) (v : Sight) (pl : Place) (fs : List WalkFrame) (s : List (List (List ℕ))) (r : List Cell) (a : Found)
       → Leads v (visiting pl fs s (arg_back x r) a) (going fs s r (with_arg v s pl x a))
   at-arg (lifetime_arg n) v pl fs s r a =
       leads-step v _ _ (ap (going fs s r) (nothing-inside v pl.room pl.is_kept (lifetime_arg_uses s pl.kind n) (λ cs. resolved.lifetime_cell (region_of (params v) s n) ∷ cs) a))
@@ -512,7 +512,7 @@ mutual
       leads-step v _ _ (ap (going fs s r) (nothing-inside v pl.room pl.is_kept (number_arg_uses pl.kind n) (λ cs. resolved.node_cell (value n) 0 ∷ cs) a))
   at-arg (type_arg t) v pl fs s r a = at-type t v pl fs s r a
 
-  pub at-item : (i : Item) (v : Sight) (fs : List Frame) (f : Frame) (s : List (List (List ℕ))) (r : List Cell) (a : Found) → f.holds ≡ items_inside → f.inner ≤ length r
+  pub at-item : (i : Item) (v : Sight) (fs : List WalkFrame) (f : WalkFrame) (s : List (List (List ℕ))) (r : List Cell) (a : Found) → f.holds ≡ items_inside → f.inner ≤ length r
       → Leads v (going (f ∷ fs) s (item_back i r) a) (going (f ∷ fs) s r (with_item v s f.room f.is_kept i a))
   at-item (bound_item b n args) v fs f s r a e h =
       let q = binder_back b r in
@@ -536,7 +536,7 @@ mutual
       leads-inside v f fs s (item_back (lifetime_item n) r) a (going (f ∷ fs) s r (using v (lifetime_use s n ∷ []) a)) m (ap (λ x. inside_step v x f fs s (item_back (lifetime_item n) r) a) e)
       ▸ leads-is v _ _ (ap (going (f ∷ fs) s r) (lifetime-found v s f.room f.is_kept n a))
 
-  pub at-items : (is : Items) (v : Sight) (fs : List Frame) (f : Frame) (s : List (List (List ℕ))) (r : List Cell) (a : Found) → f.holds ≡ items_inside → f.inner ≤ length r
+  pub at-items : (is : Items) (v : Sight) (fs : List WalkFrame) (f : WalkFrame) (s : List (List (List ℕ))) (r : List Cell) (a : Found) → f.holds ≡ items_inside → f.inner ≤ length r
       → Leads v (going (f ∷ fs) s (items_back is r) a) (going (f ∷ fs) s r (with_items v s f.room f.is_kept is a))
   at-items no_items v fs f s r a e h = leads-is v _ _ (ap (going (f ∷ fs) s r) (with-nothing v f.room f.is_kept a))
   at-items (and_item i is) v fs f s r a e h =
@@ -547,7 +547,7 @@ mutual
       ▸ leads-is v _ _ (ap (going (f ∷ fs) s r) (and-item v s f.room f.is_kept i is a))
 
 -- ---- the laws
-reached : (v : Sight) (x z : State) → Leads v x z → Reaches v x z
+reached : (v : Sight) (x z : WalkState) → Leads v x z → WalkReaches v x z
 reached v x z l = l.on z (0, refl)
 
 pub machine_resolves : MachineResolves
@@ -556,7 +556,7 @@ machine_resolves v pl x r a =
 
 pub args_resolved : ArgsResolved
 args_resolved v ks room kept args r a =
-    let f : Frame = record { start = length r; inner = length r; binds = false; holds = types_inside; room = room; is_kept = kept } in
+    let f : WalkFrame = record { start = length r; inner = length r; binds = false; holds = types_inside; room = room; is_kept = kept } in
     let k = args_count args in
     let z : args_count args ≡ 0 + args_count args = omega arith in
     let h : length r ≤ length r = omega arith in

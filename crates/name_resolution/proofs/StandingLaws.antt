@@ -10,7 +10,7 @@ use Rattle.text_definitions.specs.Faults.{is_among, is_auto_name, static_name}
 use Rattle.std.specs.Str.{bytes_eq}
 use Rattle.text_definitions.specs.Lowering.{Meanings, place_among, trait_number, struct_label, with_auto, autos, type_label, lifetime_under, lifetime_label, optional_lifetime, length_label, auto_leaves, last_lifetime, item_lifetime, type_tree, types_trees, args_trees, arg_tree, item_tree, items_trees}
 use Rattle.name_resolution.specs.Resolved.{Region, ResolvedCell, node_cell, param_cell, lifetime_cell, reference_cell, region_under, region_of, optional_region, named_cell, length_cell, autos_before, principals_count, principals, item_region, last_region, dyn_before, type_before, types_before, args_before, arg_before, item_before, items_before}
-use Rattle.name_resolution.specs.Standing.{first_of_sort, region_label, gathered, below, over, behind, standing, CellsStand}
+use Rattle.name_resolution.specs.Standing.{first_of_sort, region_label, gathered, below, over, trees_behind, standing, CellsStand}
 
 -- ---- lists of trees
 joined : List Trees → Trees
@@ -181,14 +181,14 @@ at-last : (e : Meanings) (s : List (List (List ℕ))) (i : Item) (is : Items) �
 at-last e s i no_items = at-item-region e s i
 at-last e s i (and_item j is) = at-last e s j is
 
-if-named : (e : Meanings) (b : Bool) (i k : ℕ) (l : Label) (S : List Trees) → behind e (if b then param_cell of_type i k else node_cell l k) S ≡ over (if b then e.parameter of_type (first_of_sort e of_type + i) else l) k S
+if-named : (e : Meanings) (b : Bool) (i k : ℕ) (l : Label) (S : List Trees) → trees_behind e (if b then param_cell of_type i k else node_cell l k) S ≡ over (if b then e.parameter of_type (first_of_sort e of_type + i) else l) k S
 if-named e true i k l S = refl
 if-named e false i k l S = refl
 
-at-named : (e : Meanings) (n : List ℕ) (k : ℕ) (S : List Trees) → behind e (named_cell e.items e.params n k) S ≡ over (type_label e n) k S
+at-named : (e : Meanings) (n : List ℕ) (k : ℕ) (S : List Trees) → trees_behind e (named_cell e.items e.params n k) S ≡ over (type_label e n) k S
 at-named e n k S = if-named e (is_among n e.params.types) (place_among n e.params.types) k (struct_label (known e.items n)) S
 
-at-length : (e : Meanings) (n : Length) (S : List Trees) → behind e (length_cell e.params n) S ≡ leaf (length_label e n) ∷ S
+at-length : (e : Meanings) (n : Length) (S : List Trees) → trees_behind e (length_cell e.params n) S ≡ leaf (length_label e n) ∷ S
 at-length e (number_length n) S = refl
 at-length e (name_length n) S = refl
 at-length e (variable_length n) S = refl

@@ -15,7 +15,7 @@ use Rattle.name_resolution.specs.declared.walk.Frame.{Frame}
 use Rattle.name_resolution.specs.WalkViews.{frame_of, frames_onto, frames_in}
 use Rattle.name_resolution.proofs.Uses.{findings-append}
 
-pub frames-push : (fs : List Frame) (f : Frame) (s : List machine.Frame) → frames_onto (fs ++ f ∷ []) s ≡ frame_of f ∷ frames_onto fs s
+pub frames-push : (fs : List Frame) (f : Frame) (s : List machine.WalkFrame) → frames_onto (fs ++ f ∷ []) s ≡ frame_of f ∷ frames_onto fs s
 frames-push [] f s = refl
 frames-push (h ∷ fs) f s = frames-push fs f (frame_of h ∷ s)
 
@@ -43,7 +43,7 @@ no-variables-with of_lifetime us h = h
 pub together : (v : Sight) (xs ys : List Use) (f g h : Findings) → f ≡ findings v xs → g ≡ findings v ys → h ≡ either f g → h ≡ findings v (xs ++ ys)
 together v xs ys f g h p q r = r ∙ ap (λ x. either x g) p ∙ ap (either (findings v xs)) q ∙ sym (findings-append v xs ys)
 
-pub going-same : (fs gs : List machine.Frame) (s t : List (List (List ℕ))) (r q : List Cell) (a b : Found) → gs ≡ fs → t ≡ s → q ≡ r → b ≡ a → machine.going fs s r a ≡ machine.going gs t q b
+pub going-same : (fs gs : List machine.WalkFrame) (s t : List (List (List ℕ))) (r q : List Cell) (a b : Found) → gs ≡ fs → t ≡ s → q ≡ r → b ≡ a → machine.going fs s r a ≡ machine.going gs t q b
 going-same fs gs s t r q a b e f g h =
     ap (λ x. machine.going x s r a) (sym e) ∙ ap (λ x. machine.going gs x r a) (sym f) ∙ ap (λ x. machine.going gs t x a) (sym g) ∙ ap (machine.going gs t q) (sym h)
 

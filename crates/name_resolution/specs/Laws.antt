@@ -6,7 +6,7 @@ use Rattle.text_definitions.specs.Uses.{args_count, arg_uses, args_uses, arg_dep
 use Rattle.line_reader.specs.Cells.{Cell, type_onto, args_onto}
 use Rattle.name_resolution.specs.Resolved.{arg_before, args_before}
 use Rattle.name_resolution.specs.Back.{type_back, args_back, arg_back}
-use Rattle.name_resolution.specs.Machine.{Sight, items, params, Found, using, sinking, keeping, Place, args_inside, Frame, visiting, going, finished, Reaches}
+use Rattle.name_resolution.specs.Machine.{Sight, items, params, Found, using, sinking, keeping, Place, args_inside, WalkFrame, visiting, going, finished, WalkReaches}
 
 -- With an argument before what was found, under the binders s: its uses, how deep it is, and its resolved cells. A type is an argument.
 abbrev pub with_arg : Sight → List (List (List ℕ)) → Place → Arg → Found → Found
@@ -18,16 +18,16 @@ with_args v s ks room kept args a = using v (args_uses (items v) s ks args) (sin
 
 -- From the cells of an argument the machine comes to what the definitions say of it.
 abbrev pub MachineResolves : Type 0
-MachineResolves = (v : Sight) (pl : Place) (x : Arg) (r : List Cell) (a : Found) → Reaches v (visiting pl [] [] (arg_back x r) a) (finished r (with_arg v [] pl x a))
+MachineResolves = (v : Sight) (pl : Place) (x : Arg) (r : List Cell) (a : Found) → WalkReaches v (visiting pl [] [] (arg_back x r) a) (finished r (with_arg v [] pl x a))
 
 -- the frame of the arguments of a bound
-abbrev pub bound_args : List Cell → List Sort → Option ℕ → Bool → ℕ → Frame
+abbrev pub bound_args : List Cell → List Sort → Option ℕ → Bool → ℕ → WalkFrame
 bound_args r ks room kept k = record { start = length r; inner = length r; binds = false; holds = args_inside ks k; room = room; is_kept = kept }
 
 abbrev pub ArgsResolved : Type 0
 ArgsResolved =
     (v : Sight) (ks : List Sort) (room : Option ℕ) (kept : Bool) (args : Args) (r : List Cell) (a : Found)
-    → Reaches v (going (bound_args r ks room kept (args_count args) ∷ []) [] (args_back args r) a) (finished r (with_args v [] ks room kept args a))
+    → WalkReaches v (going (bound_args r ks room kept (args_count args) ∷ []) [] (args_back args r) a) (finished r (with_args v [] ks room kept args a))
 
 -- The cells that were read, turned round.
 abbrev pub TypesTurned : Type 0

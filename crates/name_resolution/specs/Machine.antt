@@ -107,7 +107,7 @@ pub data Inside : Type 0 where
   -- so many arguments are left
   args_inside : List Sort → ℕ → Inside
 
-pub record Frame : Type 0 where
+pub record WalkFrame : Type 0 where
   pub start : ℕ
   pub inner : ℕ
   pub binds : Bool
@@ -115,11 +115,11 @@ pub record Frame : Type 0 where
   pub room : Option ℕ
   pub is_kept : Bool
 
-pub data State : Type 0 where
+pub data WalkState : Type 0 where
   -- a type or an argument is to come
-  visiting : Place → List Frame → List (List (List ℕ)) → List Cell → Found → State
-  going : List Frame → List (List (List ℕ)) → List Cell → Found → State
-  finished : List Cell → Found → State
+  visiting : Place → List WalkFrame → List (List (List ℕ)) → List Cell → Found → WalkState
+  going : List WalkFrame → List (List (List ℕ)) → List Cell → Found → WalkState
+  finished : List Cell → Found → WalkState
 
 -- ---- the uses of a cell itself
 -- a type that isn't a name alone or a variable
@@ -145,14 +145,14 @@ abbrev pub name_cells : Sight → Sort → List ℕ → ℕ → List ResolvedCel
 name_cells v of_const n k cs = const_cell (params v) n ∷ cs
 name_cells v p n k cs = resolved.named_cell (items v) (params v) n k ∷ cs
 
-abbrev pub leaf_step : Sight → Place → List Frame → List (List (List ℕ)) → Label → List Cell → Found → State
+abbrev pub leaf_step : Sight → Place → List WalkFrame → List (List (List ℕ)) → Label → List Cell → Found → WalkState
 leaf_step v pl fs s l r a = going fs s r (using v (sort_misfits pl.kind) (deepening pl.room (keeping pl.is_kept (λ cs. resolved.node_cell l 0 ∷ cs) a)))
 
-abbrev pub variable_step : Sight → Place → List Frame → List (List (List ℕ)) → List ℕ → List Cell → Found → State
+abbrev pub variable_step : Sight → Place → List WalkFrame → List (List (List ℕ)) → List ℕ → List Cell → Found → WalkState
 variable_step v pl fs s n r a =
     going fs s r (using v (name_misfits pl.kind ++ variable_use pl.kind n ∷ []) (deepening pl.room (keeping pl.is_kept (λ cs. resolved.variable_cell pl.kind n ∷ cs) a)))
 
-abbrev pub named_step : Sight → Place → List Frame → List (List (List ℕ)) → List ℕ → ℕ → List Cell → Found → State
+abbrev pub named_step : Sight → Place → List WalkFrame → List (List (List ℕ)) → List ℕ → ℕ → List Cell → Found → WalkState
 named_step v pl fs s n start r a =
     let k = count_above start r in
     going
@@ -160,17 +160,17 @@ named_step v pl fs s n start r a =
     s r (using v (name_misfits pl.kind ++ name_use pl.kind n k ∷ []) (deepening pl.room (keeping pl.is_kept (name_cells v pl.kind n k) a)))
 
 -- a type of one type: the cells are its own
-abbrev pub wrapped_step : Sight → Place → List Frame → List (List (List ℕ)) → List Use → (List ResolvedCell → List ResolvedCell) → List Cell → Found → State
+abbrev pub wrapped_step : Sight → Place → List WalkFrame → List (List (List ℕ)) → List Use → (List ResolvedCell → List ResolvedCell) → List Cell → Found → WalkState
 wrapped_step v pl fs s us f r a =
     visiting (type_place (deeper pl.room) pl.is_kept) fs s r (using v (sort_misfits pl.kind ++ us) (deepening pl.room (keeping pl.is_kept f a)))
 
-abbrev pub array_step : Sight → Place → List Frame → List (List (List ℕ)) → Length → List Cell → Found → State
+abbrev pub array_step : Sight → Place → List WalkFrame → List (List (List ℕ)) → Length → List Cell → Found → WalkState
 array_step v pl fs s n r a = wrapped_step v pl fs s (length_uses n) (λ cs. length_cell (params v) n ∷ resolved.node_cell array 2 ∷ cs) r a
 
-abbrev pub reference_step : Sight → Place → List Frame → List (List (List ℕ)) → Option (List ℕ) → Bool → List Cell → Found → State
+abbrev pub reference_step : Sight → Place → List WalkFrame → List (List (List ℕ)) → Option (List ℕ) → Bool → List Cell → Found → WalkState
 reference_step v pl fs s l m r a = wrapped_step v pl fs s (lifetime_uses s l) (λ cs. resolved.reference_cell (optional_region (params v) s l) m ∷ cs) r a
 
-abbrev pub tuple_step : Sight → Place → List Frame → List (List (List ℕ)) → ℕ → List Cell → Found → State
+abbrev pub tuple_step : Sight → Place → List WalkFrame → List (List (List ℕ)) → ℕ → List Cell → Found → WalkState
 tuple_step v pl fs s start r a =
     let k = count_above start r in
     going
@@ -178,10 +178,10 @@ tuple_step v pl fs s start r a =
     s r (using v (sort_misfits pl.kind ++ items_use k ∷ []) (deepening pl.room (keeping pl.is_kept (λ cs. resolved.node_cell tuple k ∷ cs) a)))
 
 -- a fn with so many inputs
-abbrev pub fn_frame : Place → ℕ → ℕ → Frame
+abbrev pub fn_frame : Place → ℕ → ℕ → WalkFrame
 fn_frame pl start inner = record { start = start; inner = inner; binds = true; holds = types_inside; room = deeper pl.room; is_kept = pl.is_kept }
 
-abbrev pub fn_step : Sight → Place → List Frame → List (List (List ℕ)) → ℕ → ℕ → List Cell → Found → State
+abbrev pub fn_step : Sight → Place → List WalkFrame → List (List (List ℕ)) → ℕ → ℕ → List Cell → Found → WalkState
 fn_step v pl fs s start inner r a =
     let b = names_between start inner r in
     let k = count_above inner r in
@@ -189,7 +189,7 @@ fn_step v pl fs s start inner r a =
     (using v (sort_misfits pl.kind ++ (binder_uses s b ++ items_use k ∷ []))
     (deepening pl.room (keeping pl.is_kept (λ cs. resolved.node_cell tuple 0 ∷ resolved.node_cell (fn_ptr (length b)) (suc k) ∷ cs) a)))
 
-abbrev pub fn_to_step : Sight → Place → List Frame → List (List (List ℕ)) → ℕ → ℕ → List Cell → Found → State
+abbrev pub fn_to_step : Sight → Place → List WalkFrame → List (List (List ℕ)) → ℕ → ℕ → List Cell → Found → WalkState
 fn_to_step v pl fs s start inner r a =
     let b = names_between start inner r in
     let k = count_above inner r in
@@ -214,7 +214,7 @@ last_item_region ps s [] = static_region
 last_item_region ps s (lifetime_cell n ∷ r) = region_of ps s n
 last_item_region ps s (c ∷ r) = static_region
 
-abbrev pub dyn_step : Sight → Place → List Frame → List (List (List ℕ)) → ℕ → List Cell → Found → State
+abbrev pub dyn_step : Sight → Place → List WalkFrame → List (List (List ℕ)) → ℕ → List Cell → Found → WalkState
 dyn_step v pl fs s start r a =
     let is = map shape_of (parts_above start r) in
     going
@@ -223,13 +223,13 @@ dyn_step v pl fs s start r a =
     (deepening pl.room (keeping pl.is_kept (dyn_before (last_item_region (params v) s r) (shape_autos (items v) is) (shape_principals (items v) is)) a)))
 
 -- ---- arguments that are no types
-abbrev pub lifetime_step : Sight → Place → List Frame → List (List (List ℕ)) → List ℕ → List Cell → Found → State
+abbrev pub lifetime_step : Sight → Place → List WalkFrame → List (List (List ℕ)) → List ℕ → List Cell → Found → WalkState
 lifetime_step v pl fs s n r a = going fs s r (using v (lifetime_arg_uses s pl.kind n) (keeping pl.is_kept (λ cs. resolved.lifetime_cell (region_of (params v) s n) ∷ cs) a))
 
-abbrev pub number_step : Sight → Place → List Frame → List (List (List ℕ)) → ℕ → List Cell → Found → State
+abbrev pub number_step : Sight → Place → List WalkFrame → List (List (List ℕ)) → ℕ → List Cell → Found → WalkState
 number_step v pl fs s n r a = going fs s r (using v (number_arg_uses pl.kind n) (keeping pl.is_kept (λ cs. resolved.node_cell (value n) 0 ∷ cs) a))
 
-abbrev pub visit_step : Sight → Place → List Frame → List (List (List ℕ)) → List Cell → Found → State
+abbrev pub visit_step : Sight → Place → List WalkFrame → List (List (List ℕ)) → List Cell → Found → WalkState
 visit_step v pl fs s (primitive_cell l ∷ r) a = leaf_step v pl fs s l r a
 visit_step v pl fs s (never_cell ∷ r) a = leaf_step v pl fs s never r a
 visit_step v pl fs s (variable_cell n ∷ r) a = variable_step v pl fs s n r a
@@ -247,7 +247,7 @@ visit_step v pl fs s (dyn_cell start ∷ r) a = dyn_step v pl fs s start r a
 visit_step v pl fs s r a = finished r a
 
 -- ---- inside what is open
-abbrev pub bound_step : Sight → Frame → List Frame → List (List (List ℕ)) → List ℕ → ℕ → ℕ → List Cell → Found → State
+abbrev pub bound_step : Sight → WalkFrame → List WalkFrame → List (List (List ℕ)) → List ℕ → ℕ → ℕ → List Cell → Found → WalkState
 bound_step v f fs s n start inner r a =
     let b = names_between start inner r in
     let k = count_above inner r in
@@ -256,12 +256,12 @@ bound_step v f fs s n start inner r a =
     (record { start = start; inner = inner; binds = true; holds = args_inside (kinds_of_trait (known (items v) n)) k; room = f.room; is_kept = kept } ∷ f ∷ fs)
     (b ∷ s) r (using v (binder_uses s b ++ trait_use n k ∷ []) (keeping kept (λ cs. resolved.node_cell (principal (length b) (trait_number (known (items v) n))) k ∷ cs) a))
 
-abbrev pub item_step : Sight → Frame → List Frame → List (List (List ℕ)) → List Cell → Found → State
+abbrev pub item_step : Sight → WalkFrame → List WalkFrame → List (List (List ℕ)) → List Cell → Found → WalkState
 item_step v f fs s (bound_cell n start inner ∷ r) a = bound_step v f fs s n start inner r a
 item_step v f fs s (lifetime_cell n ∷ r) a = going (f ∷ fs) s r (using v (lifetime_use s n ∷ []) a)
 item_step v f fs s r a = finished r a
 
-abbrev pub inside_step : Sight → Inside → Frame → List Frame → List (List (List ℕ)) → List Cell → Found → State
+abbrev pub inside_step : Sight → Inside → WalkFrame → List WalkFrame → List (List (List ℕ)) → List Cell → Found → WalkState
 inside_step v types_inside f fs s r a = visiting (type_place f.room f.is_kept) (f ∷ fs) s r a
 inside_step v items_inside f fs s r a = item_step v f fs s r a
 inside_step v (args_inside ks zero) f fs s r a = finished r a
@@ -271,19 +271,19 @@ abbrev pub outer_scope : Bool → List (List (List ℕ)) → List (List (List �
 outer_scope true (b ∷ s) = s
 outer_scope _ s = s
 
-abbrev pub frame_step : Sight → List Frame → List (List (List ℕ)) → List Cell → Found → State
+abbrev pub frame_step : Sight → List WalkFrame → List (List (List ℕ)) → List Cell → Found → WalkState
 frame_step v [] s r a = finished r a
 frame_step v (f ∷ fs) s r a = if length r == f.inner then going fs (outer_scope f.binds s) (down_to f.start r) a else inside_step v f.holds f fs s r a
 
-abbrev pub step : Sight → State → State
+abbrev pub step : Sight → WalkState → WalkState
 step v (visiting pl fs s r a) = visit_step v pl fs s r a
 step v (going fs s r a) = frame_step v fs s r a
 step v (finished r a) = finished r a
 
-abbrev pub run : Sight → ℕ → State → State
+abbrev pub run : Sight → ℕ → WalkState → WalkState
 run v zero x = x
 run v (suc n) x = run v n (step v x)
 
 -- in some number of steps
-abbrev pub Reaches : Sight → State → State → Type 0
-Reaches v x y = (n : ℕ) × (run v n x ≡ y)
+abbrev pub WalkReaches : Sight → WalkState → WalkState → Type 0
+WalkReaches v x y = (n : ℕ) × (run v n x ≡ y)

@@ -37,17 +37,17 @@ referring l r [] = []
 referring l r (t ∷ S) = tree l (leaf r +++ t) none ∷ S
 
 -- the stack behind one cell
-abbrev pub behind : Meanings → ResolvedCell → List Trees → List Trees
-behind e (node_cell l k) S = over l k S
-behind e (param_cell p i k) S = over (e.parameter p (first_of_sort e p + i)) k S
-behind e (variable_cell p n) S = leaf (variable_label e p n) ∷ S
-behind e (lifetime_cell r) S = leaf (region_label e r) ∷ S
-behind e (reference_cell r m) S = referring (ref m) (region_label e r) S
+abbrev pub trees_behind : Meanings → ResolvedCell → List Trees → List Trees
+trees_behind e (node_cell l k) S = over l k S
+trees_behind e (param_cell p i k) S = over (e.parameter p (first_of_sort e p + i)) k S
+trees_behind e (variable_cell p n) S = leaf (variable_label e p n) ∷ S
+trees_behind e (lifetime_cell r) S = leaf (region_label e r) ∷ S
+trees_behind e (reference_cell r m) S = referring (ref m) (region_label e r) S
 
 -- the stack behind all cells
 abbrev pub standing : Meanings → List ResolvedCell → List Trees → List Trees
 standing e [] S = S
-standing e (c ∷ cs) S = standing e cs (behind e c S)
+standing e (c ∷ cs) S = standing e cs (trees_behind e c S)
 
 -- The cells of a type stand for its tree.
 abbrev pub CellsStand : Type 0

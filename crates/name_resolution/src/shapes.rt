@@ -8,7 +8,7 @@ ghost use Rattle.name_resolution.specs.Machine.{Sight, dyn_step, findings, items
 ghost use Rattle.name_resolution.specs.Resolved.{autos_before};
 ghost use Rattle.name_resolution.specs.Shapes.{dyn_cells, summary, with_shape};
 ghost use Rattle.name_resolution.specs.Views.{region_in};
-ghost use Rattle.name_resolution.specs.WalkViews.{place_of, Steps};
+ghost use Rattle.name_resolution.specs.WalkViews.{place_of, WalkSteps};
 
 use crate::findings::Findings;
 use crate::found::Found;
@@ -241,7 +241,7 @@ impl<'n, 'c, 'a> Walk<'n, 'c, 'a> {
         start: usize,
     ) -> Result<Next, AllocError>
         requires { length self.old.rest + 1 < 2 ^ 64 }
-        ensures { Steps result (λ fs s r a. dyn_step (N.sight names.now) (place_of place) fs s start r a) self.old self.new }
+        ensures { WalkSteps result (λ fs s r a. dyn_step (N.sight names.now) (place_of place) fs s start r a) self.old self.new }
     {
         let shapes = self.shapes(names, alloc, start)?;
         let region = self.last_region(names);

@@ -3,7 +3,7 @@ ghost use Rattle.std.specs.Prelude.{◌≡◌, ◌∷◌, drop};
 ghost use Rattle.text_definitions.specs.Uses.{next_kind};
 ghost use Rattle.name_resolution.specs.Machine.{Sight, arg_place, args_inside, frame_step, going, inside_step, item_step, step, type_place, types_inside, visit_step};
 ghost use Rattle.workspace.specs.Views.{sort_of_kind, sorts_of};
-ghost use Rattle.name_resolution.specs.WalkViews.{frame_of, frames_in, inside_of, place_of, state_in, is_finished, Steps, Comes, Ends};
+ghost use Rattle.name_resolution.specs.WalkViews.{frame_of, frames_in, inside_of, place_of, state_in, is_finished, WalkSteps, WalkComes, WalkEnds};
 
 use crate::looked_up::Names;
 use crate::resolved::NodeLabel;
@@ -56,7 +56,7 @@ impl<'n, 'c, 'a> Walk<'n, 'c, 'a> {
         kinds: &'n [ParamKind],
         left: usize,
     ) -> Result<Next, AllocError>
-        ensures { (v : Sight) → Steps result (λ fs s r a. inside_step v (args_inside (sorts_of kinds.now) left) (frame_of frame.entry) fs s r a) self.old self.new }
+        ensures { (v : Sight) → WalkSteps result (λ fs s r a. inside_step v (args_inside (sorts_of kinds.now) left) (frame_of frame.entry) fs s r a) self.old self.new }
     {
         if left == 0 {
             return Ok(Next::Finished);
@@ -70,7 +70,7 @@ impl<'n, 'c, 'a> Walk<'n, 'c, 'a> {
     }
 
     fn type_inside(&mut self, frame: Frame<'n>) -> Result<Next, AllocError>
-        ensures { (v : Sight) → Steps result (λ fs s r a. inside_step v types_inside (frame_of frame.entry) fs s r a) self.old self.new }
+        ensures { (v : Sight) → WalkSteps result (λ fs s r a. inside_step v types_inside (frame_of frame.entry) fs s r a) self.old self.new }
     {
         self.push(frame)?;
         Ok(Next::Visiting(type_place(frame.room, frame.is_kept)))
@@ -83,7 +83,7 @@ impl<'n, 'c, 'a> Walk<'n, 'c, 'a> {
         alloc: Global,
         frame: Frame<'n>,
     ) -> Result<Next, AllocError>
-        ensures { Steps result (λ fs s r a. item_step (N.sight names.now) (frame_of frame.entry) fs s r a) self.old self.new }
+        ensures { WalkSteps result (λ fs s r a. item_step (N.sight names.now) (frame_of frame.entry) fs s r a) self.old self.new }
     {
         let before = self.rest.fork();
         match self.rest.next() {
@@ -105,7 +105,7 @@ impl<'n, 'c, 'a> Walk<'n, 'c, 'a> {
         alloc: Global,
         frame: Frame<'n>,
     ) -> Result<Next, AllocError>
-        ensures { Steps result (λ fs s r a. inside_step (N.sight names.now) (inside_of frame.entry.holds) (frame_of frame.entry) fs s r a) self.old self.new }
+        ensures { WalkSteps result (λ fs s r a. inside_step (N.sight names.now) (inside_of frame.entry.holds) (frame_of frame.entry) fs s r a) self.old self.new }
     {
         match frame.holds {
             Inside::Types => self.type_inside(frame),
@@ -116,7 +116,7 @@ impl<'n, 'c, 'a> Walk<'n, 'c, 'a> {
 
     /// What is open: its end, or what stands inside it.
     fn frame_step<N: Names>(&mut self, names: &'n N, alloc: Global) -> Result<Next, AllocError>
-        ensures { Steps result (λ fs s r a. frame_step (N.sight names.now) fs s r a) self.old self.new }
+        ensures { WalkSteps result (λ fs s r a. frame_step (N.sight names.now) fs s r a) self.old self.new }
     {
         match self.pop() {
             None => Ok(Next::Finished),
@@ -138,7 +138,7 @@ impl<'n, 'c, 'a> Walk<'n, 'c, 'a> {
         alloc: Global,
         place: Place,
     ) -> Result<Next, AllocError>
-        ensures { Steps result (λ fs s r a. visit_step (N.sight names.now) (place_of place) fs s r a) self.old self.new }
+        ensures { WalkSteps result (λ fs s r a. visit_step (N.sight names.now) (place_of place) fs s r a) self.old self.new }
     {
         let before = self.rest.fork();
         match self.rest.next() {
@@ -172,7 +172,7 @@ impl<'n, 'c, 'a> Walk<'n, 'c, 'a> {
         alloc: Global,
         next: Next,
     ) -> Result<Next, AllocError>
-        ensures { Comes result (step (N.sight names.now) (state_in next self.old)) self.new }
+        ensures { WalkComes result (step (N.sight names.now) (state_in next self.old)) self.new }
     {
         match next {
             Next::Visiting(place) => self.visit(names, alloc, place),
@@ -188,7 +188,7 @@ impl<'n, 'c, 'a> Walk<'n, 'c, 'a> {
         alloc: Global,
         first: Next,
     ) -> Result<(), AllocError>
-        ensures { Ends result (N.sight names.now) (state_in first self.old) self.new }
+        ensures { WalkEnds result (N.sight names.now) (state_in first self.old) self.new }
     {
         let mut next = first;
         while !next.is_finished() {
@@ -204,7 +204,7 @@ impl<'n, 'c, 'a> Walk<'n, 'c, 'a> {
         alloc: Global,
         frame: Frame<'n>,
     ) -> Result<(), AllocError>
-        ensures { Ends result (N.sight names.now) (going (frame_of frame.entry ∷ frames_in self.old.frames.items) self.old.binders self.old.rest self.old.found) self.new }
+        ensures { WalkEnds result (N.sight names.now) (going (frame_of frame.entry ∷ frames_in self.old.frames.items) self.old.binders self.old.rest self.old.found) self.new }
     {
         self.push(frame)?;
         self.run(names, alloc, Next::Going)

@@ -4,7 +4,7 @@ ghost use Rattle.std.specs.Option.{option_map};
 ghost use Rattle.line_reader.specs.TokenViews.{text_of};
 ghost use Rattle.workspace.specs.Views.{sort_of_kind};
 ghost use Rattle.name_resolution.specs.Views.{resolved_in, label_in};
-ghost use Rattle.name_resolution.specs.WalkViews.{place_of, frame_of, frames_in, Steps};
+ghost use Rattle.name_resolution.specs.WalkViews.{place_of, frame_of, frames_in, WalkSteps};
 ghost use Rattle.name_resolution.specs.Machine.{Sight, reference_step, lifetime_step, leaf_step, variable_step, number_step, named_step, wrapped_step, array_step, tuple_step, fn_step, fn_to_step, bound_step, fn_frame, params, is_const_place, deeper, type_place, outer_scope, going, using};
 ghost use Rattle.name_resolution.specs.Back.{down_to};
 ghost use Rattle.name_resolution.specs.Resolved.{node_cell, length_cell};
@@ -159,7 +159,7 @@ impl<'n, 'c, 'a> Walk<'n, 'c, 'a> {
 
     /// A type without others inside.
     pub fn leaf(&mut self, place: Place, label: NodeLabel<'a>) -> Result<Next, AllocError>
-        ensures { (v : Sight) → Steps result (λ fs s r a. leaf_step v (place_of place) fs s (label_in label.entry) r a) self.old self.new }
+        ensures { (v : Sight) → WalkSteps result (λ fs s r a. leaf_step v (place_of place) fs s (label_in label.entry) r a) self.old self.new }
     {
         let cell = ResolvedCell::Node { label, inside: 0 };
         self.found.add(place, judge_use::misfits(place.sort), cell)?;
@@ -168,7 +168,7 @@ impl<'n, 'c, 'a> Walk<'n, 'c, 'a> {
 
     /// The step at a variable: one more use, one more of the variables, and a resolved cell with its name.
     pub fn variable(&mut self, place: Place, name: &'a [u8]) -> Result<Next, AllocError>
-        ensures { (v : Sight) → Steps result (λ fs s r a. variable_step v (place_of place) fs s name.now r a) self.old self.new }
+        ensures { (v : Sight) → WalkSteps result (λ fs s r a. variable_step v (place_of place) fs s name.now r a) self.old self.new }
     {
         let faults = judge_use::named_misfits(place.sort).either(judge_use::variable(name));
         let cell = ResolvedCell::Variable {
@@ -187,7 +187,7 @@ impl<'n, 'c, 'a> Walk<'n, 'c, 'a> {
         place: Place,
         name: &'a [u8],
     ) -> Result<Next, AllocError>
-        ensures { Steps result (λ fs s r a. lifetime_step (N.sight names.now) (place_of place) fs s name.now r a) self.old self.new }
+        ensures { WalkSteps result (λ fs s r a. lifetime_step (N.sight names.now) (place_of place) fs s name.now r a) self.old self.new }
     {
         let region = judge_use::region(names, &self.binders, name);
         let unknown = judge_use::lifetime(names, &self.binders, name);
@@ -200,7 +200,7 @@ impl<'n, 'c, 'a> Walk<'n, 'c, 'a> {
 
     /// A number where an argument stands.
     pub fn number(&mut self, place: Place, digits: &'a [u8]) -> Result<Next, AllocError>
-        ensures { (v : Sight) → Steps result (λ fs s r a. number_step v (place_of place) fs s (number_from 0 digits.now) r a) self.old self.new }
+        ensures { (v : Sight) → WalkSteps result (λ fs s r a. number_step v (place_of place) fs s (number_from 0 digits.now) r a) self.old self.new }
     {
         let faults = judge_use::number_argument(place.sort, digits);
         let label = NodeLabel::Value(digits);
@@ -218,7 +218,7 @@ impl<'n, 'c, 'a> Walk<'n, 'c, 'a> {
         name: &'a [u8],
         start: usize,
     ) -> Result<Next, AllocError>
-        ensures { Steps result (λ fs s r a. named_step (N.sight names.now) (place_of place) fs s name.now start r a) self.old self.new }
+        ensures { WalkSteps result (λ fs s r a. named_step (N.sight names.now) (place_of place) fs s name.now start r a) self.old self.new }
     {
         let count = self.rest.count_above(start);
         let meaning = names.known(name);
@@ -245,7 +245,7 @@ impl<'n, 'c, 'a> Walk<'n, 'c, 'a> {
         place: Place,
         length: Length<'a>,
     ) -> Result<Next, AllocError>
-        ensures { Steps result (λ fs s r a. array_step (N.sight names.now) (place_of place) fs s (length_of length.entry) r a) self.old self.new }
+        ensures { WalkSteps result (λ fs s r a. array_step (N.sight names.now) (place_of place) fs s (length_of length.entry) r a) self.old self.new }
     {
         let faults = judge_use::misfits(place.sort).either(judge_use::length(names, length));
         let label = NodeLabel::Array;
@@ -259,7 +259,7 @@ impl<'n, 'c, 'a> Walk<'n, 'c, 'a> {
 
     /// A pointer or a slice over the type that comes next.
     pub fn wrapped(&mut self, place: Place, label: NodeLabel<'a>) -> Result<Next, AllocError>
-        ensures { (v : Sight) → Steps result (λ fs s r a. wrapped_step v (place_of place) fs s [] (λ cs. node_cell (label_in label.entry) 1 ∷ cs) r a) self.old self.new }
+        ensures { (v : Sight) → WalkSteps result (λ fs s r a. wrapped_step v (place_of place) fs s [] (λ cs. node_cell (label_in label.entry) 1 ∷ cs) r a) self.old self.new }
     {
         let cell = ResolvedCell::Node { label, inside: 1 };
         self.found.add(place, judge_use::misfits(place.sort), cell)?;
@@ -274,7 +274,7 @@ impl<'n, 'c, 'a> Walk<'n, 'c, 'a> {
         lifetime: Option<&'a [u8]>,
         is_mut: bool,
     ) -> Result<Next, AllocError>
-        ensures { Steps result (λ fs s r a. reference_step (N.sight names.now) (place_of place) fs s (option_map text_of lifetime.entry) is_mut r a) self.old self.new }
+        ensures { WalkSteps result (λ fs s r a. reference_step (N.sight names.now) (place_of place) fs s (option_map text_of lifetime.entry) is_mut r a) self.old self.new }
     {
         let region = judge_use::optional_region(names, &self.binders, lifetime);
         let unknown = judge_use::optional_lifetime(names, &self.binders, lifetime);
@@ -286,7 +286,7 @@ impl<'n, 'c, 'a> Walk<'n, 'c, 'a> {
 
     /// The step at a tuple: how many items it has is read off the cells, and they come next.
     pub fn tuple(&mut self, place: Place, start: usize) -> Result<Next, AllocError>
-        ensures { (v : Sight) → Steps result (λ fs s r a. tuple_step v (place_of place) fs s start r a) self.old self.new }
+        ensures { (v : Sight) → WalkSteps result (λ fs s r a. tuple_step v (place_of place) fs s start r a) self.old self.new }
     {
         let count = self.rest.count_above(start);
         let cell = ResolvedCell::Node {
@@ -329,7 +329,7 @@ impl<'n, 'c, 'a> Walk<'n, 'c, 'a> {
         start: usize,
         inner: usize,
     ) -> Result<Next, AllocError>
-        ensures { Steps result (λ fs s r a. fn_to_step (N.sight names.now) (place_of place) fs s start inner r a) self.old self.new }
+        ensures { WalkSteps result (λ fs s r a. fn_to_step (N.sight names.now) (place_of place) fs s start inner r a) self.old self.new }
     {
         let bound = self.rest.names_between(alloc, start, inner)?;
         let count = self.rest.count_above(inner);
@@ -356,7 +356,7 @@ impl<'n, 'c, 'a> Walk<'n, 'c, 'a> {
         inner: usize,
     ) -> Result<Next, AllocError>
         requires { length self.old.rest + 1 < 2 ^ 64 }
-        ensures { Steps result (λ fs s r a. fn_step (N.sight names.now) (place_of place) fs s start inner r a) self.old self.new }
+        ensures { WalkSteps result (λ fs s r a. fn_step (N.sight names.now) (place_of place) fs s start inner r a) self.old self.new }
     {
         let bound = self.rest.names_between(alloc, start, inner)?;
         let count = self.rest.count_above(inner);
@@ -383,7 +383,7 @@ impl<'n, 'c, 'a> Walk<'n, 'c, 'a> {
         outer: Frame<'n>,
         name: &'a [u8],
     ) -> Result<Next, AllocError>
-        ensures { Steps result (λ fs s r a. going (frame_of outer.entry ∷ fs) s r (using (N.sight names.now) (lifetime_use s name.now ∷ []) a)) self.old self.new }
+        ensures { WalkSteps result (λ fs s r a. going (frame_of outer.entry ∷ fs) s r (using (N.sight names.now) (lifetime_use s name.now ∷ []) a)) self.old self.new }
     {
         let faults = judge_use::lifetime(names, &self.binders, name);
         self.found.note(faults);
@@ -401,7 +401,7 @@ impl<'n, 'c, 'a> Walk<'n, 'c, 'a> {
         start: usize,
         inner: usize,
     ) -> Result<Next, AllocError>
-        ensures { Steps result (λ fs s r a. bound_step (N.sight names.now) (frame_of outer.entry) fs s name.now start inner r a) self.old self.new }
+        ensures { WalkSteps result (λ fs s r a. bound_step (N.sight names.now) (frame_of outer.entry) fs s name.now start inner r a) self.old self.new }
     {
         let bound = self.rest.names_between(alloc, start, inner)?;
         let count = self.rest.count_above(inner);

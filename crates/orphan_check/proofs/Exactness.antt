@@ -20,7 +20,7 @@ use Rattle.orphan_check.specs.declared.errors.OrphanCheckErr.TheVariants.{NonLoc
 use Rattle.orphan_check.specs.declared.errors.WalkError.{WalkError}
 use Rattle.orphan_check.specs.declared.errors.WalkError.TheVariants.{Normalize, Deep, Memory}
 use Rattle.orphan_check.specs.Flags.{is_first, leaves_in}
-use Rattle.orphan_check.specs.Items.{Item, local_item, open_item, items, decisive, first_local, foreign_leaves, OrphanError, nonlocal, uncovered, error_at, orphan_error}
+use Rattle.orphan_check.specs.Items.{WalkItem, local_item, open_item, items, decisive, first_local, foreign_leaves, OrphanError, nonlocal, uncovered, error_at, orphan_error}
 use Rattle.orphan_check.specs.Steps.{Reading, Step, refused, too_deep, entered, met_local, met_open, met_foreign, first_end, second_end, leaves, reading, steps}
 use Rattle.orphan_check.specs.Answers.{Passes, IsLocalType, IsDeep, IsTooDeep, IsOrphanAnswer, IsBarred, IsKnowableAnswer}
 use Rattle.orphan_check.specs.Knowing.{meets_open, IsKnowableBy}
@@ -34,7 +34,7 @@ use Rattle.infer_table.specs.WellFormed.{is_numbered}
 use Rattle.infer_table.proofs.Places.{in_terms, AreTrees, IsOfTrees, numbered, trees-of, table-trees, ready-terms}
 use Rattle.orphan_check.specs.declared.errors.InCrate.{InCrate}
 use Rattle.orphan_check.specs.declared.errors.OrphanCheckMode.TheVariants.{Proper}
-use Rattle.orphan_check.specs.Exact.{type_read, leaves_read, reference_read, AnswersItsInput, IsOrphanCheck, IsOrphanCheckOf, IsKnown, IsKnownOf}
+use Rattle.orphan_check.specs.Exact.{type_read, leaves_read, reference_read, AnswersItsInput, IsOrphanCheck, IsOrphanCheckOf, WalkTellsKnown, IsKnownOf}
 use Rattle.orphan_check.proofs.Reading.{steps-shown, shown}
 use Rattle.orphan_check.proofs.Calm.{steps-calm, IsCalm, calm-first, calm-second}
 use Rattle.orphan_check.proofs.Visiting.{is_none, decides, no-error-is, open-decides}
@@ -115,7 +115,7 @@ module _ {E : Type 0} (es : List Entry) (t : Table) (r : Reading E) (v : r.value
   second-deep (Some s) e h = absurd h
 
   module _ (V : World) (c : ℕ) (is : shown r ss ≡ items V (Some c) true ref.args) where
-    error-by : (d : Option Item) → decisive (shown r ss) ≡ d → orphan_error V c ref.args ≡ error_at d (shown r ss)
+    error-by : (d : Option WalkItem) → decisive (shown r ss) ≡ d → orphan_error V c ref.args ≡ error_at d (shown r ss)
     error-by d e = ap (λ z. error_at (decisive z) z) (sym is) ∙ ap (λ z. error_at z (shown r ss)) e
 
     walk-by : (x : Option OrphanError) → orphan_error V c ref.args ≡ x → ends_local (walk V c ref) ≡ is_none x
@@ -150,7 +150,7 @@ module _ {E : Type 0} (es : List Entry) (t : Table) (r : Reading E) (v : r.value
     local-exact mode (Err Memory) h = tt
 
   module _ (V : World) (c : ℕ) (is : shown r ss ≡ items V None true ref.args) where
-    meets-by : (d : Option Item) → decisive (shown r ss) ≡ d → meets_open V ref ≡ decides d
+    meets-by : (d : Option WalkItem) → decisive (shown r ss) ≡ d → meets_open V ref ≡ decides d
     meets-by d e = sym (open-decides V true ref.args) ∙ ap (λ z. decides (decisive z)) (sym is) ∙ ap decides e
 
     pub passes-remote : (e : Option (Step E)) → first_end ss ≡ e → Passes Remote e → meets_open V ref ≡ true
@@ -204,7 +204,7 @@ or-right false b h = h
 module _ {E : Type 0} (es : List Entry) (t : Table) (q r : Reading E) (u : q.values ≡ content es t.values) (v : r.values ≡ content es t.values) (limit : ℕ) (ref : Reference) (rs ls : List (Step E))
     (rcalm : Each (IsCalm (limit < depth ref.args)) rs) (lcalm : Each (IsCalm (limit < depth ref.args)) ls) (V : World) (c : ℕ)
     (ris : shown q rs ≡ items V None true ref.args) (lis : shown r ls ≡ items V (Some c) true ref.args) (mode : OrphanCheckMode) where
-  pub known-exact : (a : Result (Result (Unit {0}) Conflict) (WalkError E)) → IsKnowableAnswer (trait_is (λ x. (x.home == c) || x.is_fundamental) V ref.trait) rs ls (Local mode) a → IsKnown V c limit ref a
+  pub known-exact : (a : Result (Result (Unit {0}) Conflict) (WalkError E)) → IsKnowableAnswer (trait_is (λ x. (x.home == c) || x.is_fundamental) V ref.trait) rs ls (Local mode) a → WalkTellsKnown V c limit ref a
   known-exact (Ok (Ok x)) h = λ w. known-is (trait_is (λ _. true) V ref.trait) (list_all (item_in V) (open_walk V ref)) (trait_is (λ x. (x.home == c) || x.is_fundamental) V ref.trait) (ends_local (walk V c ref)) (meets_open V ref) w
       (by h.1) (runs-out es t q u limit ref rs rcalm V c ris h.0)
     where

@@ -24,7 +24,7 @@ use Rattle.orphan_check.specs.declared.decisive.Decisive.TheVariants.{Local, Unc
 use Rattle.orphan_check.specs.declared.look.Taken.{Taken}
 use Rattle.orphan_check.specs.declared.look.Taken.TheVariants as taken
 use Rattle.orphan_check.specs.Decisive.{first_decisive, is_uncovered}
-use Rattle.orphan_check.specs.Items.{Item, item_of, items}
+use Rattle.orphan_check.specs.Items.{WalkItem, item_of, items}
 use Rattle.orphan_check.specs.Looks.{Look, local_type, open_type, leaf_type, passage, look, dyn_look}
 use Rattle.orphan_check.specs.Walks.{IsTaken, is_local}
 use Rattle.orphan_check.proofs.Calm.{depth-append}
@@ -88,7 +88,7 @@ by_look open_type x = Some Uncovered
 by_look leaf_type x = None
 by_look passage x = x
 
-marks-look : (k : Look) (t : Trees) (first : Bool) (is : List Item) → first_mark (marks (item_of k t first is ++ [])) ≡ by_look k (first_mark (marks is))
+marks-look : (k : Look) (t : Trees) (first : Bool) (is : List WalkItem) → first_mark (marks (item_of k t first is ++ [])) ≡ by_look k (first_mark (marks is))
 marks-look local_type t first is = refl
 marks-look open_type t first is = refl
 marks-look leaf_type t first is = refl
@@ -229,7 +229,7 @@ none-here false true c h = cc
 none-here false false true h = cc
 none-here false false false h = (refl, refl, refl)
 
-closed-item : (k : Look) (t : Trees) (first : Bool) (is : List Item) → (k ≡ leaf_type) ⊎ (k ≡ passage) → marks is ≡ [] → marks (item_of k t first is) ≡ []
+closed-item : (k : Look) (t : Trees) (first : Bool) (is : List WalkItem) → (k ≡ leaf_type) ⊎ (k ≡ passage) → marks is ≡ [] → marks (item_of k t first is) ≡ []
 closed-item k t first is (inl e) h = ap (λ z. marks (item_of z t first is)) e
 closed-item k t first is (inr e) h = ap (λ z. marks (item_of z t first is)) e ∙ h
 

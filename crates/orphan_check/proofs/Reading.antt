@@ -15,12 +15,12 @@ use Rattle.infer_table.proofs.ResolveFacts.{resolved-followed}
 use Rattle.infer_table.proofs.Places.{in_terms, in_object, AreTrees, IsOneTree, AllTrees}
 use Rattle.infer_table.proofs.WellFacts.{followed-one, followed-terms, followed-open}
 use Rattle.orphan_check.specs.Looks.{Look, local_type, open_type, leaf_type, passage, look, dyn_look}
-use Rattle.orphan_check.specs.Items.{Item, local_item, open_item, foreign_item, item_of, items}
+use Rattle.orphan_check.specs.Items.{WalkItem, local_item, open_item, foreign_item, item_of, items}
 use Rattle.orphan_check.specs.Steps.{Reading, Step, refused, too_deep, entered, met_local, met_open, met_foreign, settled, read, steps_in, step_of, steps_at, steps_to, steps}
 
 -- ---- the items that steps show
 -- a type that lies too deep shows all that stands in it
-abbrev pub shown : {E : Type 0} → Reading E → List (Step E) → List Item
+abbrev pub shown : {E : Type 0} → Reading E → List (Step E) → List WalkItem
 shown r [] = []
 shown r (refused e ∷ ss) = shown r ss
 shown r (too_deep t first ∷ ss) = items r.view r.home first (resolved r.values t) ++ shown r ss
@@ -152,7 +152,7 @@ module _ {E : Type 0} (r : Reading E) (same : (t : Trees) → r.answers t ≡ Ok
   pub read-is : (t : Trees) → read r t ≡ Ok (followed r.values t)
   read-is t = ap (settled (followed r.values t)) (same (followed r.values t)) ∙ either-same (is_open (followed r.values t)) (Ok (followed r.values t))
 
-  by-look : (k : Look) (u w : Trees) (first : Bool) (inner : List (Step E)) (is : List Item) → resolved r.values u ≡ w → (k ≡ passage → shown r inner ≡ is) → shown r (step_of k u first inner) ≡ item_of k w first is
+  by-look : (k : Look) (u w : Trees) (first : Bool) (inner : List (Step E)) (is : List WalkItem) → resolved r.values u ≡ w → (k ≡ passage → shown r inner ≡ is) → shown r (step_of k u first inner) ≡ item_of k w first is
   by-look local_type u w first inner is e h = ap (λ z. local_item z ∷ []) e
   by-look open_type u w first inner is e h = ap (λ z. open_item z ∷ []) e
   by-look leaf_type u w first inner is e h = ap (λ z. foreign_item z first ∷ []) e

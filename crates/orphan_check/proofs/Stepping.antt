@@ -21,7 +21,7 @@ use Rattle.orphan_check.specs.Steps.{Reading, Step, refused, entered, met_local,
 use Rattle.orphan_check.specs.declared.errors.WalkError.{WalkError}
 use Rattle.orphan_check.specs.declared.errors.WalkError.TheVariants.{Normalize, Deep, Memory}
 use Rattle.orphan_check.specs.declared.walk.Met.{Met}
-use Rattle.orphan_check.specs.Walks.{IsTaken, IsRead, IsFirstStep, IsVisit, IsStep, ArePending, AreOnTop, steps_before, pending_steps}
+use Rattle.orphan_check.specs.Walks.{IsTaken, TypeIsRead, IsFirstStep, IsVisit, IsStep, ArePending, AreOnTop, steps_before, pending_steps}
 
 if-true : {A : Type 0} (x : Bool) (a b : A) → x ≡ true → (if x then a else b) ≡ a
 if-true true a b e = refl
@@ -231,7 +231,7 @@ pub first-steps : {E : Type 0} (es : List Entry) (r : Reading E) (rest : List Pe
 first-steps es r rest p m ss l h = ap (λ z. steps_to r z (is_first p.first) (trees_at es p.ty.0) ++ pending_steps es r rest) l ∙ ap (λ z. z ++ pending_steps es r rest) h
 
 -- a type that was not read ends the steps
-pub read-refused : {E : Type 0} (es : List Entry) (r : Reading E) (rest after : List Pending) (p : Pending) (m : ℕ) (e : WalkError E) → p.limit ≡ suc m → IsRead es (read r (trees_at es p.ty.0)) (Err e) → IsVisit es r p rest (Err e) after
+pub read-refused : {E : Type 0} (es : List Entry) (r : Reading E) (rest after : List Pending) (p : Pending) (m : ℕ) (e : WalkError E) → p.limit ≡ suc m → TypeIsRead es (read r (trees_at es p.ty.0)) (Err e) → IsVisit es r p rest (Err e) after
 read-refused es r rest after p m (Normalize e) l h = (pending_steps es r rest, first-steps es r rest p (suc m) _ l (ap (steps_at (λ f u. steps_to r m f u) r (is_first p.first)) h))
 read-refused es r rest after p m Deep l h = absurd h
 read-refused es r rest after p m Memory l h = absurd h

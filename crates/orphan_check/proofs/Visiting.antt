@@ -7,10 +7,10 @@ use Rattle.type_terms.specs.Worlds.{World, StructDecl, TraitDecl, structs_named,
 use Rattle.type_terms.specs.Walks.{Met, local, struct_leaf, dyn_leaf, entered, other_leaf, open_place, struct_is, trait_is, is_home, dyn_met, visited, until_decisive, ends_local}
 use Rattle.type_terms.specs.LinkedSet.{is_open_place}
 use Rattle.orphan_check.specs.Looks.{local_type, leaf_type, passage, dyn_look, struct_look}
-use Rattle.orphan_check.specs.Items.{Item, local_item, open_item, foreign_item, item_of, items, decisive, error_at, orphan_error}
+use Rattle.orphan_check.specs.Items.{WalkItem, local_item, open_item, foreign_item, item_of, items, decisive, error_at, orphan_error}
 
 -- ---- what decides: true for a local type, false for an open place
-abbrev pub marks : List Item → List Bool
+abbrev pub marks : List WalkItem → List Bool
 marks [] = []
 marks (local_item t ∷ is) = true ∷ marks is
 marks (open_item t ∷ is) = false ∷ marks is
@@ -29,7 +29,7 @@ starts (b ∷ bs) = b
 next : (b : Bool) (xs ys : List Bool) → xs ≡ ys → ◌≡◌ {A = List Bool} (b ∷ xs) (b ∷ ys)
 next b xs ys e = ap (λ z. b ∷ z) e
 
-pub marks-append : (xs ys : List Item) → marks (xs ++ ys) ≡ marks xs ++ marks ys
+pub marks-append : (xs ys : List WalkItem) → marks (xs ++ ys) ≡ marks xs ++ marks ys
 marks-append [] ys = refl
 marks-append (local_item t ∷ is) ys = next true _ _ (marks-append is ys)
 marks-append (open_item t ∷ is) ys = next false _ _ (marks-append is ys)
@@ -44,16 +44,16 @@ decided-append (dyn_leaf s ∷ ms) ys = decided-append ms ys
 decided-append (entered s ∷ ms) ys = decided-append ms ys
 decided-append (other_leaf ∷ ms) ys = decided-append ms ys
 
-both : (is js : List Item) (ms ns : List Met) → marks is ≡ decided ms → marks js ≡ decided ns → marks (is ++ js) ≡ decided (ms ++ ns)
+both : (is js : List WalkItem) (ms ns : List Met) → marks is ≡ decided ms → marks js ≡ decided ns → marks (is ++ js) ≡ decided (ms ++ ns)
 both is js ms ns h k = marks-append is js ∙ ap (λ z. z ++ marks js) h ∙ ap (λ z. decided ms ++ z) k ∙ sym (decided-append ms ns)
 
-struct-marks : (s : ℕ) (t : Trees) (first : Bool) (is : List Item) (ms : List Met) → marks is ≡ decided ms → (a b : Bool)
+struct-marks : (s : ℕ) (t : Trees) (first : Bool) (is : List WalkItem) (ms : List Met) → marks is ≡ decided ms → (a b : Bool)
     → marks (item_of (if a then local_type else if b then passage else leaf_type) t first is) ≡ decided (if a then local ∷ [] else if b then entered s ∷ ms else struct_leaf s ∷ [])
 struct-marks s t first is ms h true b = refl
 struct-marks s t first is ms h false true = h
 struct-marks s t first is ms h false false = refl
 
-dyn-marks : (V : World) (d : Option ℕ) (t : Trees) (first : Bool) (is : List Item) (c : Trees) → marks (item_of (dyn_look V d c) t first is) ≡ decided (dyn_met V d c)
+dyn-marks : (V : World) (d : Option ℕ) (t : Trees) (first : Bool) (is : List WalkItem) (c : Trees) → marks (item_of (dyn_look V d c) t first is) ≡ decided (dyn_met V d c)
 dyn-marks V d t first is none = refl
 dyn-marks V d t first is (tree (principal n i) c o) = by (trait_is (λ x. is_home d x.home) V i)
   where
@@ -63,13 +63,13 @@ dyn-marks V d t first is (tree (principal n i) c o) = by (trait_is (λ x. is_hom
 dyn-marks V d t first is (tree l c o) = refl
 
 -- what stands at the node of a struct, and of a `dyn`
-abbrev pub struct_items : World → Option ℕ → ℕ → Bool → Trees → List Item
+abbrev pub struct_items : World → Option ℕ → ℕ → Bool → Trees → List WalkItem
 struct_items V d s first c = item_of (struct_look V d s) (tree (adt s) c none) first (items V d first c)
 
 abbrev pub struct_mets : World → Option ℕ → ℕ → Trees → List Met
 struct_mets V d s c = if struct_is (λ x. is_home d x.home) V s then local ∷ [] else if struct_is (λ x. x.is_fundamental) V s then entered s ∷ visited V d c else struct_leaf s ∷ []
 
-abbrev pub dyn_items : World → Option ℕ → Bool → Trees → List Item
+abbrev pub dyn_items : World → Option ℕ → Bool → Trees → List WalkItem
 dyn_items V d first c = item_of (dyn_look V d c) (tree dynamic c none) first (items V d first c)
 
 -- a walk with its types decides as the model's
@@ -113,7 +113,7 @@ abbrev pub is_none : {A : Type 0} → Option A → Bool
 is_none None = true
 is_none (Some x) = false
 
-error-starts : (is js : List Item) → is_none (error_at (decisive is) js) ≡ starts (marks is)
+error-starts : (is js : List WalkItem) → is_none (error_at (decisive is) js) ≡ starts (marks is)
 error-starts [] js = refl
 error-starts (local_item t ∷ is) js = refl
 error-starts (open_item t ∷ is) js = refl
@@ -130,11 +130,11 @@ pub no-home : {A : Type 0} (f : A → ℕ) (xs : List A) → list_any (λ x. is_
 no-home f [] = refl
 no-home f (x ∷ xs) = no-home f xs
 
-abbrev pub decides : Option Item → Bool
+abbrev pub decides : Option WalkItem → Bool
 decides None = false
 decides (Some i) = true
 
-decides-append : (is js : List Item) → decides (decisive (is ++ js)) ≡ (decides (decisive is) || decides (decisive js))
+decides-append : (is js : List WalkItem) → decides (decisive (is ++ js)) ≡ (decides (decisive is) || decides (decisive js))
 decides-append [] js = refl
 decides-append (local_item t ∷ is) js = refl
 decides-append (open_item t ∷ is) js = refl
@@ -149,18 +149,18 @@ any-append (dyn_leaf s ∷ ms) ns = any-append ms ns
 any-append (entered s ∷ ms) ns = any-append ms ns
 any-append (other_leaf ∷ ms) ns = any-append ms ns
 
-either : (is js : List Item) (ms ns : List Met) → decides (decisive is) ≡ list_any is_open_place ms → decides (decisive js) ≡ list_any is_open_place ns
+either : (is js : List WalkItem) (ms ns : List Met) → decides (decisive is) ≡ list_any is_open_place ms → decides (decisive js) ≡ list_any is_open_place ns
     → decides (decisive (is ++ js)) ≡ list_any is_open_place (ms ++ ns)
 either is js ms ns h k = decides-append is js ∙ ap (λ z. z || decides (decisive js)) h ∙ ap (λ z. list_any is_open_place ms || z) k ∙ sym (any-append ms ns)
 
-struct-open : (s : ℕ) (t : Trees) (first : Bool) (is : List Item) (ms : List Met) → decides (decisive is) ≡ list_any is_open_place ms → (a b : Bool) → a ≡ false
+struct-open : (s : ℕ) (t : Trees) (first : Bool) (is : List WalkItem) (ms : List Met) → decides (decisive is) ≡ list_any is_open_place ms → (a b : Bool) → a ≡ false
     → decides (decisive (item_of (if a then local_type else if b then passage else leaf_type) t first is))
     ≡ list_any is_open_place (if a then local ∷ [] else if b then entered s ∷ ms else struct_leaf s ∷ [])
 struct-open s t first is ms h true b e = cc
 struct-open s t first is ms h false true e = h
 struct-open s t first is ms h false false e = refl
 
-dyn-open : (V : World) (t : Trees) (first : Bool) (is : List Item) (c : Trees) → decides (decisive (item_of (dyn_look V None c) t first is)) ≡ list_any is_open_place (dyn_met V None c)
+dyn-open : (V : World) (t : Trees) (first : Bool) (is : List WalkItem) (c : Trees) → decides (decisive (item_of (dyn_look V None c) t first is)) ≡ list_any is_open_place (dyn_met V None c)
 dyn-open V t first is none = refl
 dyn-open V t first is (tree (principal n i) c o) = by (trait_is (λ x. is_home None x.home) V i) (no-home (λ (x : TraitDecl). x.home) (traits_named V i))
   where

@@ -59,13 +59,13 @@ abbrev pub IsOrphanCheckOf : {E : Type 0} → List Entry → Items → Table →
 IsOrphanCheckOf es d t k limit r a = IsOrphanCheck es t (declared es d) d.local k limit (reference_read es t r) a
 
 -- A reference that is written in the view is knowable; or an open place is visited; or none is, and it is not known.
-abbrev pub IsKnown : {E : Type 0} → World → ℕ → ℕ → Reference → Result (Result (Unit {0}) Conflict) (WalkError E) → Type 0
-IsKnown V c limit r (Ok (Ok u)) = is_written_in V r ≡ true → is_knowable V c r ≡ true
-IsKnown V c limit r (Ok (Err Downstream)) = meets_open V r ≡ true
-IsKnown V c limit r (Ok (Err Upstream)) = (meets_open V r ≡ false) × (is_known_in V c r ≡ false)
-IsKnown V c limit r (Err (Normalize e)) = ⊥
-IsKnown V c limit r (Err Deep) = limit < depth r.args
-IsKnown V c limit r (Err Memory) = Unit {0}
+abbrev pub WalkTellsKnown : {E : Type 0} → World → ℕ → ℕ → Reference → Result (Result (Unit {0}) Conflict) (WalkError E) → Type 0
+WalkTellsKnown V c limit r (Ok (Ok u)) = is_written_in V r ≡ true → is_knowable V c r ≡ true
+WalkTellsKnown V c limit r (Ok (Err Downstream)) = meets_open V r ≡ true
+WalkTellsKnown V c limit r (Ok (Err Upstream)) = (meets_open V r ≡ false) × (is_known_in V c r ≡ false)
+WalkTellsKnown V c limit r (Err (Normalize e)) = ⊥
+WalkTellsKnown V c limit r (Err Deep) = limit < depth r.args
+WalkTellsKnown V c limit r (Err Memory) = Unit {0}
 
 abbrev pub IsKnownOf : {E : Type 0} → List Entry → Items → Table → ℕ → TraitRef → Result (Result (Unit {0}) Conflict) (WalkError E) → Type 0
-IsKnownOf es d t limit r a = IsKnown (declared es d) d.local limit (reference_read es t r) a
+IsKnownOf es d t limit r a = WalkTellsKnown (declared es d) d.local limit (reference_read es t r) a

@@ -6,12 +6,12 @@ use Rattle.type_terms.specs.Worlds.{World}
 use Rattle.orphan_check.specs.Looks.{Look, local_type, open_type, leaf_type, passage, look}
 
 -- A local type; an open place; a leaf that is neither, and whether no visited type has been left before it (`IsFirstInputType`).
-pub data Item : Type 0 where
-  local_item open_item : Trees → Item
-  foreign_item : Trees → Bool → Item
+pub data WalkItem : Type 0 where
+  local_item open_item : Trees → WalkItem
+  foreign_item : Trees → Bool → WalkItem
 
 -- A type that is entered is met as what stands in it.
-abbrev pub item_of : Look → Trees → Bool → List Item → List Item
+abbrev pub item_of : Look → Trees → Bool → List WalkItem → List WalkItem
 item_of local_type t first inner = local_item t ∷ []
 item_of open_type t first inner = open_item t ∷ []
 item_of leaf_type t first inner = foreign_item t first ∷ []
@@ -19,7 +19,7 @@ item_of passage t first inner = inner
 
 -- What the walk of these arguments meets, in order; lifetimes and consts are skipped. With a foreign fundamental Pair,
 -- `Pair<u8, bool>` meets u8, before which no type has been left, and bool, before which u8 has.
-abbrev pub items : World → Option ℕ → Bool → Trees → List Item
+abbrev pub items : World → Option ℕ → Bool → Trees → List WalkItem
 items V d first none = []
 items V d first (tree l c o) =
     if is_sort (sort_of l) of_type
@@ -27,19 +27,19 @@ items V d first (tree l c o) =
     else items V d first o
 
 -- The first item that decides: a local type or an open place.
-abbrev pub decisive : List Item → Option Item
+abbrev pub decisive : List WalkItem → Option WalkItem
 decisive [] = None
 decisive (foreign_item t first ∷ is) = decisive is
 decisive (i ∷ is) = Some i
 
 -- The first local type.
-abbrev pub first_local : List Item → Option Trees
+abbrev pub first_local : List WalkItem → Option Trees
 first_local [] = None
 first_local (local_item t ∷ is) = Some t
 first_local (i ∷ is) = first_local is
 
 -- The leaves.
-abbrev pub foreign_leaves : List Item → List (Trees × Bool)
+abbrev pub foreign_leaves : List WalkItem → List (Trees × Bool)
 foreign_leaves [] = []
 foreign_leaves (foreign_item t first ∷ is) = (t, first) ∷ foreign_leaves is
 foreign_leaves (i ∷ is) = foreign_leaves is
@@ -51,7 +51,7 @@ pub data OrphanError : Type 0 where
   uncovered : Trees → Option Trees → OrphanError
 
 -- The error, or none where the first item that decides is local.
-abbrev pub error_at : Option Item → List Item → Option OrphanError
+abbrev pub error_at : Option WalkItem → List WalkItem → Option OrphanError
 error_at (Some (local_item t)) is = None
 error_at (Some (open_item t)) is = Some (uncovered t (first_local is))
 error_at _ is = Some (nonlocal (foreign_leaves is))

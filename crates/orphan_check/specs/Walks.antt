@@ -38,10 +38,10 @@ abbrev pub IsTakenIn : List Entry → Items → InCrate → Trees → Taken → 
 IsTakenIn es d k t x = IsTaken es (declared es d) (home_in d.local k) t x
 
 -- A type is read so, or refused.
-abbrev pub IsRead : {E : Type 0} → List Entry → Result Trees E → Result Ty (WalkError E) → Type 0
-IsRead es u (Ok t) = (u ≡ Ok (trees_at es t.0)) × Has es types t.0
-IsRead es u (Err (Normalize e)) = u ≡ Err e
-IsRead es u (Err x) = ⊥
+abbrev pub TypeIsRead : {E : Type 0} → List Entry → Result Trees E → Result Ty (WalkError E) → Type 0
+TypeIsRead es u (Ok t) = (u ≡ Ok (trees_at es t.0)) × Has es types t.0
+TypeIsRead es u (Err (Normalize e)) = u ≡ Err e
+TypeIsRead es u (Err x) = ⊥
 
 -- Where a walk reads, with what its normalizer answers.
 abbrev pub reads : {N E : Type 0} → (N → Trees → Result Trees E) → Walk N → Reading E

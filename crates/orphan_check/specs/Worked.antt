@@ -79,7 +79,7 @@ pub record Headers : Type 0 where
 abbrev pub num : Trees → Reference
 num t = record { trait = 0; args = t }
 
-pub record Known : Type 0 where
+pub record KnownRow : Type 0 where
   -- `u8: Num`: crate 1 may add it
   pub upstream : is_known_in shop 2 (num u8) ≡ false
   pub upstream_is_closed : meets_open shop (num u8) ≡ false

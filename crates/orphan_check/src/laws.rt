@@ -4,7 +4,7 @@ ghost use Rattle.type_terms.specs.Trees.{Trees, erase};
 ghost use Rattle.type_terms.specs.Worlds.{World};
 ghost use Rattle.type_terms.specs.Walks.{visited, until_decisive, ends_local};
 ghost use Rattle.orphan_check.specs.Items.{orphan_error};
-ghost use Rattle.orphan_check.specs.Worked.{Headers, Known};
+ghost use Rattle.orphan_check.specs.Worked.{Headers, KnownRow};
 ghost use Rattle.std.specs.Prelude.{Some};
 
 /// An impl has no orphan error exactly if its walk ends at a local type, and a walk visits the same without lifetimes.
@@ -16,5 +16,5 @@ pub fn walks_and_errors()
 /// Headers and references that were worked out by hand.
 pub fn worked_walks()
     ensures headers { Headers }
-    ensures known { Known }
+    ensures known { KnownRow }
 {}

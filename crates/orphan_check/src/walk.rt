@@ -56,13 +56,13 @@ pub(crate) struct Walk<'a, N> {
 
 impl<N: Normalize> Walk<'_, N> {
     ghost use Rattle.orphan_check.specs.Answers.{IsOrphanAnswer};
-    ghost use Rattle.orphan_check.specs.Walks.{IsRead, IsVisit, IsStep, IsFirstEnd, IsSecondEnd, ArePending, ArePushed, AreOnTop, pending_steps, reads};
+    ghost use Rattle.orphan_check.specs.Walks.{TypeIsRead, IsVisit, IsStep, IsFirstEnd, IsSecondEnd, ArePending, ArePushed, AreOnTop, pending_steps, reads};
 
     /// The type as the normalizer answers it, or as it is where that is a variable. Variables have their values.
     fn read(&self, ty: Ty) -> Result<Ty, WalkError<N::Error>>
         requires held { Has self.now.cx.now.entries types ty.0 }
         requires ready { Ready self.now.cx.now.entries self.now.infcx.now }
-        ensures { IsRead self.now.cx.now.entries (read (reads N.answers self.now) (trees_at self.now.cx.now.entries ty.0)) result }
+        ensures { TypeIsRead self.now.cx.now.entries (read (reads N.answers self.now) (trees_at self.now.cx.now.entries ty.0)) result }
     {
         let ty = self.infcx.shallow_resolve(self.cx, ty);
         match self.normalize.normalize(self.cx, ty) {

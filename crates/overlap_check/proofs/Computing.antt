@@ -8,9 +8,10 @@ use Rattle.type_terms.specs.Walks.{keeps_orphan_rule}
 use Rattle.type_terms.specs.Answers.{CommonInstance}
 use Rattle.type_terms.proofs.Members.{filter-in, in-cases, in-nothing, same-number, self-number, not-both}
 use Rattle.type_terms.proofs.NoHolds.{member-each}
+use Rattle.type_terms.specs.LinkedSet.{IsPair}
 use Rattle.orphan_check.specs.Items.{OrphanError, orphan_error}
 use Rattle.overlap_check.specs.OpenedHeaders.{opened}
-use Rattle.overlap_check.specs.Verdicts.{KeepsOrphanRule, IsFirstOrphan, IsPair}
+use Rattle.overlap_check.specs.Verdicts.{KeepsOrphanRule, IsFirstOrphan}
 
 -- what holds of c's impls, by a test of all
 of-own : (V : World) (c : ℕ) (p : ImplDecl → Bool) → list_all (λ (x : ImplDecl). not (x.home == c) || p x) V.impls ≡ true → (i : ImplDecl) → In i V.impls → i.home ≡ c → p i ≡ true

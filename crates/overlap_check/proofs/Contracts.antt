@@ -8,7 +8,7 @@ use Rattle.type_terms.specs.Elaborated.{HasElaboratedProof}
 use Rattle.type_terms.proofs.ElaboratedProofs.{bare-proof}
 use Rattle.type_terms.specs.Answers.{CommonInstance, is_closed, is_bounded, is_possible, is_variable, IsFixedClause}
 use Rattle.type_terms.specs.Renumbering.{Renumbering, View, HoldsView, renumbered, renumbered_reference, renumbered_impl}
-use Rattle.type_terms.specs.LinkedSet.{JoinedSet, LinkedSet, Cleared}
+use Rattle.type_terms.specs.LinkedSet.{JoinedSet, LinkedSet, Cleared, IsPair}
 use Rattle.type_terms.proofs.HeldSets.{held-linked}
 use Rattle.type_terms.proofs.Members.{in-map, in-left, in-right}
 use Rattle.type_terms.proofs.NoHolds.{every-member}
@@ -16,7 +16,7 @@ use Rattle.type_terms.proofs.NoTwo.{no-common-instance}
 use Rattle.type_terms.proofs.Fitting.{not-true}
 use Rattle.type_terms.proofs.ViewLaws.{no-two-of-accepted, proved-in-set, no-in-set}
 use Rattle.type_terms.proofs.RenumberedTrees.{inverse, impl-back, back, over-with-args, over-common, over-closed}
-use Rattle.overlap_check.specs.Verdicts.{placed, IsPair, ClearedBy, IsCleared}
+use Rattle.overlap_check.specs.Verdicts.{placed, ClausesNeverMeet, IsCleared}
 use Rattle.overlap_check.specs.Questions.{FitKinds, filled_reference, SolutionBy, Solution, yes, unproved, maybe, IsRefuteAnswer, unrefuted}
 use Rattle.overlap_check.specs.SessionLaws.{HeadlineHolds, HeadlineOfHeldSets, ApartIsCleared, CoversLeft, CoversRight, CoversClause, RefusedClauseClears, IsPassed, PassedIsAccepted, RefusedIsReal, DecidedIsAnswered, BoundedIsRefuted}
 use Rattle.type_terms.proofs.Members.{not-both}
@@ -71,7 +71,7 @@ module _ (ks : List Sort) (g : Reference) (ρ : Renumbering) (W : World) (none :
       (in-map (with_args m.right) (map (renumbered_reference ρ) j.clauses) (renumbered_reference ρ k) (in-map (renumbered_reference ρ) j.clauses k c.clause)))
 
 -- the same in the numbers of the text
-here-clears : (H : Reference → Type 0) (ks : List Sort) (g : Reference) → (SolutionBy H ks g → ⊥) → (i j : ImplDecl) → CoversClause i j ks g → ClearedBy H i j
+here-clears : (H : Reference → Type 0) (ks : List Sort) (g : Reference) → (SolutionBy H ks g → ⊥) → (i j : ImplDecl) → CoversClause i j ks g → ClausesNeverMeet H i j
 here-clears H ks g none i j (inl (k, c)) m p q = none (record {
   values = c.values m;
   fitting = c.fitting m;

@@ -12,7 +12,7 @@ use Rattle.infer_table.specs.Content.{Table, content}
 use Rattle.infer_table.specs.Solutions.{resolved}
 use Rattle.orphan_check.specs.Exact.{leaves_read, error_read}
 use Rattle.orphan_check.specs.Flags.{is_first}
-use Rattle.orphan_check.specs.Items.{Item, local_item, open_item, foreign_item, item_of, items, decisive, first_local, foreign_leaves, error_at, OrphanError, nonlocal, uncovered, orphan_error}
+use Rattle.orphan_check.specs.Items.{WalkItem, local_item, open_item, foreign_item, item_of, items, decisive, first_local, foreign_leaves, error_at, OrphanError, nonlocal, uncovered, orphan_error}
 use Rattle.orphan_check.specs.Looks.{Look, local_type, open_type, leaf_type, passage, dyn_look, look}
 use Rattle.orphan_check.specs.declared.errors.IsFirstInputType.{IsFirstInputType}
 use Rattle.orphan_check.specs.declared.errors.OrphanCheckErr.{OrphanCheckErr}
@@ -20,7 +20,7 @@ use Rattle.orphan_check.specs.declared.errors.OrphanCheckErr.TheVariants.{NonLoc
 use Rattle.overlap_check.specs.Orphans.{type_in, error_in}
 
 -- ---- what a walk meets without lifetimes
-abbrev erased_item : Item → Item
+abbrev erased_item : WalkItem → WalkItem
 erased_item (local_item t) = local_item (erase t)
 erased_item (open_item t) = open_item (erase t)
 erased_item (foreign_item t first) = foreign_item (erase t) first
@@ -88,7 +88,7 @@ same-look V d (bound of_type k i) c h = refl
 same-look V d (bound of_const k i) c h = refl
 same-look V d l c h = refl
 
-item-erased : (k : Look) (t : Trees) (first : Bool) (inner : List Item) → map erased_item (item_of k t first inner) ≡ item_of k (erase t) first (map erased_item inner)
+item-erased : (k : Look) (t : Trees) (first : Bool) (inner : List WalkItem) → map erased_item (item_of k t first inner) ≡ item_of k (erase t) first (map erased_item inner)
 item-erased local_type t first inner = refl
 item-erased open_type t first inner = refl
 item-erased leaf_type t first inner = refl
@@ -114,25 +114,25 @@ items-erased V d first (tree l c o) =
     by false e inner rest others = others
 
 -- ---- the error
-decisive-erased : (is : List Item) → decisive (map erased_item is) ≡ option_map erased_item (decisive is)
+decisive-erased : (is : List WalkItem) → decisive (map erased_item is) ≡ option_map erased_item (decisive is)
 decisive-erased [] = refl
 decisive-erased (local_item t ∷ is) = refl
 decisive-erased (open_item t ∷ is) = refl
 decisive-erased (foreign_item t first ∷ is) = decisive-erased is
 
-first-erased : (is : List Item) → first_local (map erased_item is) ≡ option_map erase (first_local is)
+first-erased : (is : List WalkItem) → first_local (map erased_item is) ≡ option_map erase (first_local is)
 first-erased [] = refl
 first-erased (local_item t ∷ is) = refl
 first-erased (open_item t ∷ is) = first-erased is
 first-erased (foreign_item t first ∷ is) = first-erased is
 
-leaves-erased : (is : List Item) → foreign_leaves (map erased_item is) ≡ map erased_leaf (foreign_leaves is)
+leaves-erased : (is : List WalkItem) → foreign_leaves (map erased_item is) ≡ map erased_leaf (foreign_leaves is)
 leaves-erased [] = refl
 leaves-erased (local_item t ∷ is) = leaves-erased is
 leaves-erased (open_item t ∷ is) = leaves-erased is
 leaves-erased (foreign_item t first ∷ is) = ap (λ z. (erase t, first) ∷ z) (leaves-erased is)
 
-error-erased : (x : Option Item) (is : List Item) → error_at (option_map erased_item x) (map erased_item is) ≡ option_map erased_error (error_at x is)
+error-erased : (x : Option WalkItem) (is : List WalkItem) → error_at (option_map erased_item x) (map erased_item is) ≡ option_map erased_error (error_at x is)
 error-erased None is = ap (λ z. Some (nonlocal z)) (leaves-erased is)
 error-erased (Some (local_item t)) is = refl
 error-erased (Some (open_item t)) is = ap (λ z. Some (uncovered (erase t) z)) (first-erased is)

@@ -17,7 +17,7 @@ use Rattle.infer_table.specs.Growth.{counts-kept}
 use Rattle.infer_table.specs.Applied.{solved_in_turn}
 use Rattle.infer_table.specs.Kept.{content-kept, ready-later}
 use Rattle.infer_table.specs.Unification.{table_trees}
-use Rattle.declarations.specs.Applied.{SpeaksOf, references_in, AllHeld}
+use Rattle.declarations.specs.Applied.{SpeaksOf, references_in, TraitRefsHeld}
 use Rattle.declarations.specs.Heads.{begins_declared}
 use Rattle.declarations.specs.Held.{ImplHeld}
 use Rattle.declarations.specs.Items.{reference_in, impl_in}
@@ -26,7 +26,7 @@ use Rattle.declarations.specs.declared.items.ImplDef.{ImplDef}
 use Rattle.declarations.proofs.Growth.{args-same, reference-same, reference-kept, references-kept}
 use Rattle.declarations.proofs.Bounded.{all-same}
 use Rattle.overlap_check.specs.Goals.{unknown_kinds, HasGoals, goal_of}
-use Rattle.overlap_check.specs.Headers.{sorts_of_impl, unknowns_for, with_unknowns_for, IsHeaderOver, args_at, empty_table, pair_table, left_args, right_args, AreApart, AreEqualHeaders, resolved_reference, goals_over}
+use Rattle.overlap_check.specs.Headers.{sorts_of_impl, unknowns_for, with_unknowns_for, IsHeaderOver, args_at, empty_table, pair_table, left_args, right_args, AreDisjointImpls, AreEqualHeaders, resolved_reference, goals_over}
 use Rattle.overlap_check.specs.Written.{IsWrittenWell}
 use Rattle.overlap_check.specs.declared.header.ImplHeader.{ImplHeader}
 use Rattle.overlap_check.proofs.Pairs.{apart, has-goals}
@@ -39,7 +39,7 @@ pub same-entries : (es : List Entry) → Keeps es es
 same-entries es i e h = h
 
 module _ (old new : List Entry) (k : Keeps old new) where
-  held-each : (P : Trees → Type 0) → (rs : List TraitRef) → AllHeld old rs → Each (λ (r : TraitRef). P (trees_at old r.args.0)) rs → Each (λ (r : TraitRef). P (trees_at new r.args.0)) rs
+  held-each : (P : Trees → Type 0) → (rs : List TraitRef) → TraitRefsHeld old rs → Each (λ (r : TraitRef). P (trees_at old r.args.0)) rs → Each (λ (r : TraitRef). P (trees_at new r.args.0)) rs
   held-each P [] h e = tt
   held-each P (r ∷ rs) h e = (subst P (sym (args-same old new k r h.0)) e.0, held-each P rs h.1 e.1)
 
@@ -120,7 +120,7 @@ module _ (es : List Entry) (lawful : Lawful es) (w x : ImplDef) (hw : ImplHeld e
   right-trait = ap (λ (r : Reference). r.trait) is2.is
 
   -- headers that cannot be made equal
-  pub pair-apart : (h1.trait_ref.def_id.index ≢ h2.trait_ref.def_id.index) ⊎ HasNoSolution (content two (pair_table w x).values) (args_at two h1) (args_at two h2) → AreApart es w x
+  pub pair-apart : (h1.trait_ref.def_id.index ≢ h2.trait_ref.def_id.index) ⊎ HasNoSolution (content two (pair_table w x).values) (args_at two h1) (args_at two h2) → AreDisjointImpls es w x
   pair-apart (inl n) i j m = n (left-trait ∙ ap (λ (r : Reference). r.trait) m.equal ∙ sym right-trait)
   pair-apart (inr n) i j m =
       apart (impl_in es i w) (impl_in es j x) empty_table (sorts_of_impl w) (sorts_of_impl x)
@@ -176,7 +176,7 @@ each-asked bs I (k ∷ ks) = ap (λ l. goal_of bs I k ∷ l) (each-asked bs I ks
 
 -- clauses of an impl, with unknowns in the place of parameters, are its goals
 pub asked-are : (old mid put new : List Entry) → Keeps old mid → Keeps put new → (t u : Table) (def : ImplDef) → ImplHeld old def → (a : ℕ) → trees_at mid a ≡ unknowns_for t def
-    → (rs : List TraitRef) → AllHeld put rs → references_in put rs ≡ all_with_args (trees_at mid a) (references_in mid def.clauses.items)
+    → (rs : List TraitRef) → TraitRefsHeld put rs → references_in put rs ≡ all_with_args (trees_at mid a) (references_in mid def.clauses.items)
     → goals_over new u rs ≡ map (goal_of (content new u.values) (unknowns_for t def)) (references_in old def.clauses.items)
 asked-are old mid put new k g t u def h a e rs held are =
     ap (map (resolved_reference (content new u.values)))

@@ -6,10 +6,10 @@ use Rattle.type_terms.specs.Erased.{erased_impl}
 use Rattle.type_terms.specs.Worlds.{World, ImplDecl}
 use Rattle.type_terms.specs.Terms.{Entry}
 use Rattle.type_terms.specs.declared.ImplId.{ImplId}
+use Rattle.type_terms.specs.LinkedSet.{IsPair}
 use Rattle.declarations.specs.Items.{Items, IsAbove, declared, impl_at, impl_in}
 use Rattle.declarations.specs.Relevant.{impls_named}
 use Rattle.declarations.specs.declared.items.ImplDef.{ImplDef}
-use Rattle.overlap_check.specs.Verdicts.{IsPair}
 use Rattle.overlap_check.specs.Partners.{are_partners, IsPairAt, NoPairAt}
 use Rattle.overlap_check.proofs.Judged.{none-named, is-named, one-named, named-below}
 

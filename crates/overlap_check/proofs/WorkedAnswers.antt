@@ -4,12 +4,12 @@ use Rattle.type_terms.specs.Label.{of_type, adt, bool, value, placeholder}
 use Rattle.type_terms.specs.Trees.{Trees, none, tree, leaf}
 use Rattle.type_terms.specs.Worlds.{World, ImplDecl, StructDecl, Reference, core, sees, view_of}
 use Rattle.type_terms.specs.Rules.{asked, by_impl, by_clause, rules, Rule}
-use Rattle.type_terms.specs.Proofs.{In, Entry, HasProof, HasProofByImpl, Every}
-use Rattle.type_terms.specs.Answers.{is_closed, AtMostOne, IsDecided}
+use Rattle.type_terms.specs.Proofs.{In, ProofEntry, HasProof, HasProofByImpl, Every}
+use Rattle.type_terms.specs.Answers.{is_closed, AtMostOne, IsUnambiguous}
 use Rattle.type_terms.proofs.ProofEntries.{map-in, entry-proved}
 use Rattle.type_terms.specs.Core.{core_world}
 use Rattle.type_terms.specs.Renumbering.{Renumbering, View, HoldsView, renumbered_struct}
-use Rattle.type_terms.specs.LinkedSet.{IsAnswered, LinkedSet}
+use Rattle.type_terms.specs.LinkedSet.{IsOfAnAnsweredCrate, LinkedSet}
 use Rattle.type_terms.specs.Worked.{first, second, u8, to, struct, impl_of, show_world, applied, text_of_a_user, set_of_two_users}
 use Rattle.type_terms.proofs.Members.{in-nothing, in-append, in-cases, in-filter, filter-in, same-number, self-number}
 use Rattle.type_terms.proofs.NoHolds.{member-each}
@@ -63,19 +63,19 @@ module _ (ρ σ : Renumbering) (e : ρ.structs.to 10 ≡ 10) (f : σ.structs.to 
   two-of : LinkedSet set_of_two_users views (λ n. n) → (r : Reference) → IsTrue (is_closed r.args) → (n k : ℕ) → HasProofByImpl set_of_two_users [] r n → HasProofByImpl set_of_two_users [] r k → n ≡ k
   two-of l = (headline 8 set_of_two_users views [] (λ n. n) l answered ok).one_impl
     where
-      own : (i : ImplDecl) → (a-impl ≡ i) ⊎ In i (b-impl ∷ []) → IsAnswered views i
+      own : (i : ImplDecl) → (a-impl ≡ i) ⊎ In i (b-impl ∷ []) → IsOfAnAnsweredCrate views i
       own i (inl q) = inr (at ρ, (0, refl), (asker-of ρ 10 (struct 10 first []) e l.joined.as_answered.0 refl ∙ ap (λ (x : ImplDecl). x.home) q))
       own i (inr q) = last (in-cases i b-impl [] q)
         where
-          last : (b-impl ≡ i) ⊎ In i [] → IsAnswered views i
+          last : (b-impl ≡ i) ⊎ In i [] → IsOfAnAnsweredCrate views i
           last (inl p) = inr (at σ, (1, refl), (asker-of σ 11 (struct 11 second []) f l.joined.as_answered.1.0 refl ∙ ap (λ (x : ImplDecl). x.home) p))
           last (inr p) = absurd (in-nothing i p)
 
-      either : (i : ImplDecl) → In i core_world.impls ⊎ In i (a-impl ∷ b-impl ∷ []) → IsAnswered views i
+      either : (i : ImplDecl) → In i core_world.impls ⊎ In i (a-impl ∷ b-impl ∷ []) → IsOfAnAnsweredCrate views i
       either i (inl h) = inl h
       either i (inr h) = own i (in-cases i a-impl (b-impl ∷ []) h)
 
-      answered : (i : ImplDecl) → In i set_of_two_users.impls → IsAnswered views i
+      answered : (i : ImplDecl) → In i set_of_two_users.impls → IsOfAnAnsweredCrate views i
       answered i h = either i (in-append i core_world.impls (a-impl ∷ b-impl ∷ []) h)
 
       accepted-at : (v : View) → v.world ≡ text_of_a_user → v.asker ≡ 2 → IsVerdict 8 v.world v.asker accepted
@@ -99,7 +99,7 @@ two-texts-accepted = (user-accepted, (two-of two-texts.0 two-texts.1 two-texts.2
 -- what has a proof has a rule whose premises have proofs
 pub needs-rule : (W : World) (E : List Reference) (r : Reference) → HasProof W E r → (u : Rule) × In u (rules W E r) × Every (HasProof W E) u.premises
 needs-rule W E r p =
-    let m = map-in (λ (e : Entry). e.of) p.0 r p.2 in
+    let m = map-in (λ (e : ProofEntry). e.of) p.0 r p.2 in
     let a = entry-proved W E p.0 p.1 m.0 m.1 in
     (m.0.rule, subst (λ q. In m.0.rule (rules W E q)) m.2 a.0, a.1)
 
@@ -134,7 +134,7 @@ one-way W E u zero zero v w hv hw pv pw = refl
 one-way W E u zero (suc j) v w hv hw pv pw = cc
 one-way W E u (suc i) j v w hv hw pv pw = cc
 
-decided : IsDecided 8 show_world [] (asked 20 (applied 10 u8))
+decided : IsUnambiguous 8 show_world [] (asked 20 (applied 10 u8))
 decided = (refl, (one-way show_world [] _, (((one-way show_world [] _, (tt, tt)), tt), tt)))
 
 proved-u8 : HasProof show_world [] (asked 20 (applied 10 u8))

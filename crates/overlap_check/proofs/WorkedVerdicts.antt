@@ -7,13 +7,13 @@ use Rattle.type_terms.specs.Worlds.{World, ImplDecl, Reference, with_args}
 use Rattle.type_terms.specs.Rules.{asked}
 use Rattle.type_terms.specs.Proofs.{In}
 use Rattle.type_terms.specs.Erased.{erased_impl}
-use Rattle.type_terms.specs.Answers.{CommonInstance, IsFixedClause, is_possible, is_bounded}
+use Rattle.type_terms.specs.Answers.{CommonInstance, IsFixedClause, is_possible, is_bounded, IsRealOverlap}
 use Rattle.type_terms.specs.Worked.{base, first, T, u8, impl_of, fn_of_any, fn_of_static}
 use Rattle.type_terms.proofs.Members.{in-nothing}
 use Rattle.type_terms.proofs.Fitting.{fits-sound}
 use Rattle.type_terms.proofs.ViewLaws.{cleared-in-set}
-use Rattle.overlap_check.specs.Verdicts.{placed, IsCleared, IsRealOverlap}
-use Rattle.overlap_check.specs.Worked.{ForeignLeaf, UncoveredBeforeLocal, FlagsOfLeaves, show_blanket, show_for_a, cleared_view, ClearedByAClause, day_view, RefusedForSomeDay, lifetimes_view, LifetimesAlone, mine_blanket, mine_for_u8, later_view, ALaterPairIsRefused, NotAcceptedUnlinked}
+use Rattle.overlap_check.specs.Verdicts.{placed, IsCleared}
+use Rattle.overlap_check.specs.Worked.{ForeignLeaf, VariableUncoveredBeforeLocal, FlagsOfLeaves, show_blanket, show_for_a, cleared_view, ClearedByAClause, day_view, RefusedForSomeDay, lifetimes_view, LifetimesAlone, mine_blanket, mine_for_u8, later_view, ALaterPairIsRefused, NotAcceptedUnlinked}
 use Rattle.type_terms.proofs.Members.{not-both}
 use Rattle.type_terms.specs.Proofs.{HasProof, Every}
 use Rattle.type_terms.specs.Elaborated.{HasElaboratedProof}
@@ -26,7 +26,7 @@ use Rattle.overlap_check.proofs.Computing.{keeps-by, the-impl, first-by, one-pai
 pub foreign-leaf : ForeignLeaf
 foreign-leaf = first-by _ first 100 _ (impl_of 100 first 0 (asked 20 u8) []) (39, refl) refl refl refl refl refl
 
-pub uncovered-before-local : UncoveredBeforeLocal
+pub uncovered-before-local : VariableUncoveredBeforeLocal
 uncovered-before-local = first-by _ first 100 _ _ (39, refl) refl refl refl refl refl
 
 pub flags-of-leaves : FlagsOfLeaves

@@ -24,13 +24,13 @@ fresh_unknowns t [] = none
 fresh_unknowns t (k ∷ ks) = tree (infer k (variables_of t k)) none (fresh_unknowns (with_unknown t k) ks)
 
 -- There is no number left for one more unknown of the sort.
-abbrev pub HasNoNumber : Table → Sort → Type 0
-HasNoNumber t k = MAX_INDEX ≤ variables_of t k
+abbrev pub HasNoFreshNumber : Table → Sort → Type 0
+HasNoFreshNumber t k = MAX_INDEX ≤ variables_of t k
 
 -- There is none for one of these.
 abbrev pub SomeHaveNoNumber : Table → List Sort → Type 0
 SomeHaveNoNumber t [] = ⊥
-SomeHaveNoNumber t (k ∷ ks) = HasNoNumber t k ⊎ SomeHaveNoNumber (with_unknown t k) ks
+SomeHaveNoNumber t (k ∷ ks) = HasNoFreshNumber t k ⊎ SomeHaveNoNumber (with_unknown t k) ks
 
 -- Each parameter that stands in the trees is a leaf with an argument of its sort in the row, and no other place is open there but those
 -- of lifetimes.

@@ -15,7 +15,7 @@ use Rattle.infer_table.specs.Content.{Table, content, variables_of, Ready, Grows
 use Rattle.infer_table.specs.Covers.{AreKnown, IsOfKnown}
 use Rattle.infer_table.specs.Unification.{table_trees}
 use Rattle.infer_table.specs.Shortages.{SomeRunsOut}
-use Rattle.declarations.specs.Applied.{sort_of_param, references_in, AllHeld}
+use Rattle.declarations.specs.Applied.{sort_of_param, references_in, TraitRefsHeld}
 use Rattle.declarations.specs.Held.{ReferenceHeld}
 use Rattle.declarations.specs.Items.{reference_in, impl_in}
 use Rattle.declarations.specs.Merges.{Each}
@@ -75,8 +75,8 @@ PairRunsOut es w x =
     ⊎ SomeRunsOut (table_trees es (pair_table w x)) (left_args es w) (right_args es w x)
 
 -- Whatever their numbers are, the impls have no common instance.
-abbrev pub AreApart : List Entry → ImplDef → ImplDef → Type 0
-AreApart es w x = (i j : ImplId) → CommonInstance (erased_impl (impl_in es i w)) (erased_impl (impl_in es j x)) → ⊥
+abbrev pub AreDisjointImpls : List Entry → ImplDef → ImplDef → Type 0
+AreDisjointImpls es w x = (i j : ImplId) → CommonInstance (erased_impl (impl_in es i w)) (erased_impl (impl_in es j x)) → ⊥
 
 -- The headers of both, over an interner that has grown, are equal in this table: its solutions are the values that make them equal, and
 -- what it holds is a function of their trees.
@@ -108,8 +108,8 @@ goals_over es t rs = map (resolved_reference (content es t.values)) (references_
 -- What was found of the impls, over an interner that has grown: the goals of the pair, whatever the numbers of the impls are.
 pub record IsIntersection (old : List Entry) (w x : ImplDef) (new : List Entry) (found : ImplIntersection) : Type 0 where
   pub ready : Ready new found.table
-  pub left_held : AllHeld new found.left.items
-  pub right_held : AllHeld new found.right.items
+  pub left_held : TraitRefsHeld new found.left.items
+  pub right_held : TraitRefsHeld new found.right.items
   pub goals : (i j : ImplId) → HasGoals (erased_impl (impl_in old i w)) (erased_impl (impl_in old j x)) (unknown_kinds found.table)
       (goals_over new found.table found.left.items) (goals_over new found.table found.right.items)
 

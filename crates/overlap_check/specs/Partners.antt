@@ -4,9 +4,9 @@ use Rattle.type_terms.specs.Erased.{erased_impl}
 use Rattle.type_terms.specs.Worlds.{World, ImplDecl}
 use Rattle.type_terms.specs.Terms.{Entry}
 use Rattle.type_terms.specs.declared.ImplId.{ImplId}
+use Rattle.type_terms.specs.LinkedSet.{IsPair}
 use Rattle.declarations.specs.Items.{Items, IsAbove, declared, impl_at, impl_in}
 use Rattle.declarations.specs.declared.items.ImplDef.{ImplDef}
-use Rattle.overlap_check.specs.Verdicts.{IsPair}
 
 -- Impl number k is of the crate c, number j is of the same trait, and it is of another crate or comes before k.
 abbrev pub are_partners : ℕ → ImplId → ImplDef → ImplId → ImplDef → Bool

@@ -6,7 +6,7 @@ use Rattle.type_terms.specs.Trees.{Trees, none, tree, leaf, ◌+++◌, IsA, is_s
 use Rattle.type_terms.specs.Worlds.{World, Reference}
 use Rattle.type_terms.specs.Proofs.{Every, HasProof}
 use Rattle.type_terms.specs.Elaborated.{HasElaboratedProof}
-use Rattle.type_terms.specs.Answers.{is_closed, is_bounded, is_possible, IsDecided}
+use Rattle.type_terms.specs.Answers.{is_closed, is_bounded, is_possible, IsUnambiguous}
 use Rattle.type_terms.specs.Renumbering.{renumbered_reference}
 use Rattle.overlap_check.specs.Verdicts.{InEverySetWith}
 
@@ -40,8 +40,8 @@ pub data ProveAnswer : Type 0 where
 -- stand for themselves. Of a decided reference `unproved` says that it has no proof, and `maybe` is never said.
 abbrev pub IsProveAnswer : ℕ → World → List Sort → List Reference → Reference → ProveAnswer → Type 0
 IsProveAnswer limit V ks E r (yes ts) = FitKinds ks ts × HasProof V E (filled_reference ks ts r)
-IsProveAnswer limit V ks E r unproved = IsDecided limit V E r → HasProof V E r → ⊥
-IsProveAnswer limit V ks E r maybe = IsDecided limit V E r → ⊥
+IsProveAnswer limit V ks E r unproved = IsUnambiguous limit V E r → HasProof V E r → ⊥
+IsProveAnswer limit V ks E r maybe = IsUnambiguous limit V E r → ⊥
 
 -- `refute`
 pub data RefuteAnswer : Type 0 where

@@ -4,13 +4,13 @@ use Rattle.type_terms.specs.Label.{Sort}
 use Rattle.type_terms.specs.Trees.{Trees, some_node}
 use Rattle.type_terms.specs.Worlds.{World, Reference, ImplDecl, sees, with_args}
 use Rattle.type_terms.specs.Proofs.{In, Every, HasProof, HasProofByImpl}
-use Rattle.type_terms.specs.Answers.{is_closed, is_bounded, is_possible, CommonInstance, FixedLeft, FixedRight, IsDecided, is_variable}
+use Rattle.type_terms.specs.Answers.{is_closed, is_bounded, is_possible, CommonInstance, FixedLeft, FixedRight, IsUnambiguous, is_variable, IsRealOverlap}
 use Rattle.type_terms.specs.Renumbering.{View, renumbered_reference, renumbered_impl}
-use Rattle.type_terms.specs.LinkedSet.{JoinedSet, LinkedSet, Cleared, IsAnswered}
+use Rattle.type_terms.specs.LinkedSet.{JoinedSet, LinkedSet, Cleared, IsOfAnAnsweredCrate, IsPair}
 use Rattle.type_terms.specs.Supers.{IsHeld}
 use Rattle.type_terms.specs.Arranging.{turned_back, arranged_reference}
 use Rattle.type_terms.specs.ArrangingLaws.{Listed, HoldsInOrder, IsAnsweredInOrder, placed_reference, placed_impl}
-use Rattle.overlap_check.specs.Verdicts.{IsVerdict, accepted, IsPair, IsCleared, KeepsOrphanRule, IsAccepted, IsRealOverlap}
+use Rattle.overlap_check.specs.Verdicts.{IsVerdict, accepted, IsCleared, KeepsOrphanRule, IsAccepted}
 use Rattle.overlap_check.specs.Questions.{FitKinds, filled_reference, Solution, SolutionBy, ProveAnswer, yes, unproved, IsProveAnswer, no, unrefuted, IsRefuteAnswer, IsRefuted}
 
 -- The headline
@@ -32,7 +32,7 @@ pub record Headline (limit : ℕ) (W : World) (accepted_views asked_views : List
 abbrev pub HeadlineHolds : Type 0
 HeadlineHolds =
     (limit : ℕ) (W : World) (accepted_views asked_views : List View) (rank : ℕ → ℕ) → LinkedSet W (accepted_views ++ asked_views) rank
-    → ((i : ImplDecl) → In i W.impls → IsAnswered accepted_views i)
+    → ((i : ImplDecl) → In i W.impls → IsOfAnAnsweredCrate accepted_views i)
     → ((v : View) → In v accepted_views → IsVerdict limit v.world v.asker accepted)
     → Headline limit W accepted_views asked_views
 
@@ -40,7 +40,7 @@ HeadlineHolds =
 abbrev pub HeadlineOfHeldSets : Type 0
 HeadlineOfHeldSets =
     (limit : ℕ) (W : World) (accepted_views asked_views : List View) (rank : ℕ → ℕ) → JoinedSet W (accepted_views ++ asked_views) rank
-    → ((i : ImplDecl) → In i W.impls → IsAnswered accepted_views i)
+    → ((i : ImplDecl) → In i W.impls → IsOfAnAnsweredCrate accepted_views i)
     → ((v : View) → In v accepted_views → IsVerdict limit v.world v.asker accepted × IsHeld v.world v.asker)
     → Headline limit W accepted_views asked_views
 
@@ -113,7 +113,7 @@ RefusedIsReal = (limit : ℕ) (V : World) (c : ℕ) (i j : ImplDecl) → IsRefus
 -- A decided reference gets `yes` if it has a proof, and `unproved` if it has none.
 abbrev pub DecidedIsAnswered : Type 0
 DecidedIsAnswered =
-    (limit : ℕ) (V : World) (ks : List Sort) (E : List Reference) (r : Reference) (a : ProveAnswer) → IsDecided limit V E r → IsProveAnswer limit V ks E r a
+    (limit : ℕ) (V : World) (ks : List Sort) (E : List Reference) (r : Reference) (a : ProveAnswer) → IsUnambiguous limit V E r → IsProveAnswer limit V ks E r a
     → ((ts : List Trees) × (a ≡ yes ts) × HasProof V E r) ⊎ ((a ≡ unproved) × (HasProof V E r → ⊥))
 
 -- A bounded reference may be answered `no` exactly if it is not possible; then it has no proof at all by the view.

@@ -4,9 +4,9 @@ use Rattle.type_terms.specs.Worlds.{World, Reference, ImplDecl, with_args}
 use Rattle.type_terms.specs.Proofs.{In, Every}
 use Rattle.type_terms.specs.Elaborated.{HasElaboratedProof}
 use Rattle.type_terms.specs.Walks.{keeps_orphan_rule}
-use Rattle.type_terms.specs.Answers.{CommonInstance, IsFixedClause, is_bounded, is_possible}
+use Rattle.type_terms.specs.Answers.{CommonInstance, IsRealOverlap}
 use Rattle.type_terms.specs.Renumbering.{Renumbering, View, HoldsView, renumbered_impl}
-use Rattle.type_terms.specs.LinkedSet.{LinkedSet, Cleared}
+use Rattle.type_terms.specs.LinkedSet.{LinkedSet, Cleared, IsPair}
 use Rattle.orphan_check.specs.Items.{OrphanError, orphan_error}
 use Rattle.overlap_check.specs.OpenedHeaders.{opened}
 
@@ -38,27 +38,15 @@ pub record IsFirstOrphan (V : World) (c k : ℕ) (e : OrphanError) : Type 0 wher
   pub error : orphan_error V c (opened found.header).args ≡ Some e
 
 -- Overlap
--- c brings the pair together: i is its own, j is one that it sees, an earlier one if it is an own one too.
-pub record IsPair (V : World) (c : ℕ) (i j : ImplDecl) : Type 0 where
-  pub stands : In i V.impls
-  pub partner : In j V.impls
-  pub own : i.home ≡ c
-  pub before : j.home ≡ c → j.name < i.name
-
 -- At no closed common instance H holds of both lists of where-clauses.
-abbrev pub ClearedBy : (Reference → Type 0) → ImplDecl → ImplDecl → Type 0
-ClearedBy H i j = (m : CommonInstance i j) → Every H (map (with_args m.left) i.clauses) → Every H (map (with_args m.right) j.clauses) → ⊥
+abbrev pub ClausesNeverMeet : (Reference → Type 0) → ImplDecl → ImplDecl → Type 0
+ClausesNeverMeet H i j = (m : CommonInstance i j) → Every H (map (with_args m.left) i.clauses) → Every H (map (with_args m.right) j.clauses) → ⊥
 
 -- No linked set with the view has a closed common instance of the pair with proofs of both lists of where-clauses; nor has the view
 -- alone, by proofs that hold the supertraits of all that they conclude. The view is named since there are views that no linked set
 -- holds: `trait Sup; trait Sub: Sup; impl Sub for u8`.
 abbrev pub IsCleared : World → ℕ → ImplDecl → ImplDecl → Type 0
-IsCleared V c i j = ClearedBy (HasElaboratedProof V []) i j × InEverySetWith V c (λ W ρ. Cleared W (renumbered_impl ρ i) (renumbered_impl ρ j))
-
--- The headers have a common instance, and no where-clause that is fixed there as a bounded reference is impossible.
-pub record IsRealOverlap (limit : ℕ) (V : World) (c : ℕ) (i j : ImplDecl) : Type 0 where
-  pub common : CommonInstance i j
-  pub no_impossible : (r : Reference) → IsFixedClause i j r → is_bounded limit V c r ≡ true → is_possible limit V c r ≡ true
+IsCleared V c i j = ClausesNeverMeet (HasElaboratedProof V []) i j × InEverySetWith V c (λ W ρ. Cleared W (renumbered_impl ρ i) (renumbered_impl ρ j))
 
 -- k and j are the numbers of a pair that c brings together and that really overlaps. Others before it may have common instances too.
 pub record IsOverlap (limit : ℕ) (V : World) (c k j : ℕ) : Type 0 where

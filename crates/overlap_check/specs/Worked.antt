@@ -10,8 +10,9 @@ use Rattle.type_terms.specs.Erased.{erased_world}
 use Rattle.type_terms.specs.Answers.{is_closed, CommonInstance}
 use Rattle.type_terms.specs.Core.{box}
 use Rattle.type_terms.specs.Worked.{base, first, beside_core, struct, fundamental_struct, trait_of, impl_of, to, u8, T, applied, fn_of_any, fn_of_static, show_world, text_of_a_user, set_of_two_users}
+use Rattle.type_terms.specs.LinkedSet.{IsPair}
 use Rattle.orphan_check.specs.Items.{nonlocal, uncovered, items, foreign_leaves}
-use Rattle.overlap_check.specs.Verdicts.{IsPair, IsCleared, IsVerdict, accepted, orphan, overlap}
+use Rattle.overlap_check.specs.Verdicts.{IsCleared, IsVerdict, accepted, orphan, overlap}
 use Rattle.overlap_check.specs.Questions.{Solution, IsProveAnswer, yes, unproved, maybe, IsRefuteAnswer, no}
 
 -- The orphan rule
@@ -23,8 +24,8 @@ ForeignLeaf =
 
 -- `crate base; trait Show<U>; crate first uses base; struct B; impl<T> Show<B> for Box<T>`: T, a variable in the error, stands before
 -- the local B.
-abbrev pub UncoveredBeforeLocal : Type 0
-UncoveredBeforeLocal =
+abbrev pub VariableUncoveredBeforeLocal : Type 0
+VariableUncoveredBeforeLocal =
     let V = view_of (beside_core (struct 10 first [] ∷ []) (trait_of 20 base [] ∷ []) (impl_of 100 first 1 (to 20 (applied box T) (leaf (adt 10))) [] ∷ [])) first in
     IsVerdict 8 V first (orphan 100 (uncovered (leaf (infer of_type 0)) (Some (leaf (adt 10)))))
 

@@ -7,7 +7,7 @@ ghost use Rattle.type_terms.specs.Kinds.{ArgHeld, arg_trees};
 ghost use Rattle.type_terms.specs.Failures.{SomeKindIsFull};
 ghost use Rattle.infer_table.specs.Content.{Ready, variables_of};
 ghost use Rattle.declarations.specs.Applied.{sort_of_param};
-ghost use Rattle.overlap_check.specs.Fresh.{with_unknown, with_unknowns, fresh_unknowns, HasNoNumber, SomeHaveNoNumber};
+ghost use Rattle.overlap_check.specs.Fresh.{with_unknown, with_unknowns, fresh_unknowns, HasNoFreshNumber, SomeHaveNoNumber};
 
 use declarations::items::GenericParamKind;
 use infer_table::infer_ctxt::InferCtxt;
@@ -29,7 +29,7 @@ fn var_for_param(
     ensures held { IfOk result (λ arg. ArgHeld cx.new.entries arg) }
     ensures is { IfOk result (λ arg. arg_trees cx.new.entries arg ≡ leaf (infer (sort_of_param kind) (variables_of table.old (sort_of_param kind)))) }
     ensures made { OnOk result (table.new ≡ with_unknown table.old (sort_of_param kind)) }
-    ensures full { result ≡ Err Fault.Full → SomeKindIsFull cx.new.entries cx.new.limit ⊎ HasNoNumber table.old (sort_of_param kind) }
+    ensures full { result ≡ Err Fault.Full → SomeKindIsFull cx.new.entries cx.new.limit ⊎ HasNoFreshNumber table.old (sort_of_param kind) }
 {
     match kind {
         GenericParamKind::Lifetime => {

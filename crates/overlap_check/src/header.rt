@@ -6,7 +6,7 @@ ghost use Rattle.type_terms.specs.Terms.{Keeps, Has, args_lists, trees_at};
 ghost use Rattle.term_folds.specs.Arguments.{first_misfit};
 ghost use Rattle.type_terms.specs.Failures.{SomeKindIsFull};
 ghost use Rattle.infer_table.specs.Content.{Ready};
-ghost use Rattle.declarations.specs.Applied.{references_in, AllHeld};
+ghost use Rattle.declarations.specs.Applied.{references_in, TraitRefsHeld};
 ghost use Rattle.declarations.specs.Held.{ReferenceHeld, ImplHeld};
 ghost use Rattle.declarations.specs.Items.{reference_in};
 ghost use Rattle.declarations.specs.Merges.{Each};
@@ -68,13 +68,13 @@ pub(crate) fn instantiate_clauses(
     clauses: &[TraitRef],
     args: GenericArgs,
 ) -> Result<Vec<TraitRef>, Fault>
-    requires held { AllHeld cx.old.entries clauses.now }
+    requires held { TraitRefsHeld cx.old.entries clauses.now }
     requires args { Has cx.old.entries args_lists args.0 }
     requires closed { outer_binder (trees_at cx.old.entries args.0) ≡ 0 }
     requires fits { Each (λ k. first_misfit (trees_at cx.old.entries args.0) (trees_at cx.old.entries k.args.0) ≡ None) clauses.now }
     ensures keeps { Keeps cx.old.entries cx.new.entries }
     ensures limit { cx.new.limit ≡ cx.old.limit }
-    ensures held { IfOk result (λ v. AllHeld cx.new.entries v.items) }
+    ensures held { IfOk result (λ v. TraitRefsHeld cx.new.entries v.items) }
     ensures are { IfOk result (λ v. references_in cx.new.entries v.items ≡ all_with_args (trees_at cx.old.entries args.0) (references_in cx.old.entries clauses.now)) }
     ensures full { result ≡ Err Fault.Full → SomeKindIsFull cx.new.entries cx.new.limit }
 {

@@ -4,7 +4,7 @@ ghost use Rattle.type_terms.specs.Trees.{flags};
 ghost use Rattle.type_terms.specs.Terms.{Has, types, consts, trees_at};
 ghost use Rattle.type_terms.specs.Kinds.{ArgHeld, ArgsHeld, arg_trees, args_trees};
 ghost use Rattle.declarations.specs.Held.{ImplHeld};
-ghost use Rattle.overlap_check.specs.Headers.{AreApart};
+ghost use Rattle.overlap_check.specs.Headers.{AreDisjointImpls};
 ghost use Rattle.overlap_check.specs.Heads.{NeverMeet, open_flags};
 
 use declarations::items::ImplDef;
@@ -99,7 +99,7 @@ fn some_args_differ(cx: &Interner, left: &[GenericArgKind], right: &[GenericArgK
 pub fn headers_differ(cx: &Interner, left: &ImplDef, right: &ImplDef) -> bool
     requires left { ImplHeld cx.now.entries left.now }
     requires right { ImplHeld cx.now.entries right.now }
-    ensures { result ≡ true → AreApart cx.now.entries left.now right.now }
+    ensures { result ≡ true → AreDisjointImpls cx.now.entries left.now right.now }
 {
     some_args_differ(cx, cx.args(left.header.args), cx.args(right.header.args))
 }

@@ -4,9 +4,9 @@ ghost use Rattle.type_terms.specs.Worlds.{all_with_args};
 ghost use Rattle.type_terms.specs.Terms.{Keeps, trees_at};
 ghost use Rattle.type_terms.specs.Failures.{SomeKindIsFull};
 ghost use Rattle.infer_table.specs.Content.{Table};
-ghost use Rattle.declarations.specs.Applied.{references_in, AllHeld};
+ghost use Rattle.declarations.specs.Applied.{references_in, TraitRefsHeld};
 ghost use Rattle.declarations.specs.Held.{ImplHeld};
-ghost use Rattle.overlap_check.specs.Headers.{AreApart, AreEqualHeaders, IsIntersection, IsPosed, IsSolved, IsUnknownsFor, IsWithoutVariables, PairRunsOut, empty_table};
+ghost use Rattle.overlap_check.specs.Headers.{AreDisjointImpls, AreEqualHeaders, IsIntersection, IsPosed, IsSolved, IsUnknownsFor, IsWithoutVariables, PairRunsOut, empty_table};
 ghost use Rattle.overlap_check.specs.Written.{IsWrittenWell};
 
 use crate::equate::equate_impl_headers;
@@ -63,7 +63,7 @@ pub fn impl_intersection(
     ensures limit { cx.new.limit ≡ cx.old.limit }
 
     // Without an intersection the impls have no common instance.
-    ensures apart { result ≡ Ok None → AreApart cx.old.entries left.now right.now }
+    ensures apart { result ≡ Ok None → AreDisjointImpls cx.old.entries left.now right.now }
 
     // With one they have, and what is to be asked are the goals of the pair.
     ensures found { IfOk result (λ found. IfSome found (IsIntersection cx.old.entries left.now right.now cx.new.entries)) }
@@ -100,7 +100,7 @@ fn equate_fresh_headers(
     requires right_written { IsWrittenWell cx.old.entries right.now }
     ensures keeps { Keeps cx.old.entries cx.new.entries }
     ensures limit { cx.new.limit ≡ cx.old.limit }
-    ensures apart { result ≡ Ok None → AreApart cx.old.entries left.now right.now }
+    ensures apart { result ≡ Ok None → AreDisjointImpls cx.old.entries left.now right.now }
     ensures equal { IfOk result (λ found. IfSome found (λ h. AreEqualHeaders cx.old.entries left.now right.now cx.new.entries table.new h.0 h.1)) }
     ensures full { result ≡ Err Fault.Full → SomeKindIsFull cx.new.entries cx.new.limit ⊎ PairRunsOut cx.old.entries left.now right.now }
 {
@@ -131,8 +131,8 @@ fn instantiate_both(
     requires right_args { (t : Table) × IsUnknownsFor cx.old.entries t right.now right_header }
     ensures keeps { Keeps cx.old.entries cx.new.entries }
     ensures limit { cx.new.limit ≡ cx.old.limit }
-    ensures left_held { IfOk result (λ v. AllHeld cx.new.entries v.0.items) }
-    ensures right_held { IfOk result (λ v. AllHeld cx.new.entries v.1.items) }
+    ensures left_held { IfOk result (λ v. TraitRefsHeld cx.new.entries v.0.items) }
+    ensures right_held { IfOk result (λ v. TraitRefsHeld cx.new.entries v.1.items) }
     ensures left { IfOk result (λ v. references_in cx.new.entries v.0.items ≡ all_with_args (trees_at cx.old.entries left_header.impl_args.0) (references_in cx.old.entries left.now.clauses.items)) }
     ensures right { IfOk result (λ v. references_in cx.new.entries v.1.items
         ≡ all_with_args (trees_at cx.old.entries right_header.impl_args.0) (references_in cx.old.entries right.now.clauses.items)) }

@@ -1,7 +1,7 @@
 //! What a session promises of its answers, and what follows from it.
 
 ghost use Rattle.overlap_check.specs.SessionLaws.{RefusedIsReal, ApartIsCleared, BoundedIsRefuted, DecidedIsAnswered, HeadlineHolds, HeadlineInAnyOrder, HeadlineOfHeldSets, PassedIsAccepted, RefusedClauseClears};
-ghost use Rattle.overlap_check.specs.Worked.{ALaterPairIsRefused, ClearedByAClause, FlagsOfLeaves, ForeignLeaf, LifetimesAlone, NotAcceptedUnlinked, ParametersStandForThemselves, ProvedAloneAndRefuted, RefusedForSomeDay, RefutedForAllValues, TwoTextsAccepted, UncoveredBeforeLocal, ValuesOfBothKinds};
+ghost use Rattle.overlap_check.specs.Worked.{ALaterPairIsRefused, ClearedByAClause, FlagsOfLeaves, ForeignLeaf, LifetimesAlone, NotAcceptedUnlinked, ParametersStandForThemselves, ProvedAloneAndRefuted, RefusedForSomeDay, RefutedForAllValues, TwoTextsAccepted, VariableUncoveredBeforeLocal, ValuesOfBothKinds};
 
 /// In a linked set of accepted crates, of one text or of several, no closed reference has proofs by two impls; what was answered there holds.
 pub fn accepted_sets_have_one_impl()
@@ -46,7 +46,7 @@ pub fn bounded_is_refuted()
 /// Worked headers: why they break the orphan rule.
 pub fn worked_headers()
     ensures foreign { ForeignLeaf }
-    ensures uncovered { UncoveredBeforeLocal }
+    ensures uncovered { VariableUncoveredBeforeLocal }
     ensures flags { FlagsOfLeaves }
 {}
 

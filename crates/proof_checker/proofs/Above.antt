@@ -15,7 +15,7 @@ use Rattle.term_folds.specs.declared.predicate.TraitRef.{TraitRef}
 use Rattle.declarations.specs.declared.items.TraitDef.{TraitDef}
 use Rattle.declarations.specs.Items.{Items, reference_in, trait_in, written, declared}
 use Rattle.declarations.specs.Held.{ReferenceHeld}
-use Rattle.declarations.specs.Applied.{HaveBounds, references_in, AllHeld}
+use Rattle.declarations.specs.Applied.{HaveBounds, references_in, TraitRefsHeld}
 use Rattle.declarations.specs.Merges.{Each}
 use Rattle.declarations.proofs.Elaborating.{lead-down}
 use Rattle.declarations.proofs.Growth.{reference-kept}
@@ -58,7 +58,7 @@ bounds-above V r x i (b ∷ bs) among f es (s ∷ found) e =
 
 -- the bounds of the only trait, with the arguments of a reference to it
 pub supertraits-are : (es fs : List Entry) → Lawful es → (d : Items) (r : TraitRef) (def : TraitDef) → traits_named (written es d) r.def_id.index ≡ trait_in es (r.def_id, def) ∷ []
-    → ReferenceHeld es r → AllHeld es def.bounds.items → Each (λ (b : TraitRef). first_misfit (trees_at es r.args.0) (trees_at es b.args.0) ≡ None) def.bounds.items
+    → ReferenceHeld es r → TraitRefsHeld es def.bounds.items → Each (λ (b : TraitRef). first_misfit (trees_at es r.args.0) (trees_at es b.args.0) ≡ None) def.bounds.items
     → (found : List TraitRef) → references_in fs found ≡ all_with_args (trees_at es r.args.0) (references_in es def.bounds.items)
     → Each (λ s. In (term_of fs s) (written_supertraits (declared es d) (term_of es r))) found
 supertraits-are es fs law d r def named h held fits found are =
@@ -86,11 +86,11 @@ module _ (es : List Entry) (d : Items) (bounds : HaveBounds es d) (r : Reference
   down = erased-down (written es d) bounds.rank (lead-down es d bounds)
 
   -- what is written above it, or above what stands above it, stands above it
-  pub first-above : (fs : List Entry) (found : List TraitRef) → AllHeld fs found → Each (λ s. In (term_of fs s) (written_supertraits W r)) found → Each (IsAbove W r fs) found
+  pub first-above : (fs : List Entry) (found : List TraitRef) → TraitRefsHeld fs found → Each (λ s. In (term_of fs s) (written_supertraits W r)) found → Each (IsAbove W r fs) found
   first-above fs [] h a = tt
   first-above fs (s ∷ found) h a = ((h.0, strict-closed W bounds.rank down r r (term_of fs s) (here r (strict_supertraits W r)) a.0), first-above fs found h.1 a.1)
 
-  pub next-above : (s : Reference) → In s (strict_supertraits W r) → (fs : List Entry) (found : List TraitRef) → AllHeld fs found → Each (λ t. In (term_of fs t) (written_supertraits W s)) found → Each (IsAbove W r fs) found
+  pub next-above : (s : Reference) → In s (strict_supertraits W r) → (fs : List Entry) (found : List TraitRef) → TraitRefsHeld fs found → Each (λ t. In (term_of fs t) (written_supertraits W s)) found → Each (IsAbove W r fs) found
   next-above s i fs [] h a = tt
   next-above s i fs (t ∷ found) h a = ((h.0, strict-closed W bounds.rank down r s (term_of fs t) (there s r (strict_supertraits W r) i) a.0), next-above s i fs found h.1 a.1)
 

@@ -5,13 +5,13 @@ use Rattle.type_terms.specs.Worlds.{World, Reference}
 use Rattle.type_terms.specs.Proofs as proofs
 use Rattle.type_terms.specs.Terms.{Entry}
 use Rattle.proof_checker.specs.declared.steps.Step.{Step}
-use Rattle.proof_checker.specs.Checked.{HasRule, IsRule, PremisesStand}
+use Rattle.proof_checker.specs.Checked.{StepHasRule, IsRuleByWay, PremisesStand}
 use Rattle.proof_checker.specs.Steps.{term_of, steps_say, at_places, assumed_in, AreEntriesOf, AreProof}
 use Rattle.proof_checker.proofs.Following.{FollowsAt, is-proof}
 
 -- the step follows by its place
 pub record StepFollows (W : World) (E : List Reference) (es : List Entry) (rs : List Reference) (i : ℕ) (s : Step) : Type 0 where
-  pub rule : HasRule W E es rs s
+  pub rule : StepHasRule W E es rs s
   pub stand : PremisesStand W rs i s.reference.def_id.index (at_places rs s.premises.items)
 
 pub get-below : (ss : List Step) (i : ℕ) (s : Step) → slice_get ss i ≡ Some s → i < length ss
@@ -21,12 +21,12 @@ get-below (x ∷ ss) (suc i) s e = let r = get-below ss i s e in omega (arith, r
 
 -- the entries of steps, from place j on
 record Entries (W : World) (E : List Reference) (es : List Entry) (rs : List Reference) (j : ℕ) (ss : List Step) : Type 0 where
-  entries : List proofs.Entry
+  entries : List proofs.ProofEntry
   are : AreEntriesOf es rs ss entries
   follow : FollowsAt W E rs j entries
-  say : map (λ (e : proofs.Entry). e.of) entries ≡ steps_say es ss
+  say : map (λ (e : proofs.ProofEntry). e.of) entries ≡ steps_say es ss
 
-entry-of : (W : World) (E : List Reference) (es : List Entry) (rs : List Reference) (s : Step) → HasRule W E es rs s → proofs.Entry
+entry-of : (W : World) (E : List Reference) (es : List Entry) (rs : List Reference) (s : Step) → StepHasRule W E es rs s → proofs.ProofEntry
 entry-of W E es rs s h = record { of = term_of es s.reference; rule = record { way = h.way; premises = at_places rs s.premises.items } }
 
 from : (W : World) (E : List Reference) (es : List Entry) (rs : List Reference) (j : ℕ) (ss : List Step)
@@ -60,10 +60,10 @@ moved W V E D es fs rs ss i s p q t r h = record {
   rule = record {
     way = h.rule.way;
     of_step = h.rule.of_step;
-    rule = subst (λ x. IsRule x D (term_of fs s.reference) h.rule.way (at_places ss s.premises.items)) p
-        (subst (λ x. IsRule W x (term_of fs s.reference) h.rule.way (at_places ss s.premises.items)) q
-        (subst (λ x. IsRule W E x h.rule.way (at_places ss s.premises.items)) t
-        (subst (λ x. IsRule W E (term_of es s.reference) h.rule.way (at_places x s.premises.items)) r h.rule.rule)));
+    rule = subst (λ x. IsRuleByWay x D (term_of fs s.reference) h.rule.way (at_places ss s.premises.items)) p
+        (subst (λ x. IsRuleByWay W x (term_of fs s.reference) h.rule.way (at_places ss s.premises.items)) q
+        (subst (λ x. IsRuleByWay W E x h.rule.way (at_places ss s.premises.items)) t
+        (subst (λ x. IsRuleByWay W E (term_of es s.reference) h.rule.way (at_places x s.premises.items)) r h.rule.rule)));
   };
   stand = subst (λ x. PremisesStand x ss i s.reference.def_id.index (at_places ss s.premises.items)) p
       (subst (λ x. PremisesStand W x i s.reference.def_id.index (at_places x s.premises.items)) r h.stand);

@@ -13,21 +13,21 @@ use Rattle.term_folds.specs.Arguments.{first_misfit}
 use Rattle.term_folds.specs.declared.predicate.TraitRef.{TraitRef}
 use Rattle.declarations.specs.Items.{reference_in}
 use Rattle.declarations.specs.Held.{ReferenceHeld}
-use Rattle.declarations.specs.Applied.{references_in, AllHeld}
+use Rattle.declarations.specs.Applied.{references_in, TraitRefsHeld}
 use Rattle.declarations.specs.Merges.{Each}
-use Rattle.proof_checker.specs.Checked.{IsRule}
+use Rattle.proof_checker.specs.Checked.{IsRuleByWay}
 use Rattle.proof_checker.specs.Steps.{terms_of}
 use Rattle.proof_checker.proofs.Fitting.{fits-of, erased-closed}
 
 pub args-made : (es : List Entry) → Lawful es → (i : ℕ) → Has es args_lists i → is_made is_in_range terms (trees_at es i) ≡ true
 args-made es law i h = subst (λ t. is_made is_in_range terms t ≡ true) (sym (trees-is es args_lists i h.0 h.1)) ((law.made i _ h.1).as_terms (λ e. cc))
 
-pub clauses-fit : (es : List Entry) → Lawful es → (A : Trees) → is_made is_in_range terms A ≡ true → (rs : List TraitRef) → AllHeld es rs
+pub clauses-fit : (es : List Entry) → Lawful es → (A : Trees) → is_made is_in_range terms A ≡ true → (rs : List TraitRef) → TraitRefsHeld es rs
     → Each (λ (b : TraitRef). first_misfit A (trees_at es b.args.0) ≡ None) rs → Every (λ (k : Reference). Fits A k.args) (references_in es rs)
 clauses-fit es law A m [] h f = tt
 clauses-fit es law A m (r ∷ rs) h f = (fits-of A m (trees_at es r.args.0) (args-made es law r.args.0 h.0) f.0, clauses-fit es law A m rs h.1 f.1)
 
-pub fits-back : (es fs : List Entry) → Keeps es fs → (A B : Trees) → B ≡ A → (rs : List TraitRef) → AllHeld es rs
+pub fits-back : (es fs : List Entry) → Keeps es fs → (A B : Trees) → B ≡ A → (rs : List TraitRef) → TraitRefsHeld es rs
     → Each (λ (b : TraitRef). first_misfit B (trees_at fs b.args.0) ≡ None) rs → Each (λ (b : TraitRef). first_misfit A (trees_at es b.args.0) ≡ None) rs
 fits-back es fs k A B e [] h f = tt
 fits-back es fs k A B e (r ∷ rs) h f =
@@ -39,7 +39,7 @@ terms-map es (r ∷ rs) = ap (λ l. erased_reference (reference_in es r) ∷ l) 
 
 pub by-the-impl : (V : World) (E : List Reference) (i : ImplDecl) (A : Trees) (r : Reference) (ps : List Reference) → In i V.impls → IsCovered (erased_impl i) → outer_binder A ≡ 0
     → Fits A i.header.args → Every (λ (k : Reference). Fits A k.args) i.clauses → erased_reference (with_args A i.header) ≡ erased_reference r
-    → ps ≡ map erased_reference (all_with_args A i.clauses) → IsRule (erased_world V) E (erased_reference r) (by_impl i.name) ps
+    → ps ≡ map erased_reference (all_with_args A i.clauses) → IsRuleByWay (erased_world V) E (erased_reference r) (by_impl i.name) ps
 by-the-impl V E i A r ps h v z f fs e q =
     applies-up-to-lifetimes V E i A r h v (erased-closed A z) f fs e (let w : Rule = record { way = by_impl i.name; premises = ps } in w)
     (ap (λ ks. (let w : Rule = record { way = by_impl i.name; premises = ks } in w)) q)

@@ -8,7 +8,7 @@ use Rattle.type_terms.specs.Terms.{Entry, Keeps, args_lists}
 use Rattle.type_terms.proofs.Members.{here, in-right}
 use Rattle.type_terms.specs.Kept.{has-later}
 use Rattle.term_folds.specs.declared.predicate.TraitRef.{TraitRef}
-use Rattle.declarations.specs.Applied.{AllHeld}
+use Rattle.declarations.specs.Applied.{TraitRefsHeld}
 use Rattle.declarations.specs.Held.{ReferenceHeld}
 use Rattle.declarations.specs.Merges.{Each}
 use Rattle.declarations.proofs.Growth.{reference-same, reference-kept, each-kept}
@@ -39,7 +39,7 @@ module _ (es fs : List Entry) (k : Keeps es fs) where
   pub term-same : (r : TraitRef) → ReferenceHeld es r → term_of fs r ≡ term_of es r
   term-same r h = ap erased_reference (reference-same es fs k r h)
 
-  pub terms-same : (rs : List TraitRef) → AllHeld es rs → terms_of fs rs ≡ terms_of es rs
+  pub terms-same : (rs : List TraitRef) → TraitRefsHeld es rs → terms_of fs rs ≡ terms_of es rs
   terms-same [] h = refl
   terms-same (r ∷ rs) h = joined (term_of fs r) (term_of es r) (terms_of fs rs) (terms_of es rs) (term-same r h.0) (terms-same rs h.1)
 

@@ -14,11 +14,11 @@ use Rattle.proof_checker.proofs.Later.{term-same, say-same, assumed-same}
 joined : (t u : Reference) (ts us : List Reference) → t ≡ u → ts ≡ us → t ∷ ts ≡ u ∷ us
 joined t u ts us q p = cc
 
-pub entries-say : (es : List Entry) (rs : List Reference) (ss : List Step) (ps : List proofs.Entry) → AreEntriesOf es rs ss ps → map (λ (e : proofs.Entry). e.of) ps ≡ steps_say es ss
+pub entries-say : (es : List Entry) (rs : List Reference) (ss : List Step) (ps : List proofs.ProofEntry) → AreEntriesOf es rs ss ps → map (λ (e : proofs.ProofEntry). e.of) ps ≡ steps_say es ss
 entries-say es rs [] [] h = refl
 entries-say es rs [] (e ∷ ps) h = absurd h
 entries-say es rs (s ∷ ss) [] h = absurd h
-entries-say es rs (s ∷ ss) (e ∷ ps) h = joined e.of (term_of es s.reference) (map (λ (x : proofs.Entry). x.of) ps) (steps_say es ss) h.0.of (entries-say es rs ss ps h.1)
+entries-say es rs (s ∷ ss) (e ∷ ps) h = joined e.of (term_of es s.reference) (map (λ (x : proofs.ProofEntry). x.of) ps) (steps_say es ss) h.0.of (entries-say es rs ss ps h.1)
 
 pub concludes : (es : List Entry) (W : World) (E : List Reference) (r : Reference) (ss : List Step) → AreProof es W E ss → In r (steps_say es ss) → AreProofOf es W E r ss
 concludes es W E r ss p i = record { proof = p; stands = subst (In r) (sym (entries-say es (steps_say es ss) ss p.entries p.are)) i }
@@ -33,7 +33,7 @@ last-said es ss front last e = subst (λ l. In (term_of es last.reference) (step
 
 -- ---- before
 module _ (es fs : List Entry) (k : Keeps es fs) where
-  entries-before : (rs qs : List Reference) → qs ≡ rs → (ss : List Step) → Each (StepHeld es) ss → (ps : List proofs.Entry) → AreEntriesOf fs qs ss ps → AreEntriesOf es rs ss ps
+  entries-before : (rs qs : List Reference) → qs ≡ rs → (ss : List Step) → Each (StepHeld es) ss → (ps : List proofs.ProofEntry) → AreEntriesOf fs qs ss ps → AreEntriesOf es rs ss ps
   entries-before rs qs q [] g [] h = tt
   entries-before rs qs q [] g (e ∷ ps) h = absurd h
   entries-before rs qs q (s ∷ ss) g [] h = absurd h

@@ -6,7 +6,7 @@ use Rattle.type_terms.specs.Rules.{Rule, Way, by_clause, by_super, rules, impl_r
 use Rattle.type_terms.specs.Proofs.{In}
 use Rattle.type_terms.proofs.Members.{here, in-append, in-cases, in-left, in-nothing, in-right}
 use Rattle.type_terms.proofs.Applies.{same-reference-complete}
-use Rattle.proof_checker.specs.Checked.{IsRule, IsSuperRule}
+use Rattle.proof_checker.specs.Checked.{IsRuleByWay, IsSuperRule}
 
 pub get-map : {A B : Type 0} (f : A → B) (xs : List A) (k : ℕ) (x : A) → slice_get xs k ≡ Some x → slice_get (map f xs) k ≡ Some (f x)
 get-map f [] k x e = cc
@@ -103,7 +103,7 @@ clauses-more W r k (s ∷ E) A u i = by (in-append u own (supers ++ clause_rules
     by (inr j) go = in-right u own (supers ++ clause_rules W r (suc k) (E ++ A)) (rest (in-append u supers (clause_rules W r (suc k) E) j) go)
 
 -- what is a rule stays one under more where-clauses
-pub rule-more : (W : World) (E A : List Reference) (r : Reference) (w : Way) (ps : List Reference) → IsRule W E r w ps → IsRule W (E ++ A) r w ps
+pub rule-more : (W : World) (E A : List Reference) (r : Reference) (w : Way) (ps : List Reference) → IsRuleByWay W E r w ps → IsRuleByWay W (E ++ A) r w ps
 rule-more W E A r w ps i = by (in-append u impls (built_in_rules W r ++ clause_rules W r 0 E) i)
   where
     u : Rule
@@ -116,10 +116,10 @@ rule-more W E A r w ps i = by (in-append u impls (built_in_rules W r ++ clause_r
     rest (inl j) = in-left u (built_in_rules W r) (clause_rules W r 0 (E ++ A)) j
     rest (inr j) = in-right u (built_in_rules W r) (clause_rules W r 0 (E ++ A)) (clauses-more W r 0 E A u j)
 
-    by : In u impls ⊎ In u (built_in_rules W r ++ clause_rules W r 0 E) → IsRule W (E ++ A) r w ps
+    by : In u impls ⊎ In u (built_in_rules W r ++ clause_rules W r 0 E) → IsRuleByWay W (E ++ A) r w ps
     by (inl j) = in-left u impls (built_in_rules W r ++ clause_rules W r 0 (E ++ A)) j
     by (inr j) = in-right u impls (built_in_rules W r ++ clause_rules W r 0 (E ++ A)) (rest (in-append u (built_in_rules W r) (clause_rules W r 0 E) j))
 
 -- a reference is concluded by itself as a where-clause
-pub assumed-rule : (W : World) (E A : List Reference) (r : Reference) → In r A → (k : ℕ) × IsRule W (E ++ A) r (by_clause k) []
+pub assumed-rule : (W : World) (E A : List Reference) (r : Reference) → In r A → (k : ℕ) × IsRuleByWay W (E ++ A) r (by_clause k) []
 assumed-rule W E A r i = let m = in-right r E A i in (m.0, clause-rule W (E ++ A) r m.0 r m.1 refl)

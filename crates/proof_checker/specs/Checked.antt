@@ -9,18 +9,18 @@ use Rattle.proof_checker.specs.declared.steps.Step.{Step}
 use Rattle.proof_checker.specs.Steps.{term_of, at_places, IsWayOf}
 
 -- The premises make a rule of the reference by this way.
-abbrev pub IsRule : World → List Reference → Reference → rule.Way → List Reference → Type 0
-IsRule W E r w ps = In (let u : Rule = record { way = w; premises = ps } in u) (rules W E r)
+abbrev pub IsRuleByWay : World → List Reference → Reference → rule.Way → List Reference → Type 0
+IsRuleByWay W E r w ps = In (let u : Rule = record { way = w; premises = ps } in u) (rules W E r)
 
 -- Some supertrait of the where-clause at this place is the reference.
 abbrev pub IsSuperRule : World → List Reference → Reference → ℕ → Type 0
-IsSuperRule W E r k = (n : ℕ) × IsRule W E r (by_super k n) []
+IsSuperRule W E r k = (n : ℕ) × IsRuleByWay W E r (by_super k n) []
 
 -- By the step's way its premises conclude its reference, where rs are the references of all steps.
-pub record HasRule (W : World) (E : List Reference) (es : List terms.Entry) (rs : List Reference) (s : Step) : Type 0 where
+pub record StepHasRule (W : World) (E : List Reference) (es : List terms.Entry) (rs : List Reference) (s : Step) : Type 0 where
   pub way : rule.Way
   pub of_step : IsWayOf s.way way
-  pub rule : IsRule W E (term_of es s.reference) way (at_places rs s.premises.items)
+  pub rule : IsRuleByWay W E (term_of es s.reference) way (at_places rs s.premises.items)
 
 -- The premises are among the references rs, and among the first k of them unless the trait of what they conclude is coinductive.
 abbrev pub PremisesStand : World → List Reference → ℕ → ℕ → List Reference → Type 0

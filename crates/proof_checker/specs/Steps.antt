@@ -5,7 +5,7 @@ use Rattle.type_terms.specs.Erased.{erased_reference, erased_impl, IsCovered}
 use Rattle.type_terms.specs.Worlds.{World, Reference, ImplDecl}
 use Rattle.type_terms.specs.Rules.{by_impl, by_clause, by_super}
 use Rattle.type_terms.specs.Rules as rule
-use Rattle.type_terms.specs.Proofs.{Entry, In, Stands, IsProof}
+use Rattle.type_terms.specs.Proofs.{ProofEntry, In, Stands, IsProof}
 use Rattle.type_terms.specs.Terms as terms
 use Rattle.type_terms.specs.Terms.{Has, args_lists}
 use Rattle.term_folds.specs.declared.predicate.TraitRef.{TraitRef}
@@ -45,13 +45,13 @@ IsWayOf (Supertrait k) w = (n : ℕ) × (w ≡ by_super k n)
 IsWayOf Assumed w = (k : ℕ) × (w ≡ by_clause k)
 
 -- The entry is what the step says, where rs are the references of all steps.
-pub record IsEntryOf (es : List terms.Entry) (rs : List Reference) (s : Step) (e : Entry) : Type 0 where
+pub record IsEntryOf (es : List terms.Entry) (rs : List Reference) (s : Step) (e : ProofEntry) : Type 0 where
   pub of : e.of ≡ term_of es s.reference
   pub way : IsWayOf s.way e.rule.way
   pub premises : e.rule.premises ≡ at_places rs s.premises.items
 
 -- The entries are what the steps say, one for one.
-abbrev pub AreEntriesOf : List terms.Entry → List Reference → List Step → List Entry → Type 0
+abbrev pub AreEntriesOf : List terms.Entry → List Reference → List Step → List ProofEntry → Type 0
 AreEntriesOf es rs [] [] = Unit {0}
 AreEntriesOf es rs (s ∷ ss) (e ∷ ps) = IsEntryOf es rs s e × AreEntriesOf es rs ss ps
 AreEntriesOf es rs ss ps = ⊥
@@ -66,7 +66,7 @@ assumed_in es ss = flat_map (λ (s : Step). assumed_by es s.reference s.way) ss
 
 -- The steps are a proof by the rules of W, the where-clauses E, and what the steps assume. If they assume nothing it is one by E.
 pub record AreProof (es : List terms.Entry) (W : World) (E : List Reference) (ss : List Step) : Type 0 where
-  pub entries : List Entry
+  pub entries : List ProofEntry
   pub are : AreEntriesOf es (steps_say es ss) ss entries
   pub proof : IsProof W (E ++ assumed_in es ss) entries
 
@@ -85,5 +85,5 @@ abbrev pub StepHeld : List terms.Entry → Step → Type 0
 StepHeld es s = ReferenceHeld es s.reference × WayHeld es s.way
 
 -- The parameters of each impl stand in its header.
-abbrev pub AreCovered : List terms.Entry → Items → Type 0
-AreCovered es d = (i : ImplDecl) → In i (written es d).impls → IsCovered (erased_impl i)
+abbrev pub ParametersAreCovered : List terms.Entry → Items → Type 0
+ParametersAreCovered es d = (i : ImplDecl) → In i (written es d).impls → IsCovered (erased_impl i)

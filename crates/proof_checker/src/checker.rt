@@ -5,12 +5,12 @@ ghost use Rattle.type_terms.specs.Failures.{SomeKindIsFull};
 ghost use Rattle.type_terms.specs.Proofs.{In, Every};
 ghost use Rattle.type_terms.specs.Rules.{is_coinductive};
 ghost use Rattle.type_terms.specs.Terms.{Entry, Keeps};
-ghost use Rattle.declarations.specs.Applied.{AllHeld, HaveBounds};
+ghost use Rattle.declarations.specs.Applied.{TraitRefsHeld, HaveBounds};
 ghost use Rattle.declarations.specs.Held.{AreHeld, ReferenceHeld};
 ghost use Rattle.declarations.specs.Items.{declared};
 ghost use Rattle.declarations.specs.Merges.{Each};
-ghost use Rattle.proof_checker.specs.Checked.{HasRule, PremisesStand};
-ghost use Rattle.proof_checker.specs.Steps.{term_of, terms_of, steps_say, at_places, assumed_in, AreProof, AreProofOf, StepHeld, AreCovered};
+ghost use Rattle.proof_checker.specs.Checked.{StepHasRule, PremisesStand};
+ghost use Rattle.proof_checker.specs.Steps.{term_of, terms_of, steps_say, at_places, assumed_in, AreProof, AreProofOf, StepHeld, ParametersAreCovered};
 
 use crate::lifetimes::are_one;
 use crate::rules::{by_clause, by_impl};
@@ -46,7 +46,7 @@ fn premises_stand(
     premises: &[TraitRef],
 ) -> Result<bool, Fault>
     requires steps { Each (StepHeld cx.old.entries) steps.now }
-    requires premises { AllHeld cx.old.entries premises.now }
+    requires premises { TraitRefsHeld cx.old.entries premises.now }
     ensures keeps { Keeps cx.old.entries cx.new.entries }
     ensures limit { cx.new.limit ≡ cx.old.limit }
     ensures are { IfOk result (λ b. b ≡ true → at_places (steps_say cx.old.entries steps.now) places.now ≡ terms_of cx.old.entries premises.now) }
@@ -91,14 +91,14 @@ fn is_step(
     step: &Step,
 ) -> Result<bool, Fault>
     requires declared { AreHeld cx.old.entries declarations.now }
-    requires covered { AreCovered cx.old.entries declarations.now }
+    requires covered { ParametersAreCovered cx.old.entries declarations.now }
     requires bounds { HaveBounds cx.old.entries declarations.now }
-    requires clauses { AllHeld cx.old.entries clauses.now }
+    requires clauses { TraitRefsHeld cx.old.entries clauses.now }
     requires steps { Each (StepHeld cx.old.entries) steps.now }
     requires step { slice_get steps.now place ≡ Some step.now }
     ensures keeps { Keeps cx.old.entries cx.new.entries }
     ensures limit { cx.new.limit ≡ cx.old.limit }
-    ensures rule { IfOk result (λ b. b ≡ true → HasRule (declared cx.old.entries declarations.now)
+    ensures rule { IfOk result (λ b. b ≡ true → StepHasRule (declared cx.old.entries declarations.now)
         (terms_of cx.old.entries clauses.now ++ assumed_in cx.old.entries steps.now) cx.old.entries (steps_say cx.old.entries steps.now) step.now) }
     ensures stand { IfOk result (λ b. b ≡ true → PremisesStand (declared cx.old.entries declarations.now)
         (steps_say cx.old.entries steps.now) place step.now.reference.def_id.index (at_places (steps_say cx.old.entries steps.now) step.now.premises.items)) }
@@ -138,9 +138,9 @@ fn is_proof(
     steps: &[Step],
 ) -> Result<bool, Fault>
     requires declared { AreHeld cx.old.entries declarations.now }
-    requires covered { AreCovered cx.old.entries declarations.now }
+    requires covered { ParametersAreCovered cx.old.entries declarations.now }
     requires bounds { HaveBounds cx.old.entries declarations.now }
-    requires clauses { AllHeld cx.old.entries clauses.now }
+    requires clauses { TraitRefsHeld cx.old.entries clauses.now }
     requires steps { Each (StepHeld cx.old.entries) steps.now }
     ensures keeps { Keeps cx.old.entries cx.new.entries }
     ensures limit { cx.new.limit ≡ cx.old.limit }
@@ -173,9 +173,9 @@ pub fn is_proof_of(
     steps: &[Step],
 ) -> Result<bool, Fault>
     requires declared { AreHeld cx.old.entries declarations.now }
-    requires covered { AreCovered cx.old.entries declarations.now }
+    requires covered { ParametersAreCovered cx.old.entries declarations.now }
     requires bounds { HaveBounds cx.old.entries declarations.now }
-    requires clauses { AllHeld cx.old.entries clauses.now }
+    requires clauses { TraitRefsHeld cx.old.entries clauses.now }
     requires asked { ReferenceHeld cx.old.entries asked }
     requires steps { Each (StepHeld cx.old.entries) steps.now }
     ensures keeps { Keeps cx.old.entries cx.new.entries }

@@ -6,12 +6,12 @@ ghost use Rattle.type_terms.specs.Terms.{Keeps, Has, args_lists, trees_at};
 ghost use Rattle.type_terms.specs.Trees.{outer_binder};
 ghost use Rattle.type_terms.specs.Worlds.{World, Reference, with_args, all_with_args};
 ghost use Rattle.term_folds.specs.Arguments.{first_misfit};
-ghost use Rattle.declarations.specs.Applied.{references_in, AllHeld};
+ghost use Rattle.declarations.specs.Applied.{references_in, TraitRefsHeld};
 ghost use Rattle.declarations.specs.Held.{ReferenceHeld, AreHeld};
 ghost use Rattle.declarations.specs.Items.{reference_in, declared};
 ghost use Rattle.declarations.specs.Merges.{Each};
-ghost use Rattle.proof_checker.specs.Checked.{IsRule};
-ghost use Rattle.proof_checker.specs.Steps.{term_of, terms_of, AreCovered};
+ghost use Rattle.proof_checker.specs.Checked.{IsRuleByWay};
+ghost use Rattle.proof_checker.specs.Steps.{term_of, terms_of, ParametersAreCovered};
 
 use crate::lifetimes::are_one;
 use declarations::declarations::Declarations;
@@ -57,12 +57,12 @@ pub(crate) fn all_with_arguments(
     references: &[TraitRef],
     args: GenericArgs,
 ) -> Result<Option<Vec<TraitRef>>, Fault>
-    requires held { AllHeld cx.old.entries references.now }
+    requires held { TraitRefsHeld cx.old.entries references.now }
     requires args { Has cx.old.entries args_lists args.0 }
     requires closed { outer_binder (trees_at cx.old.entries args.0) ≡ 0 }
     ensures keeps { Keeps cx.old.entries cx.new.entries }
     ensures limit { cx.new.limit ≡ cx.old.limit }
-    ensures held { IfOk result (λ o. IfSome o (λ v. AllHeld cx.new.entries v.items)) }
+    ensures held { IfOk result (λ o. IfSome o (λ v. TraitRefsHeld cx.new.entries v.items)) }
     ensures are { IfOk result (λ o. IfSome o (λ v. references_in cx.new.entries v.items
         ≡ all_with_args (trees_at cx.old.entries args.0) (references_in cx.old.entries references.now))) }
     ensures fits { IfOk result (λ o. IfSome o (λ _. Each (λ b. first_misfit (trees_at cx.old.entries args.0) (trees_at cx.old.entries b.args.0) ≡ None) references.now)) }
@@ -93,14 +93,14 @@ pub(crate) fn by_impl(
     args: GenericArgs,
 ) -> Result<Option<Vec<TraitRef>>, Fault>
     requires declared { AreHeld cx.old.entries declarations.now }
-    requires covered { AreCovered cx.old.entries declarations.now }
+    requires covered { ParametersAreCovered cx.old.entries declarations.now }
     requires reference { ReferenceHeld cx.old.entries reference }
     requires args { Has cx.old.entries args_lists args.0 }
     ensures keeps { Keeps cx.old.entries cx.new.entries }
     ensures limit { cx.new.limit ≡ cx.old.limit }
-    ensures held { IfOk result (λ o. IfSome o (λ v. AllHeld cx.new.entries v.items)) }
+    ensures held { IfOk result (λ o. IfSome o (λ v. TraitRefsHeld cx.new.entries v.items)) }
     ensures rule { IfOk result (λ o. IfSome o (λ v. (E : List Reference)
-        → IsRule (declared cx.old.entries declarations.now) E (term_of cx.old.entries reference) (by_impl id.index) (terms_of cx.new.entries v.items))) }
+        → IsRuleByWay (declared cx.old.entries declarations.now) E (term_of cx.old.entries reference) (by_impl id.index) (terms_of cx.new.entries v.items))) }
     ensures full { result ≡ Err Fault.Full → SomeKindIsFull cx.new.entries cx.new.limit }
 {
     cx.lawful();
@@ -130,12 +130,12 @@ pub(crate) fn by_clause(
     reference: TraitRef,
     place: usize,
 ) -> Result<bool, Fault>
-    requires clauses { AllHeld cx.old.entries clauses.now }
+    requires clauses { TraitRefsHeld cx.old.entries clauses.now }
     requires reference { ReferenceHeld cx.old.entries reference }
     ensures keeps { Keeps cx.old.entries cx.new.entries }
     ensures limit { cx.new.limit ≡ cx.old.limit }
     ensures rule { IfOk result (λ b. b ≡ true
-        → (W : World) → IsRule W (terms_of cx.old.entries clauses.now) (term_of cx.old.entries reference) (by_clause place) []) }
+        → (W : World) → IsRuleByWay W (terms_of cx.old.entries clauses.now) (term_of cx.old.entries reference) (by_clause place) []) }
     ensures full { result ≡ Err Fault.Full → SomeKindIsFull cx.new.entries cx.new.limit }
 {
     if place < clauses.len() {

@@ -5,7 +5,7 @@ ghost use Rattle.type_terms.specs.Proofs.{In};
 ghost use Rattle.type_terms.specs.Rules.{written_supertraits, strict_supertraits};
 ghost use Rattle.type_terms.specs.Terms.{Keeps};
 ghost use Rattle.type_terms.specs.declared.Fault.TheVariants.{Memory};
-ghost use Rattle.declarations.specs.Applied.{AllHeld, HaveBounds};
+ghost use Rattle.declarations.specs.Applied.{TraitRefsHeld, HaveBounds};
 ghost use Rattle.declarations.specs.Held.{ReferenceHeld, AreHeld};
 ghost use Rattle.declarations.specs.Items.{declared};
 ghost use Rattle.declarations.specs.Merges.{Each};
@@ -35,7 +35,7 @@ fn written_supertraits(
     requires reference { ReferenceHeld cx.old.entries reference }
     ensures keeps { Keeps cx.old.entries cx.new.entries }
     ensures limit { cx.new.limit ≡ cx.old.limit }
-    ensures held { IfOk result (λ v. AllHeld cx.new.entries v.items) }
+    ensures held { IfOk result (λ v. TraitRefsHeld cx.new.entries v.items) }
     ensures are { IfOk result (λ v. Each (λ s. In (term_of cx.new.entries s)
         (written_supertraits (declared cx.old.entries declarations.now) (term_of cx.old.entries reference))) v.items) }
     ensures full { result ≡ Err Fault.Full → SomeKindIsFull cx.new.entries cx.new.limit }
@@ -109,7 +109,7 @@ pub(crate) fn by_supertrait(
 ) -> Result<bool, Fault>
     requires declared { AreHeld cx.old.entries declarations.now }
     requires bounds { HaveBounds cx.old.entries declarations.now }
-    requires clauses { AllHeld cx.old.entries clauses.now }
+    requires clauses { TraitRefsHeld cx.old.entries clauses.now }
     requires reference { ReferenceHeld cx.old.entries reference }
     ensures keeps { Keeps cx.old.entries cx.new.entries }
     ensures limit { cx.new.limit ≡ cx.old.limit }

@@ -21,7 +21,7 @@ use Rattle.infer_table.specs.declared.goal.Goal.{Goal}
 use Rattle.evaluation.specs.Handler.{Handled}
 use Rattle.evaluation.specs.Tables.{frame_tables}
 use Rattle.solver_context.specs.Contexts.{Asked}
-use Rattle.solver_context.specs.Roots.{goal_in, fact_under, IsPosed, AtProvedSolutions}
+use Rattle.solver_context.specs.Roots.{goal_in, fact_under, IsPosedGoal, AtProvedSolutions}
 use Rattle.text_definitions.specs.Declarations.{Question}
 use Rattle.view_lowering.specs.Plain.{unbound_reference}
 use Rattle.view_lowering.specs.Questions.{IsLowered}
@@ -53,7 +53,7 @@ module _ (es : List Entry) (t : Table) (goal : Goal) (g : GoalTrees) (no_values 
       subst (λ z. let h = handled Coherence (canonical_form z) in (y : h.World) (r : Assignment) → Solves r (content es t.values) → h.Proves y (fact_under r (goal_trees es goal)) → ⊥) resolved-is
       (at posed) x s (subst (λ vs. Solves s (content es vs)) (sym no_values) so) (subst (λ z. (handled Coherence (canonical_form g)).Proves x (fact_under s z)) (sym is) p)
     where
-      posed : IsPosed es t goal
+      posed : IsPosedGoal es t goal
       posed = record {
         clean = subst IsWithoutCanonical (sym resolved-is) (record { environment = a; predicate = b });
         environment_known = subst (λ (z : GoalTrees). AreKnown (variables_of t) z.environment) (sym resolved-is) j;

@@ -23,7 +23,7 @@ use Rattle.solver_context.specs.declared.context.SolverCx.{SolverCx}
 use Rattle.goal_frames.specs.Meanings.{HandlerMeaning}
 use Rattle.sessions.specs.Proved.{fact_with_values}
 use Rattle.sessions.specs.Proving.{AreReadOff, IsAnswered, IsRefusedGoal, IsUnsettledGoal, is_bound_term}
-use Rattle.sessions.specs.Settling.{IsProvedBy, IsRefused, IsUnsettled}
+use Rattle.sessions.specs.Settling.{IsProvedBy, GoalIsRefused, IsUnsettled}
 use Rattle.sessions.specs.Tables.{table_of}
 use Rattle.sessions.specs.declared.answers.ProveAnswer.{ProveAnswer}
 use Rattle.sessions.specs.declared.answers.ProveAnswer.TheVariants.{Yes, Maybe, Unproved}
@@ -55,8 +55,8 @@ module _ {Handler : Type 0} (handler : HandlerMeaning Handler) (ks : List Sort) 
   goal = goal_trees (entries_of c) g
 
   -- ---- what is refused, and what is not settled
-  pub refused-goal : (graph : SearchState) → IsRefused handler c graph t g → IsRefusedGoal handler w graph.root_depth ks goal
-  refused-goal graph h = subst (λ (u : Table). IsRefused handler c graph u g) table_is h
+  pub refused-goal : (graph : SearchState) → GoalIsRefused handler c graph t g → IsRefusedGoal handler w graph.root_depth ks goal
+  refused-goal graph h = subst (λ (u : Table). GoalIsRefused handler c graph u g) table_is h
 
   unsettled-there : (graph : SearchState) → IsUnsettled handler c graph (table_of ks) g → IsUnsettledGoal handler w graph.root_depth goal
   unsettled-there graph (inl h) = inl h
@@ -77,11 +77,11 @@ module _ {Handler : Type 0} (handler : HandlerMeaning Handler) (ks : List Sort) 
     same-goal : goal_trees (entries_of d) g ≡ goal_trees (entries_of c) g
     same-goal = goal-trees-later (entries_of c) (entries_of d) k g held
 
-    has-proof : IsWithoutCanonical (goal_trees (entries_of c) g) → Lists.HasProof Fact (handler.goals.Rule w) (handler.goals.coinductive w) (fact_with_values bs (goal_trees (entries_of c) g))
+    has-proof : IsWithoutCanonical (goal_trees (entries_of c) g) → Lists.FactHasProof Fact (handler.goals.Rule w) (handler.goals.coinductive w) (fact_with_values bs (goal_trees (entries_of c) g))
     has-proof clean =
-        subst (λ z. Lists.HasProof Fact (handler.goals.Rule w) (handler.goals.coinductive w) (fact_with_values bs z)) same-goal
+        subst (λ z. Lists.FactHasProof Fact (handler.goals.Rule w) (handler.goals.coinductive w) (fact_with_values bs z)) same-goal
         (values-are-proved (handler.goals.Rule w) (handler.goals.coinductive w) (entries_of d) u g law ready (goal-held-later (entries_of c) (entries_of d) k g held)
-        (λ s h. subst (λ z. Lists.HasProof Fact (handler.goals.Rule w) (handler.goals.coinductive w) (fact_under s z)) (sym same-goal) (proved clean-table clean s h)))
+        (λ s h. subst (λ z. Lists.FactHasProof Fact (handler.goals.Rule w) (handler.goals.coinductive w) (fact_under s z)) (sym same-goal) (proved clean-table clean s h)))
 
     given-first : (vs : List GenericArgKind) → ArgsHeld (entries_of c) vs → map (λ v. resolved bs (arg_trees (entries_of d) v)) vs ≡ map (λ x. resolved bs x) (map (arg_trees (entries_of c)) vs)
     given-first [] h = refl

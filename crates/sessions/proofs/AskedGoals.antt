@@ -25,7 +25,7 @@ use Rattle.evaluation.proofs.ListLaws.{Every-mono}
 use Rattle.evaluation.proofs.Nodes.{every-leaf}
 use Rattle.evaluation.proofs.Readings.{HasLeaves, made-leaves}
 use Rattle.declarations.specs.Applied.{sorts_of}
-use Rattle.assembly_laws.specs.Asking.{Asked, asked, asked_with, asked_if, are_clauses, begins_with_type, next_of}
+use Rattle.assembly_laws.specs.Asking.{GoalOverKinds, goal_over_kinds, asked_with, asked_if, are_clauses, begins_with_type, next_of}
 use Rattle.assembly_laws.specs.DeclaredWell.{are_distinct}
 use Rattle.assembly_laws.specs.Facts.{trees_of_clauses, clauses_of, reference_in, is_unerased}
 use Rattle.assembly_laws.proofs.Instances.{is_bound}
@@ -34,7 +34,7 @@ use Rattle.solver_context.specs.Roots.{fact_under, values_under, question_of}
 use Rattle.solver_context.proofs.Forms.{form-instance}
 use Rattle.solver_exactness.specs.ClosedTables.{IsClosedKind, AreClosed, FitPlaces, TellPlaces}
 use Rattle.solver_exactness.specs.FormedAnswers.{IsFormedGoal}
-use Rattle.solver_exactness.specs.FormedFacts.{Sorts, AreTypes, FitsNode, NodesFit, IsFormed, IsFormedFact, IsFormedView}
+use Rattle.solver_exactness.specs.FormedFacts.{Sorts, AreTypeSorts, FitsNode, NodesFit, IsFormed, IsFormedFact, IsFormedView}
 use Rattle.solver_exactness.specs.GoalSets.{begins_typed, any_label}
 use Rattle.solver_exactness.specs.SolverChoices.{IsElaborated}
 use Rattle.solver_exactness.specs.UnboundGoals.{is_unbound}
@@ -42,7 +42,7 @@ use Rattle.solver_exactness.proofs.ClosedQuestions.{IsAt, placeholder-at, once-l
 use Rattle.solver_exactness.proofs.QuestionNames.{names-numbered}
 use Rattle.solver_exactness.proofs.Renumbering.{kinds-known, made-numbered, made-in-clause, goal-open, goal-listed}
 use Rattle.solver_exactness.proofs.UnboundTerms.{numbered-unbound}
-use Rattle.sessions.specs.Goals.{goal_of, is_fixed, are_fixed, IsFormedQuestion, AsksFor, FormedQuestionsAreGoals}
+use Rattle.sessions.specs.Goals.{goal_of, is_fixed, are_fixed, IsFormedQuestion, AsksUnderClauses, FormedQuestionsAreGoals}
 
 -- ---- labels
 abbrev is_loose : Label → Bool
@@ -298,8 +298,8 @@ module _ (V : World) (sorts : Sorts) where
   node-erased (principal n t) c f h = (h.0, ap (λ ss. of_type ∷ ss) (erased-sorts c) ∙ h.1)
   node-erased (auto_trait t) c f h = h
   node-erased (predicate (of_trait t)) c f h = (h.0, erased-sorts c ∙ h.1)
-  node-erased tuple c f h = subst AreTypes (sym (erased-sorts c)) h
-  node-erased (fn_ptr n) c f h = subst AreTypes (sym (erased-sorts c)) h
+  node-erased tuple c f h = subst AreTypeSorts (sym (erased-sorts c)) h
+  node-erased (fn_ptr n) c f h = subst AreTypeSorts (sym (erased-sorts c)) h
   node-erased (raw_pointer b) c f h = erased-begins c ∙ h
   node-erased array c f h = erased-begins c ∙ h
   node-erased slice c f h = erased-begins c ∙ h
@@ -524,10 +524,10 @@ module _ (V : World) (sorts : Sorts) (formed : IsFormedView V sorts) (E : List R
       (made-in-clause ls opens terms c.args (unnumbered c.args (left (are_fixed c.args) _ h)) (λ l i. f l (inr (inl i))))
       (clauses-are cs (right (are_fixed c.args) _ h) (λ l i. f l (inr (inr i))))
 
-  abbrev form : Asked
+  abbrev form : GoalOverKinds
   form = record { kinds = kinds_of ls; environment = d; reference = record { trait = r.trait; args = y } }
 
-  form-asked : asked V (canonical_form g) ≡ Some form
+  form-asked : goal_over_kinds V (canonical_form g) ≡ Some form
   form-asked =
       ap (asked_with V d (tree (predicate (of_trait r.trait)) y none)) (kinds-known ls opens)
       ∙ ap (λ b. asked_if b form)
@@ -576,7 +576,7 @@ module _ (V : World) (sorts : Sorts) (formed : IsFormedView V sorts) (E : List R
       let one = same-number-of s k u.0 v.0 (sym at-i ∙ same ∙ at-j) in
       one-place (placeholder k v.0) ls i j (once-leaves kind_of_leaf (leaves kind_in_clause [] e) g.predicate (once-leaves kind_in_clause [] e tt)) (subst (λ z. IsAt (placeholder k z) ls i) one u.1.at) v.1.at
 
-  pub formed-question : IsFormedGoal V sorts is_unbound (question_of g) (values_under s g) × AsksFor E r s
+  pub formed-question : IsFormedGoal V sorts is_unbound (question_of g) (values_under s g) × AsksUnderClauses E r s
   formed-question = (
     record {
       asked = record { form = form; decided = form-asked; admitted = admitted; of_fact = subst (IsFormedFact V sorts) (sym fact-is) fact-formed };

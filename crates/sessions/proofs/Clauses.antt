@@ -3,14 +3,14 @@ use Rattle.std.proofs.Common.{◌≡◌, ℕ, zero, suc, Bool, true, false, if�
 use Rattle.std.specs.List.{flat_map}
 use Rattle.type_terms.specs.Worlds.{World, Reference}
 use Rattle.type_terms.specs.Rules.{Way, by_clause, by_super, Rule, rules, impl_rules, built_in_rules, clause_rules, super_rules, same_reference, written_supertraits, strict_supertraits, strict_supertraits_within, elaborated, is_coinductive}
-use Rattle.type_terms.specs.Proofs.{Entry, In, Every, Stands, Follows, HasProof}
+use Rattle.type_terms.specs.Proofs.{ProofEntry, In, Every, Stands, Follows, HasProof}
 use Rattle.type_terms.proofs.ProofEntries.{every-map}
 use Rattle.type_terms.proofs.Members.{here, there, in-cases, in-nothing, in-append, in-left, in-right, in-flat}
 use Rattle.declarations.proofs.Levels.{all-closed}
-use Rattle.sessions.specs.Clauses.{LeadDown, AddSupertraits, SupertraitsProveNoMore}
+use Rattle.sessions.specs.Clauses.{BoundsLeadDown, AddSupertraits, SupertraitsProveNoMore}
 
 -- ---- all levels hold the supertraits of what they hold
-module _ (V : World) (rank : ℕ → ℕ) (down : LeadDown V rank) (E : List Reference) where
+module _ (V : World) (rank : ℕ → ℕ) (down : BoundsLeadDown V rank) (E : List Reference) where
   within-levels : (n : ℕ) (s t : Reference) → In s (elaborated V E) → In t (strict_supertraits_within n V s) → In t (elaborated V E)
   within-levels zero s t i j = absurd (in-nothing t j)
   within-levels (suc n) s t i j =
@@ -106,7 +106,7 @@ asks-clause V r k (x ∷ xs) s t i w e = by (in-cases s x xs i) w (λ j. asks-cl
     by (inr j) p go = more-right r own (supers ++ others) (more-right r supers others (go j))
 
 -- ---- rules under the one and the other clauses
-module _ (V : World) (rank : ℕ → ℕ) (down : LeadDown V rank) (E F : List Reference) (adds : AddSupertraits V E F) where
+module _ (V : World) (rank : ℕ → ℕ) (down : BoundsLeadDown V rank) (E F : List Reference) (adds : AddSupertraits V E F) where
   level-asks : (r t : Reference) → In t (elaborated V E) → same_reference t r ≡ true → Asks r (clause_rules V r 0 E)
   level-asks r t i e =
       let m = in-flat (λ x. x ∷ strict_supertraits V x) E t i in
@@ -137,32 +137,32 @@ module _ (V : World) (rank : ℕ → ℕ) (down : LeadDown V rank) (E F : List R
           (a.0, in-right a.0 (flat_map (impl_rules r) V.impls) (built_in_rules V r ++ clause_rules V r 0 E) a.1, a.2)
 
   -- ---- proofs, entry by entry
-  abbrev of : Entry → Reference
+  abbrev of : ProofEntry → Reference
   of e = e.of
 
-  turned : (all earlier left : List Entry) → Follows V F all earlier left → List Entry
+  turned : (all earlier left : List ProofEntry) → Follows V F all earlier left → List ProofEntry
   turned all earlier [] f = []
   turned all earlier (e ∷ left) f = record { of = e.of; rule = (rule-back e.of e.rule f.0).0 } ∷ turned all (earlier ++ e ∷ []) left f.2
 
-  turned-of : (all earlier left : List Entry) (f : Follows V F all earlier left) → map of (turned all earlier left f) ≡ map of left
+  turned-of : (all earlier left : List ProofEntry) (f : Follows V F all earlier left) → map of (turned all earlier left f) ≡ map of left
   unfolding turned
   turned-of all earlier [] f = refl
   turned-of all earlier (e ∷ left) f = ap (λ rs. e.of ∷ rs) (turned-of all (earlier ++ e ∷ []) left f.2)
 
-  of-push : (es : List Entry) (e : Entry) → map of (es ++ e ∷ []) ≡ map of es ++ e.of ∷ []
+  of-push : (es : List ProofEntry) (e : ProofEntry) → map of (es ++ e ∷ []) ≡ map of es ++ e.of ∷ []
   of-push [] e = refl
   of-push (d ∷ es) e = ap (λ rs. d.of ∷ rs) (of-push es e)
 
-  stands-if : (b : Bool) (all earlier all2 earlier2 : List Entry) → map of all2 ≡ map of all → map of earlier2 ≡ map of earlier → (p : Reference) → Stands p (if b then all else earlier) → Stands p (if b then all2 else earlier2)
+  stands-if : (b : Bool) (all earlier all2 earlier2 : List ProofEntry) → map of all2 ≡ map of all → map of earlier2 ≡ map of earlier → (p : Reference) → Stands p (if b then all else earlier) → Stands p (if b then all2 else earlier2)
   stands-if true all earlier all2 earlier2 x y p s = subst (In p) (sym x) s
   stands-if false all earlier all2 earlier2 x y p s = subst (In p) (sym y) s
 
-  turned-follow : (all2 all earlier2 earlier left : List Entry) (f : Follows V F all earlier left) → map of all2 ≡ map of all → map of earlier2 ≡ map of earlier → Follows V E all2 earlier2 (turned all earlier left f)
+  turned-follow : (all2 all earlier2 earlier left : List ProofEntry) (f : Follows V F all earlier left) → map of all2 ≡ map of all → map of earlier2 ≡ map of earlier → Follows V E all2 earlier2 (turned all earlier left f)
   unfolding turned
   turned-follow all2 all earlier2 earlier [] f x y = tt
   turned-follow all2 all earlier2 earlier (e ∷ left) f x y =
       let v = rule-back e.of e.rule f.0 in
-      let now : Entry = record { of = e.of; rule = v.0 } in (
+      let now : ProofEntry = record { of = e.of; rule = v.0 } in (
         v.1,
         subst (Every (λ p. Stands p (if is_coinductive V e.of.trait then all2 else earlier2))) (sym v.2)
             (every-map (λ p. Stands p (if is_coinductive V e.of.trait then all else earlier)) (λ p. Stands p (if is_coinductive V e.of.trait then all2 else earlier2)) e.rule.premises

@@ -22,7 +22,7 @@ use Rattle.declarations.specs.declared.simplify.SimplifiedType.{SimplifiedType}
 use Rattle.overlap_check.specs.Heads.{NeverMeet, open_flags}
 use Rattle.overlap_check.proofs.Judged.{one-named}
 use Rattle.overlap_check.proofs.Tops.{fixed-differ, heads-differ, one-handle}
-use Rattle.sessions.specs.ByTrait.{listed, HasNumber, HaveNumbers, AreClosed, IsOwnGroup, IsListed, ListsImpls, HavePartners}
+use Rattle.sessions.specs.ByTrait.{listed, HasNumber, HaveNumbers, AreClosedArguments, IsOwnGroup, IsListed, ListsImpls, HavePartners}
 use Rattle.sessions.specs.declared.by_trait.ImplGroup.{ImplGroup}
 use Rattle.sessions.specs.declared.by_trait.ImplGroup.TheVariants.{OfTrait, Open, Closed}
 use Rattle.sessions.specs.declared.by_trait.ImplsByTrait.{ImplsByTrait}
@@ -70,7 +70,7 @@ module _ (es : List Entry) (law : Lawful es) (d : Items) (later : ImplId) (def :
           differ : label_of head ≡ label_of k → ⊥
           differ q = let clash : true ≡ false = sym (ap (λ l. same_label l (label_of head)) (sym q) ∙ same-label-itself (label_of head)) ∙ e in cc
 
-  same-handle : bit_and (flags args) open_flags ≡ 0 → (y : ImplDecl) (i : ℕ) → AreClosed es i y.header.args → CommonInstance (erased_impl (impl_in es later def)) y → i ≡ def.header.args.0
+  same-handle : bit_and (flags args) open_flags ≡ 0 → (y : ImplDecl) (i : ℕ) → AreClosedArguments es i y.header.args → CommonInstance (erased_impl (impl_in es later def)) y → i ≡ def.header.args.0
   same-handle closed y i c m = by (i == def.header.args.0) refl
     where
       by : (b : Bool) → (i == def.header.args.0) ≡ b → i ≡ def.header.args.0

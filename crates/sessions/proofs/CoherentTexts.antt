@@ -6,7 +6,7 @@ use Rattle.type_terms.specs.Worlds.{World, ImplDecl, core}
 use Rattle.type_terms.specs.Proofs.{In, HasProof}
 use Rattle.type_terms.specs.Supers.{IsHeld}
 use Rattle.type_terms.specs.Renumbering.{View, view_at}
-use Rattle.type_terms.specs.LinkedSet.{JoinedSet, LinkedSet, HeadersHaveSupertraits, IsAnswered}
+use Rattle.type_terms.specs.LinkedSet.{JoinedSet, LinkedSet, HeadersHaveSupertraits, IsOfAnAnsweredCrate}
 use Rattle.type_terms.proofs.Members.{in-map, here}
 use Rattle.type_terms.proofs.SameNumbers.{reference-same}
 use Rattle.type_terms.proofs.HeldSets.{held-linked}
@@ -72,10 +72,10 @@ module _ (d : Declarations) (a : AllKept d) (accepted : CratesAreAccepted d) whe
   set : (xs : List ℕ) → JoinedSet W (map (view_at W) xs) (λ n. n)
   set xs = joined d a (λ c l h. (accepted c l h).keeps) xs
 
-  answered : (i : ImplDecl) → In i W.impls → IsAnswered own i
+  answered : (i : ImplDecl) → In i W.impls → IsOfAnAnsweredCrate own i
   answered i m = by (core-or-later i.home)
     where
-      by : (i.home ≡ core) ⊎ (core < i.home) → IsAnswered own i
+      by : (i.home ≡ core) ⊎ (core < i.home) → IsOfAnAnsweredCrate own i
       by (inl e) = inl (of-core d a i m e)
       by (inr l) = inr (view_at W i.home, in-map (view_at W) cs i.home (crate-other (length d.crates) i.home l (home-below d a i m)), refl)
 

@@ -11,7 +11,7 @@ use Rattle.type_terms.specs.Terms.{Entry}
 use Rattle.type_terms.specs.declared.Fault.{Fault}
 use Rattle.type_terms.specs.declared.ImplId.{ImplId}
 use Rattle.type_terms.specs.declared.kinds.Ty.{Ty}
-use Rattle.orphan_check.specs.Items.{Item, items, item_of, decisive, error_at, orphan_error, OrphanError}
+use Rattle.orphan_check.specs.Items.{WalkItem, items, item_of, decisive, error_at, orphan_error, OrphanError}
 use Rattle.orphan_check.specs.Looks.{Look, look, dyn_look}
 use Rattle.orphan_check.specs.declared.errors.OrphanCheckErr.{OrphanCheckErr}
 use Rattle.overlap_check.specs.OpenedHeaders.{opened}
@@ -91,7 +91,7 @@ module _ (V : World) (cs : List CrateDecl) where
   same-items d first none = refl
   same-items d first (tree l c o) = all (is_sort (sort_of l) of_type) (look-same d l c) (same-items d first c) (same-items d false o) (same-items d first o)
     where
-      all : (b : Bool) {k m : Look} {xs ys us vs ks ls : List Item} → k ≡ m → xs ≡ ys → us ≡ vs → ks ≡ ls
+      all : (b : Bool) {k m : Look} {xs ys us vs ks ls : List WalkItem} → k ≡ m → xs ≡ ys → us ≡ vs → ks ≡ ls
           → (if b then item_of k (tree l c none) first xs ++ us else ks) ≡ (if b then item_of m (tree l c none) first ys ++ vs else ls)
       all b e f g h = cc
 

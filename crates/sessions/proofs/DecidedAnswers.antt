@@ -1,6 +1,6 @@
 -- Decided references are answered rightly by the search of a session.
 use Rattle.std.proofs.Common.{◌≡◌, ◌+◌, ◌-◌, ◌≤◌, ℕ, Bool, true, false, not, List, [], map, Option, Some, None, inl, inr, refl, sym, ◌∙◌, ap, subst, arith}
-use Rattle.type_terms.specs.Answers.{SingleWay, IsDecided, is_variable}
+use Rattle.type_terms.specs.Answers.{SingleWay, IsUnambiguous, is_variable}
 use Rattle.type_terms.specs.Erased.{erased_reference}
 use Rattle.type_terms.specs.Trees.{none, erase, some_node}
 use Rattle.type_terms.specs.Worlds.{World, CrateDecl, Reference}
@@ -13,7 +13,7 @@ use Rattle.declarations.specs.Items.{Items, written}
 use Rattle.goal_frames.specs.declared.store.InputId.{InputId}
 use Rattle.goal_frames.specs.declared.store.ResponseId.{ResponseId}
 use Rattle.goal_frames.specs.declared.frame.GoalFrame.{GoalFrame}
-use Rattle.goal_frames.specs.Searches.{Handles, Asked}
+use Rattle.goal_frames.specs.Searches.{Handles, GoalInMode}
 use Rattle.evaluation.specs.Tables.{frame_tables}
 use Rattle.solver_context.specs.declared.context.SolverCx.{SolverCx}
 use Rattle.solver_context.specs.Searching.{handles}
@@ -39,7 +39,7 @@ use Rattle.sessions.proofs.TextQuestions.{written-if-closed}
 use Rattle.sessions.proofs.WithoutLifetimes.{erased-is}
 
 -- the search of a session
-abbrev session_handles : Handles (SolverCx Solver) InputId (Option ResponseId) GoalFrame Solving (Asked frame_tables solver_goals) (Option AnswerTrees)
+abbrev session_handles : Handles (SolverCx Solver) InputId (Option ResponseId) GoalFrame Solving (GoalInMode frame_tables solver_goals) (Option AnswerTrees)
 session_handles = handles solver_by_view
 
 some-answer : AnswerTrees
@@ -112,7 +112,7 @@ not-so false e = refl
 not-so true e = absurd cc
 
 module _ (d : Declarations) (text : IsOfText d) (n : ℕ) (q : Question) (is : IsQuestion d n q) (s : Solving) (of : IsSolvingOf d q.asker s) (depth : ℕ)
-    (decided : IsDecided depth (view_in d q.asker) (map erased_reference q.clauses) (erased_reference q.asked)) where
+    (decided : IsUnambiguous depth (view_in d q.asker) (map erased_reference q.clauses) (erased_reference q.asked)) where
   abbrev asked : Reference
   asked = unbound_reference q.asked
 

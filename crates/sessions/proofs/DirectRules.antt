@@ -13,9 +13,9 @@ use Rattle.assembly_laws.specs.Facts.{clauses_of, reference_in, beside}
 use Rattle.assembly_laws.proofs.CandidateKinds.{every-append}
 use Rattle.solver_exactness.specs.ModelWays.{ways_under}
 use Rattle.solver_exactness.specs.SolverChoices.{IsElaborated}
-use Rattle.solver_exactness.specs.SolverGoals.{IsProved}
+use Rattle.solver_exactness.specs.SolverGoals.{FactIsProved}
 use Rattle.solver_exactness.specs.SolverWays.{facts_beside, premises_of}
-use Rattle.solver_exactness.specs.Ways.{AtMostOne, IsDecided, HoldsByWays}
+use Rattle.solver_exactness.specs.Ways.{AtMostOneHolds, HasOneWayWithin, HoldsByWays}
 use Rattle.solver_exactness.proofs.ModelWays.{proofs_are_by_ways}
 use Rattle.solver_exactness.proofs.MovedWays.{every-from, every-to, some-from, some-to, one-to}
 use Rattle.solver_exactness.proofs.Selecting.{every-left, some-cases, some-both, one-left, one-right, one-cross, one-both, copies, hits, hit, which, AreOnce, map-either}
@@ -54,7 +54,7 @@ some-mono P Q f [] s = absurd s
 some-mono P Q f (x ∷ xs) (inl p) = inl (f x p)
 some-mono P Q f (x ∷ xs) (inr s) = inr (some-mono P Q f xs s)
 
-one-mono : {A : Type 0} (P Q : A → Type 0) → ((x : A) → P x → Q x) → (xs : List A) → AtMostOne Q xs → AtMostOne P xs
+one-mono : {A : Type 0} (P Q : A → Type 0) → ((x : A) → P x → Q x) → (xs : List A) → AtMostOneHolds Q xs → AtMostOneHolds P xs
 one-mono P Q f [] h = tt
 one-mono P Q f (x ∷ xs) h = (λ p s. h.0 (f x p) (some-mono P Q f xs s), one-mono P Q f xs h.1)
 
@@ -85,12 +85,12 @@ module _ (Q : List Reference → Type 0) (q : Q []) where
   more-copies : (c k : ℕ) → c ≤ k → SomeOf Q (copies c []) → SomeOf Q (copies k [])
   more-copies c k l s = let m = of-copies c s in some-copies k (omega (arith, l, m))
 
-  one-fewer : (c k : ℕ) → c ≤ k → AtMostOne Q (copies k []) → AtMostOne Q (copies c [])
+  one-fewer : (c k : ℕ) → c ≤ k → AtMostOneHolds Q (copies k []) → AtMostOneHolds Q (copies c [])
   one-fewer zero k l h = tt
   one-fewer (suc c) zero l h = absurd (omega (arith, l))
   one-fewer (suc c) (suc k) l h = (λ p s. h.0 p (more-copies c k (omega (arith, l)) s), one-fewer c k (omega (arith, l)) h.1)
 
-  behind-fewer : (xs : List (List Reference)) (c k : ℕ) → c ≤ k → AtMostOne Q (xs ++ copies k []) → AtMostOne Q (xs ++ copies c [])
+  behind-fewer : (xs : List (List Reference)) (c k : ℕ) → c ≤ k → AtMostOneHolds Q (xs ++ copies k []) → AtMostOneHolds Q (xs ++ copies c [])
   behind-fewer xs c k l h =
       one-both Q xs (copies c []) (one-left Q xs (copies k []) h) (one-fewer c k l (one-right Q xs (copies k []) h)) (λ s t. one-cross Q xs (copies k []) h s (more-copies c k l t))
 
@@ -280,7 +280,7 @@ module _ (V : World) where
   -- ---- decided by the clauses as they are written, and by elaborated ones
   module _ (E F : List Reference) (closed : IsElaborated V F) (back : (p : Reference) → HasProof V F p → HasProof V E p)
       (few : (r : Reference) → hits (λ s. same_reference s r) F ≤ hits (λ s. same_reference s r) (elaborated V E)) where
-    pub direct-decided : (n : ℕ) (r : Reference) → IsDecided (ways_under V E) (HasProof V E) n r → IsDecided (direct_under V F) (HasProof V F) n r
+    pub direct-decided : (n : ℕ) (r : Reference) → HasOneWayWithin (ways_under V E) (HasProof V E) n r → HasOneWayWithin (direct_under V F) (HasProof V F) n r
     direct-decided zero r h = absurd h
     direct-decided (suc n) r h =
         let d = direct-copies V r F closed in
@@ -289,17 +289,17 @@ module _ (V : World) where
         let most = few r in
         let written : ways_under V E r ≡ premises_of (others r) ++ copies k [] = rules-split E r ∙ ap (λ z. premises_of (others r) ++ z) (rules-copies V r 0 E) in
         let direct : direct_under V F r ≡ premises_of (others r) ++ copies d.number [] = direct-split F r ∙ ap (λ z. premises_of (others r) ++ z) d.are in
-        let one = subst (AtMostOne (Every (HasProof V E))) written h.0 in
-        let all = subst (Every (Every (IsDecided (ways_under V E) (HasProof V E) n))) written h.1 in
-        let Later = Every (IsDecided (direct_under V F) (HasProof V F) n) in (
-          subst (AtMostOne (Every (HasProof V F))) (sym direct)
+        let one = subst (AtMostOneHolds (Every (HasProof V E))) written h.0 in
+        let all = subst (Every (Every (HasOneWayWithin (ways_under V E) (HasProof V E) n))) written h.1 in
+        let Later = Every (HasOneWayWithin (direct_under V F) (HasProof V F) n) in (
+          subst (AtMostOneHolds (Every (HasProof V F))) (sym direct)
               (one-mono (Every (HasProof V F)) (Every (HasProof V E)) (λ ps i. Every-mono (HasProof V F) (HasProof V E) back ps i) (premises_of (others r) ++ copies d.number [])
               (behind-fewer (Every (HasProof V E)) tt (premises_of (others r)) d.number k (omega (arith, less, most)) one)),
           subst (Every Later) (sym direct)
               (every-append Later (premises_of (others r)) (copies d.number [])
-              (Every-mono (Every (IsDecided (ways_under V E) (HasProof V E) n)) Later
-              (λ ps i. Every-mono (IsDecided (ways_under V E) (HasProof V E) n) (IsDecided (direct_under V F) (HasProof V F) n) (λ p j. direct-decided n p j) ps i) (premises_of (others r))
-              (every-left (Every (IsDecided (ways_under V E) (HasProof V E) n)) (premises_of (others r)) (copies k []) all))
+              (Every-mono (Every (HasOneWayWithin (ways_under V E) (HasProof V E) n)) Later
+              (λ ps i. Every-mono (HasOneWayWithin (ways_under V E) (HasProof V E) n) (HasOneWayWithin (direct_under V F) (HasProof V F) n) (λ p j. direct-decided n p j) ps i) (premises_of (others r))
+              (every-left (Every (HasOneWayWithin (ways_under V E) (HasProof V E) n)) (premises_of (others r)) (copies k []) all))
               (every-copies Later tt d.number)),
         )
 
@@ -311,21 +311,21 @@ module _ (V : World) where
   Proved f r = HasProof V (clauses_of f.goal.environment) r
 
   -- a fact is proved exactly if the premises of one of its ways are
-  pub proved-directly : HoldsByWays (direct_ways V) (IsProved V)
+  pub proved-directly : HoldsByWays (direct_ways V) (FactIsProved V)
   proved-directly = record {
     by_way = λ f s.
         (direct-proofs (clauses_of f.goal.environment)).by_way (reference_in f)
-        (some-from (map (beside f)) (Every (IsProved V)) (Every (Proved f)) (λ ps i. every-from (beside f) (IsProved V) (Proved f) (λ r p. p) ps i) (under f (reference_in f)) s);
+        (some-from (map (beside f)) (Every (FactIsProved V)) (Every (Proved f)) (λ ps i. every-from (beside f) (FactIsProved V) (Proved f) (λ r p. p) ps i) (under f (reference_in f)) s);
     has_way = λ f p.
-        some-to (map (beside f)) (Every (IsProved V)) (Every (Proved f)) (λ ps i. every-to (beside f) (IsProved V) (Proved f) (λ r q. q) ps i) (under f (reference_in f))
+        some-to (map (beside f)) (Every (FactIsProved V)) (Every (Proved f)) (λ ps i. every-to (beside f) (FactIsProved V) (Proved f) (λ r q. q) ps i) (under f (reference_in f))
         ((direct-proofs (clauses_of f.goal.environment)).has_way (reference_in f) p);
   }
 
   -- and decided where its reference is
-  pub decided-directly : (n : ℕ) (f : Fact) → IsDecided (under f) (Proved f) n (reference_in f) → IsDecided (direct_ways V) (IsProved V) n f
+  pub decided-directly : (n : ℕ) (f : Fact) → HasOneWayWithin (under f) (Proved f) n (reference_in f) → HasOneWayWithin (direct_ways V) (FactIsProved V) n f
   decided-directly zero f h = absurd h
   decided-directly (suc n) f h = (
-    one-to (map (beside f)) (Every (IsProved V)) (Every (Proved f)) (λ ps i. every-from (beside f) (IsProved V) (Proved f) (λ r p. p) ps i) (under f (reference_in f)) h.0,
-    every-to (map (beside f)) (Every (IsDecided (direct_ways V) (IsProved V) n)) (Every (IsDecided (under f) (Proved f) n))
-        (λ ps i. every-to (beside f) (IsDecided (direct_ways V) (IsProved V) n) (IsDecided (under f) (Proved f) n) (λ r j. decided-directly n (beside f r) j) ps i) (under f (reference_in f)) h.1,
+    one-to (map (beside f)) (Every (FactIsProved V)) (Every (Proved f)) (λ ps i. every-from (beside f) (FactIsProved V) (Proved f) (λ r p. p) ps i) (under f (reference_in f)) h.0,
+    every-to (map (beside f)) (Every (HasOneWayWithin (direct_ways V) (FactIsProved V) n)) (Every (HasOneWayWithin (under f) (Proved f) n))
+        (λ ps i. every-to (beside f) (HasOneWayWithin (direct_ways V) (FactIsProved V) n) (HasOneWayWithin (under f) (Proved f) n) (λ r j. decided-directly n (beside f r) j) ps i) (under f (reference_in f)) h.1,
   )

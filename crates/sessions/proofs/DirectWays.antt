@@ -8,18 +8,18 @@ use Rattle.type_terms.proofs.Walking.{both}
 use Rattle.infer_table.specs.Canonical.{CanonicalForm}
 use Rattle.infer_table.specs.Responses.{AnswerTrees}
 use Rattle.infer_table.specs.declared.certainty.TypingMode.TheVariants.{PostAnalysis}
-use Rattle.evaluation.specs.Content.{Values, Fact, Question, fact_of}
+use Rattle.evaluation.specs.Content.{Values, Fact, NestedQuestion, fact_of}
 use Rattle.evaluation.specs.FrameTables.{kinds_known}
 use Rattle.evaluation.specs.TableOperations.{begin}
 use Rattle.evaluation.specs.Tables.{frame_tables}
 use Rattle.evaluation.proofs.FrameTableLaws.{tables_are_lawful}
 use Rattle.evaluation.proofs.TableBeginning.{begin-made}
 use Rattle.goal_frames.specs.Programs.{ArePrograms}
-use Rattle.goal_frames.specs.Searches.{Handles, Asked as AskedGoal}
+use Rattle.goal_frames.specs.Searches.{Handles, GoalInMode as AskedGoal}
 use Rattle.assembly_laws.specs.Facts.{is_plain, clauses_of, reference_in}
-use Rattle.assembly_laws.specs.Meaning.{Meaning}
+use Rattle.assembly_laws.specs.Meaning.{ViewMeaning}
 use Rattle.assembly_laws.specs.DeclaredWell.{IsDeclaredWell}
-use Rattle.assembly_laws.specs.Asking.{Asked, asked, clauses, self_of, next_of, begins_unknown}
+use Rattle.assembly_laws.specs.Asking.{GoalOverKinds, goal_over_kinds, clauses, self_of, next_of, begins_unknown}
 use Rattle.assembly_laws.specs.Candidates.{Candidate, unsure, by_clauses, built_in, by_sized, by_copy, by_auto, by_tuple, by_fn_ptr, by_call, by_unsize, by_impls, by_objects, as_written, misc, if_so, unsize_known, unsizing_outlives, unsize_recording, unsize_array_of, upcasts_of, unsize_struct_of}
 use Rattle.assembly_laws.specs.Cover.{goal_fact}
 use Rattle.assembly_laws.specs.Solver.{solver_planned}
@@ -32,10 +32,10 @@ use Rattle.solver_exactness.specs.GoalSets.{IsGoalOf}
 use Rattle.solver_exactness.specs.RowWays.{AreWaysOf, RowsAreWaysAt, EquatedRowsAreWaysAt, if_of, clause_ways, autos_stand_once}
 use Rattle.solver_exactness.specs.SolverAnswers.{meant_for, solver_programs, IsOnlyFor}
 use Rattle.solver_exactness.specs.SolverChoices.{IsElaborated}
-use Rattle.solver_exactness.specs.SolverGoals.{IsGoal, AreGoals, IsProved}
+use Rattle.solver_exactness.specs.SolverGoals.{IsGoal, AreGoals, FactIsProved}
 use Rattle.solver_exactness.specs.SolverPlans.{specs_outside}
 use Rattle.solver_exactness.specs.SolverWays.{facts_beside, premises_of}
-use Rattle.solver_exactness.specs.Ways.{IsSelection, IsDecided, IsRightFor}
+use Rattle.solver_exactness.specs.Ways.{IsSelection, HasOneWayWithin, IsRightFor}
 use Rattle.solver_exactness.proofs.Arranging.{rules-arranged, mixed-select, clauses-select}
 use Rattle.solver_exactness.proofs.BoundRows.{Selected, exactly, both-selected, recorded-selected, upcasts-under, objects}
 use Rattle.solver_exactness.proofs.ClosedLaws.{closed_tables_are_lawful}
@@ -72,7 +72,7 @@ own-select V r g E closed = by (list_any (λ s. same_reference s r) E)
     by false = clauses-select V r g E closed
 
 -- ---- the solver's candidates
-module _ (m : Meaning) (well : IsDeclaredWell m.view) (f : CanonicalForm) (a : Asked) (is_asked : asked m.view f ≡ Some a) (closed : AreClosed f.kinds) (v : Values) (places : ArePlaces f.kinds v)
+module _ (m : ViewMeaning) (well : IsDeclaredWell m.view) (f : CanonicalForm) (a : GoalOverKinds) (is_asked : goal_over_kinds m.view f ≡ Some a) (closed : AreClosed f.kinds) (v : Values) (places : ArePlaces f.kinds v)
     (plain : is_plain (goal_fact f v) ≡ true) where
   abbrev V : World
   V = m.view
@@ -185,12 +185,12 @@ module _ (m : Meaning) (well : IsDeclaredWell m.view) (f : CanonicalForm) (a : A
         }
 
 -- what the candidates apply with, as facts
-record AreChosen (m : Meaning) (f : CanonicalForm) (a : Asked) (v : Values) : Type 1 where
+record AreChosen (m : ViewMeaning) (f : CanonicalForm) (a : GoalOverKinds) (v : Values) : Type 1 where
   found : List (List Fact)
   applies : AreWays frame_tables (begin a.kinds) v (specs_outside m a) found
   selects : IsSelection found (direct_ways m.view (goal_fact f v))
 
-module _ (m : Meaning) (well : IsDeclaredWell m.view) (f : CanonicalForm) (a : Asked) (is_asked : asked m.view f ≡ Some a) (closed : AreClosed f.kinds) where
+module _ (m : ViewMeaning) (well : IsDeclaredWell m.view) (f : CanonicalForm) (a : GoalOverKinds) (is_asked : goal_over_kinds m.view f ≡ Some a) (closed : AreClosed f.kinds) where
   chosen : (v : Values) → ArePlaces f.kinds v → IsGoal m.view (goal_fact f v) → AreChosen m f a v
   chosen v places goal = at (subst (IsGoal m.view) stands-so goal)
     where
@@ -206,12 +206,12 @@ module _ (m : Meaning) (well : IsDeclaredWell m.view) (f : CanonicalForm) (a : A
             selects = subst (λ (z : Fact). IsSelection (facts_beside (instance m f a is_asked closed v places) x.found) (direct_ways m.view z)) (sym stands-so) x.selects;
           }
 
-module _ {W : Type 0} (applicable : AnswerTrees → Bool) (same : AnswerTrees → AnswerTrees → Bool) (meaning_of : W → Meaning) (fits_in : W → CanonicalForm → Bool) where
+module _ {W : Type 0} (applicable : AnswerTrees → Bool) (same : AnswerTrees → AnswerTrees → Bool) (meaning_of : W → ViewMeaning) (fits_in : W → CanonicalForm → Bool) where
   -- by a world in which what is asked has the same direct ways
-  module _ (w : W) (sound : (meaning_of w).is_sound ≡ true) (well : IsDeclaredWell (meaning_of w).view) (IsAsked : Question → Values → Type 0) (are : AreGoals (meaning_of w) PostAnalysis (fits_in w) IsAsked)
-      (U : World) (alike : (q : Question) (v : Values) → IsAsked q v → direct_ways (meaning_of w).view (fact_of q v) ≡ direct_ways U (fact_of q v)) where
+  module _ (w : W) (sound : (meaning_of w).is_sound ≡ true) (well : IsDeclaredWell (meaning_of w).view) (IsAsked : NestedQuestion → Values → Type 0) (are : AreGoals (meaning_of w) PostAnalysis (fits_in w) IsAsked)
+      (U : World) (alike : (q : NestedQuestion) (v : Values) → IsAsked q v → direct_ways (meaning_of w).view (fact_of q v) ≡ direct_ways U (fact_of q v)) where
     -- the plan of each question of the set is exact
-    abbrev plans : (q : Question) (v : Values) (i : IsAsked q v) → (closed : AreClosed q.form.kinds) → ArePlaces q.form.kinds v
+    abbrev plans : (q : NestedQuestion) (v : Values) (i : IsAsked q v) → (closed : AreClosed q.form.kinds) → ArePlaces q.form.kinds v
         → IsExactPlan frame_tables closed_tables (direct_ways U) IsAsked q v (solver_planned applicable same (meant_for (meaning_of w) (fits_in w) q.form) PostAnalysis q.form)
     plans q v i closed places =
         let m = meant_for (meaning_of w) (fits_in w) q.form in
@@ -252,7 +252,7 @@ module _ {W : Type 0} (applicable : AnswerTrees → Bool) (same : AnswerTrees �
     abbrev its_view : World
     its_view = (meaning_of w).view
 
-    abbrev Set : Question → Values → Type 0
+    abbrev Set : NestedQuestion → Values → Type 0
     Set q v = IsGoalOf its_view admits (IsFormedFact its_view sorts) q v
 
     goals : AreGoals (meaning_of w) PostAnalysis (fits_in w) Set
@@ -260,9 +260,9 @@ module _ {W : Type 0} (applicable : AnswerTrees → Bool) (same : AnswerTrees �
 
     -- a definite yes to what is decided by direct ways and has a proof, and a refusal of what has none, also by another world in which formed
     -- facts have the same direct ways
-    pub directly-right : (U : World) → ((f : Fact) → IsFormedFact its_view sorts f → direct_ways its_view f ≡ direct_ways U f) → (n limit : ℕ) (q : Question) (v : Values) (a : Option AnswerTrees) → n ≤ limit → IsFormedGoal its_view sorts admits q v
-        → IsDecided (direct_ways U) (IsProved U) n (fact_of q v) → IsOnlyFor applicable same meaning_of fits_in handles w PostAnalysis limit q a → IsRightFor frame_tables (IsProved U) (fact_of q v) a
+    pub directly-right : (U : World) → ((f : Fact) → IsFormedFact its_view sorts f → direct_ways its_view f ≡ direct_ways U f) → (n limit : ℕ) (q : NestedQuestion) (v : Values) (a : Option AnswerTrees) → n ≤ limit → IsFormedGoal its_view sorts admits q v
+        → HasOneWayWithin (direct_ways U) (FactIsProved U) n (fact_of q v) → IsOnlyFor applicable same meaning_of fits_in handles w PostAnalysis limit q a → IsRightFor frame_tables (FactIsProved U) (fact_of q v) a
     directly-right U alike n limit q v a l goal decided only =
         found_is_right frame_tables tables_are_lawful closed_tables closed_tables_are_lawful (solver_programs applicable same meaning_of fits_in) programs w PostAnalysis
         (answers w declared.sound declared.well Set goals U (λ x y i. alike (fact_of x y) i.of_fact)) handles (sure w declared.sound declared.well Set goals U (λ x y i. alike (fact_of x y) i.of_fact))
-        (IsProved U) (proved-directly U) n limit q v a l goal.asked goal.closed goal.places decided only
+        (FactIsProved U) (proved-directly U) n limit q v a l goal.asked goal.closed goal.places decided only

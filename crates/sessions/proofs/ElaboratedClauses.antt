@@ -25,7 +25,7 @@ use Rattle.assembly_laws.proofs.Levels.{strict-closed, all-closed}
 use Rattle.assembly_laws.proofs.Objects.{map-flat, flat-map}
 use Rattle.assembly_laws.proofs.PlainRules.{is_wild, tame}
 use Rattle.assembly_laws.proofs.Stack.{elaborated-all, elaborated-only}
-use Rattle.solver_exactness.specs.FormedFacts.{Sorts, EachNode, AreTypes, IsParamOf, HasParams, FitsNode, NodesFit, IsFormed, IsFormedView, FitsSorts}
+use Rattle.solver_exactness.specs.FormedFacts.{Sorts, EachNode, AreTypeSorts, IsParamOf, HasParams, FitsNode, NodesFit, IsFormed, IsFormedView, FitsSorts}
 use Rattle.solver_exactness.specs.GoalSets.{begins_typed, any_label}
 use Rattle.solver_exactness.specs.SolverChoices.{IsElaborated}
 use Rattle.solver_exactness.proofs.FormedFacts.{supers-good}
@@ -116,8 +116,8 @@ module _ (V : World) (sorts : Sorts) where
   node-back (principal n t) c h = (h.0, ap (λ ss. of_type ∷ ss) (sym (erased-sorts c)) ∙ h.1)
   node-back (auto_trait t) c h = h
   node-back (predicate (of_trait t)) c h = (h.0, sym (erased-sorts c) ∙ h.1)
-  node-back tuple c h = subst AreTypes (erased-sorts c) h
-  node-back (fn_ptr n) c h = subst AreTypes (erased-sorts c) h
+  node-back tuple c h = subst AreTypeSorts (erased-sorts c) h
+  node-back (fn_ptr n) c h = subst AreTypeSorts (erased-sorts c) h
   node-back (raw_pointer b) c h = sym (erased-begins c) ∙ h
   node-back array c h = sym (erased-begins c) ∙ h
   node-back slice c h = sym (erased-begins c) ∙ h

@@ -9,7 +9,7 @@ use Rattle.type_terms.proofs.ProofEntries.{map-in}
 use Rattle.type_terms.proofs.Members.{here, there, in-cases, in-nothing, in-filter, filter-in, in-flat, flat-in, in-map}
 use Rattle.type_terms.proofs.TreeLaws.{erase-instantiate}
 use Rattle.declarations.proofs.Levels.{all-closed}
-use Rattle.sessions.specs.Clauses.{LeadDown, BoundsFit, SupertraitsAreErased}
+use Rattle.sessions.specs.Clauses.{BoundsLeadDown, BoundsFit, SupertraitsAreErased}
 
 length-map : {A B : Type 0} (f : A → B) (xs : List A) → length (map f xs) ≡ length xs
 length-map f [] = refl
@@ -18,7 +18,7 @@ length-map f (x ∷ xs) = ap suc (length-map f xs)
 pub erased-with : (A : Trees) (b : Reference) → Fits A b.args → with_args (erase A) (erased_reference b) ≡ erased_reference (with_args A b)
 erased-with A b f = ap (λ a. (let x : Reference = record { trait = b.trait; args = a } in x)) (sym (erase-instantiate zero A b.args f))
 
-module _ (W : World) (rank : ℕ → ℕ) (down : LeadDown W rank) (E : List Reference) (fit : BoundsFit W E) where
+module _ (W : World) (rank : ℕ → ℕ) (down : BoundsLeadDown W rank) (E : List Reference) (fit : BoundsFit W E) where
   erased-written : (r s : Reference) → In r (elaborated W E) → In s (written_supertraits W r) → In (erased_reference s) (written_supertraits (erased_world W) (erased_reference r))
   erased-written r s i j =
       let m = in-flat (λ (t : TraitDecl). all_with_args r.args t.bounds) (traits_named W r.trait) s j in

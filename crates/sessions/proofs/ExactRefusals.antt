@@ -17,7 +17,7 @@ use Rattle.declarations.specs.Items.{Items, written}
 use Rattle.goal_frames.specs.declared.store.InputId.{InputId}
 use Rattle.goal_frames.specs.declared.store.ResponseId.{ResponseId}
 use Rattle.goal_frames.specs.declared.frame.GoalFrame.{GoalFrame}
-use Rattle.goal_frames.specs.Searches.{Handles, Asked}
+use Rattle.goal_frames.specs.Searches.{Handles, GoalInMode}
 use Rattle.evaluation.specs.Tables.{frame_tables}
 use Rattle.solver_context.specs.declared.context.SolverCx.{SolverCx}
 use Rattle.solver_context.specs.Searching.{handles}
@@ -85,7 +85,7 @@ closed-question V sorts r h e = record {
 }
 
 -- ---- the search of a session
-abbrev session_handles : Handles (SolverCx Solver) InputId (Option ResponseId) GoalFrame Solving (Asked frame_tables solver_goals) (Option AnswerTrees)
+abbrev session_handles : Handles (SolverCx Solver) InputId (Option ResponseId) GoalFrame Solving (GoalInMode frame_tables solver_goals) (Option AnswerTrees)
 session_handles = handles solver_by_view
 
 some-answer : AnswerTrees

@@ -19,7 +19,7 @@ use Rattle.declarations.specs.declared.items.AdtDef.{AdtDef}
 use Rattle.declarations.specs.declared.items.TraitDef.{TraitDef}
 use Rattle.declarations.specs.Applied.{sort_of_param, sorts_of, sorts_of_params}
 use Rattle.declarations.specs.Items.{Items, struct_at, trait_at, written}
-use Rattle.assembly_laws.specs.Asking.{Asked, asked, all_known, next_of, with_plain_head, self_of}
+use Rattle.assembly_laws.specs.Asking.{GoalOverKinds, goal_over_kinds, all_known, next_of, with_plain_head, self_of}
 use Rattle.assembly_laws.specs.Lifetimes.{lacks_lifetime, are_given, gives_lifetimes, given_by, form_gives_lifetimes}
 use Rattle.assembly_laws.proofs.Cover.{asked-by}
 use Rattle.assembly_laws.proofs.Instances.{is_bound, Unbound}
@@ -217,7 +217,7 @@ module _ (es : List Entry) (d : Items) (formed : IsFormedView (written es d) (so
   made-next good none m = refl
   made-next good (tree l c o) m = made-rest good l c o m
 
-  pub sorts-tell : (f : CanonicalForm) (a : Asked) → asked V f ≡ Some a → is_unbound f ≡ true → FitsSorts V sorts a.reference → fits_in (solving_of es d) f ≡ true
+  pub sorts-tell : (f : CanonicalForm) (a : GoalOverKinds) → goal_over_kinds V f ≡ Some a → is_unbound f ≡ true → FitsSorts V sorts a.reference → fits_in (solving_of es d) f ≡ true
   sorts-tell f a e u h =
       let is = asked-by V f.goal.environment f.goal.predicate (all_known f.kinds) a e in
       let args = a.reference.args in

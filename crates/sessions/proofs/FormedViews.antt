@@ -37,7 +37,7 @@ use Rattle.view_lowering.proofs.Texts.{Well, is_bare, is_nil}
 use Rattle.view_lowering.proofs.Trees.{and-left, or-left}
 use Rattle.view_lowering.proofs.SeenViews.{good-fits, sort-there}
 use Rattle.solver_exactness.specs.GoalSets.{begins_typed}
-use Rattle.solver_exactness.specs.FormedFacts.{Sorts, EachNode, AreTypes, IsParamOf, HasParams, IsTraitOf, FitsNode, NodesFit, IsField, IsBound, IsFormedView, FitsSorts}
+use Rattle.solver_exactness.specs.FormedFacts.{Sorts, EachNode, AreTypeSorts, IsParamOf, HasParams, IsTraitOf, FitsNode, NodesFit, IsField, IsFormedBound, IsFormedView, FitsSorts}
 use Rattle.sessions.specs.Fitting.{sorts_in}
 use Rattle.sessions.specs.Views.{TextsAreFormed}
 use Rattle.sessions.proofs.FormedTexts.{scope, IsFormedField, IsFormedReference, StructFormed, TraitFormed, ImplFormed, Formed, core_trait, texts-are-formed}
@@ -106,8 +106,8 @@ module _ (e : Scope) (kept : ℕ → Bool) where
   node-plain (principal n t) c h = subst (λ ss. IsTraitAt e t (of_type ∷ ss)) (sym (plain-sorts kept c)) h
   node-plain (auto_trait t) c h = h
   node-plain (predicate k) c h = absurd h
-  node-plain tuple c h = subst AreTypes (sym (plain-sorts kept c)) h
-  node-plain (fn_ptr n) c h = subst AreTypes (sym (plain-sorts kept c)) h
+  node-plain tuple c h = subst AreTypeSorts (sym (plain-sorts kept c)) h
+  node-plain (fn_ptr n) c h = subst AreTypeSorts (sym (plain-sorts kept c)) h
   node-plain (raw_pointer b) c h = begins-plain c ∙ h
   node-plain array c h = begins-plain c ∙ h
   node-plain slice c h = begins-plain c ∙ h
@@ -301,7 +301,7 @@ module _ (d : text.Declarations) (c : ℕ) (w : Well d) (f : Formed d) (es : Lis
         params = subst (λ ss. EachNode (HasParams ss) (plain none_kept u)) at (params-of n.kinds (plain none_kept u) (good-fits none_kept n.kinds u good));
       }
 
-  bound-of : (n : NamedTrait) → In n d.traits → sees W c n.item.home ≡ true → (r : Reference) → In r n.item.bounds → IsBound V sorts (sorts.of_trait n.item.name) (plain_reference none_kept r)
+  bound-of : (n : NamedTrait) → In n d.traits → sees W c n.item.home ≡ true → (r : Reference) → In r n.item.bounds → IsFormedBound V sorts (sorts.of_trait n.item.name) (plain_reference none_kept r)
   bound-of n i g r j =
       let one = each-in (IsFormedReference (scope d n.item.home)) n.item.bounds (each-in (TraitFormed d) d.traits f.traits n i) r j in
       let good = and-left (is_good none_kept (of_type ∷ n.kinds) r.args) _
@@ -381,7 +381,7 @@ module _ (d : text.Declarations) (c : ℕ) (w : Well d) (f : Formed d) (es : Lis
     bounds = λ x b i j.
         let n = in-seen (λ (m : NamedTrait). m.item) plain_trait sees_trait d.traits x (subst (λ xs. In x xs) traits-are i) in
         let u = map-in (plain_reference none_kept) n.0.item.bounds b (subst (λ (y : TraitDecl). In b y.bounds) n.3 j) in
-        subst (λ (y : TraitDecl). IsBound V sorts (sorts.of_trait y.name) b) (sym n.3) (subst (IsBound V sorts (sorts.of_trait n.0.item.name)) (sym u.2) (bound-of n.0 n.1 n.2 u.0 u.1));
+        subst (λ (y : TraitDecl). IsFormedBound V sorts (sorts.of_trait y.name) b) (sym n.3) (subst (IsFormedBound V sorts (sorts.of_trait n.0.item.name)) (sym u.2) (bound-of n.0 n.1 n.2 u.0 u.1));
     clause_nodes = clause-nodes;
     clause_traits = clause-trait;
     self_first = λ t h. let n = some-trait (λ x. true) t h in (n.0.kinds, n.3);

@@ -37,7 +37,7 @@ use Rattle.assembly_laws.proofs.Elaborating.{elaborated-so, every-in, every-map}
 use Rattle.candidate_assembly.specs.Solving.{Solving}
 use Rattle.candidate_assembly.specs.SolverLaws.{goals-are-lawful}
 use Rattle.candidate_assembly.specs.SolverMeaning.{goals_by_view, solver_by_view}
-use Rattle.solver_context.specs.Evaluations.{IsFound}
+use Rattle.solver_context.specs.Evaluations.{IsFoundBySearch}
 use Rattle.solver_context.specs.Lawful.{solver-lawful}
 use Rattle.solver_context.specs.Roots.{values_in}
 use Rattle.solver_context.specs.Searching.{solver_meaning}
@@ -46,7 +46,7 @@ use Rattle.view_lowering.specs.Plain.{all_kept, plainly_seen_from, unbound_refer
 use Rattle.view_lowering.specs.QuestionVariables.{variable_kinds}
 use Rattle.sessions.specs.Asking.{asked_alone, goal_alone}
 use Rattle.sessions.specs.FrameBounds.{most_frames}
-use Rattle.sessions.specs.Frames.{AreTerms, AskingsStartFrames, frames_for, resolved_over}
+use Rattle.sessions.specs.Frames.{AreTermsOfSorts, AskingsStartFrames, frames_for, resolved_over}
 use Rattle.sessions.specs.Goals.{goal_of}
 use Rattle.sessions.specs.Promises.{view_in}
 use Rattle.sessions.specs.Proving.{asked_outside, goal_asking}
@@ -87,7 +87,7 @@ module _ {C I R F : Type 0} (m : Meaning C I R F) (law : IsLawful m) (w : m.Worl
   computed-fair g a x = elim x.how [ inl y ↦ given-fair g a y | inr y ↦ law.done_fair w g y.0 a (heard-fair y.1) y.2 ]
 
 -- ---- the values of a table
-pub older-are-terms : (counts : Sort → ℕ) (bs : List Binding) → AreOlder counts bs → AreTerms bs
+pub older-are-terms : (counts : Sort → ℕ) (bs : List Binding) → AreOlder counts bs → AreTermsOfSorts bs
 older-are-terms counts [] h = tt
 older-are-terms counts (b ∷ bs) h = (h.1, older-are-terms counts bs h.3)
 
@@ -100,7 +100,7 @@ one-term of_lifetime (tree l c o) h = none-counted o h.2
 one-term of_type (tree l c o) h = none-counted o h.1
 one-term of_const (tree l c o) h = none-counted o h.1
 
-all-one : (n : ℕ) (bs : List Binding) → AreTerms bs → BindingsWithin n bs → AllOne n bs
+all-one : (n : ℕ) (bs : List Binding) → AreTermsOfSorts bs → BindingsWithin n bs → AllOne n bs
 all-one n [] terms h = tt
 all-one n (b ∷ bs) terms h = (record { one = one-term b.sort b.value terms.0; within = within n b.value h.0 }, all-one n bs terms.1 h.1)
 
@@ -208,13 +208,13 @@ module _ (s : Solving) (depth n : ℕ) (declared : declared_width s.view ≤ n) 
       (times-more FIXPOINT_STEP_LIMIT FIXPOINT_STEP_LIMIT (number_at s.view wide) (number_at s.view n) (le_refl FIXPOINT_STEP_LIMIT) (number-more s.view wide n (widest-within g h)))
 
   -- an answer of the search to it
-  found-within : (mode : TypingMode) (g : GoalTrees) (a : AnswerTrees) → IsGoalWithin n g → IsFound (solver_meaning solver_by_view) s depth (mode, canonical_form g) (Some a) → number_of_values a.values ≤ n
+  found-within : (mode : TypingMode) (g : GoalTrees) (a : AnswerTrees) → IsGoalWithin n g → IsFoundBySearch (solver_meaning solver_by_view) s depth (mode, canonical_form g) (Some a) → number_of_values a.values ≤ n
   found-within mode g a h found =
       let fair = computed-fair (solver_meaning solver_by_view) (solver-lawful solver_by_view (handlers-are-programs goals_by_view goals-are-lawful)) s (mode, canonical_form g) (Some a) found.computed in
       less-both (number_of_values a.values) (widest_of s.view (canonical_form g)) n fair.covers.within (widest-within g h)
 
   -- a goal that is asked again
-  askings-within : (g : GoalTrees) → IsGoalWithin n g → (k : ℕ) (t : TableTrees) (before after : ℕ) → AreTerms t.bindings → BindingsWithin n t.bindings
+  askings-within : (g : GoalTrees) → IsGoalWithin n g → (k : ℕ) (t : TableTrees) (before after : ℕ) → AreTermsOfSorts t.bindings → BindingsWithin n t.bindings
       → AskingsStartFrames solver_by_view s depth g k t before after → after ≤ before + k * most
   unfolding AskingsStartFrames
   askings-within g h zero t before after terms narrow x = omega (arith, x)

@@ -12,12 +12,12 @@ use Rattle.infer_table.proofs.Numbers.{goal-trees-later}
 use Rattle.type_terms.specs.Terms.{Keeps}
 use Rattle.search_graph.specs.SearchState.{SearchState}
 use Rattle.solver_context.specs.Contexts.{entries_of}
-use Rattle.solver_context.specs.Evaluations.{IsFound}
+use Rattle.solver_context.specs.Evaluations.{IsFoundBySearch}
 use Rattle.solver_context.specs.Roots.{left_by}
 use Rattle.solver_context.specs.Searching.{solver_meaning}
 use Rattle.solver_context.specs.declared.context.SolverCx.{SolverCx}
 use Rattle.goal_frames.specs.Meanings.{HandlerMeaning}
-use Rattle.sessions.specs.Frames.{AreTerms, frames_for, resolved_over, AskingsStartFrames, AskingsOf, StartsFramesOfAsking, IsLeftByAnswer, SettlesInFrames}
+use Rattle.sessions.specs.Frames.{AreTermsOfSorts, frames_for, resolved_over, AskingsStartFrames, AskingsOf, StartsFramesOfAsking, IsLeftByAnswer, SettlesInFrames}
 use Rattle.sessions.specs.Proving.{asked_outside}
 use Rattle.sessions.specs.Settling.{HasAsked}
 use Rattle.sessions.specs.declared.settling.TheConstants.{MAX_ASKINGS}
@@ -52,8 +52,8 @@ module _ {Handler : Type 0} (handler : HandlerMeaning Handler) where
     from-more (suc k) t b c a h (inl s) = inl (wider a b c (bound t) s h)
     from-more (suc k) t b c a h (inr s) = inr (s.0, s.1, (s.2.0, s.2.1, s.2.2, from-more k s.2.0 (b + bound t) (c + bound t) a (add-le-add h (le_refl (bound t))) s.2.3))
 
-    pub asked-more : (k : ℕ) (t u : TableTrees) (b mid a : ℕ) (x : AnswerTrees) → IsFound (solver_meaning handler) w depth (asked_outside (resolved_over handler t g)) (Some x)
-        → left_by t (resolved_over handler t g) (Some x) ≡ Some u → AreTerms u.bindings → mid ≤ b + bound t → Started k u mid a → Started (suc k) t b a
+    pub asked-more : (k : ℕ) (t u : TableTrees) (b mid a : ℕ) (x : AnswerTrees) → IsFoundBySearch (solver_meaning handler) w depth (asked_outside (resolved_over handler t g)) (Some x)
+        → left_by t (resolved_over handler t g) (Some x) ≡ Some u → AreTermsOfSorts u.bindings → mid ≤ b + bound t → Started k u mid a → Started (suc k) t b a
     unfolding AskingsStartFrames
     asked-more k t u b mid a x found left terms h s = inr (x, found, (u, left, terms, from-more k u mid (b + bound t) a h s))
 

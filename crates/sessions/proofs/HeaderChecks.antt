@@ -22,7 +22,7 @@ use Rattle.sessions.specs.Releases.{StopsAt, StopsIn}
 use Rattle.sessions.specs.Resting.{Cached}
 use Rattle.sessions.specs.Sessions.{IsSession}
 use Rattle.sessions.specs.Subjects.{Subject, StaysOn}
-use Rattle.sessions.specs.Supertraits.{AreOfOwn, IsCheckedAt, IsFirstTold, IsHeaderTold, IsHeldAt, IsTold, SupertraitsAreTold}
+use Rattle.sessions.specs.Supertraits.{AreOfOwn, IsCheckedAt, IsFirstTold, IsHeaderTold, IsHeldAt, SolverTells, SupertraitsAreTold}
 use Rattle.sessions.specs.declared.settling.Outcome.{Outcome}
 use Rattle.sessions.specs.declared.settling.Outcome.TheVariants.{Proved}
 use Rattle.sessions.specs.declared.supertraits.HeaderAnswer.{HeaderAnswer}
@@ -64,10 +64,10 @@ module _ (s : Solving) (depth : ℕ) (F : List Reference) (es : List Entry) (xs 
   rs = references_in es xs
 
   abbrev IsProved : Reference → Type 0
-  IsProved r = IsTold s depth F r Proved
+  IsProved r = SolverTells s depth F r Proved
 
   -- one more is proved
-  pub more-told : Every IsProved (take i rs) → IsTold s depth F (reference_in es x) Proved → Every IsProved (take (i + 1) rs)
+  pub more-told : Every IsProved (take i rs) → SolverTells s depth F (reference_in es x) Proved → Every IsProved (take (i + 1) rs)
   more-told h p =
       subst (Every IsProved)
       (sym
@@ -76,7 +76,7 @@ module _ (s : Solving) (depth : ℕ) (F : List Reference) (es : List Entry) (xs 
       (every-last IsProved (take i rs) (reference_in es x) h p)
 
   -- or it is the first that is not
-  pub first-told : (n : ℕ) → n ≡ i + 1 → (o : Outcome) → Every IsProved (take i rs) → IsTold s depth F (reference_in es x) o → IsFirstTold s depth F rs n o
+  pub first-told : (n : ℕ) → n ≡ i + 1 → (o : Outcome) → Every IsProved (take i rs) → SolverTells s depth F (reference_in es x) o → IsFirstTold s depth F rs n o
   first-told n e o h p = subst (λ m. IsFirstTold s depth F rs m o) (sym e) (record {
     counted = omega arith;
     super = reference_in es x;
@@ -89,13 +89,13 @@ module _ (s : Solving) (depth : ℕ) (F : List Reference) (es : List Entry) (xs 
       back m = omega arith
 
 -- what is told so is told of what is the same
-pub told-of : (s t : Solving) (n m : ℕ) (F G : List Reference) (r q : Reference) (o : Outcome) → s ≡ t → n ≡ m → F ≡ G → r ≡ q → IsTold s n F r o → IsTold t m G q o
+pub told-of : (s t : Solving) (n m : ℕ) (F G : List Reference) (r q : Reference) (o : Outcome) → s ≡ t → n ≡ m → F ≡ G → r ≡ q → SolverTells s n F r o → SolverTells t m G q o
 told-of s t n m F G r q o e f g h x =
-    subst (λ z. IsTold t m G z o) h (subst (λ z. IsTold t m z r o) g (subst (λ z. IsTold t z F r o) f (subst (λ z. IsTold z n F r o) e x)))
+    subst (λ z. SolverTells t m G z o) h (subst (λ z. SolverTells t m z r o) g (subst (λ z. SolverTells t z F r o) f (subst (λ z. SolverTells z n F r o) e x)))
 
 -- all of them
-pub all-told : (s : Solving) (depth : ℕ) (F rs : List Reference) (n : ℕ) → length rs ≤ n → Every (λ r. IsTold s depth F r Proved) (take n rs) → Every (λ r. IsTold s depth F r Proved) rs
-all-told s depth F rs n l h = subst (Every (λ r. IsTold s depth F r Proved)) (whole rs n l) h
+pub all-told : (s : Solving) (depth : ℕ) (F rs : List Reference) (n : ℕ) → length rs ≤ n → Every (λ r. SolverTells s depth F r Proved) (take n rs) → Every (λ r. SolverTells s depth F r Proved) rs
+all-told s depth F rs n l h = subst (Every (λ r. SolverTells s depth F r Proved)) (whole rs n l) h
   where
     whole : (xs : List Reference) (k : ℕ) → length xs ≤ k → take k xs ≡ xs
     whole [] zero q = refl

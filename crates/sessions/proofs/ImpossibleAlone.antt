@@ -37,12 +37,12 @@ use Rattle.solver_context.specs.declared.outcome.GoalEvaluation.{GoalEvaluation}
 use Rattle.solver_context.specs.declared.outcome.RootError.{RootError}
 use Rattle.solver_context.specs.declared.outcome.RootError.TheVariants.{Conflict}
 use Rattle.solver_context.specs.Contexts.{Asked, entries_of}
-use Rattle.solver_context.specs.Evaluations.{IsFound, asked_in}
+use Rattle.solver_context.specs.Evaluations.{IsFoundBySearch, asked_in}
 use Rattle.solver_context.specs.Roots.{AtProvedSolutions, goal_in, fact_under, values_in}
 use Rattle.solver_context.specs.Searching.{solver_meaning}
-use Rattle.solver_context.specs.Shortages.{RootRunsOut, HasNoForm, form, answer}
+use Rattle.solver_context.specs.Shortages.{RootRunsOut, GoalHasNoForm, form, answer}
 use Rattle.goal_frames.specs.Meanings.{HandlerMeaning}
-use Rattle.sessions.specs.Impossible.{alone, resolved_alone, asked_alone, HasNoProof, IsImpossible, IsAnswered, IsLeftOpen, IsNoRefusal, GoalRunsOut}
+use Rattle.sessions.specs.Impossible.{alone, resolved_alone, asked_alone, HasNoProofInWorlds, IsImpossible, SearchAnswers, SearchLeavesOpen, IsNoRefusal, GoalRunsOut}
 
 -- ---- what became of a goal
 -- what holds where a call says true, or false
@@ -86,7 +86,7 @@ resolved-alone bs r = resolved-rigid bs (predicate (of_trait r.trait)) r.args no
 
 -- a goal that has no proof, asked alone
 pub alone-has-none : (handled : TypingMode → CanonicalForm → Handled frame_tables) (es : List Entry) (t : Table) (g : Goal) (r : TraitRef) → goal_trees es g ≡ alone (reference_in es r)
-    → AtProvedSolutions handled Coherence es t g (λ s. ⊥) → HasNoProof handled es t r
+    → AtProvedSolutions handled Coherence es t g (λ s. ⊥) → HasNoProofInWorlds handled es t r
 alone-has-none handled es t g r e f = λ k o.
     let bs = content es t.values in
     let at = resolved-alone bs (reference_in es r) in
@@ -113,7 +113,7 @@ NoProofAt handled counts bs g =
     (x : h.World) (s : Assignment) → Solves s bs → h.Proves x (fact_under s (alone g)) → ⊥
 
 pub runs-out-for : (P Q : AnswerTrees → Type 0) (t u : TableTrees) (g h : GoalTrees) → t ≡ u → g ≡ h → ((a : AnswerTrees) → P a → Q a) → RootRunsOut P t g → RootRunsOut Q u h
-runs-out-for P Q t u g h p q f (form x) = form (subst HasNoForm q x)
+runs-out-for P Q t u g h p q f (form x) = form (subst GoalHasNoForm q x)
 runs-out-for P Q t u g h p q f (answer a x o) = answer a (f a x) (subst (λ z. IsOutOfNumbers z (values_in h) a) p (subst (λ z. IsOutOfNumbers t (values_in z) a) q o))
 
 module _ {Handler : Type 0} (handler : HandlerMeaning Handler) where
@@ -122,22 +122,22 @@ module _ {Handler : Type 0} (handler : HandlerMeaning Handler) where
 
   -- the table has no numbers for what was asked by a goal in code
   pub root-runs-out : (c : SolverCx Handler) (s : SearchState) (t : Table) (g : Goal) (r : TraitRef) → goal_trees (entries_of c) g ≡ alone (reference_in (entries_of c) r)
-      → (P : AnswerTrees → Type 0) → ((a : AnswerTrees) → P a → IsFound m (m.world c) s.root_depth (asked_in Coherence (entries_of c) t g) (Some a))
+      → (P : AnswerTrees → Type 0) → ((a : AnswerTrees) → P a → IsFoundBySearch m (m.world c) s.root_depth (asked_in Coherence (entries_of c) t g) (Some a))
       → RootRunsOut P (table_trees (entries_of c) t) (goal_in (entries_of c) t g) → GoalRunsOut handler c s t r
   root-runs-out c s t g r e P f =
       let same : goal_in (entries_of c) t g ≡ resolved_alone (entries_of c) t r = ap (goal_resolved (content (entries_of c) t.values)) e in
-      runs-out-for P (IsAnswered handler c s t r) (table_trees (entries_of c) t) (table_trees (entries_of c) t) (goal_in (entries_of c) t g) (resolved_alone (entries_of c) t r) refl same
-      (λ a x. subst (λ z. IsFound m (m.world c) s.root_depth (Coherence, canonical_form z) (Some a)) same (f a x))
+      runs-out-for P (SearchAnswers handler c s t r) (table_trees (entries_of c) t) (table_trees (entries_of c) t) (goal_in (entries_of c) t g) (resolved_alone (entries_of c) t r) refl same
+      (λ a x. subst (λ z. IsFoundBySearch m (m.world c) s.root_depth (Coherence, canonical_form z) (Some a)) same (f a x))
 
   abbrev AnsweredAt : AnswerTrees → handler.goals.World → ℕ → Asked → Type 0
-  AnsweredAt a w depth g = IsFound m w depth g (Some a)
+  AnsweredAt a w depth g = IsFoundBySearch m w depth g (Some a)
 
   abbrev OpenAt : handler.goals.World → ℕ → Asked → Type 0
   OpenAt w depth g = ((a : AnswerTrees) × AnsweredAt a w depth g) ⊎ IsNotPlain m w (depth + 1) g
 
   -- a goal in code is left open as its reference alone is
   pub still-open : (c : SolverCx Handler) (s : SearchState) (t : Table) (g : Goal) (r : TraitRef) → goal_trees (entries_of c) g ≡ alone (reference_in (entries_of c) r)
-      → OpenAt (m.world c) s.root_depth (asked_in Coherence (entries_of c) t g) → IsLeftOpen handler c s t r
+      → OpenAt (m.world c) s.root_depth (asked_in Coherence (entries_of c) t g) → SearchLeavesOpen handler c s t r
   still-open c s t g r e x = subst (λ z. OpenAt (m.world c) s.root_depth (Coherence, canonical_form z)) (ap (goal_resolved (content (entries_of c) t.values)) e) x
 
   at-all : (P : handler.goals.World → ℕ → Asked → Type 0) (w v : handler.goals.World) (d e : ℕ) (g h : Asked) → w ≡ v → d ≡ e → g ≡ h → P w d g → P v e h
@@ -152,15 +152,15 @@ module _ {Handler : Type 0} (handler : HandlerMeaning Handler) where
     asked : asked_alone (entries_of d) t r ≡ asked_alone (entries_of c) t r
     asked = asked-later (entries_of c) (entries_of d) entries t tr r held
 
-    answered-before : (a : AnswerTrees) → IsAnswered handler d u t r a → IsAnswered handler c s t r a
+    answered-before : (a : AnswerTrees) → SearchAnswers handler d u t r a → SearchAnswers handler c s t r a
     answered-before a = at-all (AnsweredAt a) _ _ _ _ _ _ k.world depth asked
 
-    pub open-before : IsLeftOpen handler d u v r → IsLeftOpen handler c s t r
-    open-before x = at-all OpenAt _ _ _ _ _ _ k.world depth asked (subst (λ z. IsLeftOpen handler d u z r) same x)
+    pub open-before : SearchLeavesOpen handler d u v r → SearchLeavesOpen handler c s t r
+    open-before x = at-all OpenAt _ _ _ _ _ _ k.world depth asked (subst (λ z. SearchLeavesOpen handler d u z r) same x)
 
     pub runs-out-before : GoalRunsOut handler d u v r → GoalRunsOut handler c s t r
     runs-out-before x =
-        runs-out-for (IsAnswered handler d u t r) (IsAnswered handler c s t r) (table_trees (entries_of d) t) (table_trees (entries_of c) t)
+        runs-out-for (SearchAnswers handler d u t r) (SearchAnswers handler c s t r) (table_trees (entries_of d) t) (table_trees (entries_of c) t)
         (resolved_alone (entries_of d) t r) (resolved_alone (entries_of c) t r) (table-kept (entries_of c) (entries_of d) entries t tr)
         (resolved-later (entries_of c) (entries_of d) entries t tr r held) answered-before (subst (λ z. GoalRunsOut handler d u z r) same x)
 

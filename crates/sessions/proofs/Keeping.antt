@@ -15,14 +15,14 @@ use Rattle.infer_table.specs.Canonical.{canonical_form}
 use Rattle.goal_frames.specs.Handlers.{same_answer, applies_always}
 use Rattle.solver_context.specs.declared.context.SolverCx.{SolverCx}
 use Rattle.solver_context.specs.Contexts.{entries_of, IsReady as IsReadyContext}
-use Rattle.solver_context.specs.Evaluations.{IsFound}
+use Rattle.solver_context.specs.Evaluations.{IsFoundBySearch}
 use Rattle.solver_context.specs.Searching.{solver_meaning}
 use Rattle.text_definitions.specs.Declarations.{Declarations, Question}
 use Rattle.view_lowering.specs.Plain.{plainly_seen_from, unbound_reference}
 use Rattle.view_lowering.specs.Seen.{rules_seen_from}
 use Rattle.candidate_assembly.specs.declared.solver.Solver.{Solver}
 use Rattle.candidate_assembly.specs.Fitting.{solving_of}
-use Rattle.candidate_assembly.specs.Ready.{IsReady}
+use Rattle.candidate_assembly.specs.Ready.{AreReadyDeclarations}
 use Rattle.candidate_assembly.specs.Solving.{Solving, solver_for, meaning_for}
 use Rattle.view_lowering.specs.Ready.{AreSeen}
 use Rattle.view_lowering.specs.QuestionVariables.{HasVariablesAlone, RefutationsHaveVariablesAlone}
@@ -74,7 +74,7 @@ pub solves-seen : (d : Declarations) (c : ℕ) (es : List Entry) (decls : Items)
 solves-seen d c es decls cx terms by seen l = record { entries = es; declarations = decls; seen = seen; local = l; is = ap (λ x. solving_of x cx.handler.declarations) terms ∙ ap (solving_of es) by }
 
 pub solver-rests-first : (n : ℕ) (cx : SolverCx Solver) (s : SearchState) (ks : Cached) → s ≡ record { root_depth = n; current_depth = 0; frames = 0; limits_met = false } → ks ≡ []
-    → IsReadyContext (λ (h : Solver) es. IsReady es h.declarations) cx → SolverRests n cx s ks
+    → IsReadyContext (λ (h : Solver) es. AreReadyDeclarations es h.declarations) cx → SolverRests n cx s ks
 solver-rests-first n cx s ks e f r =
     resting-first solver_by_view n cx s ks e f r
 
@@ -115,7 +115,7 @@ module _ (d : Declarations) (c depth : ℕ) (cx : SolverCx Solver) (graph : Sear
   asked_of q = unbound_reference q.asked
 
   abbrev Found : ℕ → Reference → Option AnswerTrees → Type 0
-  Found n r a = IsFound session_meaning (solved cx) n (asked_alone r) a
+  Found n r a = IsFoundBySearch session_meaning (solved cx) n (asked_alone r) a
 
   -- what a call says of a question that it answers
   pub record IsAnswered (n : ℕ) (q : Question) (a : Result RefuteAnswer Fault) : Type 0 where

@@ -23,7 +23,7 @@ use Rattle.solver_context.specs.Contexts.{entries_of}
 use Rattle.candidate_assembly.specs.declared.solver.Solver.{Solver}
 use Rattle.view_lowering.specs.Plain.{plain_impl, all_kept}
 use Rattle.view_lowering.specs.Seen.{rules_seen_from}
-use Rattle.sessions.specs.Checking.{IsReadySolver, SolverAdvances, rules_in}
+use Rattle.sessions.specs.Checking.{IsReadySolver, SolverStaysReady, rules_in}
 use Rattle.sessions.specs.Given.{later_of}
 use Rattle.sessions.specs.Later.{header_in, section_headers, MayAdd, IsFirstRefused, IsAnswerOn}
 use Rattle.sessions.specs.Promises.{view_in}
@@ -112,7 +112,7 @@ first-refused V c es defs n def e a h = record {
     one-less m = omega arith
 
 -- what was said once the context had grown is said of it as it was
-pub answer-grown : (old new : SolverCx Solver) → IsReadySolver old → SolverAdvances old new → (hs ks : List Reference) → hs ≡ ks → (r : Answer)
+pub answer-grown : (old new : SolverCx Solver) → IsReadySolver old → SolverStaysReady old new → (hs ks : List Reference) → hs ≡ ks → (r : Answer)
     → IsAnswerOn (rules_in new) new.handler.declarations.local hs r → IsAnswerOn (rules_in old) old.handler.declarations.local ks r
 answer-grown old new ready grown hs ks e r h =
     let d = old.handler.declarations in

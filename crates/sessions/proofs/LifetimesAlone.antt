@@ -17,7 +17,7 @@ use Rattle.infer_table.specs.Solutions.{Assignment, IsSorted}
 use Rattle.infer_table.specs.Unification.{TableTrees}
 use Rattle.infer_table.specs.Values.{Value, filled}
 use Rattle.evaluation.specs.Lists.{Every}
-use Rattle.evaluation.specs.Content.{Terms, reading_of, Stands}
+use Rattle.evaluation.specs.Content.{ChosenTerms, reading_of, UnknownStands}
 use Rattle.evaluation.specs.Equations.{Hold}
 use Rattle.evaluation.specs.FrameTables.{FrameTable, IsMadeFrame, AllowsApart, TellsApart, is_good}
 use Rattle.evaluation.specs.Instances.{default_label, first_term, other_terms}
@@ -101,7 +101,7 @@ module _ (types consts regions : ℕ) (constraints : Trees) (ls : List Label) (l
   abbrev t : FrameTable
   t = record { kinds = []; labels = []; content = T }
 
-  abbrev s : Terms
+  abbrev s : ChosenTerms
   s = record { own = record { proper = true; terms = [] }; slots = []; unknowns = some-terms; proper = true }
 
   made : IsMadeFrame t
@@ -132,7 +132,7 @@ module _ (types consts regions : ℕ) (constraints : Trees) (ls : List Label) (l
     abbrev grown : TableTrees
     grown = table_for known T 0 a.kinds
 
-    abbrev r : Terms
+    abbrev r : ChosenTerms
     r = further t s some-terms known a.kinds
 
     sorted : IsSorted r.unknowns
@@ -142,7 +142,7 @@ module _ (types consts regions : ℕ) (constraints : Trees) (ls : List Label) (l
     goes-in =
         let picks = picks-all some-terms ls lifetimes a.values (left (is_answer_to (map leaf_value ls) a) _ fitting) (map (reading_of r) ls) in
         let ones = pairs-one [] T ls theirs a fitting r some-terms sorted (all-agree r some-terms ls a.values picks) (λ k i x. x.stands some-terms some-terms ∙ ap (some-terms k) (zero-plus [] T ls theirs a fitting i)) in
-        let hold : Hold r grown = subst (Every (Stands r)) (sym (for-bindings known T 0 a.kinds)) tt in
+        let hold : Hold r grown = subst (Every (UnknownStands r)) (sym (for-bindings known T 0 a.kinds)) tt in
         let x =
         in-turn-keeps (is_good [] grown.ty_vars grown.const_vars) (lifetimes-good [] grown.ty_vars grown.const_vars) _ grown r (grown-made [] T ls theirs a fitting made.table) (pairs-made [] T ls theirs a fitting)
         (further-apart t s r grown.ty_vars grown.const_vars allows refl sorted) hold ones in (

@@ -13,7 +13,7 @@ use Rattle.type_terms.specs.declared.ImplId.{ImplId}
 use Rattle.type_terms.specs.declared.TheConstants.{MAX_INDEX}
 use Rattle.term_folds.specs.Arguments.{first_misfit}
 use Rattle.term_folds.specs.declared.predicate.TraitRef.{TraitRef}
-use Rattle.declarations.specs.Applied.{AllHeld, AreApplied, IsApplied, SpeaksOf, references_in, sort_of_param}
+use Rattle.declarations.specs.Applied.{TraitRefsHeld, AreApplied, IsApplied, SpeaksOf, references_in, sort_of_param}
 use Rattle.declarations.specs.Held.{ImplHeld}
 use Rattle.declarations.specs.Items.{Items, impl_in, reference_in}
 use Rattle.declarations.specs.Merges.{Each}
@@ -44,7 +44,7 @@ module _ (old new : List Entry) (k : Keeps old new) (def : ImplDef) (h : ImplHel
   pub header-fits : first_misfit (trees_at new a) (trees_at new def.header.args.0) ≡ None
   header-fits = fits (trees_at new def.header.args.0) (subst (SpeaksOf (sorts_of_impl def)) (sym (args-same old new k def.header h.header)) w.header)
 
-  all-fit : (rs : List TraitRef) → AllHeld old rs → Each (λ (r : TraitRef). SpeaksOf (sorts_of_impl def) (trees_at old r.args.0)) rs
+  all-fit : (rs : List TraitRef) → TraitRefsHeld old rs → Each (λ (r : TraitRef). SpeaksOf (sorts_of_impl def) (trees_at old r.args.0)) rs
       → Each (λ (r : TraitRef). first_misfit (trees_at new a) (trees_at new r.args.0) ≡ None) rs
   all-fit [] g s = tt
   all-fit (r ∷ rs) g s = (fits (trees_at new r.args.0) (subst (SpeaksOf (sorts_of_impl def)) (sym (args-same old new k r g.0)) s.0), all-fit rs g.1 s.1)

@@ -17,7 +17,7 @@ use Rattle.overlap_check.specs.Orphans.{AreWrittenWell, HeaderHoldsParams}
 use Rattle.overlap_check.specs.Written.{IsWrittenWell}
 use Rattle.view_lowering.specs.Plain.{plainly_seen_from}
 use Rattle.candidate_assembly.specs.Fitting.{solving_of}
-use Rattle.candidate_assembly.specs.Ready.{IsReady}
+use Rattle.candidate_assembly.specs.Ready.{AreReadyDeclarations}
 use Rattle.sessions.specs.Fitting.{sorts_in}
 use Rattle.sessions.specs.Goals.{HasFormedTerms}
 use Rattle.sessions.specs.OpenPairs.{OpenPairGoalsArePossible}
@@ -41,7 +41,7 @@ found-there n (i ∷ is) w e = by (n == i.id.index) refl e (found-there n is w)
     by true f g r = record { impl = i; stands = here i is; number = sym (eqb-true n i.id.index f); def = same_Some i.def w (sym g) }
     by false f g r = let x = r g in record { impl = x.impl; stands = there x.impl i is x.stands; number = x.number; def = x.def }
 
-module _ (es : List Entry) (d : Items) (ready : IsReady es d) (well : AreWrittenWell es d) (U : World) (seen : written es d ≡ U) where
+module _ (es : List Entry) (d : Items) (ready : AreReadyDeclarations es d) (well : AreWrittenWell es d) (U : World) (seen : written es d ≡ U) where
   abbrev named : ℕ → ImplDef → ImplDecl
   named n def = record { name = n; home = def.home.index; params = length def.params.items; header = reference_in es def.header; clauses = references_in es def.clauses.items }
 

@@ -1,6 +1,6 @@
 -- Of a decided question the solver says neither `Unproved` nor `Maybe` wrongly.
 use Rattle.std.proofs.Common.{◌≡◌, ℕ, Bool, true, false, not, ◌||◌, List, [], ◌∷◌, map, Option, Some, None, inl, inr, refl, sym, ◌∙◌, ap, subst}
-use Rattle.type_terms.specs.Answers.{SingleWay, IsDecided}
+use Rattle.type_terms.specs.Answers.{SingleWay, IsUnambiguous}
 use Rattle.type_terms.specs.Label.{Label, Sort, of_type, of_const, of_lifetime, infer, canonical, bound}
 use Rattle.type_terms.specs.Proofs.{HasProof}
 use Rattle.type_terms.specs.Erased.{erased_reference}
@@ -137,7 +137,7 @@ module _ (d : Declarations) (text : IsOfText d) (c : ℕ) (s : Solving) (of : Is
 
 -- ---- questions
 module _ (d : Declarations) (text : IsOfText d) (n : ℕ) (q : Question) (is : IsQuestion d n q) (s : Solving) (of : IsSolvingOf d q.asker s) (depth : ℕ)
-    (decided : IsDecided depth (view_in d q.asker) (map erased_reference q.clauses) (erased_reference q.asked)) where
+    (decided : IsUnambiguous depth (view_in d q.asker) (map erased_reference q.clauses) (erased_reference q.asked)) where
   abbrev ks : List Sort
   ks = variable_kinds q
 

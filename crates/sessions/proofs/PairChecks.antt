@@ -7,7 +7,7 @@ use Rattle.type_terms.specs.Erased.{erased_impl, erased_reference}
 use Rattle.type_terms.specs.Worlds.{World, Reference, ImplDecl}
 use Rattle.type_terms.specs.Proofs.{In}
 use Rattle.type_terms.specs.Answers.{is_open, CommonInstance}
-use Rattle.type_terms.specs.LinkedSet.{is_stray}
+use Rattle.type_terms.specs.LinkedSet.{is_stray, IsPair}
 use Rattle.type_terms.proofs.ProofEntries.{map-in}
 use Rattle.type_terms.proofs.Fitting.{child-shut, next-shut, or-no, append-shut, not-true}
 use Rattle.type_terms.proofs.Members.{in-map}
@@ -34,17 +34,17 @@ use Rattle.goal_frames.specs.declared.store.InputId.{InputId}
 use Rattle.goal_frames.specs.declared.store.ResponseId.{ResponseId}
 use Rattle.solver_context.specs.declared.context.SolverCx.{SolverCx}
 use Rattle.solver_context.specs.Contexts.{entries_of}
-use Rattle.solver_context.specs.Evaluations.{IsFound}
+use Rattle.solver_context.specs.Evaluations.{IsFoundBySearch}
 use Rattle.solver_context.specs.Searching.{solver_meaning}
 use Rattle.candidate_assembly.specs.declared.solver.Solver.{Solver}
-use Rattle.candidate_assembly.specs.Ready.{IsReady}
+use Rattle.candidate_assembly.specs.Ready.{AreReadyDeclarations}
 use Rattle.candidate_assembly.specs.Solving.{Solving, solver_for, meaning_for}
 use Rattle.overlap_check.specs.Goals.{HasGoals, unknown_kinds}
-use Rattle.overlap_check.specs.Headers.{AreApart, IsIntersection, IsSolved, IsPosed, IsOfTable, IsWithoutVariables, resolved_reference, goals_over}
+use Rattle.overlap_check.specs.Headers.{AreDisjointImpls, IsIntersection, IsSolved, IsPosed, IsOfTable, IsWithoutVariables, resolved_reference, goals_over}
 use Rattle.overlap_check.specs.Partners.{IsPairAt, NoPairAt}
 use Rattle.overlap_check.specs.Questions.{filled, IsRefuted, IsRefuteAnswer, unrefuted}
 use Rattle.overlap_check.specs.SessionLaws.{IsPassed}
-use Rattle.overlap_check.specs.Verdicts.{IsPair, IsOverlap}
+use Rattle.overlap_check.specs.Verdicts.{IsOverlap}
 use Rattle.overlap_check.specs.Written.{IsWrittenWell}
 use Rattle.overlap_check.specs.declared.intersection.ImplIntersection.{ImplIntersection}
 use Rattle.overlap_check.proofs.Contracts.{refused-real}
@@ -82,7 +82,7 @@ module _ (es : List Entry) (d : Items) (k j : ImplId) (w x : ImplDef) (at : IsPa
       (own (erased_impl (impl_in es k w)) a at.pair.stands p.pair.stands (sym p.later))
       (own (erased_impl (impl_in es j x)) b at.pair.partner p.pair.partner (sym p.earlier)) h
 
-  pub apart-at : AreApart es w x → AreApartAt (declared es d) d.local k.index j.index
+  pub apart-at : AreDisjointImpls es w x → AreApartAt (declared es d) d.local k.index j.index
   apart-at apart = only (λ a b. CommonInstance a b → ⊥) (apart k j)
 
 -- ---- what was found
@@ -126,7 +126,7 @@ plain-clause es id def w k h =
 args-same : (a b : Reference) → a ≡ b → a.args ≡ b.args
 args-same a b e = ap (λ (r : Reference). r.args) e
 
-module _ (old : List Entry) (d : Items) (k j : ImplId) (new : List Entry) (found : ImplIntersection) (at : IsFoundAt old d k j new found) (lawful : Lawful new) (ready : IsReady old d) (law : ReadyAreWritten) where
+module _ (old : List Entry) (d : Items) (k j : ImplId) (new : List Entry) (found : ImplIntersection) (at : IsFoundAt old d k j new found) (lawful : Lawful new) (ready : AreReadyDeclarations old d) (law : ReadyAreWritten) where
   abbrev i : ImplDecl
   i = erased_impl (impl_in old k at.later)
 
@@ -207,7 +207,7 @@ module _ (old : List Entry) (d : Items) (k j : ImplId) (new : List Entry) (found
 
     -- what is refused is refuted, by declarations that are what a crate sees of a text
     pub refused-is-refuted : (dd : Declarations) (c depth : ℕ) (cx : SolverCx Solver) (graph : SearchState) (cache : Cached) → IsSession dd c depth cx graph cache
-        → Impossible.HasNoProof (solver_for (solving_in cx)) new t r → IsRefuted (view_in dd c) c ks g
+        → Impossible.HasNoProofInWorlds (solver_for (solving_in cx)) new t r → IsRefuted (view_in dd c) c ks g
     refused-is-refuted dd c depth cx graph cache s refused =
         is-refuted dd c (meaning_for (solving_in cx) (canonical_form (Impossible.resolved_alone new t r))) s.view.rules s.view.local ks g
         (unproved new lawful t at.intersection.ready r held of-table free at.posed.table applies_always same_answer (meaning_for (solving_in cx) (canonical_form (Impossible.resolved_alone new t r))) refused)
@@ -250,10 +250,10 @@ module _ (dd : Declarations) (c depth : ℕ) (cx : SolverCx Solver) (graph : Sea
 
     -- a goal without a proof passes the pair
     pub refused-passes : HaveOwnNumbers (rules_in cx) → (w : Solving) → w ≡ solving_in cx
-        → (r : TraitRef) × (In r found.left.items ⊎ In r found.right.items) × Impossible.HasNoProof (solver_for w) new found.table r → ArePassedAt V c k.index j.index
+        → (r : TraitRef) × (In r found.left.items ⊎ In r found.right.items) × Impossible.HasNoProofInWorlds (solver_for w) new found.table r → ArePassedAt V c k.index j.index
     refused-passes own w e q =
         let refuted = refused-is-refuted (entries_of cx) cx.handler.declarations k j new found at lawful s.rest.ready.handler law q.0 q.1 dd c depth cx graph cache s
-        (subst (λ z. Impossible.HasNoProof (solver_for z) new found.table q.0) e q.2) in
+        (subst (λ z. Impossible.HasNoProofInWorlds (solver_for z) new found.table q.0) e q.2) in
         let passed : IsPassed V c a b =
         passes a b (unknown_kinds found.table) _ _ (at.intersection.goals k j) V c (resolved_reference (content new found.table.values) (reference_in new q.0))
         (goal-in (entries_of cx) cx.handler.declarations k j new found at lawful s.rest.ready.handler law q.0 q.1) refuted in
@@ -285,13 +285,13 @@ module _ (dd : Declarations) (c depth : ℕ) (cx : SolverCx Solver) (graph : Sea
 
       -- the goal is left open
       abbrev pub OpenGoal : ℕ → GoalTrees → Type 0
-      OpenGoal n g = ((a : AnswerTrees) × IsFound m w n (Coherence, canonical_form g) (Some a)) ⊎ IsNotPlain m w (n + 1) (Coherence, canonical_form g)
+      OpenGoal n g = ((a : AnswerTrees) × IsFoundBySearch m w n (Coherence, canonical_form g) (Some a)) ⊎ IsNotPlain m w (n + 1) (Coherence, canonical_form g)
 
       abbrev OpenReference : Solving → ℕ → Reference → Type 0
       OpenReference v n r =
           IsLeftOpen solver_by_view v n r
 
-      abbrev ready : IsReady (entries_of cx) cx.handler.declarations
+      abbrev ready : AreReadyDeclarations (entries_of cx) cx.handler.declarations
       ready = s.rest.ready.handler
 
       abbrev answered : TraitRef → Type 0
@@ -318,7 +318,7 @@ module _ (dd : Declarations) (c depth : ℕ) (cx : SolverCx Solver) (graph : Sea
 
       -- so the pair is judged
       pub judged : HaveOwnNumbers (rules_in cx) → (refused : Bool)
-          → (IsTrue refused → (r : TraitRef) × (In r found.left.items ⊎ In r found.right.items) × Impossible.HasNoProof (solver_for w) new found.table r)
+          → (IsTrue refused → (r : TraitRef) × (In r found.left.items ⊎ In r found.right.items) × Impossible.HasNoProofInWorlds (solver_for w) new found.table r)
           → (refused ≡ false
           → Each (λ r. OpenGoal graph.root_depth (Impossible.resolved_alone new found.table r)) found.left.items × Each (λ r. OpenGoal graph.root_depth (Impossible.resolved_alone new found.table r)) found.right.items)
           → IsJudgedAt depth V c k.index j.index (not refused)

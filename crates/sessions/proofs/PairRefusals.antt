@@ -24,7 +24,7 @@ use Rattle.infer_table.proofs.ContentFacts.{is-trees}
 use Rattle.infer_table.proofs.Places.{in_terms, AreTrees, trees-of, trees-proper, numbered}
 use Rattle.infer_table.proofs.SolutionLaws.{resolved-none, resolved-rigid}
 use Rattle.evaluation.specs.FrameTables.{kinds_known}
-use Rattle.assembly_laws.specs.Meaning.{Meaning, Place, proved_at}
+use Rattle.assembly_laws.specs.Meaning.{ViewMeaning, SolutionPlace, proved_at}
 use Rattle.assembly_laws.specs.Solver.{has_placeholder, solver_handled}
 use Rattle.overlap_check.specs.Goals.{repeated, unknown_kinds}
 use Rattle.overlap_check.specs.Headers.{IsOfTable, resolved_reference}
@@ -33,7 +33,7 @@ use Rattle.overlap_check.proofs.Posed.{values-are-of-solutions}
 use Rattle.overlap_check.proofs.Solved.{ready-facts}
 use Rattle.view_lowering.specs.QuestionVariables.{number_of}
 use Rattle.sessions.specs.Asking.{goal_alone}
-use Rattle.sessions.specs.Impossible.{resolved_alone, HasNoProof}
+use Rattle.sessions.specs.Impossible.{resolved_alone, HasNoProofInWorlds}
 use Rattle.sessions.proofs.Given.{IsPlaced, placed-at}
 
 no-true : true ≡ false → ⊥
@@ -238,9 +238,9 @@ module _ (es : List Entry) (law : Lawful es) (t : Table) (ready : Ready es t) (r
       same-goal _ _ _ _ (resolved-none bs)
       (resolved-rigid bs (predicate (of_trait r.def_id.index)) (trees_at es r.args.0) none refl ∙ ap (λ o. tree (predicate (of_trait r.def_id.index)) (resolved bs (trees_at es r.args.0)) o) (resolved-none bs))
 
-  module _ (free : HasNoPlace goal_over.args) (known : IsOfKnown (variables_of t) bs) (applicable : AnswerTrees → Bool) (same : AnswerTrees → AnswerTrees → Bool) (m : Meaning)
-      (refused : HasNoProof (λ mode f. solver_handled applicable same m mode f) es t r) where
-    pub unproved : (p : Place m) (ts : List Trees) → FitKinds (unknown_kinds t) ts → Every (λ v. IsTrue (is_closed v)) ts
+  module _ (free : HasNoPlace goal_over.args) (known : IsOfKnown (variables_of t) bs) (applicable : AnswerTrees → Bool) (same : AnswerTrees → AnswerTrees → Bool) (m : ViewMeaning)
+      (refused : HasNoProofInWorlds (λ mode f. solver_handled applicable same m mode f) es t r) where
+    pub unproved : (p : SolutionPlace m) (ts : List Trees) → FitKinds (unknown_kinds t) ts → Every (λ v. IsTrue (is_closed v)) ts
         → proved_at p (filled_reference (unknown_kinds t) ts (resolved_reference bs (reference_in es r))) → ⊥
     unproved p ts fit closed proof =
         let s = values-are-of-solutions es law t ready ts fit in

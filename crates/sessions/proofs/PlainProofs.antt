@@ -1,6 +1,6 @@
 -- What is proved of a reference without lifetimes by declarations as they are written is proved by the same without their lifetimes.
 use Rattle.std.proofs.Common.{◌≡◌, ◌⊎◌, Bool, true, false, if◌then◌else◌, List, [], ◌∷◌, ◌++◌, map, inl, inr, refl, sym, ◌∙◌, ap, subst}
-use Rattle.type_terms.specs.Proofs.{Entry, In, Every, Stands, Follows, HasProof}
+use Rattle.type_terms.specs.Proofs.{ProofEntry, In, Every, Stands, Follows, HasProof}
 use Rattle.type_terms.specs.Rules.{Rule, rules, is_coinductive}
 use Rattle.type_terms.specs.Trees.{some_node}
 use Rattle.type_terms.specs.Worlds.{World, CrateDecl, Reference}
@@ -16,35 +16,35 @@ use Rattle.sessions.proofs.PlainPremises.{rules-plain}
 use Rattle.sessions.proofs.WithoutLifetimes.{FieldsAreErased, rules-same}
 
 -- ---- the entries of references without lifetimes
-abbrev of : Entry → Reference
+abbrev of : ProofEntry → Reference
 of e = e.of
 
-abbrev has_lifetime : Entry → Bool
+abbrev has_lifetime : ProofEntry → Bool
 has_lifetime e = some_node is_unerased e.of.args
 
-keep : Bool → Entry → List Entry → List Entry
+keep : Bool → ProofEntry → List ProofEntry → List ProofEntry
 keep true e es = es
 keep false e es = e ∷ es
 
-kept : List Entry → List Entry
+kept : List ProofEntry → List ProofEntry
 kept [] = []
 kept (e ∷ es) = keep (has_lifetime e) e (kept es)
 
-keep-append : (b : Bool) (e : Entry) (xs ys : List Entry) → keep b e (xs ++ ys) ≡ keep b e xs ++ ys
+keep-append : (b : Bool) (e : ProofEntry) (xs ys : List ProofEntry) → keep b e (xs ++ ys) ≡ keep b e xs ++ ys
 unfolding keep
 keep-append true e xs ys = refl
 keep-append false e xs ys = refl
 
-kept-append : (xs ys : List Entry) → kept (xs ++ ys) ≡ kept xs ++ kept ys
+kept-append : (xs ys : List ProofEntry) → kept (xs ++ ys) ≡ kept xs ++ kept ys
 unfolding kept
 kept-append [] ys = refl
 kept-append (e ∷ xs) ys = ap (keep (has_lifetime e) e) (kept-append xs ys) ∙ keep-append (has_lifetime e) e (kept xs) (kept ys)
 
-no-last : (xs : List Entry) → xs ++ [] ≡ xs
+no-last : (xs : List ProofEntry) → xs ++ [] ≡ xs
 no-last [] = refl
 no-last (x ∷ xs) = ap (λ z. x ∷ z) (no-last xs)
 
-stands-kept : (p : Reference) → Plain p.args → (es : List Entry) → Stands p es → Stands p (kept es)
+stands-kept : (p : Reference) → Plain p.args → (es : List ProofEntry) → Stands p es → Stands p (kept es)
 unfolding kept keep
 stands-kept p g [] i = absurd (in-nothing p i)
 stands-kept p g (e ∷ es) i = by (has_lifetime e) refl (in-cases p e.of (map of es) i) (λ j. stands-kept p g es j)
@@ -55,7 +55,7 @@ stands-kept p g (e ∷ es) i = by (has_lifetime e) refl (in-cases p e.of (map of
     by true f (inl q) go = absurd (false-true (sym g ∙ ap (λ (z : Reference). some_node is_unerased z.args) (sym q) ∙ f))
     by true f (inr j) go = go j
 
-stands-if : (b : Bool) (all earlier : List Entry) (p : Reference) → Plain p.args → Stands p (if b then all else earlier) → Stands p (if b then kept all else kept earlier)
+stands-if : (b : Bool) (all earlier : List ProofEntry) (p : Reference) → Plain p.args → Stands p (if b then all else earlier) → Stands p (if b then kept all else kept earlier)
 stands-if true all earlier p g s = stands-kept p g all s
 stands-if false all earlier p g s = stands-kept p g earlier s
 
@@ -71,7 +71,7 @@ module _ (V : World) (well : IsDeclaredWell V) (begin : SelfTypesBegin V) (erase
   abbrev U : World
   U = without_lifetimes V cs
 
-  follow : (all earlier left : List Entry) → Follows V E all earlier left → Follows U E (kept all) (kept earlier) (kept left)
+  follow : (all earlier left : List ProofEntry) → Follows V E all earlier left → Follows U E (kept all) (kept earlier) (kept left)
   unfolding kept keep
   follow all earlier [] f = tt
   follow all earlier (e ∷ left) f = by (has_lifetime e) refl (subst (λ z. Follows U E (kept all) z (kept left)) (kept-append earlier (e ∷ [])) (follow all (earlier ++ e ∷ []) left f.2))

@@ -9,7 +9,7 @@ use Rattle.type_terms.specs.Terms.{Entry, Keeps, Has, args_lists}
 use Rattle.type_terms.specs.declared.kinds.GenericArgKind.{GenericArgKind}
 use Rattle.type_terms.specs.Kept.{arg-trees-later}
 use Rattle.term_folds.specs.declared.predicate.TraitRef.{TraitRef}
-use Rattle.declarations.specs.Applied.{AllHeld}
+use Rattle.declarations.specs.Applied.{TraitRefsHeld}
 use Rattle.infer_table.specs.Canonical.{GoalTrees}
 use Rattle.infer_table.specs.Goals.{ClausesHeld, GoalHeld}
 use Rattle.infer_table.specs.declared.goal.Goal.{Goal}
@@ -28,11 +28,11 @@ over-ok (Ok a) f h = f a h
 over-ok (Err e) f h = tt
 
 -- ---- the goal
-clauses-held : (es : List Entry) (rs : List TraitRef) → AllHeld es rs → ClausesHeld es (where_clauses rs)
+clauses-held : (es : List Entry) (rs : List TraitRef) → TraitRefsHeld es rs → ClausesHeld es (where_clauses rs)
 clauses-held es [] h = tt
 clauses-held es (r ∷ rs) h = (h.0, clauses-held es rs h.1)
 
-pub goal-held : (es : List Entry) (g : Goal) (rs : List TraitRef) → AllHeld es rs → g.param_env.items ≡ where_clauses rs → Has es args_lists g.predicate.trait_ref.args.0 → GoalHeld es g
+pub goal-held : (es : List Entry) (g : Goal) (rs : List TraitRef) → TraitRefsHeld es rs → g.param_env.items ≡ where_clauses rs → Has es args_lists g.predicate.trait_ref.args.0 → GoalHeld es g
 goal-held es g rs h e p = record { environment = subst (ClausesHeld es) (sym e) (clauses-held es rs h); predicate = p }
 
 pub same-asked : (E F : List Reference) (r s : Reference) → E ≡ F → r ≡ s → goal_of E r ≡ goal_of F s

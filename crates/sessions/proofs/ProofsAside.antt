@@ -4,7 +4,7 @@ use Rattle.std.specs.List.{flat_map}
 use Rattle.type_terms.specs.Trees.{Trees, none, tree}
 use Rattle.type_terms.specs.Worlds.{World, CrateDecl, Reference}
 use Rattle.type_terms.specs.Rules.{Rule, by_clause, rules, impl_rules, built_in_rules, plain_rules, clause_rules, super_rules, same_reference, strict_supertraits, sized, unsize, sized_rules, unsize_rules, object_rules, auto_rules, auto_rules_plain, is_auto, is_written}
-use Rattle.type_terms.specs.Proofs.{Entry, In, Follows}
+use Rattle.type_terms.specs.Proofs.{ProofEntry, In, Follows}
 use Rattle.type_terms.specs.Terms as terms
 use Rattle.type_terms.proofs.OtherImpls.{supers-same, sized-same, plain-same, unsize-same, object-same}
 use Rattle.proof_checker.specs.Steps.{AreProofOf}
@@ -38,7 +38,7 @@ module _ (V : World) (cs : List CrateDecl) where
       two : {b b' c c' : List Rule} → b ≡ b' → c ≡ c' → flat_map (impl_rules r) V.impls ++ (b ++ c) ≡ flat_map (impl_rules r) V.impls ++ (b' ++ c')
       two f g = cc
 
-  follows-aside : (E : List Reference) (all earlier left : List Entry) → Follows V E all earlier left → Follows W E all earlier left
+  follows-aside : (E : List Reference) (all earlier left : List ProofEntry) → Follows V E all earlier left → Follows W E all earlier left
   follows-aside E all earlier [] f = tt
   follows-aside E all earlier (e ∷ left) f = (subst (In e.rule) (sym (rules-aside E e.of)) f.0, f.1, follows-aside E all (earlier ++ e ∷ []) left f.2)
 

@@ -39,7 +39,7 @@ same-fact t a b e p x y = ap (λ z. made t z b) x ∙ ap (λ z. made t e z) y
 pub values-are-proved : (Rule : Fact → List Fact → Type 0) (coinductive : Fact → Bool) → ValuesAreProved Rule coinductive
 values-are-proved Rule coinductive es t g law ready held all =
     let p = goal-proper es law g held in
-    subst (Lists.HasProof Fact Rule coinductive)
+    subst (Lists.FactHasProof Fact Rule coinductive)
     (same-fact (trait_of (goal_trees es g).predicate) (instance (themselves es t ready) (goal_trees es g).environment) (instance (themselves es t ready) (goal_trees es g).predicate)
     (erase (resolved (content es t.values) (goal_trees es g).environment)) (erase (resolved (content es t.values) (goal_trees es g).predicate))
     (themselves-read es t ready (goal_trees es g).environment p.0) (themselves-read es t ready (goal_trees es g).predicate p.1))

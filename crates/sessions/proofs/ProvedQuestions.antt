@@ -317,7 +317,7 @@ module _ (d : Declarations) (text : IsOfText d) (c : ℕ) (items : List Entry) (
       plain-asked : some_node is_bound_term (resolved bs g.predicate) ≡ false → Plain x.args
       plain-asked unbound = subst (λ (y : Reference). Plain y.args) (asked fs t ready) (children-plain (erase (resolved bs g.predicate)) (all-plain (resolved bs g.predicate) unbound))
 
-      proved : some_node is_bound_term (resolved bs g.predicate) ≡ false → Lists.HasProof Fact (FollowsByView V) (is_coinductive_fact V) f → IsProvedWith ts
+      proved : some_node is_bound_term (resolved bs g.predicate) ≡ false → Lists.FactHasProof Fact (FollowsByView V) (is_coinductive_fact V) f → IsProvedWith ts
       proved unbound p = (
         (values-fill fs t ready ks).0,
         subst (λ (W : World). HasProof W (map erased_reference E) x) (sym view-is)

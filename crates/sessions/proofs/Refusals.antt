@@ -15,7 +15,7 @@ use Rattle.infer_table.specs.Responses.{AnswerTrees}
 use Rattle.infer_table.specs.Solutions.{Assignment, IsSorted, instance}
 use Rattle.infer_table.specs.declared.certainty.TypingMode.TheVariants.{Coherence}
 use Rattle.solver_context.specs.Roots.{fact_under}
-use Rattle.assembly_laws.specs.Meaning.{Meaning, LinkedWith, SelfTypesBegin, Place, by_view, in_set, proved_at}
+use Rattle.assembly_laws.specs.Meaning.{ViewMeaning, LinkedWith, SelfTypesBegin, SolutionPlace, by_view, in_set, proved_at}
 use Rattle.assembly_laws.specs.Solver.{solver_handled}
 use Rattle.overlap_check.specs.Verdicts.{placed}
 use Rattle.overlap_check.specs.Questions.{FitKinds, filled, filled_reference, SolutionBy, Solution}
@@ -63,7 +63,7 @@ module _ (applicable : AnswerTrees → Bool) (same : AnswerTrees → AnswerTrees
   abbrev f : CanonicalForm
   f = canonical_form g
 
-  module _ (m : Meaning) (view : erased_world m.view ≡ rules_seen_from d q.asker) (crate : m.crate ≡ q.asker) where
+  module _ (m : ViewMeaning) (view : erased_world m.view ≡ rules_seen_from d q.asker) (crate : m.crate ≡ q.asker) where
     -- in no world of the solver has the question a proof, whatever stands for its unknowns
     abbrev Refused : Type 0
     Refused = let h = solver_handled applicable same m Coherence f in (x : h.World) (s : Assignment) → IsSorted s → h.Proves x (fact_under s g) → ⊥
@@ -72,7 +72,7 @@ module _ (applicable : AnswerTrees → Bool) (same : AnswerTrees → AnswerTrees
     ks = variable_kinds q
 
     -- closed terms for the question's variables, by the text's numbers, with which it is proved in one of the solver's places
-    module _ (refused : Refused) (p : Place m) (ts : List Trees) (fit : FitKinds ks ts) (shut : Every (λ t. IsTrue (is_closed t)) ts) where
+    module _ (refused : Refused) (p : SolutionPlace m) (ts : List Trees) (fit : FitKinds ks ts) (shut : Every (λ t. IsTrue (is_closed t)) ts) where
       abbrev S : Assignment
       S = given ks ts
 

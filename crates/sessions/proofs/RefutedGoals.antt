@@ -11,7 +11,7 @@ use Rattle.type_terms.specs.Answers.{is_closed}
 use Rattle.type_terms.specs.Renumbering.{View, Renumbering, HoldsView, renumbered, renumbered_reference}
 use Rattle.type_terms.specs.LinkedSet.{LinkedSet}
 use Rattle.type_terms.proofs.RenumberedTrees.{inverse, back, map-back}
-use Rattle.assembly_laws.specs.Meaning.{Meaning, LinkedWith, SelfTypesBegin, Place, by_view, in_set, proved_at}
+use Rattle.assembly_laws.specs.Meaning.{ViewMeaning, LinkedWith, SelfTypesBegin, SolutionPlace, by_view, in_set, proved_at}
 use Rattle.overlap_check.specs.Verdicts.{placed}
 use Rattle.overlap_check.specs.Questions.{FitKinds, filled_reference, SolutionBy, Solution, IsRefuted}
 use Rattle.overlap_check.proofs.Filling.{over-filled-reference, over-fit, over-each-closed}
@@ -29,10 +29,10 @@ same-placed : (V W : World) (a b : ℕ) (ρ : Renumbering) → V ≡ W → a ≡
 same-placed V W a b ρ e f = cc
 
 -- the goal, with unknowns of these kinds, by what crate c sees of the text
-module _ (d : Declarations) (c : ℕ) (m : Meaning) (view : erased_world m.view ≡ rules_seen_from d c) (crate : m.crate ≡ c) (ks : List Sort) (g : Reference) where
+module _ (d : Declarations) (c : ℕ) (m : ViewMeaning) (view : erased_world m.view ≡ rules_seen_from d c) (crate : m.crate ≡ c) (ks : List Sort) (g : Reference) where
   -- with no closed terms for its unknowns it is proved in one of the solver's places
   abbrev pub IsUnproved : Type 0
-  IsUnproved = (p : Place m) (ts : List Trees) → FitKinds ks ts → Every (λ t. IsTrue (is_closed t)) ts → proved_at p (filled_reference ks ts g) → ⊥
+  IsUnproved = (p : SolutionPlace m) (ts : List Trees) → FitKinds ks ts → Every (λ t. IsTrue (is_closed t)) ts → proved_at p (filled_reference ks ts g) → ⊥
 
   -- by the view alone
   unproved-alone : IsUnproved → SelfTypesBegin m.view → SolutionBy (HasElaboratedProof (view_in d c) []) ks g → ⊥

@@ -30,11 +30,11 @@ use Rattle.goal_frames.specs.declared.store.InputId.{InputId}
 use Rattle.goal_frames.specs.declared.store.ResponseId.{ResponseId}
 use Rattle.solver_context.specs.Changes.{changed}
 use Rattle.solver_context.specs.Contexts.{entries_of}
-use Rattle.solver_context.specs.Roots.{fact_under, IsProved}
+use Rattle.solver_context.specs.Roots.{fact_under, SolutionsAreProved}
 use Rattle.solver_context.specs.Shortages.{RootRunsOut, form, answer}
 use Rattle.solver_context.specs.declared.context.SolverCx.{SolverCx}
 use Rattle.goal_frames.specs.Meanings.{HandlerMeaning}
-use Rattle.sessions.specs.Settling.{m, HasAsked, IsProvedBy, RunsOut, SomeAskingRunsOut}
+use Rattle.sessions.specs.Settling.{m, HasAsked, IsProvedBy, AskingRunsOut, SomeAskingRunsOut}
 
 -- ---- answers that are no definite yes
 values-true : (b : Bool) → changed b ≡ Changed.Yes → b ≡ true
@@ -113,17 +113,17 @@ module _ {Handler : Type 0} (handler : HandlerMeaning Handler) where
       → Asked f ks c t g ls d u → IsProvedBy handler x d u e v q → IsProvedBy handler w c t e v q
   proved-further w x same f g ks ls c d e t u v q held a p = λ no clean s solves.
       let trees : goal_trees (entries_of d) q ≡ goal_trees (entries_of c) q = goal-trees-later (entries_of c) (entries_of d) a.entries q held in
-      subst (λ z. Lists.HasProof Fact (handler.goals.Rule z) (handler.goals.coinductive z) (fact_under s (goal_trees (entries_of c) q))) same
-      (subst (λ z. Lists.HasProof Fact (handler.goals.Rule x) (handler.goals.coinductive x) (fact_under s z)) trees
+      subst (λ z. Lists.FactHasProof Fact (handler.goals.Rule z) (handler.goals.coinductive z) (fact_under s (goal_trees (entries_of c) q))) same
+      (subst (λ z. Lists.FactHasProof Fact (handler.goals.Rule x) (handler.goals.coinductive x) (fact_under s z)) trees
       (p (a.clean no) (subst IsWithoutCanonical (sym trees) clean) s solves))
 
   -- ---- one asking
   pub proved-once : (w : handler.goals.World) (c d : SolverCx Handler) (t u : Table) (q : Goal) → ((s : Assignment) → Solves s (content (entries_of d) u.values) → Solves s (content (entries_of c) t.values))
-      → IsProved (handler.goals.Rule w) (handler.goals.coinductive w) (entries_of c) t q → IsProvedBy handler w c t d u q
+      → SolutionsAreProved (handler.goals.Rule w) (handler.goals.coinductive w) (entries_of c) t q → IsProvedBy handler w c t d u q
   proved-once w c d t u q narrows p = λ no clean s solves. p (resolving-keeps-out (content (entries_of c) t.values) (goal_trees (entries_of c) q) no clean) s (narrows s solves)
 
   -- ---- shortages
-  pub first-out : (g : SearchState) (ks : List (KnownResult InputId (Option ResponseId))) (c d : SolverCx Handler) (t : Table) (q : Goal) → Keeps (entries_of c) (entries_of d) → RunsOut handler c g t q
+  pub first-out : (g : SearchState) (ks : List (KnownResult InputId (Option ResponseId))) (c d : SolverCx Handler) (t : Table) (q : Goal) → Keeps (entries_of c) (entries_of d) → AskingRunsOut handler c g t q
       → SomeAskingRunsOut handler g ks c t q d
   first-out g ks c d t q k h = record { graph_then = g; known_then = ks; context_then = c; table_then = t; asked = asked-nothing g ks c t; runs_out = h; known = k }
 

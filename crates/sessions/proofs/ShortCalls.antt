@@ -20,7 +20,7 @@ use Rattle.goal_frames.specs.Meanings.{HandlerMeaning}
 use Rattle.goal_frames.specs.declared.store.InputId.{InputId}
 use Rattle.goal_frames.specs.declared.store.ResponseId.{ResponseId}
 use Rattle.solver_context.specs.Contexts.{entries_of}
-use Rattle.solver_context.specs.Searching.{IsFull}
+use Rattle.solver_context.specs.Searching.{ContextIsFull}
 use Rattle.solver_context.specs.Shortages.{interner, store, variables}
 use Rattle.solver_context.specs.declared.context.SolverCx.{SolverCx}
 use Rattle.solver_context.specs.declared.outcome.GoalEvaluation.{GoalEvaluation}
@@ -50,7 +50,7 @@ module _ {Handler : Type 0} (handler : HandlerMeaning Handler) where
 
   -- an asking has no numbers
   pub short-when-settling : (graph : SearchState) (ks : List (KnownResult InputId (Option ResponseId))) (c : SolverCx Handler) (t : Table) (g : Goal) (d : SolverCx Handler)
-      → IsFull handler d ⊎ SomeAskingRunsOut handler graph ks c t g d → IsShort handler d
+      → ContextIsFull handler d ⊎ SomeAskingRunsOut handler graph ks c t g d → IsShort handler d
   short-when-settling graph ks c t g d (inl h) = inl h
   short-when-settling graph ks c t g d (inr h) =
       inr (record { mode = PostAnalysis; graph_then = h.graph_then; context_then = h.context_then; table_then = h.table_then; goal = g; known = h.known; runs_out = h.runs_out })

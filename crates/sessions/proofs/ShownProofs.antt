@@ -8,7 +8,7 @@ use Rattle.type_terms.specs.Worlds.{World, Reference, ImplDecl}
 use Rattle.type_terms.specs.Terms.{Entry, Keeps}
 use Rattle.type_terms.proofs.ProofEntries.{map-in}
 use Rattle.term_folds.specs.declared.predicate.TraitRef.{TraitRef}
-use Rattle.declarations.specs.Applied.{AllHeld}
+use Rattle.declarations.specs.Applied.{TraitRefsHeld}
 use Rattle.declarations.specs.Held.{ReferenceHeld}
 use Rattle.declarations.specs.Items.{Items, HeldImpl, reference_in, impl_in, declared}
 use Rattle.declarations.specs.Merges.{Each}
@@ -21,7 +21,7 @@ use Rattle.solver_context.specs.declared.context.SolverCx.{SolverCx}
 use Rattle.candidate_assembly.specs.declared.solver.Solver.{Solver}
 use Rattle.infer_table.specs.Content.{content}
 use Rattle.overlap_check.specs.Questions.{filled, filled_reference}
-use Rattle.proof_checker.specs.Steps.{term_of, terms_of, AreCovered, AreProofOf, StepHeld}
+use Rattle.proof_checker.specs.Steps.{term_of, terms_of, ParametersAreCovered, AreProofOf, StepHeld}
 use Rattle.proof_checker.proofs.Later.{terms-same}
 use Rattle.proof_checker.proofs.Moved.{proof-before}
 use Rattle.proof_checker.specs.declared.steps.Step.{Step}
@@ -31,7 +31,7 @@ use Rattle.view_lowering.specs.QuestionVariables.{variable_kinds}
 use Rattle.view_lowering.specs.Questions.{IsQuestion}
 use Rattle.view_lowering.specs.Seen.{rules_seen_from}
 use Rattle.candidate_assembly.specs.Solving.{Solving}
-use Rattle.sessions.specs.Checking.{IsReadySolver, SolverAdvances, rules_in}
+use Rattle.sessions.specs.Checking.{IsReadySolver, SolverStaysReady, rules_in}
 use Rattle.sessions.specs.Promises.{view_in}
 use Rattle.sessions.specs.Sessions.{IsSolvingOf}
 use Rattle.sessions.specs.Shown.{AreProofOfQuestion, IsResolved, IsShown}
@@ -75,13 +75,13 @@ module _ (d : Declarations) (text : IsOfText d) (n : ℕ) (q : Question) (is : I
 
 -- ---- what is declared
 -- the impls that are written well have their parameters in their headers
-pub covered-of : (es : List Entry) (d : Items) → AreWrittenWell es d → AreCovered es d
+pub covered-of : (es : List Entry) (d : Items) → AreWrittenWell es d → ParametersAreCovered es d
 covered-of es d h i j =
     let m = map-in (λ (x : HeldImpl). impl_in es x.id x.def) d.impls i j in
     subst (λ (x : ImplDecl). IsCovered (erased_impl x)) m.2 ((each-in (λ (x : HeldImpl). IsWrittenWell es x.def × HeaderHoldsParams es x.def) d.impls h m.0 m.1).0.covered m.0.id)
 
 -- ---- contexts
-pub rules-later : (c e : SolverCx Solver) → IsReadySolver c → SolverAdvances c e → rules_in e ≡ rules_in c
+pub rules-later : (c e : SolverCx Solver) → IsReadySolver c → SolverStaysReady c e → rules_in e ≡ rules_in c
 rules-later c e ready a =
     ap (λ (h : Solver). declared (entries_of e) h.declarations) a.handler ∙ all-declared (entries_of c) (entries_of e) a.entries c.handler.declarations ready.handler.held
 
@@ -95,7 +95,7 @@ shown-before es fs k W V E F r x ss held w e t h = record {
 }
 
 -- what was checked in a later context, of the reference with values there
-pub shown-under : (c d e : SolverCx Solver) → IsReadySolver c → SolverAdvances c d → SolverAdvances d e → (cs : List TraitRef) → AllHeld (entries_of c) cs → (r : TraitRef) → ReferenceHeld (entries_of c) r
+pub shown-under : (c d e : SolverCx Solver) → IsReadySolver c → SolverStaysReady c d → SolverStaysReady d e → (cs : List TraitRef) → TraitRefsHeld (entries_of c) cs → (r : TraitRef) → ReferenceHeld (entries_of c) r
     → (ss : List Step) → Each (StepHeld (entries_of c)) ss → (x : TraitRef) → IsResolved (reference_in (entries_of d) r) (reference_in (entries_of e) x)
     → AreProofOf (entries_of e) (rules_in e) (terms_of (entries_of e) cs) (term_of (entries_of e) x) ss → IsShown (entries_of c) (rules_in c) (terms_of (entries_of c) cs) (reference_in (entries_of c) r) ss
 shown-under c d e ready a b cs held r asked ss steps x resolved proof =

@@ -39,7 +39,7 @@ use Rattle.sessions.specs.Proving.{IsGoalAnswered}
 use Rattle.sessions.specs.Releases.{StopsIn, asked_supers, given_clauses}
 use Rattle.sessions.specs.Sessions.{IsSolvingOf}
 use Rattle.sessions.specs.Subjects.{IsOfText}
-use Rattle.sessions.specs.Supertraits.{AreOfImpl, HasNoOwn, IsCheckedAt, IsFirstTold, IsHeaderTold, IsHeldAt, IsTold, SupertraitsAreTold, opaque_clauses, outcome_of}
+use Rattle.sessions.specs.Supertraits.{AreOfImpl, HasNoOwn, IsCheckedAt, IsFirstTold, IsHeaderTold, IsHeldAt, SolverTells, SupertraitsAreTold, opaque_clauses, outcome_of}
 use Rattle.sessions.specs.Values.{values_in}
 use Rattle.sessions.specs.declared.answers.ProveAnswer.{ProveAnswer}
 use Rattle.sessions.specs.declared.answers.ProveAnswer.TheVariants.{Yes, Unproved as IsUnproved, Maybe as IsMaybe}
@@ -160,7 +160,7 @@ module _ (d : Declarations) (text : IsOfText d) (c : ℕ) (items : List Entry) (
           ∙ sym (stays-so (values_in (content fs t.values) []))
 
       -- what it proves has a proof
-      told-proved : IsTold s depth F r Proved → HasProof U own (erased_reference r)
+      told-proved : SolverTells s depth F r Proved → HasProof U own (erased_reference r)
       told-proved t = by t.answer t.outcome t.answered
         where
           by : (a : ProveAnswer) → outcome_of a ≡ Proved → IsGoalAnswered s depth [] (goal_of F r) [] t.entries a → HasProof U own (erased_reference r)
@@ -171,7 +171,7 @@ module _ (d : Declarations) (text : IsOfText d) (c : ℕ) (items : List Entry) (
           by IsMaybe e h = absurd cc
 
       -- and what it does not prove is not determinate
-      told-unproved : IsTold s depth F r Unproved → IsDeterminate depth U own (erased_reference r) → ⊥
+      told-unproved : SolverTells s depth F r Unproved → IsDeterminate depth U own (erased_reference r) → ⊥
       told-unproved t x = by t.answer t.outcome t.answered
         where
           by : (a : ProveAnswer) → outcome_of a ≡ Unproved → IsGoalAnswered s depth [] (goal_of F r) [] t.entries a → ⊥
@@ -179,7 +179,7 @@ module _ (d : Declarations) (text : IsOfText d) (c : ℕ) (items : List Entry) (
           by IsUnproved e h = refused-unproved d text c s of E r (super-as-written d text c items decls seen i stands r among) [] depth x.0.1 h x.1
           by IsMaybe e h = absurd cc
 
-      told-maybe : IsTold s depth F r Maybe → IsDeterminate depth U own (erased_reference r) → ⊥
+      told-maybe : SolverTells s depth F r Maybe → IsDeterminate depth U own (erased_reference r) → ⊥
       told-maybe t x = by t.answer t.outcome t.answered
         where
           by : (a : ProveAnswer) → outcome_of a ≡ Maybe → IsGoalAnswered s depth [] (goal_of F r) [] t.entries a → ⊥
@@ -207,7 +207,7 @@ module _ (d : Declarations) (text : IsOfText d) (c : ℕ) (items : List Entry) (
     clauses-are : map opaque_reference (map erased_reference i.clauses) ≡ own
     clauses-are = map-two opaque_reference erased_reference erased_reference opaque_reference reference-opaque-erased i.clauses
 
-    all-hold : Every (λ r. IsTold s depth (elaborate V E) r Proved) (supertraits V header) → SupersHold U (erased_impl i)
+    all-hold : Every (λ r. SolverTells s depth (elaborate V E) r Proved) (supertraits V header) → SupersHold U (erased_impl i)
     all-hold h =
         subst (λ G. Every (HasProof U G) (strict_supertraits U (opaque_reference (erased_reference i.header)))) (sym clauses-are)
         (subst (Every (HasProof U own)) (sym supers-are)
@@ -215,17 +215,17 @@ module _ (d : Declarations) (text : IsOfText d) (c : ℕ) (items : List Entry) (
         (λ x j.
         let m = map-in erased_reference (strict_supertraits V header) x j in
         let k = strict-among V well.rank well.acyclic header m.0 m.1 in
-        subst (λ z. HasProof U own z) m.2 (told-proved m.0 k (every-in (λ r. IsTold s depth (elaborate V E) r Proved) (supertraits V header) h m.0 k)))))
+        subst (λ z. HasProof U own z) m.2 (told-proved m.0 k (every-in (λ r. SolverTells s depth (elaborate V E) r Proved) (supertraits V header) h m.0 k)))))
 
     -- up to one
-    before-hold : (n : ℕ) → Every (λ r. IsTold s depth (elaborate V E) r Proved) (take n (supertraits V header)) → Every (HasProof U own) (take n (map erased_reference (supertraits V header)))
+    before-hold : (n : ℕ) → Every (λ r. SolverTells s depth (elaborate V E) r Proved) (take n (supertraits V header)) → Every (HasProof U own) (take n (map erased_reference (supertraits V header)))
     before-hold n h =
         subst (Every (HasProof U own)) (sym (take-map erased_reference n (supertraits V header)))
         (every-of (HasProof U own) (map erased_reference (take n (supertraits V header)))
         (λ x j.
         let m = map-in erased_reference (take n (supertraits V header)) x j in
         subst (λ z. HasProof U own z) m.2
-        (told-proved m.0 (in-take n (supertraits V header) m.0 m.1) (every-in (λ r. IsTold s depth (elaborate V E) r Proved) (take n (supertraits V header)) h m.0 m.1))))
+        (told-proved m.0 (in-take n (supertraits V header) m.0 m.1) (every-in (λ r. SolverTells s depth (elaborate V E) r Proved) (take n (supertraits V header)) h m.0 m.1))))
 
   -- ---- an impl of the text
   module _ (k : ℕ) (x : ImplDecl) (shown : In x (view_of (world_of d) c).impls) (named : x.name ≡ k) (at_home : x.home ≡ c) where
@@ -245,7 +245,7 @@ module _ (d : Declarations) (text : IsOfText d) (c : ℕ) (items : List Entry) (
     clauses-given = map-over erased_reference opaque_reference (plain_reference (stands_in x.header.args)) (λ r. erased_reference (opaque_reference r)) (plain-opaque (stands_in x.header.args)) x.clauses
 
     module _ (n : ℕ) (o : Outcome) (h : IsFirstTold s depth (elaborate V (opaque_clauses decl)) supers n o)
-        (never : (r : Reference) → In r supers → IsTold s depth (elaborate V (opaque_clauses decl)) r o → IsDeterminate depth U (map erased_reference (opaque_clauses decl)) (erased_reference r) → ⊥) where
+        (never : (r : Reference) → In r supers → SolverTells s depth (elaborate V (opaque_clauses decl)) r o → IsDeterminate depth U (map erased_reference (opaque_clauses decl)) (erased_reference r) → ⊥) where
       stops : StopsIn depth d c k n
       stops = record {
         found = x;

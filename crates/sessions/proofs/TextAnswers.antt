@@ -17,12 +17,12 @@ use Rattle.infer_table.specs.Responses.{AnswerTrees}
 use Rattle.infer_table.specs.Solutions.{Assignment, IsSorted}
 use Rattle.infer_table.specs.declared.certainty.TypingMode.{TypingMode}
 use Rattle.infer_table.specs.declared.certainty.TypingMode.TheVariants.{Coherence, PostAnalysis}
-use Rattle.evaluation.specs.Content.{Values, Question, Fact, fact_of}
+use Rattle.evaluation.specs.Content.{Values, NestedQuestion, Fact, fact_of}
 use Rattle.evaluation.specs.Instances.{default_label}
 use Rattle.evaluation.specs.Tables.{frame_tables}
 use Rattle.goal_frames.specs.Handlers.{same_answer, applies_always}
 use Rattle.goal_frames.specs.Programs.{ArePrograms}
-use Rattle.goal_frames.specs.Searches.{Handles, Asked}
+use Rattle.goal_frames.specs.Searches.{Handles, GoalInMode}
 use Rattle.goal_frames.proofs.HandlerPrograms.{handlers-are-programs}
 use Rattle.declarations.specs.Elaboration.{elaborate}
 use Rattle.declarations.specs.Items.{Items, written}
@@ -30,7 +30,7 @@ use Rattle.text_definitions.specs.Declarations as text
 use Rattle.text_definitions.specs.Text.{TextGives}
 use Rattle.assembly_laws.specs.DeclaredWell.{IsDeclaredWell, is_declared_well}
 use Rattle.assembly_laws.specs.Facts.{clauses_of, reference_in}
-use Rattle.assembly_laws.specs.Meaning.{Meaning, SelfTypesBegin}
+use Rattle.assembly_laws.specs.Meaning.{ViewMeaning, SelfTypesBegin}
 use Rattle.assembly_laws.proofs.DeclaredWell.{tests-tell}
 use Rattle.assembly_laws.proofs.ErasedCandidates.{without_lifetimes}
 use Rattle.assembly_laws.proofs.Stack.{elaborated-all, elaborated-only}
@@ -47,7 +47,7 @@ use Rattle.solver_exactness.specs.SolverAnswers.{solver_programs, TellsPossible}
 use Rattle.solver_exactness.specs.SolverChoices.{IsElaborated}
 use Rattle.solver_exactness.specs.SolverWays.{facts_beside, premises_of}
 use Rattle.solver_exactness.specs.UnboundGoals.{is_unbound}
-use Rattle.solver_exactness.specs.Ways.{IsDecided}
+use Rattle.solver_exactness.specs.Ways.{HasOneWayWithin}
 use Rattle.solver_exactness.proofs.FormedAnswers.{formed-searches-are-right, formed-tells-possible}
 use Rattle.solver_exactness.proofs.ModelWays.{single_way_is_decided}
 use Rattle.solver_exactness.proofs.Once.{elaborated-once}
@@ -56,7 +56,7 @@ use Rattle.solver_exactness.proofs.UnboundGoals.{unbound-are-admitted}
 use Rattle.sessions.specs.Answers.{solver_goals, IsOnlyAnswer, IsRightOf, AreAnsweredRight, AreAnsweredAsWritten, AreToldPossible}
 use Rattle.sessions.specs.Clauses.{AddSupertraits}
 use Rattle.sessions.specs.Fitting.{sorts_in, fits_in}
-use Rattle.sessions.specs.Goals.{goal_of, are_fixed, IsFormedQuestion, AsksFor}
+use Rattle.sessions.specs.Goals.{goal_of, are_fixed, IsFormedQuestion, AsksUnderClauses}
 use Rattle.sessions.specs.Questions.{IsFormedAsWritten}
 use Rattle.sessions.proofs.AskedGoals.{formed-question}
 use Rattle.sessions.proofs.Clauses.{supertraits-prove-no-more}
@@ -69,7 +69,7 @@ use Rattle.sessions.proofs.SeenPlainly.{seen-erased}
 use Rattle.sessions.proofs.WithoutLifetimes.{FieldsAreErased, rules-same}
 
 -- what declarations mean: the solver decides the goals that fit them
-abbrev meaning_in : Solving → Meaning
+abbrev meaning_in : Solving → ViewMeaning
 meaning_in s = record { view = s.view; crate = s.crate; is_sound = is_declared_well s.view }
 
 programs : ArePrograms frame_tables (solver_programs applies_always same_answer meaning_in fits_in)
@@ -89,7 +89,7 @@ are-sorted of_lifetime v = refl
 moved : (P : List Reference → Reference → Type 0) (E F : List Reference) (r s : Reference) → E ≡ F → r ≡ s → P E r → P F s
 moved P E F r s e f h = subst (λ z. P z s) e (subst (P E) f h)
 
-module _ {C I R F : Type 0} (handles : Handles C I R F Solving (Asked frame_tables solver_goals) (Option AnswerTrees)) where
+module _ {C I R F : Type 0} (handles : Handles C I R F Solving (GoalInMode frame_tables solver_goals) (Option AnswerTrees)) where
   module _ (bytes : List ℕ) (d : text.Declarations) (h : TextGives bytes (Ok d)) (c : ℕ) (es : List Entry) (decls : Items) (seen : AreSeen es decls d c) where
     abbrev V : World
     V = written es decls
@@ -116,7 +116,7 @@ module _ {C I R F : Type 0} (handles : Handles C I R F Solving (Asked frame_tabl
     declared mode = record { sound = well-test; well = well; formed = formed; admitted = unbound-are-admitted (meaning_in w) mode (fits_in w) sorts well (sorts-tell es decls formed) }
 
     module _ (E : List Reference) (r : Reference) (q : IsFormedQuestion V sorts E r) where
-      abbrev asked : Question
+      abbrev asked : NestedQuestion
       asked = question_of (goal_of E r)
 
       abbrev values : Values
@@ -125,7 +125,7 @@ module _ {C I R F : Type 0} (handles : Handles C I R F Solving (Asked frame_tabl
       abbrev f : Fact
       f = fact_of asked values
 
-      goal : IsFormedGoal V sorts is_unbound asked values × AsksFor E r some-terms
+      goal : IsFormedGoal V sorts is_unbound asked values × AsksUnderClauses E r some-terms
       goal = formed-question V sorts formed E r q some-terms are-sorted
 
       back : (P : List Reference → Reference → Type 0) → P (clauses_of f.goal.environment) (reference_in f) → P (map erased_reference E) (erased_reference r)
@@ -198,7 +198,7 @@ module _ {C I R F : Type 0} (handles : Handles C I R F Solving (Asked frame_tabl
           (subst (λ n. hits (λ s. is (erased_reference s)) all ≤ n) (sym (hits-map is erased_reference (elaborated V E)))
           (hits-fewer all (elaborated V E) (elaborated-once V E) all-levels (λ s. is (erased_reference s)))))
 
-      is-decided : (n : ℕ) → SingleWay n V own (erased_reference r) → IsDecided (direct_under V more) (HasProof V more) n (erased_reference r)
+      is-decided : (n : ℕ) → SingleWay n V own (erased_reference r) → HasOneWayWithin (direct_under V more) (HasProof V more) n (erased_reference r)
       is-decided n single = direct-decided V own more closed no-more no-more-clauses n (erased_reference r) (single_way_is_decided V own n (erased_reference r) single)
 
       as-written : (a : Option AnswerTrees) → IsRightOf V more (erased_reference r) a → IsRightOf V own (erased_reference r) a
@@ -212,7 +212,7 @@ module _ {C I R F : Type 0} (handles : Handles C I R F Solving (Asked frame_tabl
         as-written E r q a
         (back all r x (λ F s. IsRightOf V F s a)
         (directly-right applies_always same_answer meaning_in fits_in handles programs w sorts is_unbound (declared PostAnalysis) V (λ f h. refl) n limit (asked all r x) (values all r x) a l (goal all r x).0
-        (decided-directly V n (f all r x) (there all r x (λ F s. IsDecided (direct_under V F) (HasProof V F) n s) (is-decided E r q n single))) only))
+        (decided-directly V n (f all r x) (there all r x (λ F s. HasOneWayWithin (direct_under V F) (HasProof V F) n s) (is-decided E r q n single))) only))
 
     -- ---- and by what rules are read from, without lifetimes
     module _ (begin : SelfTypesBegin V) (cs : List CrateDecl) where
@@ -275,7 +275,7 @@ module _ {C I R F : Type 0} (handles : Handles C I R F Solving (Asked frame_tabl
         few-so : (x : Reference) → hits (λ s. same_reference s x) (more E r q) ≤ hits (λ s. same_reference s x) (elaborated U (own E r q))
         few-so x = subst (λ zs. hits (λ s. same_reference s x) (more E r q) ≤ hits (λ s. same_reference s x) zs) (sym (levels-same (own E r q))) (no-more-clauses E r q x)
 
-        decided-so : (n : ℕ) → SingleWay n U (own E r q) (erased_reference r) → IsDecided (direct_under U (more E r q)) (HasProof U (more E r q)) n (erased_reference r)
+        decided-so : (n : ℕ) → SingleWay n U (own E r q) (erased_reference r) → HasOneWayWithin (direct_under U (more E r q)) (HasProof U (more E r q)) n (erased_reference r)
         decided-so n single =
             direct-decided U (own E r q) (more E r q) closed-so no-more-so few-so n (erased_reference r) (single_way_is_decided U (own E r q) n (erased_reference r) single)
 
@@ -291,7 +291,7 @@ module _ {C I R F : Type 0} (handles : Handles C I R F Solving (Asked frame_tabl
             as-written-so a
             (back all r x (λ F s. IsRightOf U F s a)
             (directly-right applies_always same_answer meaning_in fits_in handles programs w sorts is_unbound (declared PostAnalysis) U ways-same n limit (asked all r x) (values all r x) a l (goal all r x).0
-            (decided-directly U n (f all r x) (there all r x (λ F s. IsDecided (direct_under U F) (HasProof U F) n s) (decided-so n single))) only))
+            (decided-directly U n (f all r x) (there all r x (λ F s. HasOneWayWithin (direct_under U F) (HasProof U F) n s) (decided-so n single))) only))
 
   pub texts-are-answered : OfTexts (AreAnsweredRight handles)
   texts-are-answered bytes d h c es decls seen = answered-right bytes d h c es decls seen

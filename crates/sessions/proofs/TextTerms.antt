@@ -27,7 +27,7 @@ use Rattle.assembly_laws.specs.Asking.{next_of}
 use Rattle.assembly_laws.specs.DeclaredWell.{are_distinct}
 use Rattle.solver_exactness.specs.GoalSets.{begins_typed}
 use Rattle.solver_exactness.specs.RowWays.{autos_stand_once}
-use Rattle.solver_exactness.specs.FormedFacts.{EachNode, AreTypes}
+use Rattle.solver_exactness.specs.FormedFacts.{EachNode, AreTypeSorts}
 
 -- ---- what is declared, and of which crates it is seen
 pub record Scope : Type 0 where
@@ -49,8 +49,8 @@ module _ (e : Scope) where
   TextNode (principal n t) c = IsTraitAt t (of_type ∷ sorts_of c)
   TextNode (auto_trait t) c = IsTraitAt t (of_type ∷ [])
   TextNode (predicate k) c = ⊥
-  TextNode tuple c = AreTypes (sorts_of c)
-  TextNode (fn_ptr n) c = AreTypes (sorts_of c)
+  TextNode tuple c = AreTypeSorts (sorts_of c)
+  TextNode (fn_ptr n) c = AreTypeSorts (sorts_of c)
   TextNode (raw_pointer b) c = begins_typed c ≡ true
   TextNode array c = begins_typed c ≡ true
   TextNode slice c = begins_typed c ≡ true
@@ -73,7 +73,7 @@ begins-by : (x o : Trees) → sorts_of x ≡ of_type ∷ [] → begins_typed (x 
 begins-by none o e = absurd cc
 begins-by (tree l c p) o e = ap (λ s. is_sort s of_type) (head-is (sort_of l) of_type (sorts_of p) [] e)
 
-are-types-append : (xs ys : List Sort) → AreTypes xs → AreTypes ys → AreTypes (xs ++ ys)
+are-types-append : (xs ys : List Sort) → AreTypeSorts xs → AreTypeSorts ys → AreTypeSorts (xs ++ ys)
 are-types-append [] ys h g = g
 are-types-append (x ∷ xs) ys h g = (h.0, are-types-append xs ys h.1 g)
 
@@ -329,11 +329,11 @@ module _ (d : Declarations) (l : Line) (first c : ℕ) (parameter : Sort → ℕ
       ∙ ap (λ x. x ++ sorts_of (args_trees means s ks args)) (arg-sorts s k a f.0 (first-seen (arg_uses D s k a) (args_uses D s ks args) h).0)
       ∙ ap (λ x. k ∷ x) (args-sorts s ks args f.1 (omega (arith, e)) (rest-seen (arg_uses D s k a) (args_uses D s ks args) h))
 
-  types-sorts : (s : List (List (List ℕ))) (ts : Types) → ScalarTypes ts → AreTypes (sorts_of (types_trees means s ts))
+  types-sorts : (s : List (List (List ℕ))) (ts : Types) → ScalarTypes ts → AreTypeSorts (sorts_of (types_trees means s ts))
   types-sorts s no_types f = tt
   types-sorts s (and_type t ts) f =
-      subst AreTypes (sym (sorts-append (type_tree means s of_type t) (types_trees means s ts)))
-      (are-types-append (sorts_of (type_tree means s of_type t)) (sorts_of (types_trees means s ts)) (subst AreTypes (sym (type-sorts s t f.0)) (refl, tt)) (types-sorts s ts f.1))
+      subst AreTypeSorts (sym (sorts-append (type_tree means s of_type t) (types_trees means s ts)))
+      (are-types-append (sorts_of (type_tree means s of_type t)) (sorts_of (types_trees means s ts)) (subst AreTypeSorts (sym (type-sorts s t f.0)) (refl, tt)) (types-sorts s ts f.1))
 
   -- ---- nodes
   abbrev N : Trees → Type 0
@@ -503,8 +503,8 @@ module _ (d : Declarations) (l : Line) (first c : ℕ) (parameter : Sort → ℕ
       at-end none = refl
       at-end (tree m k o) = ap (λ z. tree m k z) (at-end o)
 
-  inputs : (s : List (List (List ℕ))) (ts : Types) → ScalarTypes ts → (o : Trees) → AreTypes (sorts_of o) → AreTypes (sorts_of (types_trees means s ts +++ o))
-  inputs s ts f o h = subst AreTypes (sym (sorts-append (types_trees means s ts) o)) (are-types-append (sorts_of (types_trees means s ts)) (sorts_of o) (types-sorts s ts f) h)
+  inputs : (s : List (List (List ℕ))) (ts : Types) → ScalarTypes ts → (o : Trees) → AreTypeSorts (sorts_of o) → AreTypeSorts (sorts_of (types_trees means s ts +++ o))
+  inputs s ts f o h = subst AreTypeSorts (sym (sorts-append (types_trees means s ts) o)) (are-types-append (sorts_of (types_trees means s ts)) (sorts_of o) (types-sorts s ts f) h)
 
   principal-nodes : (a : Bool) (n t : ℕ) (x : Trees) → IsTraitAt E t (of_type ∷ sorts_of x) → N x → N (if a then none else tree (principal n t) x none)
   principal-nodes true n t x h g = tt
@@ -537,7 +537,7 @@ module _ (d : Declarations) (l : Line) (first c : ℕ) (parameter : Sort → ℕ
         (inputs (b ∷ s) ts f (leaf tuple) (refl, tt), nodes-append (TextNode E) (types_trees means (b ∷ s) ts) (leaf tuple) (types-nodes (b ∷ s) ts f more) (tt, tt, tt), tt)
     type-nodes s (fn_to b ts r) f h =
         let more = tail-seen (items_use (types_count ts)) (types_uses D (b ∷ s) ts ++ type_uses D (b ∷ s) of_type r) (rest-seen (binder_uses s b) (items_use (types_count ts) ∷ (types_uses D (b ∷ s) ts ++ type_uses D (b ∷ s) of_type r)) h) in (
-          inputs (b ∷ s) ts f.0 (type_tree means (b ∷ s) of_type r) (subst AreTypes (sym (type-sorts (b ∷ s) r f.1)) (refl, tt)),
+          inputs (b ∷ s) ts f.0 (type_tree means (b ∷ s) of_type r) (subst AreTypeSorts (sym (type-sorts (b ∷ s) r f.1)) (refl, tt)),
           nodes-append (TextNode E) (types_trees means (b ∷ s) ts) (type_tree means (b ∷ s) of_type r)
               (types-nodes (b ∷ s) ts f.0 (first-seen (types_uses D (b ∷ s) ts) (type_uses D (b ∷ s) of_type r) more))
               (type-nodes (b ∷ s) r f.1 (rest-seen (types_uses D (b ∷ s) ts) (type_uses D (b ∷ s) of_type r) more)),

@@ -34,7 +34,7 @@ use Rattle.assembly_laws.proofs.DeclaredParts.{header-declared, clause-declared}
 use Rattle.assembly_laws.proofs.DeclaredWell.{tests-tell}
 use Rattle.assembly_laws.proofs.ErasedTerms.{declared-stays, erased-lifetimes}
 use Rattle.candidate_assembly.specs.Headers.{CanBeCandidate, var_kind}
-use Rattle.candidate_assembly.specs.Ready.{IsReady}
+use Rattle.candidate_assembly.specs.Ready.{AreReadyDeclarations}
 use Rattle.candidate_assembly.proofs.WellDeclared.{is-less}
 use Rattle.overlap_check.specs.Headers.{IsWithoutVariables}
 use Rattle.overlap_check.specs.OpenedHeaders.{is_param as is_label}
@@ -133,7 +133,7 @@ without : (t : Trees) → some_node is_stray t ≡ false → some_node is_variab
 without t e = is-false (some_node is_variable t) (λ f. false-true (sym e ∙ node-weaker is_variable is_stray stray t f))
 
 -- ---- an impl
-module _ (es : List Entry) (d : Items) (ready : IsReady es d) where
+module _ (es : List Entry) (d : Items) (ready : AreReadyDeclarations es d) where
   abbrev V : World
   V = written es d
 

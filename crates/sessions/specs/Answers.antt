@@ -14,7 +14,7 @@ use Rattle.evaluation.specs.Law.{IsYes}
 use Rattle.evaluation.specs.Tables.{frame_tables}
 use Rattle.goal_frames.specs.HandlerPrograms.{programs_of}
 use Rattle.goal_frames.specs.Programs.{Programs}
-use Rattle.goal_frames.specs.Searches.{Handles, Asked, meaning}
+use Rattle.goal_frames.specs.Searches.{Handles, GoalInMode, meaning}
 use Rattle.declarations.specs.Elaboration.{elaborate}
 use Rattle.declarations.specs.Items.{Items, written}
 use Rattle.candidate_assembly.specs.Fitting.{solving_of}
@@ -33,7 +33,7 @@ solver_goals = programs_of goals_by_view
 abbrev pub IsRightOf : World → List Reference → Reference → Option AnswerTrees → Type 0
 IsRightOf V E r a = (HasProof V E r × IsYes frame_tables a) ⊎ ((HasProof V E r → ⊥) × (a ≡ None))
 
-module _ {C I R F : Type 0} (handles : Handles C I R F Solving (Asked frame_tables solver_goals) (Option AnswerTrees)) where
+module _ {C I R F : Type 0} (handles : Handles C I R F Solving (GoalInMode frame_tables solver_goals) (Option AnswerTrees)) where
   -- plain recursion, in chains of fewer than `limit` questions, comes to no other answer
   abbrev pub IsOnlyAnswer : Solving → TypingMode → ℕ → GoalTrees → Option AnswerTrees → Type 0
   IsOnlyAnswer w mode limit g a = (b : Option AnswerTrees) → IsPlain (meaning frame_tables solver_goals handles) w limit (mode, canonical_form g) b → b ≡ a

@@ -13,7 +13,7 @@ use Rattle.evaluation.specs.Handler.{Handled}
 use Rattle.evaluation.specs.Tables.{frame_tables}
 use Rattle.search_graph.specs.Plain.{IsNotPlain}
 use Rattle.solver_context.specs.Contexts.{Asked}
-use Rattle.solver_context.specs.Evaluations.{IsFound}
+use Rattle.solver_context.specs.Evaluations.{IsFoundBySearch}
 use Rattle.solver_context.specs.Roots.{fact_under, left_by}
 use Rattle.solver_context.specs.Searching.{solver_meaning}
 use Rattle.goal_frames.specs.Meanings.{HandlerMeaning}
@@ -38,12 +38,12 @@ module _ {Handler : Type 0} (handler : HandlerMeaning Handler) where
   abbrev pub IsLeftOpen : handler.goals.World → ℕ → Reference → Type 0
   IsLeftOpen w depth r =
       let m = solver_meaning handler in
-      ((a : AnswerTrees) × IsFound m w depth (asked_alone r) (Some a)) ⊎ IsNotPlain m w (depth + 1) (asked_alone r)
+      ((a : AnswerTrees) × IsFoundBySearch m w depth (asked_alone r) (Some a)) ⊎ IsNotPlain m w (depth + 1) (asked_alone r)
 
   -- The search refuses the reference, or gives it an answer that a table in which no unknown has a value refuses.
   pub record IsRefusedAlone (w : handler.goals.World) (depth : ℕ) (r : Reference) : Type 0 where
     pub table : TableTrees
     pub no_values : table.bindings ≡ []
     pub answer : Option AnswerTrees
-    pub found : IsFound (solver_meaning handler) w depth (asked_alone r) answer
+    pub found : IsFoundBySearch (solver_meaning handler) w depth (asked_alone r) answer
     pub refused : left_by table (goal_alone r) answer ≡ None

@@ -9,9 +9,9 @@ use Rattle.type_terms.specs.Worlds.{World, ImplDecl}
 use Rattle.type_terms.specs.Terms.{Entry, Has, args_lists, trees_at}
 use Rattle.type_terms.specs.declared.ImplId.{ImplId}
 use Rattle.type_terms.specs.declared.TraitId.{TraitId}
+use Rattle.type_terms.specs.LinkedSet.{IsPair}
 use Rattle.declarations.specs.Heads.{label_of, head_of, same_self}
 use Rattle.overlap_check.specs.Heads.{open_flags}
-use Rattle.overlap_check.specs.Verdicts.{IsPair}
 use Rattle.sessions.specs.Promises.{view_in}
 use Rattle.sessions.specs.Subjects.{Subject}
 use Rattle.sessions.specs.declared.by_trait.ImplGroup.{ImplGroup}
@@ -38,7 +38,7 @@ abbrev pub HaveNumbers : List ℕ → List ImplId → Type 0
 HaveNumbers ns ids = (n : ℕ) → In n ns → HasNumber n ids
 
 -- The arguments are those of handle i without lifetimes, and nothing in that is open: no parameter, and no lifetime but `'static`.
-pub record AreClosed (es : List Entry) (i : ℕ) (args : Trees) : Type 0 where
+pub record AreClosedArguments (es : List Entry) (i : ℕ) (args : Trees) : Type 0 where
   pub held : Has es args_lists i
   pub are : args ≡ erase (trees_at es i)
   pub closed : bit_and (flags (trees_at es i)) open_flags ≡ 0
@@ -47,7 +47,7 @@ pub record AreClosed (es : List Entry) (i : ℕ) (args : Trees) : Type 0 where
 abbrev pub IsOwnGroup : List Entry → ImplDecl → ImplGroup → Type 0
 IsOwnGroup es y (OfTrait t) = ⊥
 IsOwnGroup es y (Open t h) = (t.index ≡ y.header.trait) × (option_map label_of h ≡ head_of y.header.args)
-IsOwnGroup es y (Closed r) = (r.def_id.index ≡ y.header.trait) × AreClosed es r.args.0 y.header.args
+IsOwnGroup es y (Closed r) = (r.def_id.index ≡ y.header.trait) × AreClosedArguments es r.args.0 y.header.args
 
 -- The impl is listed under its trait, and in a group of its own.
 pub record IsListed (es : List Entry) (m : ImplsByTrait) (y : ImplDecl) : Type 0 where

@@ -6,6 +6,7 @@ use Rattle.type_terms.specs.Answers.{CommonInstance}
 use Rattle.type_terms.specs.Terms.{Entry}
 use Rattle.type_terms.specs.declared.ImplId.{ImplId}
 use Rattle.type_terms.specs.declared.kinds.Ty.{Ty}
+use Rattle.type_terms.specs.LinkedSet.{IsPair}
 use Rattle.declarations.specs.Items.{Items, HeldImpl, declared}
 use Rattle.declarations.specs.declared.items.ImplDef.{ImplDef}
 use Rattle.declarations.specs.Merges.{Each}
@@ -14,13 +15,13 @@ use Rattle.orphan_check.specs.declared.errors.OrphanCheckErr.{OrphanCheckErr}
 use Rattle.overlap_check.specs.Orphans.{AreWrittenWell, IsFirstError}
 use Rattle.overlap_check.specs.Partners.{IsPairAt}
 use Rattle.overlap_check.specs.SessionLaws.{IsPassed}
-use Rattle.overlap_check.specs.Verdicts.{IsPair, IsOverlap}
+use Rattle.overlap_check.specs.Verdicts.{IsOverlap}
 use Rattle.overlap_check.specs.declared.intersection.ImplIntersection.{ImplIntersection}
 use Rattle.solver_context.specs.declared.context.SolverCx.{SolverCx}
 use Rattle.solver_context.specs.Contexts.{entries_of, IsReady as IsReadyContext, Advances}
 use Rattle.candidate_assembly.specs.declared.solver.Solver.{Solver}
 use Rattle.candidate_assembly.specs.Fitting.{solving_of}
-use Rattle.candidate_assembly.specs.Ready.{IsReady}
+use Rattle.candidate_assembly.specs.Ready.{AreReadyDeclarations}
 use Rattle.candidate_assembly.specs.Solving.{Solving}
 use Rattle.sessions.specs.Promises.{view_in}
 use Rattle.sessions.specs.Subjects.{Subject}
@@ -28,11 +29,11 @@ use Rattle.sessions.specs.Subjects.{Subject}
 -- ---- the solver's context
 -- The declarations that it solves by are ready, and all handles are its interner's.
 abbrev pub IsReadySolver : SolverCx Solver → Type 0
-IsReadySolver cx = IsReadyContext (λ (h : Solver) es. IsReady es h.declarations) cx
+IsReadySolver cx = IsReadyContext (λ (h : Solver) es. AreReadyDeclarations es h.declarations) cx
 
 -- It has grown, and stays ready.
-abbrev pub SolverAdvances : SolverCx Solver → SolverCx Solver → Type 0
-SolverAdvances old new = Advances (λ (h : Solver) es. IsReady es h.declarations) old new
+abbrev pub SolverStaysReady : SolverCx Solver → SolverCx Solver → Type 0
+SolverStaysReady old new = Advances (λ (h : Solver) es. AreReadyDeclarations es h.declarations) old new
 
 -- What it solves by.
 abbrev pub solving_in : SolverCx Solver → Solving
@@ -44,7 +45,7 @@ rules_in cx = declared (entries_of cx) cx.handler.declarations
 
 -- Impls that are ready are as a text writes them, and speak of no unknowns.
 abbrev pub ReadyAreWritten : Type 0
-ReadyAreWritten = (es : List Entry) (d : Items) → IsReady es d → AreWrittenWell es d × Each (λ (i : HeldImpl). IsWithoutVariables es i.def) d.impls
+ReadyAreWritten = (es : List Entry) (d : Items) → AreReadyDeclarations es d → AreWrittenWell es d × Each (λ (i : HeldImpl). IsWithoutVariables es i.def) d.impls
 
 -- ---- numbers
 -- A number is that of one impl alone.
@@ -87,9 +88,9 @@ IsPartnerOf limit V c n k None = (j : ℕ) → j < n → ArePassedAt V c k j
 IsPartnerOf limit V c n k (Some j) = IsOverlap limit V c k j.index
 
 -- The two that were found overlap; or all are passed.
-abbrev pub IsFirstOverlap : ℕ → World → ℕ → ℕ → Option (ImplId × ImplId) → Type 0
-IsFirstOverlap limit V c n None = (k j : ℕ) → k < n → j < n → ArePassedAt V c k j
-IsFirstOverlap limit V c n (Some x) = IsOverlap limit V c x.0.index x.1.index
+abbrev pub IsFoundOverlap : ℕ → World → ℕ → ℕ → Option (ImplId × ImplId) → Type 0
+IsFoundOverlap limit V c n None = (k j : ℕ) → k < n → j < n → ArePassedAt V c k j
+IsFoundOverlap limit V c n (Some x) = IsOverlap limit V c x.0.index x.1.index
 
 -- ---- the same of what a session asks about
 abbrev pub HasOrphan : Subject → List Entry → Option (ImplId × OrphanCheckErr Ty) → Type 0
@@ -102,4 +103,4 @@ abbrev pub HasPartner : Subject → ℕ → ℕ → Option ImplId → Type 0
 HasPartner s n k o = IsPartnerOf s.depth (view_in s.declarations s.of_crate) s.of_crate n k o
 
 abbrev pub HasOverlap : Subject → ℕ → Option (ImplId × ImplId) → Type 0
-HasOverlap s n o = IsFirstOverlap s.depth (view_in s.declarations s.of_crate) s.of_crate n o
+HasOverlap s n o = IsFoundOverlap s.depth (view_in s.declarations s.of_crate) s.of_crate n o

@@ -7,8 +7,8 @@ use Rattle.type_terms.specs.Rules.{elaborated}
 use Rattle.type_terms.specs.Proofs.{In, HasProof}
 
 -- bounds lead to traits of lower rank: no trait is among its own supertraits
-abbrev pub LeadDown : World → (ℕ → ℕ) → Type 0
-LeadDown V rank = (x : TraitDecl) (b : Reference) → In x V.traits → In b x.bounds → rank b.trait < rank x.name
+abbrev pub BoundsLeadDown : World → (ℕ → ℕ) → Type 0
+BoundsLeadDown V rank = (x : TraitDecl) (b : Reference) → In x V.traits → In b x.bounds → rank b.trait < rank x.name
 
 -- each of the second clauses is one of the first or one of their supertraits
 abbrev pub AddSupertraits : World → List Reference → List Reference → Type 0
@@ -16,7 +16,7 @@ AddSupertraits V E F = (x : Reference) → In x F → In x (elaborated V E)
 
 -- Clauses with their supertraits prove no more than the clauses, since rules read the supertraits themselves.
 abbrev pub SupertraitsProveNoMore : Type 0
-SupertraitsProveNoMore = (V : World) (rank : ℕ → ℕ) → LeadDown V rank → (E F : List Reference) → AddSupertraits V E F → (r : Reference) → HasProof V F r → HasProof V E r
+SupertraitsProveNoMore = (V : World) (rank : ℕ → ℕ) → BoundsLeadDown V rank → (E F : List Reference) → AddSupertraits V E F → (r : Reference) → HasProof V F r → HasProof V E r
 
 -- the arguments of the references and of their supertraits fit the bounds of their traits
 abbrev pub BoundsFit : World → List Reference → Type 0
@@ -25,5 +25,5 @@ BoundsFit W E = (r : Reference) → In r (elaborated W E) → (x : TraitDecl) �
 -- So it is without lifetimes where it is so with them.
 abbrev pub SupertraitsAreErased : Type 0
 SupertraitsAreErased =
-    (W : World) (rank : ℕ → ℕ) → LeadDown W rank → (E F : List Reference) → BoundsFit W E → AddSupertraits W E F
+    (W : World) (rank : ℕ → ℕ) → BoundsLeadDown W rank → (E F : List Reference) → BoundsFit W E → AddSupertraits W E F
     → AddSupertraits (erased_world W) (map erased_reference E) (map erased_reference F)

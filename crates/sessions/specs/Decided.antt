@@ -1,6 +1,6 @@
 -- Decided references, as the search of a session answers them outside coherence.
 use Rattle.std.specs.Prelude.{ℕ, ◌+◌, List, map, Option}
-use Rattle.type_terms.specs.Answers.{SingleWay, IsDecided}
+use Rattle.type_terms.specs.Answers.{SingleWay, IsUnambiguous}
 use Rattle.type_terms.specs.Erased.{erased_reference}
 use Rattle.type_terms.specs.Worlds.{World, Reference}
 use Rattle.infer_table.specs.Canonical.{canonical_form}
@@ -8,7 +8,7 @@ use Rattle.infer_table.specs.Responses.{AnswerTrees}
 use Rattle.infer_table.specs.declared.certainty.TypingMode.TheVariants.{PostAnalysis}
 use Rattle.search_graph.specs.Plain.{IsNotPlain}
 use Rattle.solver_context.specs.Contexts.{Asked}
-use Rattle.solver_context.specs.Evaluations.{IsFound}
+use Rattle.solver_context.specs.Evaluations.{IsFoundBySearch}
 use Rattle.declarations.specs.Elaboration.{elaborate}
 use Rattle.declarations.specs.Items.{written}
 use Rattle.text_definitions.specs.Declarations.{Declarations, Question}
@@ -32,7 +32,7 @@ asked_under V E r = (PostAnalysis, canonical_form (goal_of (elaborate V E) r))
 -- a proof, and a refusal if it has none.
 pub record IsAnsweredRightly (s : Solving) (depth : ℕ) (V : World) (E : List Reference) (r : Reference) : Type 0 where
   pub plainly : IsNotPlain session_meaning s (depth + 1) (asked_under s.view E r) → ⊥
-  pub found : (a : Option AnswerTrees) → IsFound session_meaning s depth (asked_under s.view E r) a → IsRightOf V (map erased_reference E) (erased_reference r) a
+  pub found : (a : Option AnswerTrees) → IsFoundBySearch session_meaning s depth (asked_under s.view E r) a → IsRightOf V (map erased_reference E) (erased_reference r) a
 
 -- So it is where by what the crate sees there is one way at most at each step.
 abbrev pub DecidedAreAnswered : Type 0
@@ -46,11 +46,11 @@ DecidedAreAnswered =
 -- none.
 pub record IsQuestionAnswered (s : Solving) (depth : ℕ) (V : World) (q : Question) : Type 0 where
   pub plainly : IsNotPlain session_meaning s (depth + 1) (asked_under s.view (unbound_references q.clauses) (unbound_reference q.asked)) → ⊥
-  pub found : (a : Option AnswerTrees) → IsFound session_meaning s depth (asked_under s.view (unbound_references q.clauses) (unbound_reference q.asked)) a
+  pub found : (a : Option AnswerTrees) → IsFoundBySearch session_meaning s depth (asked_under s.view (unbound_references q.clauses) (unbound_reference q.asked)) a
       → IsRightOf V (map erased_reference q.clauses) (erased_reference q.asked) a
 
 -- So is each question that is decided by what the asking crate sees.
 abbrev pub DecidedQuestionsAreAnswered : Type 0
 DecidedQuestionsAreAnswered =
     (d : Declarations) → IsOfText d → (n : ℕ) (q : Question) → IsQuestion d n q → (s : Solving) → IsSolvingOf d q.asker s → (depth : ℕ)
-    → IsDecided depth (view_in d q.asker) (map erased_reference q.clauses) (erased_reference q.asked) → IsQuestionAnswered s depth (view_in d q.asker) q
+    → IsUnambiguous depth (view_in d q.asker) (map erased_reference q.clauses) (erased_reference q.asked) → IsQuestionAnswered s depth (view_in d q.asker) q

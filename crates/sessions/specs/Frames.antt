@@ -16,7 +16,7 @@ use Rattle.infer_table.specs.declared.goal.Goal.{Goal}
 use Rattle.search_graph.specs.Bound.{frame_bound}
 use Rattle.search_graph.specs.SearchState.{SearchState}
 use Rattle.solver_context.specs.Contexts.{Asked, entries_of}
-use Rattle.solver_context.specs.Evaluations.{IsFound}
+use Rattle.solver_context.specs.Evaluations.{IsFoundBySearch}
 use Rattle.solver_context.specs.Roots.{left_by}
 use Rattle.solver_context.specs.declared.context.SolverCx.{SolverCx}
 use Rattle.solver_context.specs.Searching.{solver_meaning}
@@ -31,8 +31,8 @@ use Rattle.sessions.specs.Tables.{table_of}
 use Rattle.sessions.specs.declared.settling.TheConstants.{MAX_ASKINGS}
 
 -- The values are terms of their variables' sorts.
-abbrev pub AreTerms : List Binding → Type 0
-AreTerms bs = Every (λ (b : Binding). IsA b.sort b.value) bs
+abbrev pub AreTermsOfSorts : List Binding → Type 0
+AreTermsOfSorts bs = Every (λ (b : Binding). IsA b.sort b.value) bs
 
 module _ {Handler : Type 0} (handler : HandlerMeaning Handler) where
   -- So many at most for a goal that is asked once at this depth: `frame_bound` of how many questions a run of the goal asks at most.
@@ -56,8 +56,8 @@ module _ {Handler : Type 0} (handler : HandlerMeaning Handler) where
       let asked = asked_outside (resolved_over t g) in
       let most = before + frames_for w depth asked in
       (after ≤ most)
-      ⊎ ((a : AnswerTrees) × IsFound (solver_meaning handler) w depth asked (Some a)
-      × ((u : TableTrees) × (left_by t (resolved_over t g) (Some a) ≡ Some u) × AreTerms u.bindings × AskingsStartFrames w depth g k u most after))
+      ⊎ ((a : AnswerTrees) × IsFoundBySearch (solver_meaning handler) w depth asked (Some a)
+      × ((u : TableTrees) × (left_by t (resolved_over t g) (Some a) ≡ Some u) × AreTermsOfSorts u.bindings × AskingsStartFrames w depth g k u most after))
 
   -- So it is of a goal in a context, of which the graph has started so many frames.
   abbrev pub AskingsOf : ℕ → SolverCx Handler → SearchState → Table → Goal → SearchState → Type 0
@@ -75,8 +75,8 @@ module _ {Handler : Type 0} (handler : HandlerMeaning Handler) where
   IsLeftByAnswer c graph t g d u =
       let from = table_trees (entries_of c) t in
       let resolved = resolved_over from (goal_trees (entries_of c) g) in
-      (a : AnswerTrees) × IsFound (solver_meaning handler) (handler.world c.handler (entries_of c)) graph.root_depth (asked_outside resolved) (Some a)
-      × (left_by from resolved (Some a) ≡ Some (table_trees (entries_of d) u)) × AreTerms (content (entries_of d) u.values)
+      (a : AnswerTrees) × IsFoundBySearch (solver_meaning handler) (handler.world c.handler (entries_of c)) graph.root_depth (asked_outside resolved) (Some a)
+      × (left_by from resolved (Some a) ≡ Some (table_trees (entries_of d) u)) × AreTermsOfSorts (content (entries_of d) u.values)
 
   -- A goal over the table of unknowns of these kinds is asked until its answer is settled.
   abbrev pub SettlesInFrames : handler.goals.World → ℕ → List Sort → GoalTrees → SearchState → SearchState → Type 0

@@ -51,7 +51,7 @@ VerdictHeld es (Orphan k e) = ErrorHeld es e
 VerdictHeld es (Overlap k j) = Unit {0}
 
 -- The values of an answer are the interner's.
-abbrev pub AnswerHeld : List Entry → ProveAnswer → Type 0
-AnswerHeld es (Yes values) = ArgsHeld es values.items
-AnswerHeld es Maybe = Unit {0}
-AnswerHeld es Unproved = Unit {0}
+abbrev pub AnswerValuesHeld : List Entry → ProveAnswer → Type 0
+AnswerValuesHeld es (Yes values) = ArgsHeld es values.items
+AnswerValuesHeld es Maybe = Unit {0}
+AnswerValuesHeld es Unproved = Unit {0}

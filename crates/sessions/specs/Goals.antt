@@ -44,7 +44,7 @@ pub record IsFormedQuestion (V : World) (sorts : Sorts) (E : List Reference) (r 
   pub elaborated : IsElaborated V (map erased_reference E)
 
 -- what a question asks is up to lifetimes this reference, under these where-clauses, where each placeholder stands for itself
-pub record AsksFor (E : List Reference) (r : Reference) (s : Assignment) : Type 0 where
+pub record AsksUnderClauses (E : List Reference) (r : Reference) (s : Assignment) : Type 0 where
   pub reference : reference_in (fact_of (question_of (goal_of E r)) (values_under s (goal_of E r))) ≡ erased_reference r
   pub clauses : clauses_of (fact_of (question_of (goal_of E r)) (values_under s (goal_of E r))).goal.environment ≡ map erased_reference E
 
@@ -52,7 +52,7 @@ pub record AsksFor (E : List Reference) (r : Reference) (s : Assignment) : Type 
 abbrev pub FormedQuestionsAreGoals : Type 0
 FormedQuestionsAreGoals =
     (V : World) (sorts : Sorts) → IsFormedView V sorts → (E : List Reference) (r : Reference) → IsFormedQuestion V sorts E r → (s : Assignment) → IsSorted s
-    → IsFormedGoal V sorts is_unbound (question_of (goal_of E r)) (values_under s (goal_of E r)) × AsksFor E r s
+    → IsFormedGoal V sorts is_unbound (question_of (goal_of E r)) (values_under s (goal_of E r)) × AsksUnderClauses E r s
 
 -- ---- references that may hold unknowns
 -- neither bound nor canonical

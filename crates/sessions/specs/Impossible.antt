@@ -24,7 +24,7 @@ use Rattle.solver_context.specs.declared.outcome.GoalEvaluation.{GoalEvaluation}
 use Rattle.solver_context.specs.declared.outcome.RootError.{RootError}
 use Rattle.solver_context.specs.declared.outcome.RootError.TheVariants.{Conflict}
 use Rattle.solver_context.specs.Contexts.{Asked, entries_of}
-use Rattle.solver_context.specs.Evaluations.{IsFound}
+use Rattle.solver_context.specs.Evaluations.{IsFoundBySearch}
 use Rattle.solver_context.specs.Results.{IsNotPlainWithin}
 use Rattle.solver_context.specs.Roots.{fact_under}
 use Rattle.solver_context.specs.Searching.{solver_meaning, world_of}
@@ -49,27 +49,27 @@ IsNoRefusal e = IsOk e ⊎ (e ≡ Err Conflict)
 
 -- In none of the worlds in which a handler looks for its solutions has the goal a proof, at any solution of the table, if both speak of
 -- the table's own unknowns.
-abbrev pub HasNoProof : (TypingMode → CanonicalForm → Handled frame_tables) → List Entry → Table → TraitRef → Type 0
-HasNoProof handled es t r =
+abbrev pub HasNoProofInWorlds : (TypingMode → CanonicalForm → Handled frame_tables) → List Entry → Table → TraitRef → Type 0
+HasNoProofInWorlds handled es t r =
     IsOfKnown (variables_of t) (content es t.values) → IsOfTable es t r → let h = handled Coherence (asked_alone es t r).1 in
     (x : h.World) (s : Assignment) → Solves s (content es t.values) → h.Proves x (fact_under s (alone (reference_in es r))) → ⊥
 
 module _ {Handler : Type 0} (handler : HandlerMeaning Handler) where
   -- So it is by the rules of a context's handler.
   abbrev pub IsImpossible : SolverCx Handler → Table → TraitRef → Type 0
-  IsImpossible c t r = HasNoProof (handler.goals.handled (handler.world c.handler (entries_of c))) (entries_of c) t r
+  IsImpossible c t r = HasNoProofInWorlds (handler.goals.handled (handler.world c.handler (entries_of c))) (entries_of c) t r
 
 module _ {Handler : Type 0} (handler : HandlerMeaning Handler) where
   -- The search gives the goal this answer.
-  abbrev pub IsAnswered : SolverCx Handler → SearchState → Table → TraitRef → AnswerTrees → Type 0
-  IsAnswered c s t r a =
-      IsFound (solver_meaning handler) (world_of handler c) s.root_depth (asked_alone (entries_of c) t r) (Some a)
+  abbrev pub SearchAnswers : SolverCx Handler → SearchState → Table → TraitRef → AnswerTrees → Type 0
+  SearchAnswers c s t r a =
+      IsFoundBySearch (solver_meaning handler) (world_of handler c) s.root_depth (asked_alone (entries_of c) t r) (Some a)
 
   -- It gives it an answer that is no refusal, or plain recursion within the graph's depth has none.
-  abbrev pub IsLeftOpen : SolverCx Handler → SearchState → Table → TraitRef → Type 0
-  IsLeftOpen c s t r =
-      ((a : AnswerTrees) × IsAnswered c s t r a) ⊎ IsNotPlainWithin (solver_meaning handler) c s (asked_alone (entries_of c) t r)
+  abbrev pub SearchLeavesOpen : SolverCx Handler → SearchState → Table → TraitRef → Type 0
+  SearchLeavesOpen c s t r =
+      ((a : AnswerTrees) × SearchAnswers c s t r a) ⊎ IsNotPlainWithin (solver_meaning handler) c s (asked_alone (entries_of c) t r)
 
   -- The table has no numbers for the goal's form, or for the answer that the search gives.
   abbrev pub GoalRunsOut : SolverCx Handler → SearchState → Table → TraitRef → Type 0
-  GoalRunsOut c s t r = RootRunsOut (IsAnswered c s t r) (table_trees (entries_of c) t) (resolved_alone (entries_of c) t r)
+  GoalRunsOut c s t r = RootRunsOut (SearchAnswers c s t r) (table_trees (entries_of c) t) (resolved_alone (entries_of c) t r)

@@ -16,7 +16,7 @@ use Rattle.overlap_check.specs.declared.intersection.ImplIntersection.{ImplInter
 use Rattle.text_definitions.specs.Declarations.{Declarations}
 use Rattle.view_lowering.specs.Plain.{plainly_seen_from}
 use Rattle.candidate_assembly.specs.Fitting.{solving_of}
-use Rattle.candidate_assembly.specs.Ready.{IsReady}
+use Rattle.candidate_assembly.specs.Ready.{AreReadyDeclarations}
 use Rattle.candidate_assembly.specs.SolverMeaning.{solver_by_view}
 use Rattle.sessions.specs.Asking.{IsLeftOpen}
 use Rattle.sessions.specs.PairGoals.{as_resolved}
@@ -28,7 +28,7 @@ use Rattle.sessions.specs.Subjects.{IsOfText}
 abbrev pub OpenPairGoalsArePossible : Type 0
 OpenPairGoalsArePossible =
     (d : Declarations) (c depth : ℕ) → IsOfText d
-    → (old : List Entry) → Lawful old → (decls : Items) → IsReady old decls → AreWrittenWell old decls → written old decls ≡ plainly_seen_from d c → IsSolvingOf d c (solving_of old decls)
+    → (old : List Entry) → Lawful old → (decls : Items) → AreReadyDeclarations old decls → AreWrittenWell old decls → written old decls ≡ plainly_seen_from d c → IsSolvingOf d c (solving_of old decls)
     → (k j : ImplId) (w x : ImplDef) → IsPairAt old decls k j w x
     → (es : List Entry) (found : ImplIntersection) → IsIntersection old w x es found → IsSolved old w x es found
     → (r : TraitRef) → In r found.left.items ⊎ In r found.right.items

@@ -4,7 +4,7 @@ use Rattle.type_terms.specs.Label.{Sort, placeholder}
 use Rattle.type_terms.specs.Supers.{opaque_reference}
 use Rattle.type_terms.specs.Trees.{Trees, none, tree}
 use Rattle.type_terms.specs.Terms.{Entry}
-use Rattle.declarations.specs.Applied.{AllHeld, references_in}
+use Rattle.declarations.specs.Applied.{TraitRefsHeld, references_in}
 use Rattle.declarations.specs.Held.{ReferenceHeld}
 use Rattle.declarations.specs.Items.{reference_in}
 use Rattle.declarations.specs.declared.items.ImplDef.{ImplDef}
@@ -20,4 +20,4 @@ pub record IsOpaqueOf (old : List Entry) (def : ImplDef) (new : List Entry) (i :
   pub header : reference_in new i.header ≡ opaque_reference (reference_in old def.header)
   pub clauses : references_in new i.clauses.items ≡ map opaque_reference (references_in old def.clauses.items)
   pub header_held : ReferenceHeld new i.header
-  pub clauses_held : AllHeld new i.clauses.items
+  pub clauses_held : TraitRefsHeld new i.clauses.items

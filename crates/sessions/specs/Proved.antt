@@ -19,5 +19,5 @@ fact_with_values bs g = record { trait = trait_of g.predicate; goal = record { e
 abbrev pub ValuesAreProved : (Fact → List Fact → Type 0) → (Fact → Bool) → Type 0
 ValuesAreProved Rule coinductive =
     (es : List Entry) (t : Table) (g : Goal) → Lawful es → Ready es t → GoalHeld es g
-    → ((s : Assignment) → Solves s (content es t.values) → Lists.HasProof Fact Rule coinductive (fact_under s (goal_trees es g)))
-    → Lists.HasProof Fact Rule coinductive (fact_with_values (content es t.values) (goal_trees es g))
+    → ((s : Assignment) → Solves s (content es t.values) → Lists.FactHasProof Fact Rule coinductive (fact_under s (goal_trees es g)))
+    → Lists.FactHasProof Fact Rule coinductive (fact_with_values (content es t.values) (goal_trees es g))

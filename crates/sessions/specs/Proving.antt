@@ -22,13 +22,13 @@ use Rattle.evaluation.specs.Proof as Lists
 use Rattle.evaluation.specs.Tables.{frame_tables}
 use Rattle.goal_frames.specs.Searches.{is_yes_answer}
 use Rattle.solver_context.specs.Contexts.{Asked, Advances, IsReady as IsReadyContext, entries_of}
-use Rattle.solver_context.specs.Evaluations.{IsFound}
+use Rattle.solver_context.specs.Evaluations.{IsFoundBySearch}
 use Rattle.solver_context.specs.Roots.{left_by}
 use Rattle.solver_context.specs.Searching.{solver_meaning}
 use Rattle.solver_context.specs.declared.context.SolverCx.{SolverCx}
 use Rattle.candidate_assembly.specs.declared.solver.Solver.{Solver}
 use Rattle.candidate_assembly.specs.Fitting.{solving_of}
-use Rattle.candidate_assembly.specs.Ready.{IsReady}
+use Rattle.candidate_assembly.specs.Ready.{AreReadyDeclarations}
 use Rattle.candidate_assembly.specs.Solving.{Solving}
 use Rattle.text_definitions.specs.Declarations.{Question}
 use Rattle.text_definitions.specs.Names.{own_unknowns}
@@ -72,19 +72,19 @@ goal_asking V q = goal_of (elaborate V (unbound_references q.clauses)) (unbound_
 -- ---- answers
 module _ {Handler : Type 0} (handler : HandlerMeaning Handler) where
   -- Some table gives the unknowns these values; with them nothing bound stands in the goal's predicate, and the goal has a proof.
-  pub record HasValues (w : handler.goals.World) (g : GoalTrees) (us values : List Trees) : Type 0 where
+  pub record HasAnswerValues (w : handler.goals.World) (g : GoalTrees) (us values : List Trees) : Type 0 where
     pub entries : List Entry
     pub table : Table
     pub ready : Ready entries table
     pub are : values ≡ map (λ u. resolved (content entries table.values) u) us
     pub unbound : some_node is_bound_term (resolved (content entries table.values) g.predicate) ≡ false
-    pub proved : IsWithoutCanonical g → Lists.HasProof Fact (handler.goals.Rule w) (handler.goals.coinductive w) (fact_with_values (content entries table.values) g)
+    pub proved : IsWithoutCanonical g → Lists.FactHasProof Fact (handler.goals.Rule w) (handler.goals.coinductive w) (fact_with_values (content entries table.values) g)
 
   -- The search refuses the goal, or gives an answer that the table of unknowns of these kinds refuses.
   abbrev pub IsRefusedGoal : handler.goals.World → ℕ → List Sort → GoalTrees → Type 0
   IsRefusedGoal w depth ks g =
       let m = solver_meaning handler in
-      (a : Option AnswerTrees) × IsFound m w depth (asked_outside g) a × (left_by (table_trees [] (table_of ks)) g a ≡ None)
+      (a : Option AnswerTrees) × IsFoundBySearch m w depth (asked_outside g) a × (left_by (table_trees [] (table_of ks)) g a ≡ None)
 
   -- It gives an answer that is no definite yes, or plain recursion has none within the depth; or some table gives values with which
   -- something bound stands in the goal's predicate.
@@ -92,21 +92,21 @@ module _ {Handler : Type 0} (handler : HandlerMeaning Handler) where
   IsUnsettledGoal w depth g =
       let m = solver_meaning handler in
       IsNotPlain m w (depth + 1) (asked_outside g)
-      ⊎ ((a : AnswerTrees) × IsFound m w depth (asked_outside g) (Some a) × (is_yes_answer frame_tables (Some a) ≡ false))
+      ⊎ ((a : AnswerTrees) × IsFoundBySearch m w depth (asked_outside g) (Some a) × (is_yes_answer frame_tables (Some a) ≡ false))
       ⊎ ((es : List Entry) × (t : Table) × Ready es t × (some_node is_bound_term (resolved (content es t.values) g.predicate) ≡ true))
 
   -- What an answer says of a goal that was asked over the table of unknowns of these kinds.
   abbrev pub IsAnswered : handler.goals.World → ℕ → List Sort → GoalTrees → List Trees → List Entry → ProveAnswer → Type 0
-  IsAnswered w depth ks g us es (Yes values) = HasValues w g us (map (arg_trees es) values.items)
+  IsAnswered w depth ks g us es (Yes values) = HasAnswerValues w g us (map (arg_trees es) values.items)
   IsAnswered w depth ks g us es Unproved = IsRefusedGoal w depth ks g
   IsAnswered w depth ks g us es Maybe = IsUnsettledGoal w depth g
 
 -- ---- the solver's
 abbrev pub SolverIsReady : SolverCx Solver → Type 0
-SolverIsReady cx = IsReadyContext (λ (h : Solver) es. IsReady es h.declarations) cx
+SolverIsReady cx = IsReadyContext (λ (h : Solver) es. AreReadyDeclarations es h.declarations) cx
 
 abbrev pub SolverAdvances : SolverCx Solver → SolverCx Solver → Type 0
-SolverAdvances old new = Advances (λ (h : Solver) es. IsReady es h.declarations) old new
+SolverAdvances old new = Advances (λ (h : Solver) es. AreReadyDeclarations es h.declarations) old new
 
 -- Both solve by the same declarations.
 abbrev pub SolvesTheSame : SolverCx Solver → SolverCx Solver → Type 0

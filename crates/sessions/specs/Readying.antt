@@ -3,8 +3,8 @@ use Rattle.std.specs.Prelude.{List}
 use Rattle.type_terms.specs.Terms.{Entry}
 use Rattle.declarations.specs.Held.{AreHeld}
 use Rattle.declarations.specs.Items.{Items}
-use Rattle.candidate_assembly.specs.Ready.{IsReady}
+use Rattle.candidate_assembly.specs.Ready.{AreReadyDeclarations}
 
 -- Where their terms are the interner's, they are ready.
 abbrev pub AreReady : List Entry → Items → Type 0
-AreReady es decls = AreHeld es decls → IsReady es decls
+AreReady es decls = AreHeld es decls → AreReadyDeclarations es decls

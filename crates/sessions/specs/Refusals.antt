@@ -9,7 +9,7 @@ use Rattle.goal_frames.specs.declared.store.InputId.{InputId}
 use Rattle.goal_frames.specs.declared.store.ResponseId.{ResponseId}
 use Rattle.goal_frames.specs.declared.frame.GoalFrame.{GoalFrame}
 use Rattle.solver_context.specs.declared.context.SolverCx.{SolverCx}
-use Rattle.solver_context.specs.Evaluations.{IsFound}
+use Rattle.solver_context.specs.Evaluations.{IsFoundBySearch}
 use Rattle.solver_context.specs.Searching.{solver_meaning}
 use Rattle.text_definitions.specs.Declarations.{Declarations}
 use Rattle.candidate_assembly.specs.declared.solver.Solver.{Solver}
@@ -31,7 +31,7 @@ session_meaning = solver_meaning solver_by_view
 pub record IsToldPossible (s : Solving) (depth : ℕ) (V : World) (c : ℕ) (r : Reference) : Type 0 where
   pub left_open : IsLeftOpen solver_by_view s depth r
       → is_possible depth V c (erased_reference r) ≡ true
-  pub refused : IsFound session_meaning s depth (asked_alone r) None → is_possible depth V c (erased_reference r) ≡ false
+  pub refused : IsFoundBySearch session_meaning s depth (asked_alone r) None → is_possible depth V c (erased_reference r) ≡ false
 
 -- So it is of bounded references with formed terms, by what a crate sees of a text without a fault.
 abbrev pub RefusalsAreExact : Type 0

@@ -21,7 +21,7 @@ use Rattle.goal_frames.specs.declared.frame.GoalFrame.{GoalFrame}
 use Rattle.goal_frames.specs.declared.store.InputId.{InputId}
 use Rattle.goal_frames.specs.declared.store.ResponseId.{ResponseId}
 use Rattle.solver_context.specs.Contexts.{entries_of, IsReady}
-use Rattle.solver_context.specs.Evaluations.{asked_in, IsFound}
+use Rattle.solver_context.specs.Evaluations.{asked_in, IsFoundBySearch}
 use Rattle.solver_context.specs.Results.{IsNotPlainWithin}
 use Rattle.solver_context.specs.Roots.{goal_in, fact_under, left_by}
 use Rattle.solver_context.specs.Searching.{solver_meaning}
@@ -58,24 +58,24 @@ module _ {Handler : Type 0} (handler : HandlerMeaning Handler) where
   abbrev pub IsProvedBy : handler.goals.World → SolverCx Handler → Table → SolverCx Handler → Table → Goal → Type 0
   IsProvedBy w c t d u g =
       HaveNoCanonical (content (entries_of c) t.values) → IsWithoutCanonical (goal_trees (entries_of c) g)
-      → (s : Assignment) → Solves s (content (entries_of d) u.values) → Lists.HasProof Fact (handler.goals.Rule w) (handler.goals.coinductive w) (fact_under s (goal_trees (entries_of c) g))
+      → (s : Assignment) → Solves s (content (entries_of d) u.values) → Lists.FactHasProof Fact (handler.goals.Rule w) (handler.goals.coinductive w) (fact_under s (goal_trees (entries_of c) g))
 
   -- The search of a graph with this depth refuses the goal, or gives an answer that the table refuses.
-  abbrev pub IsRefused : SolverCx Handler → SearchState → Table → Goal → Type 0
-  IsRefused c graph t g =
-      (a : Option AnswerTrees) × IsFound m (m.world c) graph.root_depth (asked_in PostAnalysis (entries_of c) t g) a
+  abbrev pub GoalIsRefused : SolverCx Handler → SearchState → Table → Goal → Type 0
+  GoalIsRefused c graph t g =
+      (a : Option AnswerTrees) × IsFoundBySearch m (m.world c) graph.root_depth (asked_in PostAnalysis (entries_of c) t g) a
       × (left_by (table_trees (entries_of c) t) (goal_in (entries_of c) t g) a ≡ None)
 
   -- It gives an answer that is no definite yes, or plain recursion has none within the depth.
   abbrev pub IsUnsettled : SolverCx Handler → SearchState → Table → Goal → Type 0
   IsUnsettled c graph t g =
       IsNotPlainWithin m c graph (asked_in PostAnalysis (entries_of c) t g)
-      ⊎ ((a : AnswerTrees) × IsFound m (m.world c) graph.root_depth (asked_in PostAnalysis (entries_of c) t g) (Some a) × (is_yes_answer frame_tables (Some a) ≡ false))
+      ⊎ ((a : AnswerTrees) × IsFoundBySearch m (m.world c) graph.root_depth (asked_in PostAnalysis (entries_of c) t g) (Some a) × (is_yes_answer frame_tables (Some a) ≡ false))
 
   -- The table has no numbers for the goal's form, or for the answer that the search gives.
-  abbrev pub RunsOut : SolverCx Handler → SearchState → Table → Goal → Type 0
-  RunsOut c graph t g =
-      RootRunsOut (λ a. IsFound m (m.world c) graph.root_depth (asked_in PostAnalysis (entries_of c) t g) (Some a)) (table_trees (entries_of c) t) (goal_in (entries_of c) t g)
+  abbrev pub AskingRunsOut : SolverCx Handler → SearchState → Table → Goal → Type 0
+  AskingRunsOut c graph t g =
+      RootRunsOut (λ a. IsFoundBySearch m (m.world c) graph.root_depth (asked_in PostAnalysis (entries_of c) t g) (Some a)) (table_trees (entries_of c) t) (goal_in (entries_of c) t g)
 
   -- So it is at one of the askings that begin here, in a context that becomes d.
   pub record SomeAskingRunsOut (graph : SearchState) (ks : List (KnownResult InputId (Option ResponseId))) (c : SolverCx Handler) (t : Table) (g : Goal) (d : SolverCx Handler) : Type 0 where
@@ -84,5 +84,5 @@ module _ {Handler : Type 0} (handler : HandlerMeaning Handler) where
     pub context_then : SolverCx Handler
     pub table_then : Table
     pub asked : HasAsked graph ks c t graph_then known_then context_then table_then
-    pub runs_out : RunsOut context_then graph_then table_then g
+    pub runs_out : AskingRunsOut context_then graph_then table_then g
     pub known : Keeps (entries_of context_then) (entries_of d)

@@ -20,9 +20,9 @@ use Rattle.goal_frames.specs.Stores.{input_at, kept_inputs, kept_responses, limi
 use Rattle.goal_frames.specs.declared.store.InputId.{InputId}
 use Rattle.search_graph.specs.SearchState.{SearchState}
 use Rattle.solver_context.specs.Contexts.{entries_of}
-use Rattle.solver_context.specs.Evaluations.{asked_in, IsFound}
+use Rattle.solver_context.specs.Evaluations.{asked_in, IsFoundBySearch}
 use Rattle.solver_context.specs.Roots.{goal_in}
-use Rattle.solver_context.specs.Searching.{solver_meaning, world_of, IsFull, SomeFrameRunsOut}
+use Rattle.solver_context.specs.Searching.{solver_meaning, world_of, ContextIsFull, SomeFrameRunsOut}
 use Rattle.solver_context.specs.Shortages.{RootRunsOut}
 use Rattle.solver_context.specs.declared.context.SolverCx.{SolverCx}
 use Rattle.candidate_assembly.specs.SolverMeaning.{solver_by_view}
@@ -54,12 +54,12 @@ module _ {Handler : Type 0} (handler : HandlerMeaning Handler) where
     pub table_then : Table
     pub goal : Goal
     pub known : Keeps (entries_of context_then) (entries_of c)
-    pub runs_out : RootRunsOut (λ a. IsFound (solver_meaning handler) (world_of handler context_then) graph_then.root_depth (asked_in mode (entries_of context_then) table_then goal) (Some a))
+    pub runs_out : RootRunsOut (λ a. IsFoundBySearch (solver_meaning handler) (world_of handler context_then) graph_then.root_depth (asked_in mode (entries_of context_then) table_then goal) (Some a))
         (table_trees (entries_of context_then) table_then) (goal_in (entries_of context_then) table_then goal)
 
   -- A table of the context is at its limit, or numbers are used up: in a frame, or by a goal that is asked.
   abbrev pub IsShort : SolverCx Handler → Type 0
-  IsShort c = IsFull handler c ⊎ SomeGoalRunsOut c
+  IsShort c = ContextIsFull handler c ⊎ SomeGoalRunsOut c
 
 -- ---- a session
 -- It holds the terms, and as many goals and answers, as the context does.

@@ -5,7 +5,7 @@ use Rattle.type_terms.specs.Supers.{opaque_reference, SupersHold}
 use Rattle.type_terms.specs.Worlds.{World, Reference, ImplDecl}
 use Rattle.type_terms.specs.Terms.{Entry}
 use Rattle.term_folds.specs.declared.predicate.TraitRef.{TraitRef}
-use Rattle.declarations.specs.Applied.{AllHeld, IsApplied, references_in}
+use Rattle.declarations.specs.Applied.{TraitRefsHeld, IsApplied, references_in}
 use Rattle.declarations.specs.Elaboration.{elaborate, supertraits}
 use Rattle.declarations.specs.Items.{Items, reference_in, written}
 use Rattle.candidate_assembly.specs.Fitting.{solving_of}
@@ -42,8 +42,8 @@ ImplsApply d V = (i : ImplDecl) → In i V.impls → HasApplied d i.header i.cla
 pub record AreGoalsFor (V : World) (header : Reference) (where_clauses : List Reference) (es : List Entry) (goals : SupertraitGoals) : Type 0 where
   pub supertraits : references_in es goals.supertraits.items ≡ supertraits V (opaque_reference header)
   pub clauses : references_in es goals.clauses.items ≡ elaborate V (map opaque_reference where_clauses)
-  pub supertraits_held : AllHeld es goals.supertraits.items
-  pub clauses_held : AllHeld es goals.clauses.items
+  pub supertraits_held : TraitRefsHeld es goals.supertraits.items
+  pub clauses_held : TraitRefsHeld es goals.clauses.items
 
 -- No impl of c has this number.
 abbrev pub HasNoOwn : World → ℕ → ℕ → Type 0
@@ -69,7 +69,7 @@ outcome_of IsUnproved = Unproved
 outcome_of IsMaybe = Maybe
 
 -- So the solver answers a reference without unknowns under just these where-clauses.
-pub record IsTold (s : Solving) (depth : ℕ) (F : List Reference) (r : Reference) (o : Outcome) : Type 0 where
+pub record SolverTells (s : Solving) (depth : ℕ) (F : List Reference) (r : Reference) (o : Outcome) : Type 0 where
   pub entries : List Entry
   pub answer : ProveAnswer
   pub outcome : outcome_of answer ≡ o
@@ -80,11 +80,11 @@ pub record IsFirstTold (s : Solving) (depth : ℕ) (F rs : List Reference) (n : 
   pub counted : 1 ≤ n
   pub super : Reference
   pub at : slice_get rs (n - 1) ≡ Some super
-  pub before : Every (λ r. IsTold s depth F r Proved) (take (n - 1) rs)
-  pub told : IsTold s depth F super o
+  pub before : Every (λ r. SolverTells s depth F r Proved) (take (n - 1) rs)
+  pub told : SolverTells s depth F super o
 
 abbrev pub IsHeaderTold : Solving → ℕ → List Reference → List Reference → HeaderAnswer → Type 0
-IsHeaderTold s depth F rs Held = Every (λ r. IsTold s depth F r Proved) rs
+IsHeaderTold s depth F rs Held = Every (λ r. SolverTells s depth F r Proved) rs
 IsHeaderTold s depth F rs (Missing n) = IsFirstTold s depth F rs n Unproved
 IsHeaderTold s depth F rs (Undecided n) = IsFirstTold s depth F rs n Maybe
 

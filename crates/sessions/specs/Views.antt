@@ -7,8 +7,8 @@ use Rattle.solver_exactness.specs.FormedFacts.{IsFormedView}
 use Rattle.sessions.specs.Fitting.{sorts_in}
 
 -- the declarations are formed, with the sorts of their parameters: each name is declared, and has the arguments that it takes
-abbrev pub AreFormed : List Entry → Items → Type 0
-AreFormed es d = IsFormedView (written es d) (sorts_in d)
+abbrev pub AreFormedDeclarations : List Entry → Items → Type 0
+AreFormedDeclarations es d = IsFormedView (written es d) (sorts_in d)
 
 abbrev pub TextsAreFormed : Type 0
-TextsAreFormed = OfTexts AreFormed
+TextsAreFormed = OfTexts AreFormedDeclarations

@@ -7,7 +7,7 @@ ghost use Rattle.declarations.specs.Items.{IsAbove};
 ghost use Rattle.orphan_check.specs.Held.{ErrorHeld};
 ghost use Rattle.overlap_check.specs.Orphans.{IsFirstError};
 ghost use Rattle.text_definitions.specs.Declarations.{Declarations};
-ghost use Rattle.sessions.specs.Checking.{IsReadySolver, SolverAdvances, HaveOwnNumbers, AreApartAt, IsFoundAt, IsJudgedAt, rules_in, solving_in};
+ghost use Rattle.sessions.specs.Checking.{IsReadySolver, SolverStaysReady, HaveOwnNumbers, AreApartAt, IsFoundAt, IsJudgedAt, rules_in, solving_in};
 ghost use Rattle.sessions.specs.Promises.{view_in};
 ghost use Rattle.sessions.specs.Sessions.{SolverRests, IsSession};
 ghost use Rattle.sessions.specs.Shortages.{IsOutOf};
@@ -36,7 +36,7 @@ pub(crate) fn first_broken_header(
     requires ready { IsReadySolver cx.old }
     requires numbered { IsAbove end cx.old.handler.declarations }
     requires in_range { end ≤ MAX_INDEX + 1 }
-    ensures advances { SolverAdvances cx.old cx.new }
+    ensures advances { SolverStaysReady cx.old cx.new }
     ensures held { IfOk result (λ found. IfSome found (λ x. ErrorHeld cx.new.interner.entries x.1)) }
     ensures first { IfOk result (IsFirstError (rules_in cx.old) cx.old.handler.declarations.local cx.new.interner.entries) }
     ensures full { result ≡ Err Fault.Full → IsOutOf cx.new }
@@ -57,7 +57,7 @@ fn intersection_at(
 ) -> Result<Option<ImplIntersection>, Fault>
     requires ready { IsReadySolver cx.old }
     requires numbers { HaveOwnNumbers (rules_in cx.old) }
-    ensures advances { SolverAdvances cx.old cx.new }
+    ensures advances { SolverStaysReady cx.old cx.new }
     ensures apart { result ≡ Ok None → AreApartAt (rules_in cx.old) cx.old.handler.declarations.local later.index earlier.index }
     ensures found { IfOk result (λ found. IfSome found (IsFoundAt cx.old.interner.entries cx.old.handler.declarations later earlier cx.new.interner.entries)) }
     ensures full { result ≡ Err Fault.Full → IsOutOf cx.new }

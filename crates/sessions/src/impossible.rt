@@ -6,8 +6,8 @@ ghost use Rattle.declarations.specs.Held.{ReferenceHeld};
 ghost use Rattle.search_graph.specs.Cache.{AreJustified, AreConsistent, KeepsResults};
 ghost use Rattle.search_graph.specs.Meaning as Search;
 ghost use Rattle.solver_context.specs.Contexts.{IsReady};
-ghost use Rattle.solver_context.specs.Searching.{solver_meaning, IsFull};
-ghost use Rattle.sessions.specs.Impossible.{IsImpossible, IsLeftOpen, IsNoRefusal, GoalRunsOut};
+ghost use Rattle.solver_context.specs.Searching.{solver_meaning, ContextIsFull};
+ghost use Rattle.sessions.specs.Impossible.{IsImpossible, SearchLeavesOpen, IsNoRefusal, GoalRunsOut};
 
 use evaluation::TypingMode;
 use goal_frames::GoalHandler;
@@ -56,8 +56,8 @@ pub fn is_impossible<H: GoalHandler>(
     ensures impossible { IfOk result (λ refused. IsTrue refused → IsImpossible H.meaning cx.old table.old trait_ref) }
 
     // What is not has an answer of the search, or plain recursion has none within the depth.
-    ensures left_open { IfOk result (λ refused. refused ≡ false → IsLeftOpen H.meaning cx.old graph.old table.old trait_ref) }
-    ensures full { result ≡ Err Fault.Full → IsFull H.meaning cx.new
+    ensures left_open { IfOk result (λ refused. refused ≡ false → SearchLeavesOpen H.meaning cx.old graph.old table.old trait_ref) }
+    ensures full { result ≡ Err Fault.Full → ContextIsFull H.meaning cx.new
         ⊎ GoalRunsOut H.meaning cx.old graph.old table.old trait_ref }
 {
     let evaluated = evaluate_alone(graph, cache, cx, table, trait_ref);
@@ -88,8 +88,8 @@ fn evaluate_alone<H: GoalHandler>(
     ensures entries { Keeps cx.old.interner.entries cx.new.interner.entries }
     ensures same { table.new ≡ table.old }
     ensures impossible { result ≡ Err RootError.NoSolution → IsImpossible H.meaning cx.old table.old trait_ref }
-    ensures left_open { IsNoRefusal result → IsLeftOpen H.meaning cx.old graph.old table.old trait_ref }
-    ensures full { result ≡ Err (RootError.Fault Fault.Full) → IsFull H.meaning cx.new
+    ensures left_open { IsNoRefusal result → SearchLeavesOpen H.meaning cx.old graph.old table.old trait_ref }
+    ensures full { result ≡ Err (RootError.Fault Fault.Full) → ContextIsFull H.meaning cx.new
         ⊎ GoalRunsOut H.meaning cx.old graph.old table.old trait_ref }
 {
     let goal = Goal {

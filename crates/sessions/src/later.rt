@@ -11,7 +11,7 @@ ghost use Rattle.declarations.specs.Held.{ImplHeld, ReferenceHeld};
 ghost use Rattle.declarations.specs.Items.{declared, reference_in};
 ghost use Rattle.declarations.specs.Merges.{Each};
 ghost use Rattle.workspace.specs.declared.tables.TheConstants.{ENTRY_LIMIT};
-ghost use Rattle.sessions.specs.Checking.{IsReadySolver, SolverAdvances, rules_in};
+ghost use Rattle.sessions.specs.Checking.{IsReadySolver, SolverStaysReady, rules_in};
 ghost use Rattle.sessions.specs.Given.{later_of};
 ghost use Rattle.sessions.specs.Later.{IsAnswerOn, header_in, section_headers};
 ghost use Rattle.sessions.specs.Releases.{AddedImplsBreakNoUser};
@@ -90,7 +90,7 @@ fn added_impls(
 ) -> Result<Vec<ImplDef>, Fault>
     requires ready { IsReadySolver cx.old }
     requires text { IsOfText workspace.now }
-    ensures advances { SolverAdvances cx.old cx.new }
+    ensures advances { SolverStaysReady cx.old cx.new }
     ensures headers { IfOk result (λ defs. map (header_in cx.new.interner.entries) defs.items ≡ section_headers workspace.now section) }
     ensures held { IfOk result (λ defs. Each (ImplHeld cx.new.interner.entries) defs.items) }
     ensures few { IfOk result (λ defs. length defs.items ≤ ENTRY_LIMIT) }
@@ -115,7 +115,7 @@ pub(crate) fn later_answer(
 ) -> Result<LaterAnswer, Fault>
     requires ready { IsReadySolver cx.old }
     requires text { IsOfText workspace.now }
-    ensures advances { SolverAdvances cx.old cx.new }
+    ensures advances { SolverStaysReady cx.old cx.new }
     ensures answer { IfOk result (λ a. IsAnswerOn (rules_in cx.old) cx.old.handler.declarations.local (section_headers workspace.now section) (later_of a)) }
     ensures limit { cx.new.interner.limit ≡ cx.old.interner.limit }
     ensures full { result ≡ Err Fault.Full → SomeKindIsFull cx.new.interner.entries cx.new.interner.limit }

@@ -4,13 +4,13 @@ ghost use Rattle.type_terms.specs.Proofs.{In};
 ghost use Rattle.type_terms.specs.Terms.{Keeps};
 ghost use Rattle.term_folds.specs.declared.predicate.TraitRef.{TraitRef};
 ghost use Rattle.infer_table.specs.Content.{Ready};
-ghost use Rattle.declarations.specs.Applied.{AllHeld};
+ghost use Rattle.declarations.specs.Applied.{TraitRefsHeld};
 ghost use Rattle.declarations.specs.Merges.{Each};
 ghost use Rattle.search_graph.specs.Cache.{AreJustified, AreConsistent, KeepsResults};
 ghost use Rattle.search_graph.specs.Meaning as Search;
 ghost use Rattle.solver_context.specs.Contexts.{IsReady};
-ghost use Rattle.solver_context.specs.Searching.{solver_meaning, IsFull};
-ghost use Rattle.sessions.specs.Impossible.{IsImpossible, IsLeftOpen, GoalRunsOut};
+ghost use Rattle.solver_context.specs.Searching.{solver_meaning, ContextIsFull};
+ghost use Rattle.sessions.specs.Impossible.{IsImpossible, SearchLeavesOpen, GoalRunsOut};
 
 use crate::impossible::is_impossible;
 use goal_frames::GoalHandler;
@@ -40,8 +40,8 @@ pub fn has_impossible_obligation<H: GoalHandler>(
     requires cache { AreJustified (solver_meaning H.meaning) cx.old cache.old }
     requires ready { IsReady H.meaning.IsReady cx.old }
     requires table { Ready cx.old.interner.entries found.old.table }
-    requires left { AllHeld cx.old.interner.entries found.old.left.items }
-    requires right { AllHeld cx.old.interner.entries found.old.right.items }
+    requires left { TraitRefsHeld cx.old.interner.entries found.old.left.items }
+    requires right { TraitRefsHeld cx.old.interner.entries found.old.right.items }
 
     // After a fault too.
     ensures empty { graph.new.current_depth ≡ 0 }
@@ -60,9 +60,9 @@ pub fn has_impossible_obligation<H: GoalHandler>(
 
     // If none is, each has an answer of the search, or plain recursion has none within the depth.
     ensures left_open { IfOk result (λ refused. refused ≡ false
-        → Each (IsLeftOpen H.meaning cx.old graph.old found.old.table) found.old.left.items
-        × Each (IsLeftOpen H.meaning cx.old graph.old found.old.table) found.old.right.items) }
-    ensures full { result ≡ Err Fault.Full → IsFull H.meaning cx.new
+        → Each (SearchLeavesOpen H.meaning cx.old graph.old found.old.table) found.old.left.items
+        × Each (SearchLeavesOpen H.meaning cx.old graph.old found.old.table) found.old.right.items) }
+    ensures full { result ≡ Err Fault.Full → ContextIsFull H.meaning cx.new
         ⊎ ((r : TraitRef) × (In r found.old.left.items ⊎ In r found.old.right.items) × GoalRunsOut H.meaning cx.old graph.old found.old.table r) }
 {
     if some_is_impossible(graph, cache, cx, &mut found.table, &found.left)? {
@@ -83,7 +83,7 @@ fn some_is_impossible<H: GoalHandler>(
     requires cache { AreJustified (solver_meaning H.meaning) cx.old cache.old }
     requires ready { IsReady H.meaning.IsReady cx.old }
     requires table { Ready cx.old.interner.entries table.old }
-    requires held { AllHeld cx.old.interner.entries references.now }
+    requires held { TraitRefsHeld cx.old.interner.entries references.now }
     ensures empty { graph.new.current_depth ≡ 0 }
     ensures depth { graph.new.root_depth ≡ graph.old.root_depth }
     ensures cache { AreJustified (solver_meaning H.meaning) cx.new cache.new }
@@ -95,8 +95,8 @@ fn some_is_impossible<H: GoalHandler>(
     ensures same { table.new ≡ table.old }
     ensures impossible { IfOk result (λ refused. IsTrue refused → (r : TraitRef) × In r references.now × IsImpossible H.meaning cx.old table.old r) }
     ensures left_open { IfOk result (λ refused. refused ≡ false
-        → Each (IsLeftOpen H.meaning cx.old graph.old table.old) references.now) }
-    ensures full { result ≡ Err Fault.Full → IsFull H.meaning cx.new
+        → Each (SearchLeavesOpen H.meaning cx.old graph.old table.old) references.now) }
+    ensures full { result ≡ Err Fault.Full → ContextIsFull H.meaning cx.new
         ⊎ ((r : TraitRef) × In r references.now × GoalRunsOut H.meaning cx.old graph.old table.old r) }
 {
     'references: for trait_ref in references {

@@ -9,7 +9,7 @@ ghost use Rattle.type_terms.specs.Kinds.{ArgHeld, arg_trees};
 ghost use Rattle.type_terms.specs.Terms.{Has, Keeps, args_lists, trees_at};
 ghost use Rattle.type_terms.specs.declared.TheConstants.{MAX_INDEX};
 ghost use Rattle.term_folds.specs.Arguments.{first_misfit};
-ghost use Rattle.declarations.specs.Applied.{AllHeld, references_in, sort_of_param};
+ghost use Rattle.declarations.specs.Applied.{TraitRefsHeld, references_in, sort_of_param};
 ghost use Rattle.declarations.specs.Held.{ImplHeld, ReferenceHeld};
 ghost use Rattle.declarations.specs.Items.{reference_in};
 ghost use Rattle.declarations.specs.Merges.{Each};
@@ -120,12 +120,12 @@ fn instantiate_trait_refs(
     references: &[TraitRef],
     args: GenericArgs,
 ) -> Result<Vec<TraitRef>, Fault>
-    requires held { AllHeld cx.old.entries references.now }
+    requires held { TraitRefsHeld cx.old.entries references.now }
     requires args { Has cx.old.entries args_lists args.0 }
     requires closed { outer_binder (trees_at cx.old.entries args.0) ≡ 0 }
     requires fits { Each (λ k. first_misfit (trees_at cx.old.entries args.0) (trees_at cx.old.entries k.args.0) ≡ None) references.now }
     ensures keeps { Keeps cx.old.entries cx.new.entries }
-    ensures held { IfOk result (λ v. AllHeld cx.new.entries v.items) }
+    ensures held { IfOk result (λ v. TraitRefsHeld cx.new.entries v.items) }
     ensures are { IfOk result (λ v. references_in cx.new.entries v.items ≡ all_with_args (trees_at cx.old.entries args.0) (references_in cx.old.entries references.now)) }
     ensures full { result ≡ Err Fault.Full → SomeKindIsFull cx.new.entries cx.new.limit }
 {

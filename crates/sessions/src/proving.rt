@@ -7,7 +7,7 @@ ghost use Rattle.type_terms.specs.declared.TheConstants.{MAX_INDEX};
 ghost use Rattle.type_terms.specs.Kinds.{ArgsHeld, arg_trees};
 ghost use Rattle.type_terms.specs.Terms.{Has, Keeps, args_lists, trees_at};
 ghost use Rattle.term_folds.specs.Arguments.{arg_sort};
-ghost use Rattle.declarations.specs.Applied.{AllHeld, AreApplied, references_in};
+ghost use Rattle.declarations.specs.Applied.{TraitRefsHeld, AreApplied, references_in};
 ghost use Rattle.declarations.specs.Elaboration.{elaborate};
 ghost use Rattle.declarations.specs.Held.{ReferenceHeld};
 ghost use Rattle.declarations.specs.Items.{reference_in, written};
@@ -20,7 +20,7 @@ ghost use Rattle.solver_context.specs.Contexts.{Advances, IsReady};
 ghost use Rattle.candidate_assembly.specs.Fitting.{solving_of};
 ghost use Rattle.candidate_assembly.specs.SolverMeaning.{solver_by_view};
 ghost use Rattle.sessions.specs.Frames.{SettlesInFrames, QuestionInFrames};
-ghost use Rattle.sessions.specs.Given.{AnswerHeld};
+ghost use Rattle.sessions.specs.Given.{AnswerValuesHeld};
 ghost use Rattle.sessions.specs.Proving.{AreReadOff, ClausesApply, IsAnswered, IsAnsweredBySolver, IsGoalAnswered, SolverAdvances, SolverIsReady, SolvesTheSame, is_bound_term};
 ghost use Rattle.sessions.specs.Questions.{where_clauses};
 ghost use Rattle.sessions.specs.Resting.{AreAtRest};
@@ -86,7 +86,7 @@ fn read_values(
     requires asked { Has cx.old.entries args_lists asked.args.0 }
     requires unknowns { ArgsHeld cx.old.entries unknowns.now }
     ensures keeps { Keeps cx.old.entries cx.new.entries }
-    ensures held { IfOk result (AnswerHeld cx.new.entries) }
+    ensures held { IfOk result (AnswerValuesHeld cx.new.entries) }
     ensures read { IfOk result (AreReadOff cx.old.entries table.now (trees_at cx.old.entries asked.args.0) unknowns.now cx.new.entries) }
     ensures full { result ≡ Err Fault.Full → SomeKindIsFull cx.new.entries cx.new.limit }
 {
@@ -110,7 +110,7 @@ fn read_values_in<H: GoalHandler>(
     requires asked { Has cx.old.interner.entries args_lists asked.args.0 }
     requires unknowns { ArgsHeld cx.old.interner.entries unknowns.now }
     ensures advances { Advances H.meaning.IsReady cx.old cx.new }
-    ensures held { IfOk result (AnswerHeld cx.new.interner.entries) }
+    ensures held { IfOk result (AnswerValuesHeld cx.new.interner.entries) }
     ensures read { IfOk result (AreReadOff cx.old.interner.entries table.now (trees_at cx.old.interner.entries asked.args.0) unknowns.now cx.new.interner.entries) }
     ensures full { result ≡ Err Fault.Full → SomeKindIsFull cx.new.interner.entries cx.new.interner.limit }
 {
@@ -156,7 +156,7 @@ fn ask_for<H: GoalHandler>(
     ensures rest { AreAtRest H.meaning graph.old.root_depth cx.new graph.new cache.new }
     ensures meaning { H.meaning.world cx.new.handler cx.new.interner.entries ≡ H.meaning.world cx.old.handler cx.old.interner.entries }
     ensures keeps { Keeps cx.old.interner.entries cx.new.interner.entries }
-    ensures held { IfOk result (AnswerHeld cx.new.interner.entries) }
+    ensures held { IfOk result (AnswerValuesHeld cx.new.interner.entries) }
     ensures answer { IfOk result (IsAnswered H.meaning (H.meaning.world cx.old.handler cx.old.interner.entries) graph.old.root_depth
         (map arg_sort unknowns.now) (goal_trees cx.old.interner.entries goal.now) (map (arg_trees cx.old.interner.entries) unknowns.now) cx.new.interner.entries) }
     ensures frames { SettlesInFrames H.meaning (H.meaning.world cx.old.handler cx.old.interner.entries) graph.old.root_depth
@@ -174,10 +174,10 @@ fn ask_for<H: GoalHandler>(
 /// The references with their supertraits through all levels, over the interner of a solver's context.
 fn elaborate_in(cx: &mut SolverCx<Solver>, references: &[TraitRef]) -> Result<Vec<TraitRef>, Fault>
     requires ready { SolverIsReady cx.old }
-    requires held { AllHeld cx.old.interner.entries references.now }
+    requires held { TraitRefsHeld cx.old.interner.entries references.now }
     requires applied { AreApplied cx.old.interner.entries cx.old.handler.declarations references.now }
     ensures advances { SolverAdvances cx.old cx.new }
-    ensures held { IfOk result (λ v. AllHeld cx.new.interner.entries v.items) }
+    ensures held { IfOk result (λ v. TraitRefsHeld cx.new.interner.entries v.items) }
     ensures are { IfOk result (λ v. references_in cx.new.interner.entries v.items
         ≡ elaborate (written cx.old.interner.entries cx.old.handler.declarations) (references_in cx.old.interner.entries references.now)) }
     ensures full { result ≡ Err Fault.Full → SomeKindIsFull cx.new.interner.entries cx.new.interner.limit }
@@ -212,13 +212,13 @@ pub(crate) fn prove_under(
     unknowns: &[GenericArgKind],
 ) -> Result<ProveAnswer, Fault>
     requires rest { SolverRests graph.old.root_depth cx.old graph.old cache.old }
-    requires clauses { AllHeld cx.old.interner.entries clauses.now }
+    requires clauses { TraitRefsHeld cx.old.interner.entries clauses.now }
     requires asked { ReferenceHeld cx.old.interner.entries asked }
     requires unknowns { ArgsHeld cx.old.interner.entries unknowns.now }
     ensures rest { SolverRests graph.old.root_depth cx.new graph.new cache.new }
     ensures solving { SolvesTheSame cx.old cx.new }
     ensures keeps { Keeps cx.old.interner.entries cx.new.interner.entries }
-    ensures held { IfOk result (AnswerHeld cx.new.interner.entries) }
+    ensures held { IfOk result (AnswerValuesHeld cx.new.interner.entries) }
     ensures answer { IfOk result (IsGoalAnswered (solving_of cx.old.interner.entries cx.old.handler.declarations) graph.old.root_depth (map arg_sort unknowns.now)
         (goal_of (references_in cx.old.interner.entries clauses.now) (reference_in cx.old.interner.entries asked)) (map (arg_trees cx.old.interner.entries) unknowns.now) cx.new.interner.entries) }
     ensures frames { SettlesInFrames solver_by_view (solving_of cx.old.interner.entries cx.old.handler.declarations) graph.old.root_depth (map arg_sort unknowns.now)
@@ -245,7 +245,7 @@ fn prove_lowered(
     ensures rest { SolverRests graph.old.root_depth cx.new graph.new cache.new }
     ensures solving { SolvesTheSame cx.old cx.new }
     ensures keeps { Keeps cx.old.interner.entries cx.new.interner.entries }
-    ensures held { IfOk result (AnswerHeld cx.new.interner.entries) }
+    ensures held { IfOk result (AnswerValuesHeld cx.new.interner.entries) }
     ensures answer { IfOk result (λ a. (q : Question) → IsLowered cx.old.interner.entries q lowered.now
         → IsAnsweredBySolver (solving_of cx.old.interner.entries cx.old.handler.declarations) graph.old.root_depth q cx.new.interner.entries a) }
     ensures frames { (q : Question) → IsLowered cx.old.interner.entries q lowered.now
@@ -274,7 +274,7 @@ pub(crate) fn prove_question(
     ensures rest { SolverRests graph.old.root_depth cx.new graph.new cache.new }
     ensures solving { SolvesTheSame cx.old cx.new }
     ensures keeps { Keeps cx.old.interner.entries cx.new.interner.entries }
-    ensures held { IfOk result (AnswerHeld cx.new.interner.entries) }
+    ensures held { IfOk result (AnswerValuesHeld cx.new.interner.entries) }
     ensures answer { IfOk result (λ a. (q : Question) → IsQuestion workspace.now number q
         → IsAnsweredBySolver (solving_of cx.old.interner.entries cx.old.handler.declarations) graph.old.root_depth q cx.new.interner.entries a) }
     ensures frames { (q : Question) → IsQuestion workspace.now number q

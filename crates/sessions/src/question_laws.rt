@@ -4,7 +4,7 @@
 ghost use Rattle.std.specs.Prelude.{Option};
 ghost use Rattle.infer_table.specs.Responses.{AnswerTrees};
 ghost use Rattle.evaluation.specs.Tables.{frame_tables};
-ghost use Rattle.goal_frames.specs.Searches.{Handles, Asked};
+ghost use Rattle.goal_frames.specs.Searches.{Handles, GoalInMode};
 ghost use Rattle.candidate_assembly.specs.Solving.{Solving};
 ghost use Rattle.view_lowering.specs.Ready.{OfTexts};
 ghost use Rattle.sessions.specs.Answers.{solver_goals, AreAnsweredRight, AreAnsweredAsWritten, AreToldPossible};
@@ -60,7 +60,7 @@ pub trait SolverSearch {
 
     ghost Frame: { Type 0 };
 
-    ghost handles: { Handles Context Input Result Frame Solving (Asked frame_tables solver_goals) (Option AnswerTrees) };
+    ghost handles: { Handles Context Input Result Frame Solving (GoalInMode frame_tables solver_goals) (Option AnswerTrees) };
 }
 
 /// By what a crate sees of a text without a fault, each answer that a search has to a question without unknowns is exact, if plain

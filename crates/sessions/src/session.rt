@@ -15,7 +15,7 @@ ghost use Rattle.sessions.specs.ByTrait.{ListsSeen, HavePartnersSeen};
 ghost use Rattle.sessions.specs.CoherentTexts.{HeldTextsAreCoherent};
 ghost use Rattle.sessions.specs.Checking.{HasOrphan, HasJudged, HasPartner, HasOverlap};
 ghost use Rattle.sessions.specs.FrameBounds.{ProvesInFrames, RefutesInFrames};
-ghost use Rattle.sessions.specs.Given.{AnswerHeld, VerdictHeld, answer_in, later_of, refutation_of, supers_of, verdict_in};
+ghost use Rattle.sessions.specs.Given.{AnswerValuesHeld, VerdictHeld, answer_in, later_of, refutation_of, supers_of, verdict_in};
 ghost use Rattle.sessions.specs.Promises.{IsProved, IsRefutation, IsVerdictOf};
 ghost use Rattle.sessions.specs.Releases.{AddedImplsBreakNoUser, IsSectionOf, IsLaterAnswer, IsSupersAnswer};
 ghost use Rattle.sessions.specs.Shown.{AreProofOfQuestion};
@@ -393,7 +393,7 @@ impl<'w> Session<'w> {
         // With the values of a yes there is a proof; a decided reference is answered yes, or unproved if it has no proof.
         ensures answer { (q : Question) → AsksProof self.old.declarations self.old.of_crate number q
             → IfOk result (λ a. IsProved self.old.depth self.old.declarations q (answer_in self.new.terms a)) }
-        ensures held { IfOk result (AnswerHeld self.new.terms) }
+        ensures held { IfOk result (AnswerValuesHeld self.new.terms) }
         ensures stays { StaysOn self.old self.new }
 
         // The frames are those of eight askings at most, after a fault too.

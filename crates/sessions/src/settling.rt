@@ -1,10 +1,10 @@
 //! A goal, asked until its answer is settled.
 
 ghost use Rattle.std.specs.Prelude.{◌≡◌, ◌-◌, ◌⊎◌, Ok, Err};
-ghost use Rattle.solver_context.specs.Searching.{IsFull};
+ghost use Rattle.solver_context.specs.Searching.{ContextIsFull};
 ghost use Rattle.sessions.specs.Frames.{AskingsOf, IsLeftByAnswer, StartsFramesOfAsking};
 ghost use Rattle.sessions.specs.declared.settling.TheConstants.{MAX_ASKINGS};
-ghost use Rattle.sessions.specs.Settling.{IsAskable, HasAsked, IsProvedBy, IsRefused, IsUnsettled, RunsOut, SomeAskingRunsOut};
+ghost use Rattle.sessions.specs.Settling.{IsAskable, HasAsked, IsProvedBy, GoalIsRefused, IsUnsettled, AskingRunsOut, SomeAskingRunsOut};
 
 use evaluation::{Certainty, HasChanged, TypingMode};
 use goal_frames::GoalHandler;
@@ -38,7 +38,7 @@ enum Asking {
     /// It is not known whether there is a solution.
     IsUnsure,
     /// There is no solution.
-    IsRefused,
+    GoalIsRefused,
 }
 
 /// What an evaluation with this certainty comes to.
@@ -70,9 +70,9 @@ fn ask_once<H: GoalHandler>(
         → IsProvedBy H.meaning (H.meaning.world cx.old.handler cx.old.interner.entries) cx.old table.old cx.new table.new goal.now }
     ensures changes { result ≡ Ok Asking.Changes → IsUnsettled H.meaning cx.old graph.old table.old goal.now }
     ensures unsure { result ≡ Ok Asking.IsUnsure → IsUnsettled H.meaning cx.old graph.old table.old goal.now }
-    ensures refused { result ≡ Ok Asking.IsRefused → IsRefused H.meaning cx.old graph.old table.old goal.now }
-    ensures full { result ≡ Err Fault.Full → IsFull H.meaning cx.new
-        ⊎ RunsOut H.meaning cx.old graph.old table.old goal.now }
+    ensures refused { result ≡ Ok Asking.IsRefused → GoalIsRefused H.meaning cx.old graph.old table.old goal.now }
+    ensures full { result ≡ Err Fault.Full → ContextIsFull H.meaning cx.new
+        ⊎ AskingRunsOut H.meaning cx.old graph.old table.old goal.now }
     ensures frames { StartsFramesOfAsking H.meaning cx.old graph.old table.old goal.now graph.new }
     ensures left { result ≡ Ok Asking.Changes → IsLeftByAnswer H.meaning cx.old graph.old table.old goal.now cx.new table.new }
 {
@@ -99,7 +99,7 @@ fn ask_again<H: GoalHandler>(
     ensures proved { result ≡ Ok Outcome.Proved
         → IsProvedBy H.meaning (H.meaning.world cx.old.handler cx.old.interner.entries) cx.old table.old cx.new table.new goal.now }
     ensures not_unproved { result ≡ Ok Outcome.Unproved → ⊥ }
-    ensures full { result ≡ Err Fault.Full → IsFull H.meaning cx.new
+    ensures full { result ≡ Err Fault.Full → ContextIsFull H.meaning cx.new
         ⊎ SomeAskingRunsOut H.meaning graph.old cache.old cx.old table.old goal.now cx.new }
     ensures frames { AskingsOf H.meaning (MAX_ASKINGS - 1) cx.old graph.old table.old goal.now graph.new }
 {
@@ -136,9 +136,9 @@ pub fn ask_until_settled<H: GoalHandler>(
     ensures asked { HasAsked H.meaning graph.old cache.old cx.old table.old graph.new cache.new cx.new table.new }
     ensures proved { result ≡ Ok Outcome.Proved
         → IsProvedBy H.meaning (H.meaning.world cx.old.handler cx.old.interner.entries) cx.old table.old cx.new table.new goal.now }
-    ensures unproved { result ≡ Ok Outcome.Unproved → IsRefused H.meaning cx.old graph.old table.old goal.now }
+    ensures unproved { result ≡ Ok Outcome.Unproved → GoalIsRefused H.meaning cx.old graph.old table.old goal.now }
     ensures maybe { result ≡ Ok Outcome.Maybe → IsUnsettled H.meaning cx.old graph.old table.old goal.now }
-    ensures full { result ≡ Err Fault.Full → IsFull H.meaning cx.new
+    ensures full { result ≡ Err Fault.Full → ContextIsFull H.meaning cx.new
         ⊎ SomeAskingRunsOut H.meaning graph.old cache.old cx.old table.old goal.now cx.new }
     ensures frames { AskingsOf H.meaning MAX_ASKINGS cx.old graph.old table.old goal.now graph.new }
 {

@@ -4,7 +4,7 @@ ghost use Rattle.std.specs.Prelude.{◌≡◌, true, map, IfOk};
 ghost use Rattle.type_terms.specs.Erased.{erased_reference};
 ghost use Rattle.type_terms.specs.Kinds.{ArgHeld, ArgsHeld};
 ghost use Rattle.type_terms.specs.Terms.{Keeps};
-ghost use Rattle.declarations.specs.Applied.{AllHeld};
+ghost use Rattle.declarations.specs.Applied.{TraitRefsHeld};
 ghost use Rattle.declarations.specs.Held.{ReferenceHeld};
 ghost use Rattle.declarations.specs.Items.{reference_in};
 ghost use Rattle.declarations.specs.Merges.{Each};
@@ -13,7 +13,7 @@ ghost use Rattle.proof_checker.specs.Steps.{term_of, terms_of, AreProofOf, StepH
 ghost use Rattle.text_definitions.specs.Declarations.{Question};
 ghost use Rattle.view_lowering.specs.Plain.{unbound_reference, unbound_references};
 ghost use Rattle.view_lowering.specs.Questions.{IsQuestion};
-ghost use Rattle.sessions.specs.Checking.{IsReadySolver, SolverAdvances, rules_in};
+ghost use Rattle.sessions.specs.Checking.{IsReadySolver, SolverStaysReady, rules_in};
 ghost use Rattle.sessions.specs.Shown.{IsResolved, IsShown};
 
 use crate::asked::{lower_in, rest_laws};
@@ -116,7 +116,7 @@ fn resolve_reference_in(
     requires reference { ReferenceHeld cx.old.interner.entries reference }
     requires unknowns { ArgsHeld cx.old.interner.entries unknowns.now }
     requires values { ArgsHeld cx.old.interner.entries values.now }
-    ensures advances { SolverAdvances cx.old cx.new }
+    ensures advances { SolverStaysReady cx.old cx.new }
     ensures held { IfOk result (ReferenceHeld cx.new.interner.entries) }
     ensures resolved { IfOk result (λ r. IsResolved (reference_in cx.old.interner.entries reference) (reference_in cx.new.interner.entries r)) }
 {
@@ -134,10 +134,10 @@ fn is_proof_in(
     steps: &[Step],
 ) -> Result<bool, Fault>
     requires ready { IsReadySolver cx.old }
-    requires clauses { AllHeld cx.old.interner.entries clauses.now }
+    requires clauses { TraitRefsHeld cx.old.interner.entries clauses.now }
     requires asked { ReferenceHeld cx.old.interner.entries asked }
     requires steps { Each (StepHeld cx.old.interner.entries) steps.now }
-    ensures advances { SolverAdvances cx.old cx.new }
+    ensures advances { SolverStaysReady cx.old cx.new }
     ensures proof { IfOk result (λ b. b ≡ true → AreProofOf cx.old.interner.entries (rules_in cx.old)
         (terms_of cx.old.interner.entries clauses.now) (term_of cx.old.interner.entries asked) steps.now) }
 {
@@ -166,12 +166,12 @@ fn is_proof_under(
     steps: &[Step],
 ) -> Result<bool, Fault>
     requires ready { IsReadySolver cx.old }
-    requires clauses { AllHeld cx.old.interner.entries clauses.now }
+    requires clauses { TraitRefsHeld cx.old.interner.entries clauses.now }
     requires asked { ReferenceHeld cx.old.interner.entries asked }
     requires unknowns { ArgsHeld cx.old.interner.entries unknowns.now }
     requires values { ArgsHeld cx.old.interner.entries values.now }
     requires steps { Each (StepHeld cx.old.interner.entries) steps.now }
-    ensures advances { SolverAdvances cx.old cx.new }
+    ensures advances { SolverStaysReady cx.old cx.new }
     ensures proof { IfOk result (λ b. b ≡ true → IsShown cx.old.interner.entries (rules_in cx.old)
         (terms_of cx.old.interner.entries clauses.now) (reference_in cx.old.interner.entries asked) steps.now) }
 {
@@ -194,7 +194,7 @@ pub(crate) fn is_proof_of_question(
     requires question { (q : Question) × IsQuestion workspace.now number q }
     requires values { ArgsHeld cx.old.interner.entries values.now }
     requires steps { Each (StepHeld cx.old.interner.entries) steps.now }
-    ensures advances { SolverAdvances cx.old cx.new }
+    ensures advances { SolverStaysReady cx.old cx.new }
     ensures proof { (q : Question) → IsQuestion workspace.now number q → IfOk result (λ b. b ≡ true
         → IsShown cx.old.interner.entries (rules_in cx.old) (map erased_reference (unbound_references q.clauses)) (unbound_reference q.asked) steps.now) }
 {

@@ -4,18 +4,18 @@ ghost use Rattle.std.specs.Prelude.{◌≡◌, ◌≤◌, ◌⊎◌, ℕ, length
 ghost use Rattle.type_terms.specs.Failures.{SomeKindIsFull};
 ghost use Rattle.type_terms.specs.Terms.{Keeps};
 ghost use Rattle.type_terms.specs.declared.TheConstants.{MAX_INDEX};
-ghost use Rattle.declarations.specs.Applied.{AllHeld, references_in};
+ghost use Rattle.declarations.specs.Applied.{TraitRefsHeld, references_in};
 ghost use Rattle.declarations.specs.Held.{ImplHeld, ReferenceHeld};
 ghost use Rattle.declarations.specs.Items.{reference_in, written};
 ghost use Rattle.overlap_check.specs.Written.{IsWrittenWell};
 ghost use Rattle.candidate_assembly.specs.Fitting.{solving_of};
-ghost use Rattle.candidate_assembly.specs.Ready.{IsReady};
+ghost use Rattle.candidate_assembly.specs.Ready.{AreReadyDeclarations};
 ghost use Rattle.candidate_assembly.specs.SolverMeaning.{solver_by_view};
 ghost use Rattle.text_definitions.specs.Declarations as text;
 ghost use Rattle.sessions.specs.Proving.{SolverAdvances, SolverIsReady, SolvesTheSame};
 ghost use Rattle.sessions.specs.Sessions.{SolverRests, IsSession};
 ghost use Rattle.sessions.specs.Shortages.{HasManyParams, ImplHasManyParams, IsOutOf, IsShort};
-ghost use Rattle.sessions.specs.Supertraits.{AreGoalsFor, AreOfOwn, HasApplied, ImplsApply, IsCheckedAt, IsHeaderTold, IsTold};
+ghost use Rattle.sessions.specs.Supertraits.{AreGoalsFor, AreOfOwn, HasApplied, ImplsApply, IsCheckedAt, IsHeaderTold, SolverTells};
 
 use crate::answers::ProveAnswer;
 use crate::asked::rest_laws;
@@ -60,7 +60,7 @@ fn goals_of(
     declarations: &Declarations,
     def: &ImplDef,
 ) -> Result<SupertraitGoals, Fault>
-    requires ready { IsReady cx.old.entries declarations.now }
+    requires ready { AreReadyDeclarations cx.old.entries declarations.now }
     requires held { ImplHeld cx.old.entries def.now }
     requires written { IsWrittenWell cx.old.entries def.now }
     requires applied { HasApplied declarations.now (reference_in cx.old.entries def.now.header) (references_in cx.old.entries def.now.clauses.items) }
@@ -85,7 +85,7 @@ fn own_goals(
     declarations: &Declarations,
     id: ImplId,
 ) -> Result<Option<SupertraitGoals>, Fault>
-    requires ready { IsReady cx.old.entries declarations.now }
+    requires ready { AreReadyDeclarations cx.old.entries declarations.now }
     requires applied { ImplsApply declarations.now (written cx.old.entries declarations.now) }
     ensures keeps { Keeps cx.old.entries cx.new.entries }
     ensures goals { IfOk result (AreOfOwn (written cx.old.entries declarations.now) declarations.now.local id.index cx.new.entries) }
@@ -129,12 +129,12 @@ fn ask_under(
     asked: TraitRef,
 ) -> Result<Outcome, Fault>
     requires rest { SolverRests graph.old.root_depth cx.old graph.old cache.old }
-    requires clauses { AllHeld cx.old.interner.entries clauses.now }
+    requires clauses { TraitRefsHeld cx.old.interner.entries clauses.now }
     requires asked { ReferenceHeld cx.old.interner.entries asked }
     ensures rest { SolverRests graph.old.root_depth cx.new graph.new cache.new }
     ensures solving { SolvesTheSame cx.old cx.new }
     ensures keeps { Keeps cx.old.interner.entries cx.new.interner.entries }
-    ensures told { IfOk result (IsTold (solving_of cx.old.interner.entries cx.old.handler.declarations) graph.old.root_depth
+    ensures told { IfOk result (SolverTells (solving_of cx.old.interner.entries cx.old.handler.declarations) graph.old.root_depth
         (references_in cx.old.interner.entries clauses.now) (reference_in cx.old.interner.entries asked)) }
     ensures full { result ≡ Err Fault.Full → IsShort solver_by_view cx.new }
 {
@@ -155,8 +155,8 @@ fn first_unproved(
     goals: &SupertraitGoals,
 ) -> Result<HeaderAnswer, Fault>
     requires rest { SolverRests graph.old.root_depth cx.old graph.old cache.old }
-    requires supertraits { AllHeld cx.old.interner.entries goals.now.supertraits.items }
-    requires clauses { AllHeld cx.old.interner.entries goals.now.clauses.items }
+    requires supertraits { TraitRefsHeld cx.old.interner.entries goals.now.supertraits.items }
+    requires clauses { TraitRefsHeld cx.old.interner.entries goals.now.clauses.items }
     ensures rest { SolverRests graph.old.root_depth cx.new graph.new cache.new }
     ensures solving { SolvesTheSame cx.old cx.new }
     ensures keeps { Keeps cx.old.interner.entries cx.new.interner.entries }

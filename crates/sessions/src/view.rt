@@ -5,7 +5,7 @@ ghost use Rattle.declarations.specs.Items.{written, declared};
 ghost use Rattle.view_lowering.specs.Plain.{plainly_seen_from};
 ghost use Rattle.view_lowering.specs.Seen.{rules_seen_from, struct_sorts, trait_sorts, impl_sorts, struct_sorts_seen, trait_sorts_seen, impl_sorts_seen};
 ghost use Rattle.view_lowering.specs.Ready.{OfTexts};
-ghost use Rattle.candidate_assembly.specs.Ready.{IsReady};
+ghost use Rattle.candidate_assembly.specs.Ready.{AreReadyDeclarations};
 ghost use Rattle.sessions.specs.Numbers.{ImplsAreNumbered};
 ghost use Rattle.sessions.specs.Readying.{AreReady};
 ghost use Rattle.sessions.specs.Subjects.{IsOfText};
@@ -52,7 +52,7 @@ pub(crate) fn lower_view(
     ensures trait_sorts { IfOk result (λ decls. map trait_sorts decls.traits ≡ trait_sorts_seen workspace.now crate_id.index) }
     ensures impl_sorts { IfOk result (λ decls. map impl_sorts decls.impls ≡ impl_sorts_seen workspace.now crate_id.index) }
     ensures local { IfOk result (λ decls. decls.local ≡ crate_id.index) }
-    ensures ready { IfOk result (λ decls. IsReady cx.new.entries decls) }
+    ensures ready { IfOk result (λ decls. AreReadyDeclarations cx.new.entries decls) }
     ensures limit { cx.new.limit ≡ cx.old.limit }
 {
     impls_begin_declared();

@@ -25,7 +25,7 @@ use Rattle.infer_table.specs.Covers as OfValues
 use Rattle.infer_table.proofs.Covers.{chosen-append, instance-single, instance-root, arg-root}
 use Rattle.infer_table.proofs.SolutionLaws.{instance-append}
 use Rattle.evaluation.specs.Lists.{Every}
-use Rattle.evaluation.specs.TableAnswers.{picked, IsPicked, ArePicked, Agrees, is_variable_of, is_kind_of, is_fitting, IsWellFormed, leaf_value}
+use Rattle.evaluation.specs.TableAnswers.{picked, IsPicked, ArePicked, IsInstanceOfAnswer, is_variable_of, is_kind_of, is_fitting, IsWellFormed, leaf_value}
 use Rattle.evaluation.specs.FrameTables.{kind_at}
 use Rattle.evaluation.specs.Instances.{read_with, of_sort}
 use Rattle.evaluation.proofs.Labels.{IsGoodLabel, made-labels}
@@ -144,7 +144,7 @@ module _ (es : List Entry) (law : Lawful es) (s : Assignment) (sorted : IsSorted
 
   -- an answer to the goal agrees with the instance if it agrees with what stands for the leaves
   pub agrees-with : (r : CanonicalResponse) (os : List GenericArgKind) (g : GoalTrees) → ArgsHeld es r.var_values.items → ArgsHeld es os → AreLeaves es os → labels es os ≡ goal_leaves g
-      → is_answer_to (values_of es os) (answer_trees es r) ≡ true → Agrees (answer_trees es r) (values_under s g) → OfValues.Agrees (args_trees es r.var_values.items) (instance s (args_trees es os))
+      → is_answer_to (values_of es os) (answer_trees es r) ≡ true → IsInstanceOfAnswer (answer_trees es r) (values_under s g) → OfValues.Agrees (args_trees es r.var_values.items) (instance s (args_trees es os))
   agrees-with r os g hr ho l e a p =
       (p.0, p.1, all-values p.0 r.var_values.items os hr ho l a (subst (λ ls. ArePicked p.0 (values_of es r.var_values.items) (map (λ m. instance s (leaf m)) ls)) (sym e) p.2))
 

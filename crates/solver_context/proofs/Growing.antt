@@ -16,7 +16,7 @@ use Rattle.evaluation.specs.TableAnswers.{IsWellFormed}
 use Rattle.goal_frames.specs.Searches.{replies_of}
 use Rattle.goal_frames.specs.declared.store.InputId.{InputId}
 use Rattle.goal_frames.specs.declared.store.ResponseId.{ResponseId}
-use Rattle.goal_frames.specs.Stores.{IsHeld, Grows, response_at, HasResponse, StandsForInput, StandsForResponse}
+use Rattle.goal_frames.specs.Stores.{StoreIsHeld, StoreGrows, response_at, HasResponse, StandsForInput, StandsForResponse}
 use Rattle.goal_frames.proofs.Answers.{response-held-later, answer-later, same-answers}
 use Rattle.goal_frames.proofs.Numbers.{goal-later, same-goals}
 use Rattle.infer_table.proofs.Numbers.{goal-held-later}
@@ -24,15 +24,15 @@ use Rattle.goal_frames.specs.declared.frame.GoalFrame.{GoalFrame}
 use Rattle.goal_frames.specs.Frames as Frames
 use Rattle.goal_frames.specs.Meanings.{HandlerMeaning}
 use Rattle.solver_context.specs.declared.context.SolverCx.{SolverCx}
-use Rattle.solver_context.specs.Contexts.{Asked, asked_of, asked_or_none, entries_of, goal_of, answer_of, IsReady, IsInput, IsResult, IsKept, Advances}
-use Rattle.solver_context.specs.Searching.{bare, Anything, IsReplyOf, world_of, HasHeard, solver_meaning}
+use Rattle.solver_context.specs.Contexts.{Asked, asked_of, asked_or_none, entries_of, goal_of, answer_of, IsReady, IsInput, ResponseIsMade, IsKeptAnswer, Advances}
+use Rattle.solver_context.specs.Searching.{bare, AnyAnswer, RepliedResultIs, world_of, FrameHasHeard, solver_meaning}
 use Rattle.solver_context.proofs.Frames.{heard-later}
 
-pub grows-same : {Handler : Type 0} (c : SolverCx Handler) → Grows c.store c.store
+pub grows-same : {Handler : Type 0} (c : SolverCx Handler) → StoreGrows c.store c.store
 grows-same c = record { inputs = λ i a e. e; responses = λ i r e. e }
 
 -- what is kept is held by an interner that has grown
-pub store-held : {Handler : Type 0} (c : SolverCx Handler) (new : List Entry) → Keeps (entries_of c) new → IsHeld (entries_of c) c.store → IsHeld new c.store
+pub store-held : {Handler : Type 0} (c : SolverCx Handler) (new : List Entry) → Keeps (entries_of c) new → StoreIsHeld (entries_of c) c.store → StoreIsHeld new c.store
 store-held c new k h = record {
   inputs = λ i a e. goal-held-later (entries_of c) new k a.goal (h.inputs i a e);
   responses = λ i r e. response-held-later (entries_of c) new k r (h.responses i r e);
@@ -50,7 +50,7 @@ module _ {Handler : Type 0} (ready : Handler → List Entry → Type 0) (c d : S
         ap (asked_or_none (entries_of d)) at ∙ asked-later (entries_of c) (entries_of d) a.entries kept (x.0.store.inputs i kept x.1.1) ∙ sym (ap (asked_or_none (entries_of c)) x.1.1),
       )
 
-  result-later : (r : Option ResponseId) → IsResult ready c r → IsResult ready d r × (answer_of d r ≡ answer_of c r)
+  result-later : (r : Option ResponseId) → ResponseIsMade ready c r → ResponseIsMade ready d r × (answer_of d r ≡ answer_of c r)
   result-later None x = (tt, refl)
   result-later (Some i) x =
       let kept = x.1.0 in
@@ -60,7 +60,7 @@ module _ {Handler : Type 0} (ready : Handler → List Entry → Type 0) (c d : S
         ap (option_map (answer_trees (entries_of d))) at ∙ ap Some same ∙ sym (ap (option_map (answer_trees (entries_of c))) x.1.1),
       )
 
-  pub kept-there : (o : Option AnswerTrees) → IsKept ready c o → IsKept ready d o
+  pub kept-there : (o : Option AnswerTrees) → IsKeptAnswer ready c o → IsKeptAnswer ready d o
   kept-there o x = let y = result-later x.0 x.1 in (x.0, y.0, y.1 ∙ x.2)
 
 module _ {Handler : Type 0} (ready : Handler → List Entry → Type 0) where
@@ -70,10 +70,10 @@ module _ {Handler : Type 0} (ready : Handler → List Entry → Type 0) where
   later stays c d now h s k law = record {
     handler = h;
     entries = k;
-    store = subst (λ z. Grows c.store z) (sym s) (grows-same c);
+    store = subst (λ z. StoreGrows c.store z) (sym s) (grows-same c);
     ready = record {
       handler = subst (λ z. ready z (entries_of d)) (sym h) (stays c.handler (entries_of c) (entries_of d) k now.handler);
-      store = subst (IsHeld (entries_of d)) (sym s) (store-held c (entries_of d) k now.store);
+      store = subst (StoreIsHeld (entries_of d)) (sym s) (store-held c (entries_of d) k now.store);
       lawful = law;
     };
   }
@@ -94,23 +94,23 @@ module _ {Handler : Type 0} (ready : Handler → List Entry → Type 0) where
   goal-kept c i a now x = ((now, (x.0, x.1)), goal-is c i a x)
 
   pub answer-kept : (c : SolverCx Handler) (i : ResponseId) (r : CanonicalResponse) → IsReady ready c → StandsForResponse c.store i r → IsWellFormed (answer_trees (entries_of c) r)
-      → IsResult ready c (Some i) × (answer_of c (Some i) ≡ Some (answer_trees (entries_of c) r))
+      → ResponseIsMade ready c (Some i) × (answer_of c (Some i) ≡ Some (answer_trees (entries_of c) r))
   answer-kept c i r now x fits =
       let same = same-answers (entries_of c) r x.0 x.2 in
       ((now, (x.0, x.1, subst IsWellFormed same fits)), ap (option_map (answer_trees (entries_of c))) x.1 ∙ ap Some (sym same))
 
   -- the number of an answer is the store's
-  pub is-there : (c : SolverCx Handler) (i : ResponseId) (r : Option ResponseId) → r ≡ Some i → IsResult ready c r → HasResponse c.store i
-  is-there c i r e x = let y = subst (IsResult ready c) e x in (y.1.0, y.1.1)
+  pub is-there : (c : SolverCx Handler) (i : ResponseId) (r : Option ResponseId) → r ≡ Some i → ResponseIsMade ready c r → HasResponse c.store i
+  is-there c i r e x = let y = subst (ResponseIsMade ready c) e x in (y.1.0, y.1.1)
 
-  pub ready-there : (c : SolverCx Handler) (i : ResponseId) (r : Option ResponseId) → r ≡ Some i → IsResult ready c r → IsReady ready c
-  ready-there c i r e x = (subst (IsResult ready c) e x).0
+  pub ready-there : (c : SolverCx Handler) (i : ResponseId) (r : Option ResponseId) → r ≡ Some i → ResponseIsMade ready c r → IsReady ready c
+  ready-there c i r e x = (subst (ResponseIsMade ready c) e x).0
 
   -- what stands under the number is well-formed, and is the answer
-  pub read-there : (c : SolverCx Handler) (i : ResponseId) (r : Option ResponseId) (kept : CanonicalResponse) → r ≡ Some i → IsResult ready c r → response_at c.store i ≡ Some kept
+  pub read-there : (c : SolverCx Handler) (i : ResponseId) (r : Option ResponseId) (kept : CanonicalResponse) → r ≡ Some i → ResponseIsMade ready c r → response_at c.store i ≡ Some kept
       → IsWellFormed (answer_trees (entries_of c) kept) × (answer_of c r ≡ Some (answer_trees (entries_of c) kept))
   read-there c i r kept e x at =
-      let y = subst (IsResult ready c) e x in
+      let y = subst (ResponseIsMade ready c) e x in
       let same : y.1.0 ≡ kept = same_Some _ _ (sym y.1.1 ∙ at) in
       (subst (λ z. IsWellFormed (answer_trees (entries_of c) z)) same y.1.2, ap (answer_of c) e ∙ ap (option_map (answer_trees (entries_of c))) at)
 
@@ -120,11 +120,11 @@ module _ {Handler : Type 0} (m : HandlerMeaning Handler)
   world c = world_of m c
 
   abbrev Heard : SolverCx Handler → Asked → List (Reply (Option AnswerTrees)) → GoalFrame → Type 0
-  Heard = HasHeard m
+  Heard = FrameHasHeard m
 
   -- a result that is replied is kept
   abbrev Told : SolverCx Handler → Reply (Option AnswerTrees) → Type 0
-  Told c = IsReplyOf (IsKept m.IsReady c)
+  Told c = RepliedResultIs (IsKeptAnswer m.IsReady c)
 
   module _ (c d : SolverCx Handler) (now : IsReady m.IsReady c) (a : Advances m.IsReady c d) where
     pub told-there : (r : Reply (Option AnswerTrees)) → Told c r → Told d r
@@ -148,7 +148,7 @@ module _ {Handler : Type 0} (m : HandlerMeaning Handler)
       form = ap (λ q. q.1) (asked-later (entries_of c) (entries_of d) a.entries f.goal x.frame.held.goal) ∙ x.form;
       kept = let i = x.kept.0 in let j = input-later m.IsReady c d a i x.kept.1 in (i, j.0, j.1 ∙ x.kept.2);
       replies = all-told heard x.replies;
-      due = subst (λ w. Search.AreReplies (bare m.goals) Anything w g heard) (sym same-world) x.due;
+      due = subst (λ w. Search.AreReplies (bare m.goals) AnyAnswer w g heard) (sym same-world) x.due;
       frame = subst (λ w. Frames.HasHeard (entries_of d) (m.goals.handled w g.0 g.1) f (replies_of heard)) (sym same-world)
           (heard-later (entries_of c) (entries_of d) a.entries (m.goals.handled (world c) g.0 g.1) f (replies_of heard) x.frame);
     }

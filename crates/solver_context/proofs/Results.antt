@@ -9,8 +9,8 @@ use Rattle.search_graph.specs.Computed.{IsComputed, IsGivenWithin}
 use Rattle.search_graph.specs.Meaning as Search
 use Rattle.search_graph.specs.Plain.{IsNotPlain}
 use Rattle.search_graph.specs.SearchState.{SearchState}
-use Rattle.solver_context.specs.Evaluations.{IsFound}
-use Rattle.solver_context.specs.Results.{IsKnown, FramesAreBounded, KnownIsFree, LimitsAreNoted, IsResult}
+use Rattle.solver_context.specs.Evaluations.{IsFoundBySearch}
+use Rattle.solver_context.specs.Results.{IsCachedAnswer, FramesAreBounded, KnownIsFree, LimitsAreNoted, IsResult}
 
 one-more : {A B : Type 0} (a b : A) (x y : B) (xs ys : List (A × B)) → a ≡ b → x ≡ y → xs ≡ ys → ◌≡◌ {A = List (A × B)} ((a, x) ∷ xs) ((b, y) ∷ ys)
 one-more a b x y xs ys e f g = cc
@@ -43,7 +43,7 @@ module _ {C I R F : Type 0} (m : Search.Meaning C I R F) where
     answers-later (k ∷ ks) h = one-more _ _ _ _ _ _ (keeps.inputs k.input h.0.known).1 (keeps.results k.result h.0.result.known).1 (answers-later ks h.1)
 
     module _ (ks : List (KnownResult I R)) (now : AreJustified m c ks) (depth : ℕ) (g : m.Goal) (a : m.Answer) where
-      pub known-later : IsKnown m c ks depth g a → IsKnown m d ks depth g a
+      pub known-later : IsCachedAnswer m c ks depth g a → IsCachedAnswer m d ks depth g a
       known-later x =
           let k = justified-at c ks x.place x.result x.there now in
           record {
@@ -55,7 +55,7 @@ module _ {C I R F : Type 0} (m : Search.Meaning C I R F) where
             within = x.within;
           }
 
-      pub known-before : IsKnown m d ks depth g a → IsKnown m c ks depth g a
+      pub known-before : IsCachedAnswer m d ks depth g a → IsCachedAnswer m c ks depth g a
       known-before x =
           let k = justified-at c ks x.place x.result x.there now in
           record {
@@ -88,7 +88,7 @@ module _ {C I R F : Type 0} (m : Search.Meaning C I R F) where
         result-before e a b is x =
             let y : IsResult m d ks old e ls new q b = subst (λ z. IsResult m d ks old e ls new z b) same (subst (IsResult m d ks old e ls new g) is x) in
             record {
-              found = subst (λ w. IsFound m w old.root_depth q b) keeps.world y.found;
+              found = subst (λ w. IsFoundBySearch m w old.root_depth q b) keeps.world y.found;
               known = λ o k. known-before ks now old.root_depth q b (y.known o (known-later ks now old.root_depth q o k));
               kept = y.kept;
               limits = λ n. subst (λ w. IsComputed m w (IsGivenWithin m w (answers_in m c ks)) q b) keeps.world
@@ -103,12 +103,12 @@ module _ {C I R F : Type 0} (m : Search.Meaning C I R F) where
   -- ---- a search for the goal of an input, which no other input stands for
   module _ (c d : C) (keeps : Search.Keeps m c d) (ks : List (KnownResult I R)) (now : AreJustified m c ks) (input : I) (is : m.IsInput c input)
       (one : (i : I) → m.IsInput c i → m.goal_of c i ≡ m.goal_of c input → i ≡ input) where
-    pub its-input : (depth : ℕ) (a : m.Answer) (x : IsKnown m c ks depth (m.goal_of c input) a) → x.result.input ≡ input
+    pub its-input : (depth : ℕ) (a : m.Answer) (x : IsCachedAnswer m c ks depth (m.goal_of c input) a) → x.result.input ≡ input
     its-input depth a x = one x.result.input (justified-at c ks x.place x.result x.there now).known x.goal
 
     pub found-known : (depth : ℕ) (r : R)
         → (other : ℕ) × (l : KnownResult I R) × (slice_get ks other ≡ Some l) × (l.input ≡ input) × (l.result ≡ r) × IsWithinDepth l.overflowed l.depth depth
-        → IsKnown m c ks depth (m.goal_of c input) (m.answer_of d r)
+        → IsCachedAnswer m c ks depth (m.goal_of c input) (m.answer_of d r)
     found-known depth r x = record {
       place = x.0;
       result = x.1;
@@ -120,7 +120,7 @@ module _ {C I R F : Type 0} (m : Search.Meaning C I R F) where
 
     pub found-kept : (ls : List (KnownResult I R)) (depth : ℕ) (r : R)
         → (place : ℕ) × (k : KnownResult I R) × (slice_get ls place ≡ Some k) × (k.input ≡ input) × (k.result ≡ r) × IsWithinDepth k.overflowed k.depth depth
-        → IsKnown m d ls depth (m.goal_of c input) (m.answer_of d r)
+        → IsCachedAnswer m d ls depth (m.goal_of c input) (m.answer_of d r)
     found-kept ls depth r x = record {
       place = x.0;
       result = x.1;
@@ -136,7 +136,7 @@ module _ {C I R F : Type 0} (m : Search.Meaning C I R F) where
         → KnownIsFree m c ks (m.goal_of c input) old new ls
     free-here ls old new f a x = f x.place x.result x.there (its-input old.root_depth a x) x.within
 
-    pub result-here : (ls : List (KnownResult I R)) (old new : SearchState) (r : R) (a : m.Answer) → m.answer_of d r ≡ a → IsFound m (m.world c) old.root_depth (m.goal_of c input) (m.answer_of d r)
+    pub result-here : (ls : List (KnownResult I R)) (old new : SearchState) (r : R) (a : m.Answer) → m.answer_of d r ≡ a → IsFoundBySearch m (m.world c) old.root_depth (m.goal_of c input) (m.answer_of d r)
         → ((place : ℕ) (k : KnownResult I R) → slice_get ks place ≡ Some k → k.input ≡ input → IsWithinDepth k.overflowed k.depth old.root_depth
         → (other : ℕ) × (l : KnownResult I R) × (slice_get ks other ≡ Some l) × (l.input ≡ input) × (l.result ≡ r) × IsWithinDepth l.overflowed l.depth old.root_depth)
         → ((place : ℕ) × (k : KnownResult I R) × (slice_get ls place ≡ Some k) × (k.input ≡ input) × (k.result ≡ r) × IsWithinDepth k.overflowed k.depth old.root_depth)

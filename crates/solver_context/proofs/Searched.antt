@@ -19,7 +19,7 @@ use Rattle.evaluation.specs.Law.{AgreesTo}
 use Rattle.evaluation.specs.Proof as Lists
 use Rattle.evaluation.specs.Content.{trait_of, Fact, fact_of}
 use Rattle.evaluation.specs.Tables.{frame_tables}
-use Rattle.goal_frames.specs.Searches.{Follows, AnswersGoal}
+use Rattle.goal_frames.specs.Searches.{FollowsInMode, AnswersGoal}
 use Rattle.goal_frames.proofs.Graphs as Unfolding
 use Rattle.goal_frames.specs.Meanings.{Goals}
 use Rattle.goal_frames.specs.HandlerPrograms.{programs_of, HandlersArePrograms, AreLawfulGoals}
@@ -42,10 +42,10 @@ module _ (es : List Entry) (law : Lawful es) (t : Table) (ready : Ready es t) (g
 
     -- a proof graph of the canonical form unfolds to a proof of the instance
     pub root-proof : HandlersArePrograms m
-        → HasProof (TypingMode × CanonicalForm) (Follows frame_tables (programs_of m) w) (mode, canonical_form (goal_in es t g))
-        → Lists.HasProof Fact (m.Rule w) (m.coinductive w) (fact_under s (goal_trees es g))
+        → HasProof (TypingMode × CanonicalForm) (FollowsInMode frame_tables (programs_of m) w) (mode, canonical_form (goal_in es t g))
+        → Lists.FactHasProof Fact (m.Rule w) (m.coinductive w) (fact_under s (goal_trees es g))
     root-proof lawful graph =
-        subst (Lists.HasProof Fact (m.Rule w) (m.coinductive w)) goal-is
+        subst (Lists.FactHasProof Fact (m.Rule w) (m.coinductive w)) goal-is
         (Unfolding.graphs_prove frame_tables (programs_of m) lawful w (mode, canonical_form (goal_in es t g)) graph (values_under s (goal_in es t g)) (values-made s (goal_in es t g)))
 
     -- where the instance has a proof, an answer that covers the canonical form agrees with it

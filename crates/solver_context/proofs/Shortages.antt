@@ -18,7 +18,7 @@ use Rattle.solver_context.specs.Contexts.{entries_of}
 use Rattle.solver_context.specs.Errors.{error_of_equation}
 use Rattle.solver_context.specs.declared.outcome.RootError.{RootError}
 use Rattle.solver_context.specs.declared.outcome.RootError.TheVariants as Root
-use Rattle.solver_context.specs.Shortages.{TableIsFull, interner, variables, HasNoForm, RootRunsOut, form}
+use Rattle.solver_context.specs.Shortages.{TableIsFull, interner, variables, GoalHasNoForm, RootRunsOut, form}
 
 -- what is left after an error
 pub at-error : {T E : Type 0} {P : Type 0} (r : Result T E) {e : E} → r ≡ Err e → OnErr r P → P
@@ -52,7 +52,7 @@ out-of-numbers Eq.NoSolution e = absurd (cc)
 out-of-numbers (Eq.Fault fault) e = cc
 
 -- ---- root goals
-pub asked-full : {T S : Type 0} {P : AnswerTrees → Type 0} {t : TableTrees} {g : GoalTrees} → T ⊎ HasNoForm g → (T ⊎ S) ⊎ RootRunsOut P t g
+pub asked-full : {T S : Type 0} {P : AnswerTrees → Type 0} {t : TableTrees} {g : GoalTrees} → T ⊎ GoalHasNoForm g → (T ⊎ S) ⊎ RootRunsOut P t g
 asked-full (inl h) = inl (inl h)
 asked-full (inr h) = inr (form h)
 

@@ -18,7 +18,7 @@ use Rattle.evaluation.specs.Handler.{Handled, IsHandler}
 use Rattle.evaluation.specs.History as Histories
 use Rattle.evaluation.specs.Promises.{frame_of_goal}
 use Rattle.evaluation.specs.Promises as Promises
-use Rattle.evaluation.specs.Content.{Question}
+use Rattle.evaluation.specs.Content.{NestedQuestion}
 use Rattle.evaluation.specs.Tables.{frame_tables}
 use Rattle.goal_frames.specs.Searches.{asks, kind_of, reply_of, replies_of, request_of}
 use Rattle.goal_frames.specs.declared.frame.GoalFrame.{GoalFrame}
@@ -32,9 +32,9 @@ use Rattle.goal_frames.proofs.Later.{result-later}
 use Rattle.goal_frames.proofs.Shortages.{frame-runs-out-later}
 use Rattle.goal_frames.specs.Meanings.{HandlerMeaning}
 use Rattle.solver_context.specs.declared.context.SolverCx.{SolverCx}
-use Rattle.solver_context.specs.Contexts.{Asked, entries_of, Advances, IsKept}
+use Rattle.solver_context.specs.Contexts.{Asked, entries_of, Advances, IsKeptAnswer}
 use Rattle.solver_context.specs.Answers.{reply_read, request_read}
-use Rattle.solver_context.specs.Searching.{programs, bare, bare_handles, Anything, IsFull, IsReplyOf, world_of, handles, HasHeard, solver_meaning, steps_left}
+use Rattle.solver_context.specs.Searching.{programs, bare, bare_handles, AnyAnswer, ContextIsFull, RepliedResultIs, world_of, handles, FrameHasHeard, solver_meaning, steps_left}
 use Rattle.solver_context.specs.Shortages.{interner}
 use Rattle.solver_context.proofs.Due.{due-same, heard-more, came-anyhow}
 use Rattle.solver_context.proofs.Growing.{asked-later, input-later, keeps, told-there, all-told, same-world}
@@ -54,8 +54,8 @@ same-reply es Ignored = refl
 evaluate-cong : (m n : TypingMode) (f g : CanonicalForm) (j k : _) → m ≡ n → f ≡ g → j ≡ k → ◌≡◌ {A = Request Asked (Option AnswerTrees)} (Evaluate (m, f) j) (Evaluate (n, g) k)
 evaluate-cong m n f g j k e h i = ap (λ x. Evaluate (x, f) j) e ∙ ap (λ x. Evaluate (n, x) j) h ∙ ap (Evaluate (n, g)) i
 
-same-request : (mode : TypingMode) (es : List Entry) (q : Request CanonicalInput (Option CanonicalResponse)) (r : Histories.Request Question (Option AnswerTrees)) → Frames.IsRequest mode es q r
-    → request_read es q ≡ request_of (λ (x : Question). (mode, x.form)) (kind_of frame_tables) r
+same-request : (mode : TypingMode) (es : List Entry) (q : Request CanonicalInput (Option CanonicalResponse)) (r : Histories.Request NestedQuestion (Option AnswerTrees)) → Frames.IsRequestOf mode es q r
+    → request_read es q ≡ request_of (λ (x : NestedQuestion). (mode, x.form)) (kind_of frame_tables) r
 same-request mode es (Evaluate input kind) (Histories.evaluate x) i = evaluate-cong _ _ _ _ _ _ i.0 i.1 i.2
 same-request mode es EnterCandidate Histories.enter_candidate i = refl
 same-request mode es FinishCandidate Histories.finish_candidate i = refl
@@ -66,11 +66,11 @@ same-request mode es q r i = absurd i
 -- a reply that a search gives is kept
 pub told-kept : {Handler : Type 0} (m : HandlerMeaning Handler) (c : SolverCx Handler) (reply : CodeReply) (given : Reply (Option ResponseId))
     → reply_read (entries_of c) reply ≡ Search.reply_of (solver_meaning m) c given → Search.IsReply (solver_meaning m) c given
-    → IsReplyOf (IsKept m.IsReady c) (reply_read (entries_of c) reply)
-told-kept m c reply given same is = subst (IsReplyOf (IsKept m.IsReady c)) (sym same) (by given is)
+    → RepliedResultIs (IsKeptAnswer m.IsReady c) (reply_read (entries_of c) reply)
+told-kept m c reply given same is = subst (RepliedResultIs (IsKeptAnswer m.IsReady c)) (sym same) (by given is)
   where
     by : (given : Reply (Option ResponseId)) → Search.IsReply (solver_meaning m) c given
-        → IsReplyOf (IsKept m.IsReady c) (Search.reply_of (solver_meaning m) c given)
+        → RepliedResultIs (IsKeptAnswer m.IsReady c) (Search.reply_of (solver_meaning m) c given)
     by Begin h = tt
     by (Result r) h = (r, h, refl)
     by Entered h = tt
@@ -83,7 +83,7 @@ module _ {Handler : Type 0} (m : HandlerMeaning Handler)
   world c = world_of m c
 
   abbrev Heard : SolverCx Handler → Asked → List (Reply (Option AnswerTrees)) → GoalFrame → Type 0
-  Heard = HasHeard m
+  Heard = FrameHasHeard m
 
   abbrev by_frame : SolverCx Handler → GoalFrame → Handled frame_tables
   by_frame c f = m.goals.handled (world c) f.goal.mode (form_of (entries_of c) f.goal)
@@ -97,7 +97,7 @@ module _ {Handler : Type 0} (m : HandlerMeaning Handler)
       abbrev Due : Type 0
       Due = Search.IsDueAfter (solver_meaning m) (world c) g heard (reply_read (entries_of c) reply)
 
-      pub all-due : Due → Search.AreReplies (bare m.goals) Anything (world c) g (reply_read (entries_of c) reply ∷ heard)
+      pub all-due : Due → Search.AreReplies (bare m.goals) AnyAnswer (world c) g (reply_read (entries_of c) reply ∷ heard)
       all-due due =
           heard-more frame_tables (programs m.goals) (bare_handles m.goals) (world c) g heard (reply_read (entries_of c) reply) x.due
           (due-same frame_tables (programs m.goals) (handles m) (bare_handles m.goals) (world c) g heard (reply_read (entries_of c) reply) due)
@@ -109,12 +109,12 @@ module _ {Handler : Type 0} (m : HandlerMeaning Handler)
           (came-anyhow frame_tables (programs m.goals) (bare_handles m.goals) (world c) g (reply_read (entries_of c) reply) heard (all-due due))
 
       -- a reply that is due to the search's frame is due to the goal's
-      pub is-due : Due → Frames.IsDue (entries_of c) (by_frame c f) f (Frames.reply_read (entries_of c) reply)
-      is-due due = subst (λ h. Frames.IsDue (entries_of c) h f (Frames.reply_read (entries_of c) reply)) (of-goal g heard x) (replies_of heard, x.frame, in-order due)
+      pub is-due : Due → Frames.ReplyIsDue (entries_of c) (by_frame c f) f (Frames.reply_read (entries_of c) reply)
+      is-due due = subst (λ h. Frames.ReplyIsDue (entries_of c) h f (Frames.reply_read (entries_of c) reply)) (of-goal g heard x) (replies_of heard, x.frame, in-order due)
 
-      module _ (d : SolverCx Handler) (a : Advances m.IsReady c d) (held : Frames.IsReply (entries_of c) reply) where
+      module _ (d : SolverCx Handler) (a : Advances m.IsReady c d) (held : Frames.ReplyIsMade (entries_of c) reply) where
         -- the reply says the same over the grown interner, and stays kept
-        read-later : (r : CodeReply) → Frames.IsReply (entries_of c) r → reply_read (entries_of d) r ≡ reply_read (entries_of c) r
+        read-later : (r : CodeReply) → Frames.ReplyIsMade (entries_of c) r → reply_read (entries_of d) r ≡ reply_read (entries_of c) r
         read-later Begin h = refl
         read-later (Result o) h = ap Result (result-later (entries_of c) (entries_of d) a.entries o h.0)
         read-later Entered h = refl
@@ -122,8 +122,8 @@ module _ {Handler : Type 0} (m : HandlerMeaning Handler)
         read-later Ignored h = refl
 
         -- the frame, as the grown context knows it, comes to where numbers are used up, if no table of the interner is at its limit
-        pub some-frame : IsReplyOf (IsKept m.IsReady c) (reply_read (entries_of c) reply) → Due
-            → SomeKindIsFull (entries_of d) d.interner.limit ⊎ FrameRunsOut (entries_of c) (by_frame c f) f reply → IsFull m d
+        pub some-frame : RepliedResultIs (IsKeptAnswer m.IsReady c) (reply_read (entries_of c) reply) → Due
+            → SomeKindIsFull (entries_of d) d.interner.limit ⊎ FrameRunsOut (entries_of c) (by_frame c f) f reply → ContextIsFull m d
         some-frame told due (inl h) = inl (interner h)
         some-frame told due (inr n) =
             let same = same-world m kept c d x.ready a in
@@ -137,20 +137,20 @@ module _ {Handler : Type 0} (m : HandlerMeaning Handler)
               due = subst (λ w. Search.IsDueAfter (bare m.goals) w g heard (reply_read (entries_of d) reply)) (sym same)
                   (subst (λ y. Search.IsDueAfter (bare m.goals) (world c) g heard y) (sym read)
                   (due-same frame_tables (programs m.goals) (handles m) (bare_handles m.goals) (world c) g heard (reply_read (entries_of c) reply) due));
-              kept = subst (IsReplyOf (IsKept m.IsReady d)) (sym read) (told-there m kept c d x.ready a (reply_read (entries_of c) reply) told);
+              kept = subst (RepliedResultIs (IsKeptAnswer m.IsReady d)) (sym read) (told-there m kept c d x.ready a (reply_read (entries_of c) reply) told);
               runs_out = subst (λ w. FrameRunsOut (entries_of d) (m.goals.handled w g.0 g.1) f reply) (sym same)
                   (frame-runs-out-later (entries_of c) (entries_of d) a.entries (m.goals.handled (world c) g.0 g.1) f x.frame.held reply held
                   (subst (λ h. FrameRunsOut (entries_of c) h f reply) (sym (of-goal g heard x)) n));
             })
 
       module _ (d : SolverCx Handler) (a : Advances m.IsReady c d) (after : GoalFrame) (q : Request CanonicalInput (Option CanonicalResponse))
-          (held : Frames.IsReply (entries_of c) reply) (told : IsReplyOf (IsKept m.IsReady c) (reply_read (entries_of c) reply)) (fewer : AsksFewer f.place after.place)
-          (goal : after.goal ≡ f.goal) (steps : Frames.Steps (entries_of c) (by_frame c f) f (Frames.reply_read (entries_of c) reply) (entries_of d) after q) where
+          (held : Frames.ReplyIsMade (entries_of c) reply) (told : RepliedResultIs (IsKeptAnswer m.IsReady c) (reply_read (entries_of c) reply)) (fewer : AsksFewer f.place after.place)
+          (goal : after.goal ≡ f.goal) (steps : Frames.FrameSteps (entries_of c) (by_frame c f) f (Frames.reply_read (entries_of c) reply) (entries_of d) after q) where
         stepped : Due
             → Frames.HasHeard (entries_of d) (m.goals.handled (world c) g.0 g.1) after (Frames.reply_read (entries_of c) reply ∷ replies_of heard)
-            × Frames.IsRequest f.goal.mode (entries_of d) q (Histories.asks (frame_of_goal frame_tables (m.goals.handled (world c) g.0 g.1)) (Frames.reply_read (entries_of c) reply ∷ replies_of heard))
+            × Frames.IsRequestOf f.goal.mode (entries_of d) q (Histories.asks (frame_of_goal frame_tables (m.goals.handled (world c) g.0 g.1)) (Frames.reply_read (entries_of c) reply ∷ replies_of heard))
         stepped due =
-            (subst (λ h. Frames.Steps (entries_of c) h f (Frames.reply_read (entries_of c) reply) (entries_of d) after q) (sym (of-goal g heard x)) steps) (replies_of heard) x.frame (in-order due)
+            (subst (λ h. Frames.FrameSteps (entries_of c) h f (Frames.reply_read (entries_of c) reply) (entries_of d) after q) (sym (of-goal g heard x)) steps) (replies_of heard) x.frame (in-order due)
 
         -- the frame has heard one reply more
         pub hears-more : Due → Heard d g (reply_read (entries_of c) reply ∷ heard) after
@@ -162,7 +162,7 @@ module _ {Handler : Type 0} (m : HandlerMeaning Handler)
               form = ap (form_of (entries_of d)) goal ∙ ap (λ z. z.1) (asked-later (entries_of c) (entries_of d) a.entries f.goal x.frame.held.goal) ∙ x.form;
               kept = let i = x.kept.0 in let j = input-later m.IsReady c d a i x.kept.1 in (i, j.0, j.1 ∙ x.kept.2);
               replies = (told-there m kept c d x.ready a (reply_read (entries_of c) reply) told, all-told m kept c d x.ready a heard x.replies);
-              due = subst (λ w. Search.AreReplies (bare m.goals) Anything w g (reply_read (entries_of c) reply ∷ heard)) (sym same) (all-due due);
+              due = subst (λ w. Search.AreReplies (bare m.goals) AnyAnswer w g (reply_read (entries_of c) reply ∷ heard)) (sym same) (all-due due);
               frame = subst (λ w. Frames.HasHeard (entries_of d) (m.goals.handled w g.0 g.1) after (replies_of (reply_read (entries_of c) reply ∷ heard))) (sym same)
                   (subst (λ y. Frames.HasHeard (entries_of d) (m.goals.handled (world c) g.0 g.1) after (y ∷ replies_of heard)) (same-reply (entries_of c) reply) (stepped due).0);
             }
@@ -170,8 +170,8 @@ module _ {Handler : Type 0} (m : HandlerMeaning Handler)
         -- and makes the search's request
         pub requests : Due → request_read (entries_of d) q ≡ asks frame_tables (programs m.goals) (world c) g (reply_read (entries_of c) reply ∷ heard)
         requests due =
-            let i = subst (λ y. Frames.IsRequest f.goal.mode (entries_of d) q (Histories.asks (frame_of_goal frame_tables (m.goals.handled (world c) g.0 g.1)) (y ∷ replies_of heard))) (same-reply (entries_of c) reply) (stepped due).1 in
-            same-request f.goal.mode (entries_of d) q _ i ∙ ap (λ (n : TypingMode). request_of (λ (y : Question). (n, y.form)) (kind_of frame_tables) (Histories.asks (frame_of_goal frame_tables (m.goals.handled (world c) g.0 g.1)) (replies_of (reply_read (entries_of c) reply ∷ heard)))) x.mode
+            let i = subst (λ y. Frames.IsRequestOf f.goal.mode (entries_of d) q (Histories.asks (frame_of_goal frame_tables (m.goals.handled (world c) g.0 g.1)) (y ∷ replies_of heard))) (same-reply (entries_of c) reply) (stepped due).1 in
+            same-request f.goal.mode (entries_of d) q _ i ∙ ap (λ (n : TypingMode). request_of (λ (y : NestedQuestion). (n, y.form)) (kind_of frame_tables) (Histories.asks (frame_of_goal frame_tables (m.goals.handled (world c) g.0 g.1)) (replies_of (reply_read (entries_of c) reply ∷ heard)))) x.mode
 
         -- it has fewer steps left, in each context that keeps what this one knows
         pub has-fewer : ((w : m.goals.World) (mode : TypingMode) (form : CanonicalForm) → IsHandler frame_tables (m.goals.handled w mode form)) → Due

@@ -12,7 +12,7 @@ use Rattle.infer_table.specs.Responses.{AnswerTrees, answer_trees}
 use Rattle.evaluation.specs.TableAnswers.{IsWellFormed}
 use Rattle.goal_frames.specs.declared.store.InputId.{InputId}
 use Rattle.goal_frames.specs.declared.store.ResponseId.{ResponseId}
-use Rattle.goal_frames.specs.Stores.{input_at, response_at, answer_at, HasInput, IsHeld, Grows}
+use Rattle.goal_frames.specs.Stores.{input_at, response_at, answer_at, HasInput, StoreIsHeld, StoreGrows}
 use Rattle.solver_context.specs.declared.context.SolverCx.{SolverCx}
 
 -- a goal in the mode in which it is asked
@@ -54,24 +54,24 @@ module _ {Handler : Type 0} where
     -- all handles in it are those of its interner
     pub record IsReady (c : SolverCx Handler) : Type 0 where
       pub handler : is_ready c.handler (entries_of c)
-      pub store : IsHeld (entries_of c) c.store
+      pub store : StoreIsHeld (entries_of c) c.store
       pub lawful : Lawful (entries_of c)
 
     abbrev pub IsInput : SolverCx Handler → InputId → Type 0
     IsInput c i = IsReady c × HasInput c.store i
 
     -- the values of an answer are terms over its own variables
-    abbrev pub IsResult : SolverCx Handler → Option ResponseId → Type 0
-    IsResult c None = Unit {0}
-    IsResult c (Some i) = IsReady c × ((r : CanonicalResponse) × (response_at c.store i ≡ Some r) × IsWellFormed (answer_trees (entries_of c) r))
+    abbrev pub ResponseIsMade : SolverCx Handler → Option ResponseId → Type 0
+    ResponseIsMade c None = Unit {0}
+    ResponseIsMade c (Some i) = IsReady c × ((r : CanonicalResponse) × (response_at c.store i ≡ Some r) × IsWellFormed (answer_trees (entries_of c) r))
 
     -- some result of the context is this answer
-    abbrev pub IsKept : SolverCx Handler → Option AnswerTrees → Type 0
-    IsKept c a = (r : Option ResponseId) × IsResult c r × (answer_of c r ≡ a)
+    abbrev pub IsKeptAnswer : SolverCx Handler → Option AnswerTrees → Type 0
+    IsKeptAnswer c a = (r : Option ResponseId) × ResponseIsMade c r × (answer_of c r ≡ a)
 
     -- the context has grown: handles and numbers stand for what they stood for
     pub record Advances (old new : SolverCx Handler) : Type 0 where
       pub handler : new.handler ≡ old.handler
       pub entries : Keeps (entries_of old) (entries_of new)
-      pub store : Grows old.store new.store
+      pub store : StoreGrows old.store new.store
       pub ready : IsReady new

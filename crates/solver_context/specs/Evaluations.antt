@@ -20,7 +20,7 @@ abbrev pub asked_in : TypingMode → List Entry → Table → Goal → TypingMod
 asked_in mode es t g = (mode, canonical_form (goal_in es t g))
 
 -- the search gives the goal this answer: frames compute it, and plain recursion within the depth comes to no other
-pub record IsFound {C I R F : Type 0} (m : Meaning C I R F) (w : m.World) (depth : ℕ) (g : m.Goal) (a : m.Answer) : Type 0 where
+pub record IsFoundBySearch {C I R F : Type 0} (m : Meaning C I R F) (w : m.World) (depth : ℕ) (g : m.Goal) (a : m.Answer) : Type 0 where
   pub computed : IsComputed m w (IsGiven m w) g a
   pub plain : (b : m.Answer) → IsPlain m w (depth + 1) g b → b ≡ a
 

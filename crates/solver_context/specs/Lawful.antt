@@ -21,15 +21,15 @@ use Rattle.goal_frames.specs.HandlerPrograms.{HandlersArePrograms}
 use Rattle.goal_frames.specs.Steps as Steps
 use Rattle.goal_frames.specs.Meanings.{HandlerMeaning}
 use Rattle.solver_context.specs.declared.context.SolverCx.{SolverCx}
-use Rattle.solver_context.specs.Contexts.{Asked, entries_of, answer_of, IsResult}
-use Rattle.solver_context.specs.Searching.{programs, handles, HasHeard, solver_meaning, world_of, steps_left}
+use Rattle.solver_context.specs.Contexts.{Asked, entries_of, answer_of, ResponseIsMade}
+use Rattle.solver_context.specs.Searching.{programs, handles, FrameHasHeard, solver_meaning, world_of, steps_left}
 
 same-number : (a b : ResponseId) → a ≡ b → response.eq a b ≡ true
 same-number a b e = (response-id-eq a b).1 e
 
 module _ {Handler : Type 0} (ready : Handler → List Entry → Type 0) where
   -- results that stand for one answer are equal
-  pub same-answer : (c : SolverCx Handler) (r s : Option ResponseId) → IsResult ready c r → IsResult ready c s → answer_of c r ≡ answer_of c s → option_eq response.eq r s ≡ true
+  pub same-answer : (c : SolverCx Handler) (r s : Option ResponseId) → ResponseIsMade ready c r → ResponseIsMade ready c s → answer_of c r ≡ answer_of c s → option_eq response.eq r s ≡ true
   same-answer c None None x y e = refl
   same-answer c None (Some j) x y e = let there = ap (option_map (answer_trees (entries_of c))) y.1.1 in cc
   same-answer c (Some i) None x y e = let there = ap (option_map (answer_trees (entries_of c))) x.1.1 in cc
@@ -49,7 +49,7 @@ module _ {Handler : Type 0} (m : HandlerMeaning Handler) where
 
   -- a context that has grown leaves a frame as many steps
   pub steps-kept : (c d : SolverCx Handler) (g : Asked) (heard : List (Reply (Option AnswerTrees))) (f : GoalFrame) → Keeps (solver_meaning m) c d
-      → HasHeard m c g heard f → steps_left m d f ≤ steps_left m c f
+      → FrameHasHeard m c g heard f → steps_left m d f ≤ steps_left m c f
   steps-kept c d g heard f k h =
       let later = k.frames g heard f h in
       steps-same f f.goal.mode (world_of m d) (world_of m c) (form_of (entries_of d) f.goal) (form_of (entries_of c) f.goal)

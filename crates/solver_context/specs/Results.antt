@@ -8,11 +8,11 @@ use Rattle.search_graph.specs.Computed.{IsComputed, IsGivenWithin}
 use Rattle.search_graph.specs.Meaning.{Meaning}
 use Rattle.search_graph.specs.Plain.{IsNotPlain}
 use Rattle.search_graph.specs.SearchState.{SearchState}
-use Rattle.solver_context.specs.Evaluations.{IsFound}
+use Rattle.solver_context.specs.Evaluations.{IsFoundBySearch}
 
 module _ {C I R F : Type 0} (m : Meaning C I R F) where
   -- the cache holds this answer to the goal, and a goal of this depth may use it
-  pub record IsKnown (c : C) (ks : List (KnownResult I R)) (depth : ℕ) (g : m.Goal) (a : m.Answer) : Type 0 where
+  pub record IsCachedAnswer (c : C) (ks : List (KnownResult I R)) (depth : ℕ) (g : m.Goal) (a : m.Answer) : Type 0 where
     pub place : ℕ
     pub result : KnownResult I R
     pub there : slice_get ks place ≡ Some result
@@ -26,7 +26,7 @@ module _ {C I R F : Type 0} (m : Meaning C I R F) where
 
   -- a goal whose answer the cache holds starts no frame, and leaves the cache as it is
   abbrev pub KnownIsFree : C → List (KnownResult I R) → m.Goal → SearchState → SearchState → List (KnownResult I R) → Type 0
-  KnownIsFree c ks g old new ls = (a : m.Answer) → IsKnown c ks old.root_depth g a → (new.frames ≡ old.frames) × (ls ≡ ks)
+  KnownIsFree c ks g old new ls = (a : m.Answer) → IsCachedAnswer c ks old.root_depth g a → (new.frames ≡ old.frames) × (ls ≡ ks)
 
   -- plain recursion within the graph's depth has no answer to the goal
   abbrev pub IsNotPlainWithin : C → SearchState → m.Goal → Type 0
@@ -39,10 +39,10 @@ module _ {C I R F : Type 0} (m : Meaning C I R F) where
 
   -- the search that begins with the cache ks gives the goal this answer, and leaves the cache ls
   pub record IsResult (c : C) (ks : List (KnownResult I R)) (old : SearchState) (d : C) (ls : List (KnownResult I R)) (new : SearchState) (g : m.Goal) (a : m.Answer) : Type 0 where
-    pub found : IsFound m (m.world c) old.root_depth g a
+    pub found : IsFoundBySearch m (m.world c) old.root_depth g a
     -- if the first cache held an answer to the goal, it held this one
-    pub known : (b : m.Answer) → IsKnown c ks old.root_depth g b → IsKnown c ks old.root_depth g a
+    pub known : (b : m.Answer) → IsCachedAnswer c ks old.root_depth g b → IsCachedAnswer c ks old.root_depth g a
     -- the second one holds it
-    pub kept : IsKnown d ls old.root_depth g a
+    pub kept : IsCachedAnswer d ls old.root_depth g a
     -- where no limit was met, none has a part in it, but in answers that the first cache held
     pub limits : new.limits_met ≡ false → IsComputed m (m.world c) (IsGivenWithin m (m.world c) (answers_in m c ks)) g a

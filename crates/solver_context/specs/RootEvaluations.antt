@@ -21,8 +21,8 @@ use Rattle.goal_frames.specs.declared.store.ResponseId.{ResponseId}
 use Rattle.solver_context.specs.Contexts.{Asked, entries_of, IsReady}
 use Rattle.solver_context.specs.Evaluations.{asked_in, Says}
 use Rattle.solver_context.specs.Results.{FramesAreBounded, KnownIsFree, LimitsAreNoted, IsNotPlainWithin, IsResult}
-use Rattle.solver_context.specs.Roots.{goal_in, values_in, left_by, IsProved, AtProvedSolutions, GoesOn}
-use Rattle.solver_context.specs.Searching.{solver_meaning, world_of, IsFull}
+use Rattle.solver_context.specs.Roots.{goal_in, values_in, left_by, SolutionsAreProved, AtProvedSolutions, SolutionGoesOn}
+use Rattle.solver_context.specs.Searching.{solver_meaning, world_of, ContextIsFull}
 use Rattle.solver_context.specs.Shortages.{RootRunsOut}
 use Rattle.solver_context.specs.declared.context.SolverCx.{SolverCx}
 use Rattle.solver_context.specs.declared.outcome.GoalEvaluation.{GoalEvaluation}
@@ -45,7 +45,7 @@ module _ {Handler : Type 0} (m : HandlerMeaning Handler) (c : SolverCx Handler) 
   -- A definite yes: each instance of the goal by a solution of the table has a proof.
   abbrev pub YesIsProved : Goal → GoalEvaluation → Type 0
   YesIsProved g e =
-      e.certainty ≡ Yes → e.has_changed ≡ No → IsProved (m.goals.Rule (world_of m c)) (m.goals.coinductive (world_of m c)) (entries_of c) t g
+      e.certainty ≡ Yes → e.has_changed ≡ No → SolutionsAreProved (m.goals.Rule (world_of m c)) (m.goals.coinductive (world_of m c)) (entries_of c) t g
 
 -- A context, a graph, a cache and a table that are lent, and what is left of them.
 module _ {Handler : Type 0} (m : HandlerMeaning Handler) (c : SolverCx Handler) (graph : SearchState) (ks : KnownResults) (t : Table)
@@ -81,7 +81,7 @@ module _ {Handler : Type 0} (m : HandlerMeaning Handler) (c : SolverCx Handler) 
     pub held : GoalHeld (entries_of d) e.goal
     pub resolved : goal_trees (entries_of d) e.goal ≡ goal_in (entries_of c) t g
     pub answer : (a : AnswerTrees) × IsGivenBySearch mode g (Some a) × Says e a × (put_into (table_trees (entries_of c) t) (values_in (goal_in (entries_of c) t g)) a ≡ Some (table_trees (entries_of d) u))
-    pub covers : AtProved m c t mode g (λ s. GoesOn s t (entries_of d) u)
+    pub covers : AtProved m c t mode g (λ s. SolutionGoesOn s t (entries_of d) u)
     pub narrows : (s : Assignment) → Solves s (content (entries_of d) u.values) → Solves s (content (entries_of c) t.values)
 
   -- After any error the table is as before. There is no solution where the answer that the search gives refuses the goal, or is refused
@@ -96,4 +96,4 @@ module _ {Handler : Type 0} (m : HandlerMeaning Handler) (c : SolverCx Handler) 
   pub record EndsByFault (mode : TypingMode) (g : Goal) (result : Result GoalEvaluation RootError) : Type 0 where
     pub not_plain : result ≡ Err Conflict → IsNotPlainWithin (solver_meaning m) c graph (goal_asked c t mode g)
     pub conflict : result ≡ Err Conflict → HasConflict (solver_meaning m) d ls
-    pub full : result ≡ Err (Fault Full) → IsFull m d ⊎ RootRunsOut (λ a. IsGivenBySearch mode g (Some a)) (table_trees (entries_of c) t) (goal_in (entries_of c) t g)
+    pub full : result ≡ Err (Fault Full) → ContextIsFull m d ⊎ RootRunsOut (λ a. IsGivenBySearch mode g (Some a)) (table_trees (entries_of c) t) (goal_in (entries_of c) t g)

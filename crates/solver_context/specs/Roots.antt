@@ -18,8 +18,8 @@ use Rattle.infer_table.specs.declared.response.CanonicalResponse.{CanonicalRespo
 use Rattle.infer_table.specs.Covers.{AreKnown, Continues, IsOfKnown}
 use Rattle.evaluation.specs.Handler.{Handled}
 use Rattle.evaluation.specs.Proof as Lists
-use Rattle.evaluation.specs.TableAnswers.{leaf_value, put_into, Agrees}
-use Rattle.evaluation.specs.Content.{Values, trait_of, Fact, Question}
+use Rattle.evaluation.specs.TableAnswers.{leaf_value, put_into, IsInstanceOfAnswer}
+use Rattle.evaluation.specs.Content.{Values, trait_of, Fact, NestedQuestion}
 use Rattle.evaluation.specs.Tables.{frame_tables}
 
 -- the goal as the table resolves it
@@ -36,21 +36,21 @@ abbrev pub values_under : Assignment → GoalTrees → Values
 values_under s g = record { proper = true; terms = map (λ l. instance s (leaf l)) (goal_leaves g) }
 
 -- the question that asks the goal
-abbrev pub question_of : GoalTrees → Question
+abbrev pub question_of : GoalTrees → NestedQuestion
 question_of g = record { form = canonical_form g; coinductive = false }
 
 -- ---- goals that are posed in a table
 -- no canonical variable stands in the goal as the table resolves it, all unknowns in it are the table's, and the table speaks of no
 -- others
-pub record IsPosed (es : List Entry) (t : Table) (g : Goal) : Type 0 where
+pub record IsPosedGoal (es : List Entry) (t : Table) (g : Goal) : Type 0 where
   pub clean : IsWithoutCanonical (goal_in es t g)
   pub environment_known : AreKnown (variables_of t) (goal_in es t g).environment
   pub predicate_known : AreKnown (variables_of t) (goal_in es t g).predicate
   pub table_known : IsOfKnown (variables_of t) (content es t.values)
 
 -- the solution of the first table goes on, with terms for further unknowns, to one of the second, over this interner
-abbrev pub GoesOn : Assignment → Table → List Entry → Table → Type 0
-GoesOn s t es u = (r : Assignment) × Continues (variables_of t) s r × Solves r (content es u.values)
+abbrev pub SolutionGoesOn : Assignment → Table → List Entry → Table → Type 0
+SolutionGoesOn s t es u = (r : Assignment) × Continues (variables_of t) s r × Solves r (content es u.values)
 
 -- ---- answers
 -- what the goal's variables stand for
@@ -67,18 +67,18 @@ left_by_answer es t values r = put_into (table_trees es t) (values_of es values)
 
 -- ---- solutions of a table at which goals have proofs
 -- each instance of the goal by a solution has a proof
-abbrev pub IsProved : (Fact → List Fact → Type 0) → (Fact → Bool) → List Entry → Table → Goal → Type 0
-IsProved Rule coinductive es t g =
-    IsWithoutCanonical (goal_in es t g) → (s : Assignment) → Solves s (content es t.values) → Lists.HasProof Fact Rule coinductive (fact_under s (goal_trees es g))
+abbrev pub SolutionsAreProved : (Fact → List Fact → Type 0) → (Fact → Bool) → List Entry → Table → Goal → Type 0
+SolutionsAreProved Rule coinductive es t g =
+    IsWithoutCanonical (goal_in es t g) → (s : Assignment) → Solves s (content es t.values) → Lists.FactHasProof Fact Rule coinductive (fact_under s (goal_trees es g))
 
 -- this is so at each solution at which the posed goal, asked in the mode, has a proof in one of the handler's worlds
 abbrev pub AtProvedSolutions : (TypingMode → CanonicalForm → Handled frame_tables) → TypingMode → List Entry → Table → Goal → (Assignment → Type 0) → Type 0
 AtProvedSolutions handled mode es t g P =
-    IsPosed es t g → let h = handled mode (canonical_form (goal_in es t g)) in
+    IsPosedGoal es t g → let h = handled mode (canonical_form (goal_in es t g)) in
     (x : h.World) (s : Assignment) → Solves s (content es t.values) → h.Proves x (fact_under s (goal_trees es g)) → P s
 
 -- this is so at each solution that agrees with the answer to a goal of the table whose variables have these values
 abbrev pub AtAgreeingSolutions : List Entry → Table → List GenericArgKind → CanonicalResponse → (Assignment → Type 0) → Type 0
 AtAgreeingSolutions es t values r P =
     (g : GoalTrees) → labels es values ≡ goal_leaves g → AreKnown (variables_of t) g.environment → AreKnown (variables_of t) g.predicate → IsOfKnown (variables_of t) (content es t.values)
-    → (s : Assignment) → Solves s (content es t.values) → Agrees (answer_trees es r) (values_under s g) → P s
+    → (s : Assignment) → Solves s (content es t.values) → IsInstanceOfAnswer (answer_trees es r) (values_under s g) → P s

@@ -21,17 +21,17 @@ use Rattle.goal_frames.specs.Shortages.{FrameRunsOut}
 use Rattle.goal_frames.specs.Steps as Steps
 use Rattle.solver_context.specs.declared.context.SolverCx.{SolverCx}
 use Rattle.solver_context.specs.Answers.{reply_read}
-use Rattle.solver_context.specs.Contexts.{Asked, entries_of, goal_of, answer_of, IsReady, IsInput, IsResult, IsKept}
+use Rattle.solver_context.specs.Contexts.{Asked, entries_of, goal_of, answer_of, IsReady, IsInput, ResponseIsMade, IsKeptAnswer}
 use Rattle.solver_context.specs.Shortages.{TableIsFull}
 
 -- whatever is answered
-abbrev pub Anything : Asked → Option AnswerTrees → Type 0
-Anything g a = Unit {0}
+abbrev pub AnyAnswer : Asked → Option AnswerTrees → Type 0
+AnyAnswer g a = Unit {0}
 
 -- a result that is replied is as P says
-abbrev pub IsReplyOf : (Option AnswerTrees → Type 0) → Reply (Option AnswerTrees) → Type 0
-IsReplyOf P (Replied.Result a) = P a
-IsReplyOf P reply = Unit {0}
+abbrev pub RepliedResultIs : (Option AnswerTrees → Type 0) → Reply (Option AnswerTrees) → Type 0
+RepliedResultIs P (Replied.Result a) = P a
+RepliedResultIs P reply = Unit {0}
 
 module _ (goals : Goals) where
   abbrev pub programs : Programs frame_tables
@@ -60,14 +60,14 @@ module _ {Handler : Type 0} (m : HandlerMeaning Handler) where
   world_of c = m.world c.handler (entries_of c)
 
   -- the frame is the goal's, in its mode, and has had these replies, each of which was due, the newest first
-  pub record HasHeard (c : SolverCx Handler) (g : Asked) (heard : List (Reply (Option AnswerTrees))) (f : GoalFrame) : Type 0 where
+  pub record FrameHasHeard (c : SolverCx Handler) (g : Asked) (heard : List (Reply (Option AnswerTrees))) (f : GoalFrame) : Type 0 where
     pub ready : IsReady m.IsReady c
     pub mode : f.goal.mode ≡ g.0
     pub form : form_of (entries_of c) f.goal ≡ g.1
     -- the goal is kept, and so is each result that was replied
     pub kept : (i : InputId) × IsInput m.IsReady c i × (goal_of c i ≡ g)
-    pub replies : Every (IsReplyOf (IsKept m.IsReady c)) heard
-    pub due : AreReplies (bare m.goals) Anything (world_of c) g heard
+    pub replies : Every (RepliedResultIs (IsKeptAnswer m.IsReady c)) heard
+    pub due : AreReplies (bare m.goals) AnyAnswer (world_of c) g heard
     pub frame : Frames.HasHeard (entries_of c) (m.goals.handled (world_of c) g.0 g.1) f (replies_of heard)
 
   -- a frame of the context comes with its next reply, which is kept, to where numbers are used up
@@ -75,25 +75,25 @@ module _ {Handler : Type 0} (m : HandlerMeaning Handler) where
     pub frame : GoalFrame
     pub goal : Asked
     pub heard : List (Reply (Option AnswerTrees))
-    pub is : HasHeard c goal heard frame
+    pub is : FrameHasHeard c goal heard frame
     pub reply : Reply (Option CanonicalResponse)
     pub due : IsDueAfter (bare m.goals) (world_of c) goal heard (reply_read (entries_of c) reply)
-    pub kept : IsReplyOf (IsKept m.IsReady c) (reply_read (entries_of c) reply)
+    pub kept : RepliedResultIs (IsKeptAnswer m.IsReady c) (reply_read (entries_of c) reply)
     pub runs_out : FrameRunsOut (entries_of c) (m.goals.handled (world_of c) goal.0 goal.1) frame reply
 
   -- a table of the context is at its limit: the interner's, the store's, or that of a frame's unknowns and variables
-  abbrev pub IsFull : SolverCx Handler → Type 0
-  IsFull c = TableIsFull c ⊎ SomeFrameRunsOut c
+  abbrev pub ContextIsFull : SolverCx Handler → Type 0
+  ContextIsFull c = TableIsFull c ⊎ SomeFrameRunsOut c
 
   abbrev pub handles : Handles (SolverCx Handler) InputId (Option ResponseId) GoalFrame m.goals.World Asked (Option AnswerTrees)
   handles = record {
     world = world_of;
-    IsFull = IsFull;
+    IsFull = ContextIsFull;
     IsInput = IsInput m.IsReady;
     goal_of = goal_of;
-    IsResult = IsResult m.IsReady;
+    IsResult = ResponseIsMade m.IsReady;
     answer_of = answer_of;
-    HasHeard = HasHeard;
+    HasHeard = FrameHasHeard;
     -- terms of the interner, each under its number
     Held = ℕ × Entry;
     Holds = λ c x. slice_get (entries_of c) x.0 ≡ Some x.1;

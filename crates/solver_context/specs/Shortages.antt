@@ -26,10 +26,10 @@ pub data TableIsFull {Handler : Type 0} (c : SolverCx Handler) : Type 0 where
   variables : (i : InputId) (a : CanonicalInput) → input_at c.store i ≡ Some a → MAX_INDEX < length a.variables.items → TableIsFull c
 
 -- the form of a goal has more variables than there are numbers
-abbrev pub HasNoForm : GoalTrees → Type 0
-HasNoForm g = MAX_INDEX ≤ length (goal_leaves g)
+abbrev pub GoalHasNoForm : GoalTrees → Type 0
+GoalHasNoForm g = MAX_INDEX ≤ length (goal_leaves g)
 
 -- the table has no numbers for the form of the goal, or for such an answer
 pub data RootRunsOut (IsGiven : AnswerTrees → Type 0) (t : TableTrees) (g : GoalTrees) : Type 0 where
-  form : HasNoForm g → RootRunsOut IsGiven t g
+  form : GoalHasNoForm g → RootRunsOut IsGiven t g
   answer : (a : AnswerTrees) → IsGiven a → IsOutOfNumbers t (values_in g) a → RootRunsOut IsGiven t g

@@ -12,7 +12,7 @@ ghost use Rattle.infer_table.specs.Values.{values_of};
 ghost use Rattle.type_terms.specs.Failures.{SomeKindIsFull};
 ghost use Rattle.infer_table.specs.Responses.{ResponseHeld, answer_trees};
 ghost use Rattle.evaluation.specs.TableAnswers.{has_values, IsWellFormed};
-ghost use Rattle.solver_context.specs.Roots.{left_by_answer, AtAgreeingSolutions, GoesOn};
+ghost use Rattle.solver_context.specs.Roots.{left_by_answer, AtAgreeingSolutions, SolutionGoesOn};
 ghost use Rattle.solver_context.specs.Changes.{changed};
 
 use evaluation::apply::instantiate_and_apply_query_response;
@@ -56,7 +56,7 @@ pub(crate) fn apply_answer(
     // Solutions of the table that is left are solutions of the table before. A solution of that one which agrees with the
     // answer goes on to the one that is left, and is never refused.
     ensures narrows { OnOk result ((s : Assignment) → Solves s (content cx.new.entries table.new.values) → Solves s (content cx.old.entries table.old.values)) }
-    ensures kept { OnOk result (AtAgreeingSolutions cx.old.entries table.old values.now answer.now (λ s. GoesOn s table.old cx.new.entries table.new)) }
+    ensures kept { OnOk result (AtAgreeingSolutions cx.old.entries table.old values.now answer.now (λ s. SolutionGoesOn s table.old cx.new.entries table.new)) }
     ensures accepted { result ≡ Err EqError.NoSolution → AtAgreeingSolutions cx.old.entries table.old values.now answer.now (λ s. ⊥) }
 
     // `Full` comes only where some kind of term has reached the interner's limit, or the table has no numbers for the answer.

@@ -7,7 +7,7 @@ ghost use Rattle.evaluation.specs.Readings.{ResultHeld};
 ghost use Rattle.goal_frames.specs.Fitting.{ResultFits};
 ghost use Rattle.evaluation.specs.StepReadings.{result_read};
 ghost use Rattle.goal_frames.specs.Stores.{kept_inputs, kept_responses, limit_of};
-ghost use Rattle.solver_context.specs.Contexts.{asked_of, goal_of, answer_of, IsReady, IsInput, IsResult, Advances};
+ghost use Rattle.solver_context.specs.Contexts.{asked_of, goal_of, answer_of, IsReady, IsInput, ResponseIsMade, Advances};
 ghost use Rattle.solver_context.specs.Shortages.{StoreIsFull};
 
 use goal_frames::GoalHandler;
@@ -101,7 +101,7 @@ impl<H: GoalHandler> SolverCx<H> {
         requires fits { ResultFits self.old.interner.entries answer }
         ensures advances { Advances H.meaning.IsReady self.old self.new }
         ensures interner { self.new.interner ≡ self.old.interner }
-        ensures is { IfOk result (λ r. IsResult H.meaning.IsReady self.new r × (answer_of self.new r ≡ result_read self.old.interner.entries answer)) }
+        ensures is { IfOk result (λ r. ResponseIsMade H.meaning.IsReady self.new r × (answer_of self.new r ≡ result_read self.old.interner.entries answer)) }
         ensures full { result ≡ Err Fault.Full → StoreIsFull self.new.store }
     {
         match answer {
@@ -117,7 +117,7 @@ impl<H: GoalHandler> SolverCx<H> {
     ///
     /// Its only fault is `Memory`.
     pub fn answer(&self, of: &Option<ResponseId>) -> Result<Option<CanonicalResponse>, Fault>
-        requires { IsResult H.meaning.IsReady self.now of.now }
+        requires { ResponseIsMade H.meaning.IsReady self.now of.now }
         ensures is { IfOk result (λ r. result_read self.now.interner.entries r ≡ answer_of self.now of.now) }
         ensures held { IfOk result (λ r. ResultHeld self.now.interner.entries r × ResultFits self.now.interner.entries r) }
         ensures memory { IfErr result (λ fault. fault ≡ Memory) }

@@ -7,8 +7,8 @@ ghost use Rattle.evaluation.specs.Tables.{frame_tables};
 ghost use Rattle.goal_frames.specs.Searches.{is_ambiguous_answer, is_yes_answer};
 ghost use Rattle.goal_frames.specs.HandlerPrograms.{silent, cycle_answer};
 ghost use Rattle.solver_context.specs.Answers.{certainty_of};
-ghost use Rattle.solver_context.specs.Contexts.{goal_of, answer_of, IsInput, IsResult};
-ghost use Rattle.solver_context.specs.Searching.{solver_meaning, steps_left, IsFull};
+ghost use Rattle.solver_context.specs.Contexts.{goal_of, answer_of, IsInput, ResponseIsMade};
+ghost use Rattle.solver_context.specs.Searching.{solver_meaning, steps_left, ContextIsFull};
 
 use crate::context::SolverCx;
 use crate::requests::{keep_request, read_reply};
@@ -27,7 +27,7 @@ const LEVELS_OF_A_SMALL_GOAL: usize = 16;
 ///
 /// What it means to a search is what the handler means for goals: the questions of a frame are those of the goal's frame over
 /// trees, a definite yes follows by the handler's rules, and an answer covers its goal. So all that is proved of searches
-/// holds of the answers to a handler's goals. A call answers `Full` only where a table is at its limit (`IsFull`): one of
+/// holds of the answers to a handler's goals. A call answers `Full` only where a table is at its limit (`ContextIsFull`): one of
 /// the interner's, the store of goals and answers, or that of a frame's unknowns and variables, of which there are so many numbers.
 ///
 /// `SearchGraphDelegate` of `rustc_next_trait_solver`.
@@ -73,7 +73,7 @@ impl<H: GoalHandler> Delegate for SolverGraph<H> {
         of: &Option<ResponseId>,
     ) -> bool
         requires input { IsInput H.meaning.IsReady cx.now input.now }
-        requires known { IsResult H.meaning.IsReady cx.now of.now }
+        requires known { ResponseIsMade H.meaning.IsReady cx.now of.now }
         ensures { IsTrue result ↔ (answer_of cx.now of.now ≡ cycle_answer (goal_of cx.now input.now).0 (goal_of cx.now input.now).1 kind) }
     {
         let goal = cx.store.input(*input);
@@ -107,7 +107,7 @@ impl<H: GoalHandler> Delegate for SolverGraph<H> {
 
     /// The cause of an answer that is not sure and says nothing: it gives no type or const a value, and constrains no lifetime.
     fn is_ambiguous_result(cx: &SolverCx<H>, of: &Option<ResponseId>) -> Option<MaybeCause>
-        requires { IsResult H.meaning.IsReady cx.now of.now }
+        requires { ResponseIsMade H.meaning.IsReady cx.now of.now }
         ensures is { IsSome result ↔ (is_ambiguous_answer frame_tables (answer_of cx.now of.now) ≡ true) }
 
         // It is the answer's own.
@@ -137,8 +137,8 @@ impl<H: GoalHandler> Delegate for SolverGraph<H> {
     ) -> Result<Option<ResponseId>, Fault>
         requires { IsInput H.meaning.IsReady cx.old for_input.now }
         ensures keeps { Keeps (solver_meaning H.meaning) cx.old cx.new }
-        ensures full { result ≡ Err Fault.Full → IsFull H.meaning cx.new }
-        ensures known { IfOk result (IsResult H.meaning.IsReady cx.new) }
+        ensures full { result ≡ Err Fault.Full → ContextIsFull H.meaning cx.new }
+        ensures known { IfOk result (ResponseIsMade H.meaning.IsReady cx.new) }
         ensures fair { IfOk result (λ r. let m = solver_meaning H.meaning in
             IsFair m (m.world cx.old) (goal_of cx.old for_input.now) (answer_of cx.new r)) }
         ensures no_yes { IfOk result (λ r. is_yes_answer frame_tables (answer_of cx.new r) ≡ false) }
@@ -172,7 +172,7 @@ impl<H: GoalHandler> Delegate for SolverGraph<H> {
         requires due { IsDue (solver_meaning H.meaning) cx.old frame.old reply }
         requires reply { IsReply (solver_meaning H.meaning) cx.old reply }
         ensures keeps { Keeps (solver_meaning H.meaning) cx.old cx.new }
-        ensures full { result ≡ Err Fault.Full → IsFull H.meaning cx.new }
+        ensures full { result ≡ Err Fault.Full → ContextIsFull H.meaning cx.new }
         ensures steps { IfOk result (λ q. Steps (solver_meaning H.meaning) cx.old frame.old reply cx.new frame.new q) }
         ensures falls { IfOk result (λ q. steps_left H.meaning cx.new frame.new < steps_left H.meaning cx.old frame.old) }
     {

@@ -27,7 +27,7 @@ pub(crate) fn read_reply<H: GoalHandler>(
 ) -> Result<Reply<Option<CanonicalResponse>>, Fault>
     requires { Search.IsReply (solver_meaning H.meaning) cx.now reply }
     ensures is { IfOk result (λ r. reply_read cx.now.interner.entries r ≡ Search.reply_of (solver_meaning H.meaning) cx.now reply) }
-    ensures held { IfOk result (Frames.IsReply cx.now.interner.entries) }
+    ensures held { IfOk result (Frames.ReplyIsMade cx.now.interner.entries) }
     ensures memory { IfErr result (λ fault. fault ≡ Memory) }
 {
     match reply {

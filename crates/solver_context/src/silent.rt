@@ -7,7 +7,7 @@ ghost use Rattle.goal_frames.specs.HandlerPrograms.{silent};
 ghost use Rattle.evaluation.specs.TableAnswers.{without_values};
 ghost use Rattle.goal_frames.specs.HandlerPrograms.{cycle_certainty};
 ghost use Rattle.solver_context.specs.Answers.{holds_nothing};
-ghost use Rattle.solver_context.specs.Contexts.{goal_of, answer_of, IsInput, IsResult, Advances};
+ghost use Rattle.solver_context.specs.Contexts.{goal_of, answer_of, IsInput, ResponseIsMade, Advances};
 ghost use Rattle.solver_context.specs.Shortages.{TableIsFull};
 
 use crate::context::SolverCx;
@@ -49,7 +49,7 @@ pub(crate) fn silent_answer<H: GoalHandler>(
 ) -> Result<Option<ResponseId>, Fault>
     requires { IsInput H.meaning.IsReady cx.old input }
     ensures advances { Advances H.meaning.IsReady cx.old cx.new }
-    ensures is { IfOk result (λ r. IsResult H.meaning.IsReady cx.new r × (answer_of cx.new r ≡ silent (goal_of cx.old input).1 certainty)) }
+    ensures is { IfOk result (λ r. ResponseIsMade H.meaning.IsReady cx.new r × (answer_of cx.new r ≡ silent (goal_of cx.old input).1 certainty)) }
     ensures full { result ≡ Err Fault.Full → TableIsFull cx.new }
 {
     let variables = Vec::from_slice(cx.alloc, &cx.store.input(input).variables)?;

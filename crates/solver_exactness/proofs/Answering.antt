@@ -7,7 +7,7 @@ use Rattle.evaluation.specs.Table.{Tables, operations, workings, IsTable, Narrow
 use Rattle.evaluation.specs.Rounds.{Round, Rounds, kept, judged, applied, replied, round, settled, next_round, rounds}
 use Rattle.evaluation.specs.Candidate.{Spec, answered, equated, candidate}
 use Rattle.solver_exactness.specs.Plays.{Ends}
-use Rattle.solver_exactness.specs.Closed.{Closing, IsClosing, IsBare, Applies, Refuses, DeterminesNested, AsksSuch, AreWays, refused, applied as applies, here, answered as answered_by}
+use Rattle.solver_exactness.specs.Closed.{Closing, IsClosing, IsBare, Applies, EquationsRefuse, DeterminesNested, AsksSuch, AreWays, refused, applied as applies, here, answered as answered_by}
 use Rattle.solver_exactness.proofs.Plays.{Ends-follows}
 use Rattle.solver_exactness.proofs.Rounds.{IsNested, all_narrowed, RoundEnds, one_round}
 use Rattle.solver_exactness.proofs.Candidates.{narrows_by, meets_by, asked_in, nested_all}
@@ -77,7 +77,7 @@ module _ {Question Response : Type 0} (t : Tables Question Response) (laws : IsT
     met : (U : t.Table) → t.equate (t.fresh begin s.kinds) s.equations ≡ Some U → (a : t.Assignment) → t.Allows U a → Every (λ e. t.Meets e a) s.equations
     met U q a h = meets_by t laws k closing IsAsked P bare (suc limited) begin m v c d s U q a h
 
-    can_refuse : Refuses t begin v s → CanEndCandidate
+    can_refuse : EquationsRefuse t begin v s → CanEndCandidate
     can_refuse none_meets = by (t.equate (t.fresh begin s.kinds) s.equations) refl
       where
         by : (o : Option t.Table) → t.equate (t.fresh begin s.kinds) s.equations ≡ o → (x : Option Response) × Ends P (equated (workings t) (suc limited) s o) x

@@ -6,7 +6,7 @@ use Rattle.type_terms.specs.Proofs.{In}
 use Rattle.type_terms.proofs.Members.{here, there}
 use Rattle.evaluation.specs.Lists.{Every, SomeOf}
 use Rattle.evaluation.specs.Content.{Fact}
-use Rattle.solver_exactness.specs.Ways.{AtMostOne, IsSelection}
+use Rattle.solver_exactness.specs.Ways.{AtMostOneHolds, IsSelection}
 use Rattle.assembly_laws.specs.Facts.{beside}
 use Rattle.assembly_laws.proofs.CandidateKinds.{every-append}
 use Rattle.solver_exactness.specs.SolverWays.{facts_beside, premises_of}
@@ -18,7 +18,7 @@ pub record IsMixed {A : Type 0} (xs ys : List A) : Type 1 where
   pub every : (Q : A → Type 0) → Every Q ys → Every Q xs
   pub some : (Q : A → Type 0) → SomeOf Q ys → SomeOf Q xs
   pub back : (Q : A → Type 0) → SomeOf Q xs → SomeOf Q ys
-  pub one : (Q : A → Type 0) → AtMostOne Q ys → AtMostOne Q xs
+  pub one : (Q : A → Type 0) → AtMostOneHolds Q ys → AtMostOneHolds Q xs
 
 unmixed : {A : Type 0} (xs : List A) → IsMixed xs xs
 unmixed xs = record { every = λ Q h. h; some = λ Q s. s; back = λ Q s. s; one = λ Q h. h }
@@ -108,11 +108,11 @@ module _ (g : Fact) where
   rule-some P (u ∷ us) (inl p) = inl p
   rule-some P (u ∷ us) (inr s) = inr (rule-some P us s)
 
-  one-rule : (P : Fact → Type 0) (us : List Rule) → AtMostOne (Asks P) us → AtMostOne (Every P) (facts_beside g (premises_of us))
+  one-rule : (P : Fact → Type 0) (us : List Rule) → AtMostOneHolds (Asks P) us → AtMostOneHolds (Every P) (facts_beside g (premises_of us))
   one-rule P [] h = tt
   one-rule P (u ∷ us) h = (λ p s. h.0 p (rule-some P us s), one-rule P us h.1)
 
-  rule-one : (P : Fact → Type 0) (us : List Rule) → AtMostOne (Every P) (facts_beside g (premises_of us)) → AtMostOne (Asks P) us
+  rule-one : (P : Fact → Type 0) (us : List Rule) → AtMostOneHolds (Every P) (facts_beside g (premises_of us)) → AtMostOneHolds (Asks P) us
   rule-one P [] h = tt
   rule-one P (u ∷ us) h = (λ p s. h.0 p (some-rule P us s), rule-one P us h.1)
 

@@ -25,9 +25,9 @@ use Rattle.solver_exactness.specs.Closed.{AreWays, no_more, refused, applied}
 use Rattle.solver_exactness.specs.ClosedTables.{AreClosed, ArePlaces}
 use Rattle.solver_exactness.specs.Ways.{IsSelection}
 use Rattle.assembly_laws.specs.Facts.{is_plain, is_unerased, beside, reference_in}
-use Rattle.assembly_laws.specs.Meaning.{Meaning}
+use Rattle.assembly_laws.specs.Meaning.{ViewMeaning}
 use Rattle.assembly_laws.specs.DeclaredWell.{IsDeclaredWell, are_distinct}
-use Rattle.assembly_laws.specs.Asking.{Asked, asked, is_rigid, self_of, with_plain_head}
+use Rattle.assembly_laws.specs.Asking.{GoalOverKinds, goal_over_kinds, is_rigid, self_of, with_plain_head}
 use Rattle.assembly_laws.specs.Candidates.{Candidate, recording, by_rule, all_equal, misc, if_so, upcasts_from, upcasts_to, upcasts_of, bounds_from, object_source, written_source, objects_of}
 use Rattle.assembly_laws.specs.Cover.{goal_fact, read_reference}
 use Rattle.declarations.specs.Elaboration.{elaborate, supertraits}
@@ -53,7 +53,7 @@ use Rattle.solver_exactness.proofs.EquatedRows.{facts-append, premises-append, b
 use Rattle.solver_exactness.proofs.Selecting.{itself, joined, rows-select, any-select}
 use Rattle.solver_exactness.proofs.Once.{elaborated-once, supertraits-once}
 
-module _ (m : Meaning) (well : IsDeclaredWell m.view) (f : CanonicalForm) (a : Asked) (is_asked : asked m.view f ≡ Some a) (closed : AreClosed f.kinds) (v : Values) (places : ArePlaces f.kinds v)
+module _ (m : ViewMeaning) (well : IsDeclaredWell m.view) (f : CanonicalForm) (a : GoalOverKinds) (is_asked : goal_over_kinds m.view f ≡ Some a) (closed : AreClosed f.kinds) (v : Values) (places : ArePlaces f.kinds v)
     (plain : is_plain (goal_fact f v) ≡ true) where
   abbrev V : World
   V = m.view

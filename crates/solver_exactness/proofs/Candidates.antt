@@ -9,7 +9,7 @@ use Rattle.evaluation.specs.Table.{Tables, operations, workings, IsTable, Narrow
 use Rattle.evaluation.specs.Rounds.{Round, Rounds, round, settled, next_round, rounds}
 use Rattle.evaluation.specs.Candidate.{Spec, answered, equated, candidate}
 use Rattle.solver_exactness.specs.Plays.{Ends}
-use Rattle.solver_exactness.specs.Closed.{Closing, IsClosing, IsBare, Applies, Refuses, DeterminesNested, Reaches, AsksSuch}
+use Rattle.solver_exactness.specs.Closed.{Closing, IsClosing, IsBare, Applies, EquationsRefuse, DeterminesNested, TableReaches, AsksSuch}
 use Rattle.solver_exactness.proofs.Plays.{Ends-followed}
 use Rattle.solver_exactness.proofs.Rounds.{Says, SaysSome, SaysYes, SaysMaybe, IsNested, Lasts, RoundEnds, one_round}
 
@@ -37,7 +37,7 @@ module _ {Question Response : Type 0} (t : Tables Question Response) (laws : IsT
     pub meets_by : (U : t.Table) → t.equate (t.fresh begin s.kinds) s.equations ≡ Some U → (a : t.Assignment) → t.Allows U a → Every (λ e. t.Meets e a) s.equations
     meets_by U q = laws.equate_meets (t.fresh begin s.kinds) U s.equations (laws.fresh_made begin s.kinds m) q
 
-    pub refused_is : Refuses t begin v s → (x : Option Response) → Ends P (candidate (workings t) limit begin s) x → x ≡ None
+    pub refused_is : EquationsRefuse t begin v s → (x : Option Response) → Ends P (candidate (workings t) limit begin s) x → x ≡ None
     refused_is none_meets x e = by (t.equate (t.fresh begin s.kinds) s.equations) refl e
       where
         by : (o : Option t.Table) → t.equate (t.fresh begin s.kinds) s.equations ≡ o → Ends P (equated (workings t) limit s o) x → x ≡ None
@@ -51,11 +51,11 @@ module _ {Question Response : Type 0} (t : Tables Question Response) (laws : IsT
     module _ (determined : DeterminesNested t begin s) (asked : AsksSuch t k IsAsked begin v s) (limited : ℕ) (more : limit ≡ suc limited) where
       -- the nested goals, over a table in which the equations hold
       abbrev pub AreAsked : t.Table → t.Nested → Type 0
-      AreAsked U n = (W : t.Table) (b : t.Assignment) → Reaches t U W → t.Made W → k.IsClosed (k.shape W) → IsDetermined t W n → t.Allows W b → t.Allows U b → t.own b ≡ v → IsAsked (t.question W n) (t.at W n b)
+      AreAsked U n = (W : t.Table) (b : t.Assignment) → TableReaches t U W → t.Made W → k.IsClosed (k.shape W) → IsDetermined t W n → t.Allows W b → t.Allows U b → t.own b ≡ v → IsAsked (t.question W n) (t.at W n b)
 
       -- where the equations hold
       pub asked_in : (B U : t.Table) → t.equate (t.fresh begin s.kinds) s.equations ≡ Some B → t.recorded B s.regions ≡ U → ((b : t.Assignment) → t.Allows U b → t.Allows (t.fresh begin s.kinds) b) → ((b : t.Assignment) → t.Allows U b → Every (λ e. t.Meets e b) s.equations) → Every (AreAsked U) s.nested
-      asked_in B U q w onto meets = Every-mono _ (AreAsked U) (λ n h W b z i x y a j e. h W b (record { table = B; equal = q; reached = subst (λ u. Reaches t u W) (sym w) z }) i x y a (onto b j) (meets b j) e) s.nested asked
+      asked_in B U q w onto meets = Every-mono _ (AreAsked U) (λ n h W b z i x y a j e. h W b (record { table = B; equal = q; reached = subst (λ u. TableReaches t u W) (sym w) z }) i x y a (onto b j) (meets b j) e) s.nested asked
 
       pub nested_all : (U : t.Table) (a : t.Assignment) → t.own a ≡ v → (ns : List t.Nested)
           → ((s r : t.Assignment) → t.Allows U s → t.Allows U r → t.own s ≡ t.own r → Every (λ n. t.fact n s ≡ t.fact n r) ns)

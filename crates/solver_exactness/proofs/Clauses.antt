@@ -13,18 +13,18 @@ use Rattle.evaluation.specs.Lists.{Every}
 use Rattle.evaluation.proofs.ListLaws.{Every-both}
 use Rattle.evaluation.specs.declared.candidate.CandidateSource.TheVariants.{ParamEnv}
 use Rattle.evaluation.specs.Instances.{read_with, default_label}
-use Rattle.evaluation.specs.Content.{Values, Fact, Terms, given}
-use Rattle.evaluation.specs.FrameTables.{Allows, Meets, Equation, is_open_label, term_of}
+use Rattle.evaluation.specs.Content.{Values, Fact, ChosenTerms, given}
+use Rattle.evaluation.specs.FrameTables.{Allows, EquationIsMet, Equation, is_open_label, term_of}
 use Rattle.evaluation.specs.TableOperations.{begin, fresh}
 use Rattle.evaluation.specs.Tables.{frame_tables}
 use Rattle.evaluation.specs.Variables.{is_variable_over}
 use Rattle.evaluation.proofs.Readings.{reads-agree}
 use Rattle.evaluation.proofs.Slots.{slots-agree}
-use Rattle.solver_exactness.specs.Closed.{Refuses, no_more, refused, applied}
+use Rattle.solver_exactness.specs.Closed.{EquationsRefuse, no_more, refused, applied}
 use Rattle.solver_exactness.specs.ClosedTables.{AreClosed, ArePlaces}
 use Rattle.assembly_laws.specs.Facts.{clauses_of, reference_in}
-use Rattle.assembly_laws.specs.Meaning.{Meaning}
-use Rattle.assembly_laws.specs.Asking.{Asked, asked, clauses, are_clauses}
+use Rattle.assembly_laws.specs.Meaning.{ViewMeaning}
+use Rattle.assembly_laws.specs.Asking.{GoalOverKinds, goal_over_kinds, clauses, are_clauses}
 use Rattle.assembly_laws.specs.Candidates.{first_value, all_equal, by_rule, by_clauses, clause_source}
 use Rattle.assembly_laws.specs.Cover.{goal_fact}
 use Rattle.assembly_laws.proofs.EquationTerms.{IsOpenTerms, first-made, made-open}
@@ -86,19 +86,19 @@ all-terms (tree l c o) none h g = ((refl, refl), tt)
 all-terms (tree l c o) (tree m d p) h g = ((term-is l c o h, term-is m d p g), all-terms o p (rest-made l c o h) (rest-made m d p g))
 
 -- lists that are read as one meet their equations
-pub equal-meets : (s : Terms) (x y : Trees) → IsOpenTerms x → IsOpenTerms y → read_with (given s.slots) x ≡ read_with (given s.slots) y → Every (λ e. Meets e s) (all_equal x y)
+pub equal-meets : (s : ChosenTerms) (x y : Trees) → IsOpenTerms x → IsOpenTerms y → read_with (given s.slots) x ≡ read_with (given s.slots) y → Every (λ e. EquationIsMet e s) (all_equal x y)
 equal-meets s x y h g e =
-    Every-both (λ (q : Equation). (term_of q.left ≡ q.left.trees) × (term_of q.right ≡ q.right.trees)) (λ (q : Equation). read_with (given s.slots) q.left.trees ≡ read_with (given s.slots) q.right.trees) (λ q. Meets q s)
+    Every-both (λ (q : Equation). (term_of q.left ≡ q.left.trees) × (term_of q.right ≡ q.right.trees)) (λ (q : Equation). read_with (given s.slots) q.left.trees ≡ read_with (given s.slots) q.right.trees) (λ q. EquationIsMet q s)
     (λ q t r. ap (read_with (given s.slots)) t.0 ∙ r ∙ sym (ap (read_with (given s.slots)) t.1)) (all_equal x y) (all-terms x y h g) (pairwise s.slots x y e)
 
-module _ (m : Meaning) (f : CanonicalForm) (a : Asked) (is_asked : asked m.view f ≡ Some a) (closed : AreClosed f.kinds) (v : Values) (places : ArePlaces f.kinds v) where
+module _ (m : ViewMeaning) (f : CanonicalForm) (a : GoalOverKinds) (is_asked : goal_over_kinds m.view f ≡ Some a) (closed : AreClosed f.kinds) (v : Values) (places : ArePlaces f.kinds v) where
   abbrev read : Trees → Trees
   read t = Read m f a is_asked closed v places t
 
   abbrev its_instance : Fact
   its_instance = instance m f a is_asked closed v places
 
-  abbrev its_terms : Terms
+  abbrev its_terms : ChosenTerms
   its_terms = terms_of m f a is_asked closed v places
 
   args-over : is_made (is_variable_over a.kinds) terms a.reference.args ≡ true
@@ -108,11 +108,11 @@ module _ (m : Meaning) (f : CanonicalForm) (a : Asked) (is_asked : asked m.view 
   open-args = made-open a.kinds terms a.reference.args args-over
 
   -- terms for the same values read made terms as one
-  reads-as : (s : Terms) → Allows (fresh (begin a.kinds) []) s → s.own ≡ v → (x : Trees) → is_made (is_variable_over a.kinds) terms x ≡ true → read_with (given s.slots) x ≡ read x
+  reads-as : (s : ChosenTerms) → Allows (fresh (begin a.kinds) []) s → s.own ≡ v → (x : Trees) → is_made (is_variable_over a.kinds) terms x ≡ true → read_with (given s.slots) x ≡ read x
   reads-as s l e x h = reads-agree s.slots its_terms.slots x (slots-agree (fresh (begin a.kinds) []) s its_terms l (allowed m f a is_asked closed v places) e x h)
 
   clause-refuses : (r : Reference) → is_made (is_variable_over a.kinds) terms r.args ≡ true → same (read r.args) (read a.reference.args) ≡ false
-      → Refuses frame_tables (begin a.kinds) v (by_rule m.view a (ParamEnv (clause_source r)) (all_equal a.reference.args r.args) [])
+      → EquationsRefuse frame_tables (begin a.kinds) v (by_rule m.view a (ParamEnv (clause_source r)) (all_equal a.reference.args r.args) [])
   clause-refuses r h no_same s l e meets =
       let equal : read a.reference.args ≡ read r.args = sym (reads-as s l e a.reference.args args-over) ∙ met-reads s.slots a.reference.args r.args open-args (made-open a.kinds terms r.args h) meets ∙ reads-as s l e r.args h in
       false-true (sym no_same ∙ ap (λ z. same (read r.args) z) equal ∙ same-self (read r.args))

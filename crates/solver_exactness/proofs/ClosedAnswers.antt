@@ -12,16 +12,16 @@ use Rattle.infer_table.specs.Responses.{AnswerTrees}
 use Rattle.infer_table.specs.Canonical.{CanonicalForm}
 use Rattle.infer_table.specs.declared.certainty.TypingMode.TheVariants.{Coherence}
 use Rattle.evaluation.specs.Lists.{Every, SomeOf}
-use Rattle.evaluation.specs.Content.{Values, Fact, Question, fact_of}
+use Rattle.evaluation.specs.Content.{Values, Fact, NestedQuestion, fact_of}
 use Rattle.evaluation.specs.Tables.{frame_tables}
 use Rattle.goal_frames.specs.Programs.{ArePrograms}
-use Rattle.goal_frames.specs.Searches.{Handles, Asked}
+use Rattle.goal_frames.specs.Searches.{Handles, GoalInMode}
 use Rattle.solver_exactness.specs.ModelWays.{ways_for}
 use Rattle.solver_exactness.specs.Ways.{HasShortChains, IsPossible, IsExactFor}
 use Rattle.solver_exactness.proofs.ModelWays.{possible_is_by_ways, short_is_by_ways}
 use Rattle.solver_exactness.proofs.MovedWays.{every-to, some-from, some-to, every-from}
 use Rattle.assembly_laws.specs.Facts.{clauses_of, reference_in, beside}
-use Rattle.assembly_laws.specs.Meaning.{Meaning}
+use Rattle.assembly_laws.specs.Meaning.{ViewMeaning}
 use Rattle.solver_exactness.specs.SolverWays.{facts_beside, ways_in_coherence}
 use Rattle.solver_exactness.specs.SolverAnswers.{solver_programs, TellsPossible, SolverTellsPossible}
 use Rattle.solver_exactness.proofs.ReadBack.{ways-back, coherence-comes-back}
@@ -46,7 +46,7 @@ every-append : {A : Type 0} (P : A → Type 0) (xs ys : List A) → Every P xs �
 every-append P [] ys h g = g
 every-append P (x ∷ xs) ys h g = (h.0, every-append P xs ys h.1 g)
 
-module _ (m : Meaning) (is-shut : LeadsToClosed m.view m.crate) where
+module _ (m : ViewMeaning) (is-shut : LeadsToClosed m.view m.crate) where
   abbrev V : World
   V = m.view
 
@@ -118,8 +118,8 @@ module _ (m : Meaning) (is-shut : LeadsToClosed m.view m.crate) where
       by false g = refl
   tells n f e z (Some y) h = record { refused = λ q. absurd (cc); answered = λ x q. possible_is_by_ways.from V m.crate n (reference_in f) (facts-possible n f e z h) }
 
-module _ {W : Type 0} (applicable : AnswerTrees → Bool) (same : AnswerTrees → AnswerTrees → Bool) (meaning_of : W → Meaning) (fits_in : W → CanonicalForm → Bool) {C I R F : Type 0}
-    (handles : Handles C I R F W (Asked frame_tables (solver_programs applicable same meaning_of fits_in)) (Option AnswerTrees)) (IsAsked : Question → Values → Type 0)
+module _ {W : Type 0} (applicable : AnswerTrees → Bool) (same : AnswerTrees → AnswerTrees → Bool) (meaning_of : W → ViewMeaning) (fits_in : W → CanonicalForm → Bool) {C I R F : Type 0}
+    (handles : Handles C I R F W (GoalInMode frame_tables (solver_programs applicable same meaning_of fits_in)) (Option AnswerTrees)) (IsAsked : NestedQuestion → Values → Type 0)
     (programs : ArePrograms frame_tables (solver_programs applicable same meaning_of fits_in)) where
   pub solver-tells-possible : SolverTellsPossible applicable same meaning_of fits_in handles IsAsked
   solver-tells-possible w good n limit q v a l goal clauses bounded only =

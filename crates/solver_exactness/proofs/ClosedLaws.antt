@@ -6,7 +6,7 @@ use Rattle.infer_table.specs.declared.canonical.CanonicalVarKind.{CanonicalVarKi
 use Rattle.infer_table.specs.declared.canonical.CanonicalVarKind.TheVariants.{Ty, PlaceholderTy, Const, PlaceholderConst, Region}
 use Rattle.infer_table.specs.Responses.{AnswerTrees}
 use Rattle.evaluation.specs.Instances.{as_place, other_terms, term_at}
-use Rattle.evaluation.specs.Content.{Values, Terms}
+use Rattle.evaluation.specs.Content.{Values, ChosenTerms}
 use Rattle.evaluation.specs.FrameTables.{FrameTable, Allows, AllowsApart, FitPlaceholders, Nested, Equation, is_placeholder_of, in_turn, pairs_in}
 use Rattle.evaluation.specs.TableAnswers.{put_into, originals_of}
 use Rattle.type_terms.proofs.Made.{false-true}
@@ -36,7 +36,7 @@ fit-placeholders (Region ∷ ks) ts f = fit-placeholders ks (other_terms ts) f
 fit-placeholders (PlaceholderTy ∷ ks) ts f = (f.0, fit-placeholders ks (other_terms ts) f.1)
 fit-placeholders (PlaceholderConst ∷ ks) ts f = (f.0, fit-placeholders ks (other_terms ts) f.1)
 
-tells-apart : (t : FrameTable) (s : Terms) → ArePlaces (map Some t.kinds) s.own → Allows t s → AllowsApart t s
+tells-apart : (t : FrameTable) (s : ChosenTerms) → ArePlaces (map Some t.kinds) s.own → Allows t s → AllowsApart t s
 tells-apart t s p a = record {
   allowed = a;
   apart = λ k i j e f same g. p.apart k i j (ap (is_placeholder_of k) (kind-same t.kinds i) ∙ e) (ap (is_placeholder_of k) (kind-same t.kinds j) ∙ f) same g;

@@ -13,7 +13,7 @@ use Rattle.infer_table.proofs.CanonicalLaws.{same_label-self}
 use Rattle.type_terms.specs.Made.{terms, is_made}
 use Rattle.evaluation.specs.Lists.{Every}
 use Rattle.evaluation.specs.Instances.{put_in, is_place, as_place, first_term, other_terms, term_at}
-use Rattle.evaluation.specs.Content.{Terms, fits, reading_of}
+use Rattle.evaluation.specs.Content.{ChosenTerms, fits, reading_of}
 use Rattle.evaluation.specs.FrameTables.{FrameTable, IsMadeFrame, Allows, Nested, good_in, goal_in, question, values_at, slot_at, kind_at, is_placeholder_of}
 use Rattle.evaluation.specs.Finite.{IsDetermined}
 use Rattle.type_terms.proofs.Made.{false-true, left}
@@ -119,7 +119,7 @@ IsAt l (m ∷ ls) (suc i) = IsAt l ls i
 
 pub record StandsAt (l : Label) (ls : List Label) (i : ℕ) : Type 0 where
   pub kind : kind_in (map kind_of_leaf ls) i ≡ kind_of_leaf l
-  pub term : (s : Terms) → term_at (map (reading_of s) ls) i ≡ reading_of s l
+  pub term : (s : ChosenTerms) → term_at (map (reading_of s) ls) i ≡ reading_of s l
   pub among : is_among l ls ≡ true
   pub at : IsAt l ls i
 
@@ -200,7 +200,7 @@ among-has P l (m ∷ ms) h e = by (same_label m l) refl e (among-has P l ms h.1)
 same-place : (k : Sort) (t : Trees) → as_place k (as_place k t +++ none) ≡ as_place k t
 same-place k t = ap (as_place k) (append-none (as_place k t)) ∙ ap (λ b. if b then as_place k t else leaf (placeholder k 0)) (is-place k t)
 
-fit-leaves : (s : Terms) (ls : List Label) → FitPlaces (map kind_of_leaf ls) (map (reading_of s) ls)
+fit-leaves : (s : ChosenTerms) (ls : List Label) → FitPlaces (map kind_of_leaf ls) (map (reading_of s) ls)
 fit-leaves s [] = tt
 fit-leaves s (infer of_type v ∷ ls) = fit-leaves s ls
 fit-leaves s (infer of_const v ∷ ls) = fit-leaves s ls
@@ -232,7 +232,7 @@ kind-same (k ∷ ks) zero = refl
 kind-same (k ∷ ks) (suc i) = kind-same ks i
 
 -- ---- the question's placeholders stand for different places
-module _ (t : FrameTable) (closed : AreClosed (map Some t.kinds)) (n : Nested) (s : Terms) (a : Allows t s) (p : ArePlaces (map Some t.kinds) s.own) where
+module _ (t : FrameTable) (closed : AreClosed (map Some t.kinds)) (n : Nested) (s : ChosenTerms) (a : Allows t s) (p : ArePlaces (map Some t.kinds) s.own) where
   abbrev ls : List Label
   ls = goal_leaves (goal_in t n)
 

@@ -24,8 +24,8 @@ use Rattle.solver_exactness.specs.Closed.{AreWays, no_more, refused, applied}
 use Rattle.solver_exactness.specs.ClosedTables.{AreClosed, ArePlaces}
 use Rattle.assembly_laws.specs.Facts.{is_plain, is_unerased, beside, reference_in}
 use Rattle.assembly_laws.specs.Declared.{are_terms, is_declared_view}
-use Rattle.assembly_laws.specs.Meaning.{Meaning}
-use Rattle.assembly_laws.specs.Asking.{Asked, asked, is_rigid, self_of, next_of, with_plain_head, begins_with_type}
+use Rattle.assembly_laws.specs.Meaning.{ViewMeaning}
+use Rattle.assembly_laws.specs.Asking.{GoalOverKinds, goal_over_kinds, is_rigid, self_of, next_of, with_plain_head, begins_with_type}
 use Rattle.assembly_laws.specs.Candidates.{Candidate, by_rule, all_equal, misc, as_written, call_of, unsize_array_of, unsize_by_struct, unsize_struct_of, if_so}
 use Rattle.assembly_laws.specs.Cover.{goal_fact, read_reference}
 use Rattle.assembly_laws.proofs.Reading.{begins, read-last-asked}
@@ -81,19 +81,19 @@ pub premises-append : (us vs : List Rule) → premises_of (us ++ vs) ≡ premise
 premises-append [] vs = refl
 premises-append (u ∷ us) vs = ap (λ z. u.premises ∷ z) (premises-append us vs)
 
-ways-append : (a : Asked) (v : Values) (cs ds : List Candidate) (ws vs : List (List Fact)) → AreWays frame_tables (begin a.kinds) v cs ws → AreWays frame_tables (begin a.kinds) v ds vs → AreWays frame_tables (begin a.kinds) v (cs ++ ds) (ws ++ vs)
+ways-append : (a : GoalOverKinds) (v : Values) (cs ds : List Candidate) (ws vs : List (List Fact)) → AreWays frame_tables (begin a.kinds) v cs ws → AreWays frame_tables (begin a.kinds) v ds vs → AreWays frame_tables (begin a.kinds) v (cs ++ ds) (ws ++ vs)
 ways-append a v [] ds [] vs no_more u = u
 ways-append a v [] ds (w ∷ ws) vs t u = elim t [ ]
 ways-append a v (c ∷ cs) ds ws vs (refused r t) u = refused r (ways-append a v cs ds ws vs t u)
 ways-append a v (c ∷ cs) ds (w ∷ ws) vs (applied r t) u = applied r (ways-append a v cs ds ws vs t u)
 
-pub both-ways : (a : Asked) (v : Values) (g : Fact) (cs ds : List Candidate) (ws vs : List (List Reference)) → AreWaysOf a v g cs ws → AreWaysOf a v g ds vs → AreWaysOf a v g (cs ++ ds) (ws ++ vs)
+pub both-ways : (a : GoalOverKinds) (v : Values) (g : Fact) (cs ds : List Candidate) (ws vs : List (List Reference)) → AreWaysOf a v g cs ws → AreWaysOf a v g ds vs → AreWaysOf a v g (cs ++ ds) (ws ++ vs)
 both-ways a v g cs ds ws vs t u = subst (AreWays frame_tables (begin a.kinds) v (cs ++ ds)) (sym (facts-append g ws vs)) (ways-append a v cs ds (facts_beside g ws) (facts_beside g vs) t u)
 
-pub both-rules : (a : Asked) (v : Values) (g : Fact) (cs ds : List Candidate) (us ts : List Rule) → AreWaysOf a v g cs (premises_of us) → AreWaysOf a v g ds (premises_of ts) → AreWaysOf a v g (cs ++ ds) (premises_of (us ++ ts))
+pub both-rules : (a : GoalOverKinds) (v : Values) (g : Fact) (cs ds : List Candidate) (us ts : List Rule) → AreWaysOf a v g cs (premises_of us) → AreWaysOf a v g ds (premises_of ts) → AreWaysOf a v g (cs ++ ds) (premises_of (us ++ ts))
 both-rules a v g cs ds us ts t u = subst (AreWaysOf a v g (cs ++ ds)) (sym (premises-append us ts)) (both-ways a v g cs ds (premises_of us) (premises_of ts) t u)
 
-module _ (m : Meaning) (declared : is_declared_view m.view ≡ true) (f : CanonicalForm) (a : Asked) (is_asked : asked m.view f ≡ Some a) (closed : AreClosed f.kinds) (v : Values) (places : ArePlaces f.kinds v)
+module _ (m : ViewMeaning) (declared : is_declared_view m.view ≡ true) (f : CanonicalForm) (a : GoalOverKinds) (is_asked : goal_over_kinds m.view f ≡ Some a) (closed : AreClosed f.kinds) (v : Values) (places : ArePlaces f.kinds v)
     (plain : is_plain (goal_fact f v) ≡ true) where
   abbrev V : World
   V = m.view

@@ -15,15 +15,15 @@ use Rattle.infer_table.specs.declared.canonical.CanonicalVarKind.TheVariants.{Ty
 use Rattle.evaluation.specs.Lists.{Every}
 use Rattle.evaluation.specs.declared.candidate.CandidateSource.{CandidateSource}
 use Rattle.evaluation.specs.Instances.{read_with, as_place, term_at}
-use Rattle.evaluation.specs.Content.{Values, Fact, Terms, given, reading_of}
+use Rattle.evaluation.specs.Content.{Values, Fact, ChosenTerms, given, reading_of}
 use Rattle.evaluation.specs.FrameTables.{Allows, labels_from}
 use Rattle.evaluation.specs.TableOperations.{begin, fresh}
 use Rattle.evaluation.specs.Tables.{frame_tables}
 use Rattle.evaluation.specs.Variables.{is_variable_over}
-use Rattle.solver_exactness.specs.Closed.{Refuses, no_more, refused, applied}
+use Rattle.solver_exactness.specs.Closed.{EquationsRefuse, no_more, refused, applied}
 use Rattle.solver_exactness.specs.ClosedTables.{AreClosed, ArePlaces}
-use Rattle.assembly_laws.specs.Meaning.{Meaning}
-use Rattle.assembly_laws.specs.Asking.{Asked, asked}
+use Rattle.assembly_laws.specs.Meaning.{ViewMeaning}
+use Rattle.assembly_laws.specs.Asking.{GoalOverKinds, goal_over_kinds}
 use Rattle.assembly_laws.specs.Candidates.{Candidate, all_equal, by_rule, bounds_from, upcast_source, upcasts_from}
 use Rattle.declarations.specs.Elaboration.{supertraits}
 use Rattle.assembly_laws.specs.Cover.{read_reference}
@@ -39,7 +39,7 @@ use Rattle.solver_exactness.proofs.Clauses.{equal-meets}
 cons : {A : Type 0} (x y : A) (xs ys : List A) → x ≡ y → xs ≡ ys → x ∷ xs ≡ y ∷ ys
 cons x y xs ys e g = cc
 
-pub closed-slots : (s t : Terms) → s.own ≡ t.own → (i j k n : ℕ) (ks : List CanonicalVarKind) → AreClosed (map Some ks) → (more : List Label) → more ≡ []
+pub closed-slots : (s t : ChosenTerms) → s.own ≡ t.own → (i j k n : ℕ) (ks : List CanonicalVarKind) → AreClosed (map Some ks) → (more : List Label) → more ≡ []
     → map (reading_of s) (labels_from i j k n ks ++ more) ≡ map (reading_of t) (labels_from i j k n ks ++ more)
 closed-slots s t e i j k n [] c more g = ap (map (reading_of s)) g ∙ sym (ap (map (reading_of t)) g)
 closed-slots s t e i j k n (Ty ∷ ks) c more g = absurd c.0
@@ -65,14 +65,14 @@ same-swap x y false e = by (same y x) refl
     by false g = refl
     by true g = absurd (false-true (sym e ∙ subst (λ z. same x z ≡ true) (sym (same-sound y x g)) (same-self x)))
 
-module _ (m : Meaning) (f : CanonicalForm) (a : Asked) (is_asked : asked m.view f ≡ Some a) (closed : AreClosed f.kinds) (v : Values) (places : ArePlaces f.kinds v) where
+module _ (m : ViewMeaning) (f : CanonicalForm) (a : GoalOverKinds) (is_asked : goal_over_kinds m.view f ≡ Some a) (closed : AreClosed f.kinds) (v : Values) (places : ArePlaces f.kinds v) where
   abbrev pub read : Trees → Trees
   read t = Read m f a is_asked closed v places t
 
   abbrev pub its_instance : Fact
   its_instance = instance m f a is_asked closed v places
 
-  abbrev pub its_terms : Terms
+  abbrev pub its_terms : ChosenTerms
   its_terms = terms_of m f a is_asked closed v places
 
   abbrev pub AreWaysHere : List Candidate → List (List Reference) → Type 0
@@ -84,11 +84,11 @@ module _ (m : Meaning) (f : CanonicalForm) (a : Asked) (is_asked : asked m.view 
   pub args-open : IsOpenTerms a.reference.args
   args-open = made-open a.kinds terms a.reference.args args-over
 
-  pub slots-are : (s : Terms) → Allows (fresh (begin a.kinds) []) s → s.own ≡ v → s.slots ≡ its_terms.slots
+  pub slots-are : (s : ChosenTerms) → Allows (fresh (begin a.kinds) []) s → s.own ≡ v → s.slots ≡ its_terms.slots
   slots-are s l e = l.slots ∙ closed-slots s its_terms e 0 0 0 0 a.kinds (kinds-closed m f a is_asked closed v places) _ refl ∙ sym (allowed m f a is_asked closed v places).slots
 
   rule-refuses : (source : CandidateSource) (x y : Trees) (ps : List Reference) → IsOpenTerms x → IsOpenTerms y → same (read x) (read y) ≡ false
-      → Refuses frame_tables (begin a.kinds) v (by_rule m.view a source (all_equal x y) ps)
+      → EquationsRefuse frame_tables (begin a.kinds) v (by_rule m.view a source (all_equal x y) ps)
   rule-refuses source x y ps h g no_same s l e meets =
       let slots = slots-are s l e in
       let equal : read x ≡ read y = sym (ap (λ xs. read_with (given xs) x) slots) ∙ met-reads s.slots x y h g meets ∙ ap (λ xs. read_with (given xs) y) slots in

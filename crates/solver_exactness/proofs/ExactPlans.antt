@@ -7,13 +7,13 @@ use Rattle.evaluation.specs.Merge.{responses}
 use Rattle.evaluation.specs.Plans.{Plan, considers, answers, told, after, wanted, came, Planned, planned}
 use Rattle.solver_exactness.specs.Closed.{Closing, AreWays, DeterminesNested, AsksSuch}
 use Rattle.solver_exactness.specs.Ways.{IsSelection}
-use Rattle.solver_exactness.specs.Exact.{WereConsidered, GoesTo, IsMade, IsExactHandler}
+use Rattle.solver_exactness.specs.Exact.{WereConsidered, GoesTo, IsMadeOfResponses, IsExactHandler}
 
 module _ {Question Response : Type 0} (t : Tables Question Response) where
   -- the plan considers those that are left, in order, and then an answer is made of the responses; some may be left out before one,
   -- but only where some candidate was not refused
   abbrev pub IsExactFrom : List (Spec (workings t)) → List (Considered (workings t)) → Plan t → Type 0
-  IsExactFrom left seen (answers a ignored) = IsMade t left seen a
+  IsExactFrom left seen (answers a ignored) = IsMadeOfResponses t left seen a
   IsExactFrom left seen (considers s go) =
       (skipped : List (Spec (workings t))) × (rest : List (Spec (workings t))) × (left ≡ skipped ++ s ∷ rest) × (responses t seen ≡ [] → skipped ≡ [])
       × ((a : Option Response) (n : ℕ) → IsExactFrom rest (came t s a n ∷ seen) (go a n))
@@ -72,9 +72,9 @@ module _ {Question Response : Type 0} (t : Tables Question Response) where
   goes-by (answers a ignored) left heard e seen q c h = absurd (cc)
 
   makes-by : (p : Plan t) (left : List (Spec (workings t))) (heard : List (Considered (workings t))) → IsExactFrom left heard p → (seen : List (Considered (workings t))) → heard ≡ seen
-      → (a : Option Response) (ignored : List ℕ) → wanted t p ≡ answer a ignored → IsMade t left seen a
+      → (a : Option Response) (ignored : List ℕ) → wanted t p ≡ answer a ignored → IsMadeOfResponses t left seen a
   makes-by (considers s go) left heard e seen q a ignored h = absurd (cc)
-  makes-by (answers b ns) left heard e seen q a ignored h = subst (λ z. IsMade t left z a) q (subst (IsMade t left heard) (answer-is b a ns ignored h) e)
+  makes-by (answers b ns) left heard e seen q a ignored h = subst (λ z. IsMadeOfResponses t left z a) q (subst (IsMadeOfResponses t left heard) (answer-is b a ns ignored h) e)
 
   module _ (p : Plan t) (specs : List (Spec (workings t))) (exact : IsExactFrom specs [] p) where
     abbrev pub at : List (Considered (workings t)) → At
@@ -101,7 +101,7 @@ module _ {Question Response : Type 0} (t : Tables Question Response) where
         let x = goes-by (at seen).plan (at seen).left (at seen).heard (at seen).exact seen (heard-is seen w) c (ap (wanted t) (plan-is seen) ∙ e) in
         record { skipped = x.0; rest = x.1; is = x.2; after = x.4; why = x.3 }
 
-    pub makes : (seen : List (Considered (workings t))) (a : Option Response) (ignored : List ℕ) → WereConsidered t next seen → next seen ≡ answer a ignored → IsMade t (left_at seen) seen a
+    pub makes : (seen : List (Considered (workings t))) (a : Option Response) (ignored : List ℕ) → WereConsidered t next seen → next seen ≡ answer a ignored → IsMadeOfResponses t (left_at seen) seen a
     makes seen a ignored w e = makes-by (at seen).plan (at seen).left (at seen).heard (at seen).exact seen (heard-is seen w) a ignored (ap (wanted t) (plan-is seen) ∙ e)
 
   abbrev pub planned-exact : (k : Closing t) (ways : t.Fact → List (List t.Fact)) (IsAsked : Question → t.Values → Type 0) (q : Question) (v : t.Values) (p : Planned t) → IsExactPlan k ways IsAsked q v p → IsExactHandler t k ways IsAsked q v (planned t p)

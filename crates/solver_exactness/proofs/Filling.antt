@@ -10,7 +10,7 @@ use Rattle.infer_table.specs.Applying.{table_after}
 use Rattle.std.specs.Prelude.{None}
 use Rattle.evaluation.specs.Lists.{Every}
 use Rattle.evaluation.specs.Instances.{read_with, term_at}
-use Rattle.evaluation.specs.Content.{Values, Terms, standing, reading_of}
+use Rattle.evaluation.specs.Content.{Values, ChosenTerms, standing, reading_of}
 use Rattle.evaluation.specs.FrameTables.{kind_at, FrameTable, IsMadeFrame, Allows, consts_in, labels_from, first_content, unknown, labels_for}
 use Rattle.evaluation.proofs.Applying.{for-bindings}
 use Rattle.evaluation.proofs.TableBeginning.{begin-made}
@@ -35,7 +35,7 @@ cons : {A : Type 0} (x y : A) (xs ys : List A) → x ≡ y → xs ≡ ys → x �
 cons x y xs ys e f = cc
 
 -- the labels of new variables are read as those of a frame that begins with them
-read-labels : (s u : Terms) → ((k : Sort) (n : ℕ) → HasValues k → reading_of s (infer k n) ≡ reading_of u (infer k n)) → (t : TableTrees) (i j c : ℕ) (ks : List CanonicalVarKind) → Every IsOwnKind ks
+read-labels : (s u : ChosenTerms) → ((k : Sort) (n : ℕ) → HasValues k → reading_of s (infer k n) ≡ reading_of u (infer k n)) → (t : TableTrees) (i j c : ℕ) (ks : List CanonicalVarKind) → Every IsOwnKind ks
     → map (reading_of s) (labels_for t i ks) ≡ map (reading_of u) (labels_from t.ty_vars t.const_vars c j ks)
 read-labels s u e t i j c [] h = refl
 read-labels s u e t i j c (Ty ∷ ks) h =
@@ -59,7 +59,7 @@ module _ (ks js : List CanonicalVarKind) (c : AreClosed (map Some ks)) (g : Ever
   table-made = fresh-made (begin ks) (begin-made ks) js
 
   -- the terms of a frame of the impl's own
-  abbrev pub alone : Terms
+  abbrev pub alone : ChosenTerms
   alone = (begins-free js own-values).0
 
   pub alone-allowed : Allows (begin js) alone
@@ -71,7 +71,7 @@ module _ (ks js : List CanonicalVarKind) (c : AreClosed (map Some ks)) (g : Ever
   pub alone-sorted : (k : Sort) (n : ℕ) → sort_of (alone.unknowns k n).0 ≡ k
   alone-sorted k n = alone-allowed.sorted k n
 
-  abbrev pub filled : Terms
+  abbrev pub filled : ChosenTerms
   filled = whole table table-made c v alone.unknowns alone-sorted
 
   pub filled-allowed : Allows table filled

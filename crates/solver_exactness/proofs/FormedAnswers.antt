@@ -4,27 +4,27 @@ use Rattle.infer_table.specs.Canonical.{CanonicalForm}
 use Rattle.infer_table.specs.declared.certainty.TypingMode.{TypingMode}
 use Rattle.infer_table.specs.declared.certainty.TypingMode.TheVariants.{Coherence, PostAnalysis}
 use Rattle.infer_table.specs.Responses.{AnswerTrees}
-use Rattle.evaluation.specs.Content.{Values, Question}
+use Rattle.evaluation.specs.Content.{Values, NestedQuestion}
 use Rattle.evaluation.specs.Tables.{frame_tables}
 use Rattle.goal_frames.specs.Programs.{ArePrograms}
-use Rattle.goal_frames.specs.Searches.{Handles, Asked}
-use Rattle.assembly_laws.specs.Meaning.{Meaning}
+use Rattle.goal_frames.specs.Searches.{Handles, GoalInMode}
+use Rattle.assembly_laws.specs.Meaning.{ViewMeaning}
 use Rattle.solver_exactness.specs.GoalSets.{IsGoalOf}
 use Rattle.solver_exactness.specs.FormedFacts.{Sorts, IsFormedFact}
-use Rattle.solver_exactness.specs.SolverAnswers.{solver_programs, IsGood, IsClosedGoal}
+use Rattle.solver_exactness.specs.SolverAnswers.{solver_programs, HasGoodDeclarations, IsClosedGoal}
 use Rattle.solver_exactness.specs.FormedAnswers.{IsFormedGoal, AreDeclared, FormedIsExact, FormedSearchesAreExact, FormedSearchesAreRight, FormedTellsPossible}
 use Rattle.solver_exactness.proofs.GoalSets.{goals-lead-to-goals}
 use Rattle.solver_exactness.proofs.FormedWays.{formed-are-kept}
 use Rattle.solver_exactness.proofs.SolverAnswers.{solver-is-exact, solver-searches-are-exact, solver-searches-are-right}
 use Rattle.solver_exactness.proofs.ClosedAnswers.{solver-tells-possible}
 
-module _ {W : Type 0} (applicable : AnswerTrees → Bool) (same : AnswerTrees → AnswerTrees → Bool) (meaning_of : W → Meaning) (fits_in : W → CanonicalForm → Bool) {C I R F : Type 0}
-    (handles : Handles C I R F W (Asked frame_tables (solver_programs applicable same meaning_of fits_in)) (Option AnswerTrees)) where
-  abbrev Set : W → Sorts → (CanonicalForm → Bool) → Question → Values → Type 0
+module _ {W : Type 0} (applicable : AnswerTrees → Bool) (same : AnswerTrees → AnswerTrees → Bool) (meaning_of : W → ViewMeaning) (fits_in : W → CanonicalForm → Bool) {C I R F : Type 0}
+    (handles : Handles C I R F W (GoalInMode frame_tables (solver_programs applicable same meaning_of fits_in)) (Option AnswerTrees)) where
+  abbrev Set : W → Sorts → (CanonicalForm → Bool) → NestedQuestion → Values → Type 0
   Set w sorts admits q v = IsGoalOf (meaning_of w).view admits (IsFormedFact (meaning_of w).view sorts) q v
 
   good : (w : W) (mode : TypingMode) (sorts : Sorts) (admits : CanonicalForm → Bool) → AreDeclared (meaning_of w) mode (fits_in w) admits sorts
-      → IsGood applicable same meaning_of fits_in handles (Set w sorts admits) w mode
+      → HasGoodDeclarations applicable same meaning_of fits_in handles (Set w sorts admits) w mode
   good w mode sorts admits d = record {
     sound = d.sound;
     well = d.well;
@@ -32,7 +32,7 @@ module _ {W : Type 0} (applicable : AnswerTrees → Bool) (same : AnswerTrees �
         goals-lead-to-goals (IsFormedFact (meaning_of w).view sorts) (meaning_of w) mode (fits_in w) admits d.well (formed-are-kept (meaning_of w) mode sorts d.well d.formed) d.admitted;
   }
 
-  closed : (w : W) (sorts : Sorts) (admits : CanonicalForm → Bool) (q : Question) (v : Values) → IsFormedGoal (meaning_of w).view sorts admits q v
+  closed : (w : W) (sorts : Sorts) (admits : CanonicalForm → Bool) (q : NestedQuestion) (v : Values) → IsFormedGoal (meaning_of w).view sorts admits q v
       → IsClosedGoal applicable same meaning_of fits_in handles (Set w sorts admits) q v
   closed w sorts admits q v g = record { asked = g.asked; closed = g.closed; places = g.places }
 

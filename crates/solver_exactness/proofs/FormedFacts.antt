@@ -22,7 +22,7 @@ use Rattle.assembly_laws.proofs.CandidateKinds.{every-append}
 use Rattle.assembly_laws.proofs.PlainRules.{every-flat}
 use Rattle.assembly_laws.proofs.Rows.{fields-declared}
 use Rattle.solver_exactness.specs.GoalSets.{begins_typed, any_label}
-use Rattle.solver_exactness.specs.FormedFacts.{Sorts, EachNode, AreTypes, NodesFit, AreFormed, IsTraitOf, IsFormed, IsFormedView, HasParams, IsParamOf, IsField}
+use Rattle.solver_exactness.specs.FormedFacts.{Sorts, EachNode, AreTypeSorts, NodesFit, AreFormed, IsTraitOf, IsFormed, IsFormedView, HasParams, IsParamOf, IsField}
 use Rattle.solver_exactness.proofs.FormedInstances.{formed-append, instance-formed, made-where, sorts-put, sorts-append, fits-by, sort-where, Stands, stands-cases, param-is, begins-by}
 
 module _ (V : World) (sorts : Sorts) where
@@ -52,11 +52,11 @@ module _ (V : World) (sorts : Sorts) where
   one-type : (t : ℕ) (l : Label) → IsTraitOf V sorts t (of_type ∷ []) → sort_of l ≡ of_type → IsTraitOf V sorts t (sort_of l ∷ [])
   one-type t l p e = (p.0, ap (λ s. s ∷ []) e ∙ p.1)
 
-  each-good : (t : ℕ) → IsTraitOf V sorts t (of_type ∷ []) → (items : Trees) → Formed items → AreTypes (sorts_of items) → Every Good (each_asked t items)
+  each-good : (t : ℕ) → IsTraitOf V sorts t (of_type ∷ []) → (items : Trees) → Formed items → AreTypeSorts (sorts_of items) → Every Good (each_asked t items)
   each-good t p none h g = tt
   each-good t p (tree l c o) h g = (record { args = alone l c o h; trait = one-type t l p g.0 }, each-good t p o (rest l c o h) g.1)
 
-  last-good : (t : ℕ) → IsTraitOf V sorts t (of_type ∷ []) → (items : Trees) → Formed items → AreTypes (sorts_of items) → Every Good (last_asked t items)
+  last-good : (t : ℕ) → IsTraitOf V sorts t (of_type ∷ []) → (items : Trees) → Formed items → AreTypeSorts (sorts_of items) → Every Good (last_asked t items)
   last-good t p none h g = tt
   last-good t p (tree l c none) h g = (record { args = h; trait = one-type t l p g.0 }, tt)
   last-good t p (tree l c (tree m d o)) h g = last-good t p (tree m d o) (rest l c (tree m d o) h) g.1
@@ -72,7 +72,7 @@ module _ (V : World) (sorts : Sorts) where
   first-good : (t : ℕ) → IsTraitOf V sorts t (of_type ∷ []) → (l : Label) (c o : Trees) → Formed (tree l c o) → begins_typed (tree l c o) ≡ true → Good (asked t (tree l c none))
   first-good t p l c o h g = record { args = alone l c o h; trait = one-type t l p (begins-sort l c o g) }
 
-  types-append : (xs ys : List Sort) → AreTypes xs → AreTypes ys → AreTypes (xs ++ ys)
+  types-append : (xs ys : List Sort) → AreTypeSorts xs → AreTypeSorts ys → AreTypeSorts (xs ++ ys)
   types-append [] ys h g = g
   types-append (x ∷ xs) ys h g = (h.0, types-append xs ys h.1 g)
 
@@ -149,18 +149,18 @@ module _ (V : World) (sorts : Sorts) where
 
       -- the fields of a struct
       fields-formed : (ss : List Sort) → sorts_of A ≡ ss → (fs : List Trees) → ((t : Trees) → In t fs → IsField V sorts ss t) → list_all are_terms fs ≡ true
-          → Formed (together (map (instantiate zero A) fs)) × AreTypes (sorts_of (together (map (instantiate zero A) fs)))
+          → Formed (together (map (instantiate zero A) fs)) × AreTypeSorts (sorts_of (together (map (instantiate zero A) fs)))
       fields-formed ss e [] f h = (nothing, tt)
       fields-formed ss e (t ∷ fs) f h =
           let g = f t (here t fs) in
           let i = left (are_terms t) (list_all are_terms fs) h in
           let x = fields-formed ss e fs (λ u k. f u (there u t fs k)) (right (are_terms t) (list_all are_terms fs) h) in (
             formed-append V sorts (instantiate zero A t) (together (map (instantiate zero A) fs)) (instance-of ss e t i g.nodes g.params) x.0,
-            subst AreTypes (sym (sorts-append (instantiate zero A t) (together (map (instantiate zero A) fs))))
-                (types-append (sorts_of (instantiate zero A t)) (sorts_of (together (map (instantiate zero A) fs))) (subst AreTypes (sym (sorts-of-instance ss e t i g.params ∙ g.sort)) (refl, tt)) x.1),
+            subst AreTypeSorts (sym (sorts-append (instantiate zero A t) (together (map (instantiate zero A) fs))))
+                (types-append (sorts_of (instantiate zero A t)) (sorts_of (together (map (instantiate zero A) fs))) (subst AreTypeSorts (sym (sorts-of-instance ss e t i g.params ∙ g.sort)) (refl, tt)) x.1),
           )
 
-    struct-fields : (s : ℕ) (x : StructDecl) → In x (structs_named V s) → (A : Trees) → Formed A → sorts_of A ≡ sorts.of_struct s → Formed (fields_of x A) × AreTypes (sorts_of (fields_of x A))
+    struct-fields : (s : ℕ) (x : StructDecl) → In x (structs_named V s) → (A : Trees) → Formed A → sorts_of A ≡ sorts.of_struct s → Formed (fields_of x A) × AreTypeSorts (sorts_of (fields_of x A))
     struct-fields s x i A h e =
         let m = in-filter (λ (y : StructDecl). y.name == s) V.structs x i in
         fields-formed A h (sorts.of_struct x.name) (e ∙ ap sorts.of_struct (sym (same-number x.name s m.1))) x.fields (λ t j. view.fields x t m.0 j) (fields-declared V well.terms [] x m.0)

@@ -19,7 +19,7 @@ use Rattle.assembly_laws.specs.Facts.{is_unerased}
 use Rattle.assembly_laws.proofs.Instances.{shift-unbound}
 use Rattle.assembly_laws.proofs.PlainRules.{Plain, plain-unbound, plain-instance}
 use Rattle.solver_exactness.specs.GoalSets.{begins_typed, any_label}
-use Rattle.solver_exactness.specs.FormedFacts.{Sorts, AreTypes, FitsNode, NodesFit, AreFormed}
+use Rattle.solver_exactness.specs.FormedFacts.{Sorts, AreTypeSorts, FitsNode, NodesFit, AreFormed}
 
 -- ---- one tree of a sort
 pub record IsOne (s : Sort) (t : Trees) : Type 0 where
@@ -199,8 +199,8 @@ module _ (V : World) (sorts : Sorts) where
   node-same (principal i t) c d b e n = (n.0, ap (λ z. of_type ∷ z) e ∙ n.1)
   node-same (auto_trait t) c d b e n = n
   node-same (predicate (of_trait t)) c d b e n = (n.0, e ∙ n.1)
-  node-same tuple c d b e n = subst AreTypes (sym e) n
-  node-same (fn_ptr i) c d b e n = subst AreTypes (sym e) n
+  node-same tuple c d b e n = subst AreTypeSorts (sym e) n
+  node-same (fn_ptr i) c d b e n = subst AreTypeSorts (sym e) n
   node-same (raw_pointer m) c d b e n = begins-same c d e n
   node-same array c d b e n = begins-same c d e n
   node-same slice c d b e n = begins-same c d e n

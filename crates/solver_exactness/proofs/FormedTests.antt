@@ -13,7 +13,7 @@ use Rattle.type_terms.proofs.Walking.{left, right}
 use Rattle.type_terms.proofs.Made.{false-true}
 use Rattle.infer_table.proofs.SolutionLaws.{is_sort-equal as is-sort}
 use Rattle.declarations.specs.Applied.{sorts_of}
-use Rattle.solver_exactness.specs.FormedFacts.{Sorts, EachNode, AreTypes, IsTraitOf, FitsNode, NodesFit, IsParamOf, HasParams, IsField, IsBound, IsFormedView}
+use Rattle.solver_exactness.specs.FormedFacts.{Sorts, EachNode, AreTypeSorts, IsTraitOf, FitsNode, NodesFit, IsParamOf, HasParams, IsField, IsFormedBound, IsFormedView}
 use Rattle.solver_exactness.specs.FormedTests.{same_sorts, are_types, is_param_of, speaks_of, takes_self, is_trait_of, fits_node, nodes_fit, is_field, is_bound, is_clause, is_trait, core_is_formed, is_formed_view, FormedTestTells, CoreIsFormed}
 
 sorts-are : (ss ts : List Sort) → same_sorts ss ts ≡ true → ss ≡ ts
@@ -25,7 +25,7 @@ sorts-are (s ∷ ss) (t ∷ ts) h = two (is-sort s t (left (is_sort s t) (same_s
 sorts-are [] (t ∷ ts) h = absurd (false-true h)
 sorts-are (s ∷ ss) [] h = absurd (false-true h)
 
-types-are : (ss : List Sort) → are_types ss ≡ true → AreTypes ss
+types-are : (ss : List Sort) → are_types ss ≡ true → AreTypeSorts ss
 types-are [] h = tt
 types-are (s ∷ ss) h = (is-sort s of_type (left (is_sort s of_type) (are_types ss) h), types-are ss (right (is_sort s of_type) (are_types ss) h))
 
@@ -74,7 +74,7 @@ module _ (V : World) (sorts : Sorts) where
       let r = right (nodes_fit V sorts t) _ h in
       record { nodes = nodes-told t (left (nodes_fit V sorts t) _ h); sort = sorts-are (sorts_of t) (of_type ∷ []) (left (same_sorts (sorts_of t) (of_type ∷ [])) _ r); params = params-told ss t (right (same_sorts (sorts_of t) (of_type ∷ [])) _ r) }
 
-  bound-told : (ss : List Sort) (b : Reference) → is_bound V sorts ss b ≡ true → IsBound V sorts ss b
+  bound-told : (ss : List Sort) (b : Reference) → is_bound V sorts ss b ≡ true → IsFormedBound V sorts ss b
   bound-told ss b h =
       let r = right (nodes_fit V sorts b.args) _ h in
       record {

@@ -18,14 +18,14 @@ use Rattle.solver_exactness.proofs.MovedWays.{every-to}
 use Rattle.assembly_laws.specs.Facts.{clauses_of, reference_in, beside}
 use Rattle.assembly_laws.specs.DeclaredWell.{IsDeclaredWell}
 use Rattle.assembly_laws.specs.Knowing.{is_knowable}
-use Rattle.assembly_laws.specs.Meaning.{Meaning}
+use Rattle.assembly_laws.specs.Meaning.{ViewMeaning}
 use Rattle.assembly_laws.specs.Asking.{next_of}
 use Rattle.assembly_laws.proofs.CandidateKinds.{every-append}
 use Rattle.solver_exactness.specs.RowWays.{autos_stand_once}
 use Rattle.solver_exactness.specs.SolverChoices.{IsElaborated}
 use Rattle.solver_exactness.specs.SolverWays.{facts_beside}
 use Rattle.solver_exactness.specs.SolverGoals.{ways_by}
-use Rattle.solver_exactness.specs.GoalSets.{begins_typed, IsAskable}
+use Rattle.solver_exactness.specs.GoalSets.{begins_typed, IsAskableFact}
 use Rattle.solver_exactness.specs.FormedFacts.{Sorts, NodesFit, IsFormed, IsFormedFact, IsFormedView, FormedAreKept}
 use Rattle.solver_exactness.proofs.FormedFacts.{begins, supers-good, rules-good}
 
@@ -69,7 +69,7 @@ module _ (V : World) (sorts : Sorts) where
         by true e = by-second r.args ∙ ap second (h.trait.1 ∙ ap sorts.of_trait (same-number r.trait unsize e) ∙ view.unsizes)
         by false e = refl
 
-    askable : (f : Fact) → IsFormedFact V sorts f → IsAskable V f
+    askable : (f : Fact) → IsFormedFact V sorts f → IsAskableFact V f
     askable f h = record {
       goal = record { plain = h.plain; once = stand-once (reference_in f).args h.reference.args.nodes; elaborated = h.elaborated };
       made = h.reference.args.made;
@@ -93,7 +93,7 @@ module _ (V : World) (sorts : Sorts) where
     by-supers true r h = tt
     by-supers false r h = (supers-good V sorts well view r h, tt)
 
-ways-formed : (m : Meaning) (mode : TypingMode) (sorts : Sorts) → IsDeclaredWell m.view → IsFormedView m.view sorts → (f : Fact) → IsFormedFact m.view sorts f → Every (Every (IsFormedFact m.view sorts)) (ways_by m mode f)
+ways-formed : (m : ViewMeaning) (mode : TypingMode) (sorts : Sorts) → IsDeclaredWell m.view → IsFormedView m.view sorts → (f : Fact) → IsFormedFact m.view sorts f → Every (Every (IsFormedFact m.view sorts)) (ways_by m mode f)
 ways-formed m PostAnalysis sorts well view f h =
     facts-formed m.view sorts well view f h.elaborated (ways_under m.view (clauses_of f.goal.environment) (reference_in f)) (by-rules m.view sorts well view (clauses_of f.goal.environment) (reference_in f) h.reference)
 ways-formed m Coherence sorts well view f h =

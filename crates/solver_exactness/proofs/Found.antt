@@ -10,9 +10,9 @@ use Rattle.evaluation.specs.Lists.{Every}
 use Rattle.evaluation.proofs.ListLaws.{Every-mono}
 use Rattle.evaluation.specs.Table.{Tables, IsTable}
 use Rattle.goal_frames.specs.Programs.{Programs, ArePrograms}
-use Rattle.goal_frames.specs.Searches.{Handles, Asked, meaning}
+use Rattle.goal_frames.specs.Searches.{Handles, GoalInMode, meaning}
 use Rattle.solver_exactness.specs.Closed.{Closing, IsClosing}
-use Rattle.solver_exactness.specs.Ways.{HasShortChains, IsDecided, HoldsByWays}
+use Rattle.solver_exactness.specs.Ways.{HasShortChains, HasOneWayWithin, HoldsByWays}
 use Rattle.solver_exactness.specs.Exact.{AnswersExactly, AreSure, Plain, PlainAnswers}
 use Rattle.solver_exactness.specs.Found.{FoundIsPlain, FoundIsExact, FoundIsRight}
 use Rattle.solver_exactness.proofs.Induction.{plain_is_exact, plain_is_right, plain_answers}
@@ -43,13 +43,13 @@ module _ {C I R F : Type 0} (m : Meaning C I R F) (w : m.World) where
       (p.0, completes_more (IsPlain m w n) (IsPlain m w limit) (λ h b q. plain_more n limit h b (omega (arith, l)) q) g (Begin ∷ []) p.0 a p.1)
 
 -- ---- chains of what is decided
-pub decided_is_short : {Fact : Type 0} (ways : Fact → List (List Fact)) (Holds : Fact → Type 0) (n : ℕ) (f : Fact) → IsDecided ways Holds n f → HasShortChains ways n f
+pub decided_is_short : {Fact : Type 0} (ways : Fact → List (List Fact)) (Holds : Fact → Type 0) (n : ℕ) (f : Fact) → HasOneWayWithin ways Holds n f → HasShortChains ways n f
 decided_is_short ways Holds zero f h = absurd h
 decided_is_short ways Holds (suc n) f h =
-    Every-mono (Every (IsDecided ways Holds n)) (Every (HasShortChains ways n)) (λ ps i. Every-mono (IsDecided ways Holds n) (HasShortChains ways n) (λ g j. decided_is_short ways Holds n g j) ps i) (ways f) h.1
+    Every-mono (Every (HasOneWayWithin ways Holds n)) (Every (HasShortChains ways n)) (λ ps i. Every-mono (HasOneWayWithin ways Holds n) (HasShortChains ways n) (λ g j. decided_is_short ways Holds n g j) ps i) (ways f) h.1
 
 module _ {Question Response : Type 0} (t : Tables Question Response) (laws : IsTable t) (k : Closing t) (closing : IsClosing t k) (p : Programs t) (programs : ArePrograms t p) (w : p.World) (mode : p.Mode)
-    (e : AnswersExactly t k p w mode) {C I R F : Type 0} (handles : Handles C I R F p.World (Asked t p) (Option Response)) where
+    (e : AnswersExactly t k p w mode) {C I R F : Type 0} (handles : Handles C I R F p.World (GoalInMode t p) (Option Response)) where
   pub answers_plainly : PlainAnswers t k p w mode e handles
   answers_plainly =
       plain_answers t laws k closing p w mode e handles

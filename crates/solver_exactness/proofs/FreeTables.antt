@@ -8,7 +8,7 @@ use Rattle.infer_table.specs.declared.canonical.CanonicalVarKind.{CanonicalVarKi
 use Rattle.infer_table.specs.declared.canonical.CanonicalVarKind.TheVariants.{Ty, PlaceholderTy, Const, PlaceholderConst, Region}
 use Rattle.infer_table.proofs.SolutionLaws.{is_variable-equal, is_variable-self}
 use Rattle.evaluation.specs.Instances.{read_with, put_in, default_label, other_terms}
-use Rattle.evaluation.specs.Content.{Values, Fact, Terms, given, fits, standing, reading_of}
+use Rattle.evaluation.specs.Content.{Values, Fact, ChosenTerms, given, fits, standing, reading_of}
 use Rattle.evaluation.specs.FrameTables.{good_in, FrameTable, IsMadeFrame, HaveValues, Allows, Nested, slot_at, goal_in, fact}
 use Rattle.evaluation.specs.Finite.{IsFree, IsDetermined}
 use Rattle.type_terms.proofs.TreeLaws.{append-none}
@@ -30,13 +30,13 @@ have-any (Region ∷ ks) c ts slots = have-any ks c.1 (other_terms ts) (other_te
 
 -- ---- terms by what stands for each unknown without value
 module _ (t : FrameTable) (m : IsMadeFrame t) (closed : AreClosed (map Some t.kinds)) (own : Values) (base : Assignment) (base-sorted : (k : Sort) (v : ℕ) → sort_of (base k v).0 ≡ k) where
-  abbrev pub low : Terms
+  abbrev pub low : ChosenTerms
   low = based (good_in t) t.content m.table.values m.table.acyclic own base base-sorted
 
-  abbrev pub filled : Terms
+  abbrev pub filled : ChosenTerms
   filled = completed (good_in t) t.content m.table.values m.table.acyclic own base base-sorted
 
-  abbrev pub whole : Terms
+  abbrev pub whole : ChosenTerms
   whole = record { own = own; slots = map (reading_of filled) t.labels; unknowns = filled.unknowns; proper = own.proper && fits (map Some t.kinds) own.terms }
 
   pub whole-allowed : Allows t whole
@@ -77,17 +77,17 @@ free t m closed v =
     (whole t m closed v (with_node of_type 0 bool) sorted, whole-allowed t m closed v (with_node of_type 0 bool) sorted, refl)
 
 -- ---- what the goal determines holds no unknown
-reading-unknown : (s : Terms) (k : Sort) → HasValues k → (v : ℕ) → reading_of s (infer k v) ≡ tree_of (s.unknowns k v)
+reading-unknown : (s : ChosenTerms) (k : Sort) → HasValues k → (v : ℕ) → reading_of s (infer k v) ≡ tree_of (s.unknowns k v)
 reading-unknown s of_type g v = append-none (tree_of (s.unknowns of_type v))
 reading-unknown s of_const g v = append-none (tree_of (s.unknowns of_const v))
 reading-unknown s of_lifetime g v = absurd g
 
 module _ (t : FrameTable) (m : IsMadeFrame t) (closed : AreClosed (map Some t.kinds)) (n : Nested) (determined : IsDetermined t n) (own : Values) (k : Sort) (g : HasValues k) (v : ℕ) where
   module _ (x : Label) (h : sort_of x ≡ k) where
-    abbrev at : Terms
+    abbrev at : ChosenTerms
     at = low t m closed own (with_node k v x) (node-sorted k v x h)
 
-    abbrev terms_at : Terms
+    abbrev terms_at : ChosenTerms
     terms_at = whole t m closed own (with_node k v x) (node-sorted k v x h)
 
     at-allowed : Allows t terms_at

@@ -6,8 +6,8 @@ use Rattle.infer_table.specs.Canonical.{CanonicalForm}
 use Rattle.infer_table.specs.declared.certainty.TypingMode.{TypingMode}
 use Rattle.infer_table.specs.declared.certainty.TypingMode.TheVariants.{Coherence, PostAnalysis}
 use Rattle.evaluation.specs.Lists.{Every}
-use Rattle.evaluation.specs.Content.{Values, Fact, Question, Terms, fact_of}
-use Rattle.evaluation.specs.FrameTables.{kinds_known, FrameTable, IsMadeFrame, Allows, Nested, Meets, fact, question, values_at}
+use Rattle.evaluation.specs.Content.{Values, Fact, NestedQuestion, ChosenTerms, fact_of}
+use Rattle.evaluation.specs.FrameTables.{kinds_known, FrameTable, IsMadeFrame, Allows, Nested, EquationIsMet, fact, question, values_at}
 use Rattle.evaluation.specs.TableOperations.{begin, fresh}
 use Rattle.evaluation.specs.Finite.{IsDetermined}
 use Rattle.evaluation.proofs.Questions.{instance_of_question}
@@ -17,23 +17,23 @@ use Rattle.solver_exactness.specs.ClosedTables.{AreClosed, ArePlaces, closed_tab
 use Rattle.solver_exactness.specs.NestedFacts.{AsksOnly}
 use Rattle.solver_exactness.proofs.NestedFacts.{premises-asked}
 use Rattle.declarations.specs.Elaboration.{supertraits}
-use Rattle.assembly_laws.specs.Meaning.{Meaning}
+use Rattle.assembly_laws.specs.Meaning.{ViewMeaning}
 use Rattle.assembly_laws.specs.DeclaredWell.{IsDeclaredWell}
 use Rattle.assembly_laws.specs.Knowing.{is_knowable}
-use Rattle.assembly_laws.specs.Asking.{Asked, asked, all_known, are_clauses, clauses}
-use Rattle.assembly_laws.specs.Candidates.{Candidate, premise, unknowable, behind}
+use Rattle.assembly_laws.specs.Asking.{GoalOverKinds, goal_over_kinds, all_known, are_clauses, clauses}
+use Rattle.assembly_laws.specs.Candidates.{Candidate, premise, unknowable, rules_behind}
 use Rattle.assembly_laws.specs.Cover.{all_candidates}
 use Rattle.assembly_laws.proofs.Cover.{asked-by, known-kinds}
 use Rattle.assembly_laws.proofs.LawfulCandidates.{asked-clauses}
 use Rattle.assembly_laws.proofs.Rowwise.{AreRows, all-so}
 use Rattle.solver_exactness.specs.SolverGoals.{specs_by}
-use Rattle.solver_exactness.specs.GoalSets.{IsAskable, AreKept, IsGoalOf, FitsAreKept, GoalsLeadToGoals}
+use Rattle.solver_exactness.specs.GoalSets.{IsAskableFact, IsGoalSet, IsGoalOf, FitsAreKept, GoalsLeadToGoals}
 use Rattle.solver_exactness.proofs.SolverSpecs.{outside-is, specs-are-determined}
 use Rattle.solver_exactness.proofs.SolverHandlers.{Chosen, chosen}
 use Rattle.solver_exactness.proofs.NestedForms.{question-decided}
 
 -- ---- all nested goals of candidates are premises under the goal's where-clauses
-module _ (V : World) (a : Asked) where
+module _ (V : World) (a : GoalOverKinds) where
   abbrev IsPremise : Nested → Type 0
   IsPremise n = (kind : Bool) × (r : Reference) × (n ≡ premise a kind r)
 
@@ -58,7 +58,7 @@ module _ (V : World) (a : Asked) where
     structs = λ s u b d o e x. tt;
     clauses = each-of (λ r. tt) (clauses a);
     bounds = λ bounds others e. (each-of (λ r. tt) _, each-of (λ r. tt) _);
-    impls = λ i j. premises (is_coinductive V a.reference.trait) (map (behind (length a.kinds)) i.clauses);
+    impls = λ i j. premises (is_coinductive V a.reference.trait) (map (rules_behind (length a.kinds)) i.clauses);
     unsures = tt;
     records = λ r c h. h;
   }
@@ -66,7 +66,7 @@ module _ (V : World) (a : Asked) where
   all-premises : Every ArePremises (all_candidates V a)
   all-premises = all-so V a ArePremises (λ es. Unit {0}) rows
 
-module _ (m : Meaning) (a : Asked) where
+module _ (m : ViewMeaning) (a : GoalOverKinds) where
   specs-premises : (mode : TypingMode) → Every (ArePremises m.view a) (specs_by m mode a)
   specs-premises PostAnalysis = subst (Every (ArePremises m.view a)) (outside-is m a) (all-premises m.view a)
   specs-premises Coherence = by (is_knowable m.view m.crate a.reference)
@@ -80,8 +80,8 @@ every-three : {A : Type 0} (P Q R S : A → Type 0) → ((x : A) → P x → Q x
 every-three P Q R S f [] p q r = tt
 every-three P Q R S f (x ∷ xs) p q r = (f x p.0 q.0 r.0, every-three P Q R S f xs p.1 q.1 r.1)
 
-module _ (P : Fact → Type 0) (m : Meaning) (mode : TypingMode) (fits admits : CanonicalForm → Bool) (well : IsDeclaredWell m.view) (kept : AreKept m mode P) (fits_kept : FitsAreKept m mode fits admits P) where
-  module _ (q : Question) (v : Values) (i : IsGoalOf m.view admits P q v) (closed : AreClosed q.form.kinds) (places : ArePlaces q.form.kinds v) (a : Asked) (is_asked : asked m.view q.form ≡ Some a) where
+module _ (P : Fact → Type 0) (m : ViewMeaning) (mode : TypingMode) (fits admits : CanonicalForm → Bool) (well : IsDeclaredWell m.view) (kept : IsGoalSet m mode P) (fits_kept : FitsAreKept m mode fits admits P) where
+  module _ (q : NestedQuestion) (v : Values) (i : IsGoalOf m.view admits P q v) (closed : AreClosed q.form.kinds) (places : ArePlaces q.form.kinds v) (a : GoalOverKinds) (is_asked : goal_over_kinds m.view q.form ≡ Some a) where
     abbrev specs : List Candidate
     specs = specs_by m mode a
 
@@ -106,39 +106,39 @@ module _ (P : Fact → Type 0) (m : Meaning) (mode : TypingMode) (fits admits : 
         premises-asked frame_tables table v P specs x.found (subst (λ ks. AreWays frame_tables (begin ks) v specs x.found) (sym kinds-are) x.applies) (determined mode)
         (x.selects.every P (kept.kept (fact_of q v) i.of_fact))
 
-    abbrev Under : Candidate → (FrameTable → Terms → Type 0) → Nested → Type 0
+    abbrev Under : Candidate → (FrameTable → ChosenTerms → Type 0) → Nested → Type 0
     Under c S n =
-        (T : FrameTable) (s : Terms) → AsksFrom frame_tables table c T → IsMadeFrame T → AreClosed (map Some T.kinds) → IsDetermined T n → Allows T s → Allows (fresh table c.kinds) s
-        → Every (λ e. Meets e s) c.equations → s.own ≡ v → S T s
+        (T : FrameTable) (s : ChosenTerms) → AsksFrom frame_tables table c T → IsMadeFrame T → AreClosed (map Some T.kinds) → IsDetermined T n → Allows T s → Allows (fresh table c.kinds) s
+        → Every (λ e. EquationIsMet e s) c.equations → s.own ≡ v → S T s
 
-    one : (c : Candidate) → AsksOnly frame_tables P table v c → AsksSuch frame_tables closed_tables (λ (p : Question) (u : Values). admits p.form ≡ true) table v c → ArePremises m.view a c
+    one : (c : Candidate) → AsksOnly frame_tables P table v c → AsksSuch frame_tables closed_tables (λ (p : NestedQuestion) (u : Values). admits p.form ≡ true) table v c → ArePremises m.view a c
         → AsksSuch frame_tables closed_tables (IsGoalOf m.view admits P) table v c
     one c h g r =
         every-three
-        (λ (n : Nested). (s : Terms) → Allows (fresh table c.kinds) s → Every (λ e. Meets e s) c.equations → s.own ≡ v → P (fact n s))
+        (λ (n : Nested). (s : ChosenTerms) → Allows (fresh table c.kinds) s → Every (λ e. EquationIsMet e s) c.equations → s.own ≡ v → P (fact n s))
         (λ (n : Nested). Under c (λ T s. admits (question T n).form ≡ true) n)
         (IsPremise m.view a)
         (λ (n : Nested). Under c (λ T s. IsGoalOf m.view admits P (question T n) (values_at T n s)) n)
         goal c.nested h g r
       where
-        goal : (n : Nested) → ((s : Terms) → Allows (fresh table c.kinds) s → Every (λ e. Meets e s) c.equations → s.own ≡ v → P (fact n s)) → Under c (λ T s. admits (question T n).form ≡ true) n → IsPremise m.view a n
+        goal : (n : Nested) → ((s : ChosenTerms) → Allows (fresh table c.kinds) s → Every (λ e. EquationIsMet e s) c.equations → s.own ≡ v → P (fact n s)) → Under c (λ T s. admits (question T n).form ≡ true) n → IsPremise m.view a n
             → Under c (λ T s. IsGoalOf m.view admits P (question T n) (values_at T n s)) n
         goal n f k p T s from made shut det allowed own_allowed meets own =
             let held : P (fact n s) = f s own_allowed meets own in
             let d = decided n p T s made shut det allowed (kept.askable (fact n s) held) in
             record { form = d.0; decided = d.1; admitted = k T s from made shut det allowed own_allowed meets own; of_fact = subst P (sym (instance_of_question T n s allowed)) held }
           where
-            decided : (n : Nested) → IsPremise m.view a n → (T : FrameTable) (s : Terms) → IsMadeFrame T → AreClosed (map Some T.kinds) → IsDetermined T n → Allows T s → IsAskable m.view (fact n s)
-                → (b : Asked) × (asked m.view (question T n).form ≡ Some b)
+            decided : (n : Nested) → IsPremise m.view a n → (T : FrameTable) (s : ChosenTerms) → IsMadeFrame T → AreClosed (map Some T.kinds) → IsDetermined T n → Allows T s → IsAskableFact m.view (fact n s)
+                → (b : GoalOverKinds) × (goal_over_kinds m.view (question T n).form ≡ Some b)
             decided n p T s made shut det allowed askable =
                 let d =
                 question-decided m.view T made shut s allowed a.kinds a.environment clauses-are p.1.trait p.1.args p.0 (subst (IsDetermined T) p.2 det)
-                (subst (λ z. IsAskable m.view (fact z s)) p.2 askable) in
-                (d.0, ap (λ z. asked m.view (question T z).form) p.2 ∙ d.1)
+                (subst (λ z. IsAskableFact m.view (fact z s)) p.2 askable) in
+                (d.0, ap (λ z. goal_over_kinds m.view (question T z).form) p.2 ∙ d.1)
 
     onward : Every (AsksSuch frame_tables closed_tables (IsGoalOf m.view admits P) table v) specs
     onward =
-        every-three (AsksOnly frame_tables P table v) (AsksSuch frame_tables closed_tables (λ (p : Question) (u : Values). admits p.form ≡ true) table v) (ArePremises m.view a)
+        every-three (AsksOnly frame_tables P table v) (AsksSuch frame_tables closed_tables (λ (p : NestedQuestion) (u : Values). admits p.form ≡ true) table v) (ArePremises m.view a)
         (AsksSuch frame_tables closed_tables (IsGoalOf m.view admits P) table v) one specs facts (fits_kept.kept q v i closed places a is_asked) (specs-premises m a mode)
 
 pub goals-lead-to-goals : (P : Fact → Type 0) → GoalsLeadToGoals P

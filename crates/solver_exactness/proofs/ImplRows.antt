@@ -17,21 +17,21 @@ use Rattle.infer_table.specs.declared.canonical.CanonicalVarKind.{CanonicalVarKi
 use Rattle.infer_table.specs.declared.canonical.CanonicalVarKind.TheVariants.{Ty, Const, Region}
 use Rattle.evaluation.specs.Lists.{Every}
 use Rattle.evaluation.specs.Instances.{read_with, of_sort, term_at}
-use Rattle.evaluation.specs.Content.{fits as fit_values, Values, Fact, Terms, given}
-use Rattle.evaluation.specs.FrameTables.{Allows, Meets, Nested, fact, kind_at}
+use Rattle.evaluation.specs.Content.{fits as fit_values, Values, Fact, ChosenTerms, given}
+use Rattle.evaluation.specs.FrameTables.{Allows, EquationIsMet, Nested, fact, kind_at}
 use Rattle.evaluation.specs.TableOperations.{begin, fresh}
 use Rattle.evaluation.specs.Tables.{frame_tables}
 use Rattle.evaluation.specs.Variables.{is_variable_over}
 use Rattle.evaluation.proofs.Slots.{own_slot, of-sort-twice}
-use Rattle.solver_exactness.specs.Closed.{Applies, Refuses, no_more, refused, applied}
+use Rattle.solver_exactness.specs.Closed.{Applies, EquationsRefuse, no_more, refused, applied}
 use Rattle.solver_exactness.specs.ClosedTables.{AreClosed, ArePlaces}
 use Rattle.assembly_laws.specs.Facts.{is_plain, is_unerased, beside, children_of, reference_in, tree_of_reference}
 use Rattle.assembly_laws.specs.Declared.{is_declared, is_counted, are_terms, is_unsorted}
 use Rattle.assembly_laws.specs.DeclaredWell.{IsDeclaredWell}
-use Rattle.assembly_laws.specs.Meaning.{Meaning}
+use Rattle.assembly_laws.specs.Meaning.{ViewMeaning}
 use Rattle.assembly_laws.specs.Apart.{are_apart}
-use Rattle.assembly_laws.specs.Asking.{Asked, asked, self_of, with_plain_head}
-use Rattle.assembly_laws.specs.Candidates.{Candidate, premise, is_param, kind_of_param, kinds_of_params, behind, all_equal, by_the_impl, is_relevant_to, can_match, by_impls}
+use Rattle.assembly_laws.specs.Asking.{GoalOverKinds, goal_over_kinds, self_of, with_plain_head}
+use Rattle.assembly_laws.specs.Candidates.{Candidate, premise, is_param, kind_of_param, kinds_of_params, rules_behind, all_equal, by_the_impl, is_relevant_to, can_match, by_impls}
 use Rattle.assembly_laws.specs.Cover.{goal_fact, read_reference}
 use Rattle.assembly_laws.proofs.DeclaredParts.{header-declared, clause-declared}
 use Rattle.assembly_laws.proofs.EquationTerms.{IsOpenTerms, made-behind}
@@ -122,12 +122,12 @@ plain-nth (tree l c o) zero p = head-plain l c o p
             two false e = e
 plain-nth (tree l c o) (suc i) p = plain-nth o i (next-shut is_unerased l c o p)
 
-module _ (m : Meaning) (well : IsDeclaredWell m.view) (f : CanonicalForm) (a : Asked) (is_asked : asked m.view f ≡ Some a) (closed : AreClosed f.kinds) (v : Values) (places : ArePlaces f.kinds v)
+module _ (m : ViewMeaning) (well : IsDeclaredWell m.view) (f : CanonicalForm) (a : GoalOverKinds) (is_asked : goal_over_kinds m.view f ≡ Some a) (closed : AreClosed f.kinds) (v : Values) (places : ArePlaces f.kinds v)
     (plain : is_plain (goal_fact f v) ≡ true) where
   abbrev V : World
   V = m.view
 
-  abbrev its : Terms
+  abbrev its : ChosenTerms
   its = terms_of m f a is_asked closed v places
 
   abbrev Read : Trees → Trees
@@ -162,7 +162,7 @@ module _ (m : Meaning) (well : IsDeclaredWell m.view) (f : CanonicalForm) (a : A
     sorted = impl-sorted m well.terms well.determined well.sorted f a is_asked i member
 
     -- ---- other terms for the same values
-    module _ (s : Terms) (l : Allows (fresh (begin a.kinds) js) s) (own : s.own ≡ v) where
+    module _ (s : ChosenTerms) (l : Allows (fresh (begin a.kinds) js) s) (own : s.own ≡ v) where
       proper-then : (s.own.proper && fit_values f.kinds s.own.terms) ≡ true
       proper-then = subst (λ (o : Values). (o.proper && fit_values f.kinds o.terms) ≡ true) (sym own) (proper m f a is_asked closed v places)
 
@@ -182,18 +182,18 @@ module _ (m : Meaning) (well : IsDeclaredWell m.view) (f : CanonicalForm) (a : A
       proper-is = ap (λ (x : Fact). x.proper) (goals-are true)
 
       -- ---- it refuses
-      concludes-there : (i.header.trait == a.reference.trait) ≡ true → Every (λ e. Meets e s) (all_equal a.reference.args (behind n i.header).args) → impl_rules r i ≡ [] → ⊥
+      concludes-there : (i.header.trait == a.reference.trait) ≡ true → Every (λ e. EquationIsMet e s) (all_equal a.reference.args (rules_behind n i.header).args) → impl_rules r i ≡ [] → ⊥
       concludes-there same_trait meets nothing =
           in-nothing _
           (subst (In _) (ap (λ z. impl_rules (record { trait = a.reference.trait; args = z }) i) args-are ∙ nothing)
           (own-rule m well.terms well.determined well.sorted f a is_asked i member same_trait s l meets proper-then (subst (λ (o : Values). is_plain (goal_fact f o) ≡ true) (sym own) plain)))
 
-    refuses : (i.header.trait == a.reference.trait) ≡ true → impl_rules r i ≡ [] → Refuses frame_tables (begin a.kinds) v (by_the_impl V a i)
+    refuses : (i.header.trait == a.reference.trait) ≡ true → impl_rules r i ≡ [] → EquationsRefuse frame_tables (begin a.kinds) v (by_the_impl V a i)
     refuses same_trait nothing s l own meets = concludes-there s l own same_trait meets nothing
 
     -- ---- it applies
     module _ (u : Rule) (by : ByImpl r i u) where
-      abbrev s : Terms
+      abbrev s : ChosenTerms
       s = filled a.kinds js (kinds-closed m f a is_asked closed v places) (own-kinds h zero i.params) v (as_list A)
 
       s-allowed : Allows (fresh (begin a.kinds) js) s
@@ -233,10 +233,10 @@ module _ (m : Meaning) (well : IsDeclaredWell m.view) (f : CanonicalForm) (a : A
       read-as : (t : Trees) → are_terms t ≡ true → ((k : Sort) (j : ℕ) → some_node (is_param k j) t ≡ true → some_node (is_param k j) h ≡ true) → instantiate zero A t ≡ read_behind n s.slots t
       read-as t d stands = instance-is n s.slots A (plain-unbound A A-plain) t d zero (λ k j e. values k j (stands k j e))
 
-      header-is : read_with (given s.slots) a.reference.args ≡ read_with (given s.slots) (behind n i.header).args
+      header-is : read_with (given s.slots) a.reference.args ≡ read_with (given s.slots) (rules_behind n i.header).args
       header-is = args-are s s-allowed refl ∙ sym (ap (λ (x : Reference). x.args) by.is-instance) ∙ read-as h header (λ k j e. e)
 
-      behind-open : IsOpenTerms (behind n i.header).args
+      behind-open : IsOpenTerms (rules_behind n i.header).args
       behind-open = made-behind n h (left (is_made is_declared terms h) (not (some_node is_counted h)) header)
 
       same-fact : (t : ℕ) (e d x y : Trees) (p q : Bool) → e ≡ d → x ≡ y → p ≡ q
@@ -244,11 +244,11 @@ module _ (m : Meaning) (well : IsDeclaredWell m.view) (f : CanonicalForm) (a : A
           (record (fact (premise a true (record { trait = t; args = none })) its) { goal = record { environment = d; predicate = tree_of_reference (record { trait = t; args = y }) none }; proper = q })
       same-fact t e d x y p q f g h = cc
 
-      needs : (kind : Bool) (cs : List Reference) → ((c : Reference) → In c cs → In c i.clauses) → map (λ (x : Nested). fact x s) (map (premise a kind) (map (behind n) cs)) ≡ map (beside g) (all_with_args A cs)
+      needs : (kind : Bool) (cs : List Reference) → ((c : Reference) → In c cs → In c i.clauses) → map (λ (x : Nested). fact x s) (map (premise a kind) (map (rules_behind n) cs)) ≡ map (beside g) (all_with_args A cs)
       needs kind [] among = refl
       needs kind (c ∷ cs) among =
           cons _ _ _ _
-          (same-fact c.trait (read_with (given s.slots) a.environment) (Read a.environment) (read_with (given s.slots) (behind n c).args) (instantiate zero A c.args) s.proper its.proper
+          (same-fact c.trait (read_with (given s.slots) a.environment) (Read a.environment) (read_with (given s.slots) (rules_behind n c).args) (instantiate zero A c.args) s.proper its.proper
           (environment-is s s-allowed refl) (sym (read-as c.args (clause-declared V well.terms i c member (among c (here c cs))) (λ k j e. well.determined i c member (among c (here c cs)) k j e))) (proper-is s s-allowed refl))
           (needs kind cs (λ d j. among d (there d c cs j)))
         where
@@ -260,7 +260,7 @@ module _ (m : Meaning) (well : IsDeclaredWell m.view) (f : CanonicalForm) (a : A
         assignment = s;
         allowed = s-allowed;
         own = refl;
-        meets = equal-meets s a.reference.args (behind n i.header).args (args-open m f a is_asked closed v places) behind-open header-is;
+        meets = equal-meets s a.reference.args (rules_behind n i.header).args (args-open m f a is_asked closed v places) behind-open header-is;
         needs = needs (is_coinductive V a.reference.trait) i.clauses (λ c j. j) ∙ ap (λ (x : Rule). map (beside g) x.premises) by.is-rule;
       }
 

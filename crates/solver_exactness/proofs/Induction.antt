@@ -14,11 +14,11 @@ use Rattle.evaluation.specs.Promises.{frame_of_goal}
 use Rattle.search_graph.specs.Meaning.{Meaning, AreReplies, IsInOrder}
 use Rattle.search_graph.specs.Plain.{IsPlain}
 use Rattle.goal_frames.specs.Programs.{Programs}
-use Rattle.goal_frames.specs.Searches.{Handles, Asked, goal_in, kind_of, meaning}
+use Rattle.goal_frames.specs.Searches.{Handles, GoalInMode, goal_in, kind_of, meaning}
 use Rattle.solver_exactness.specs.Plays.{CanEnd}
 use Rattle.solver_exactness.specs.Closed.{Closing, IsClosing, IsBare, Applies, DeterminesNested, AsksSuch, AreWays, no_more, refused, applied}
-use Rattle.solver_exactness.specs.Ways.{AtMostOne, IsSelection, HasShortChains, IsPossible, IsDecided, HoldsByWays, IsExactFor, IsRightFor}
-use Rattle.solver_exactness.specs.Exact.{IsMade, IsExactHandler, AnswersExactly, AreSure, Plain, PlainIsExact, PlainIsRight, PlainAnswers}
+use Rattle.solver_exactness.specs.Ways.{AtMostOneHolds, IsSelection, HasShortChains, IsPossible, HasOneWayWithin, HoldsByWays, IsExactFor, IsRightFor}
+use Rattle.solver_exactness.specs.Exact.{IsMadeOfResponses, IsExactHandler, AnswersExactly, AreSure, Plain, PlainIsExact, PlainIsRight, PlainAnswers}
 use Rattle.solver_exactness.proofs.Merging.{present}
 use Rattle.solver_exactness.proofs.Considering.{IsThinned, stop, take, skip, ConsideredSome, CandidateEnds, considers_some, can_consider}
 use Rattle.solver_exactness.proofs.Rounds.{Says, SaysSome}
@@ -38,7 +38,7 @@ less-next : (a b : ℕ) → a ≤ b → a < suc b
 less-next a b h = omega (arith, h)
 
 module _ {Question Response : Type 0} (t : Tables Question Response) (laws : IsTable t) (k : Closing t) (closing : IsClosing t k) (p : Programs t) (w : p.World) (mode : p.Mode) (e : AnswersExactly t k p w mode)
-    {C I R F : Type 0} (handles : Handles C I R F p.World (Asked t p) (Option Response)) where
+    {C I R F : Type 0} (handles : Handles C I R F p.World (GoalInMode t p) (Option Response)) where
   abbrev m : Meaning C I R F
   m = meaning t p handles
 
@@ -57,7 +57,7 @@ module _ {Question Response : Type 0} (t : Tables Question Response) (laws : IsT
     pub are : AreWays t begin v taken first
     pub every : (Q : List t.Fact → Type 0) → Every Q ways → Every Q first
     pub back : (Q : List t.Fact → Type 0) → SomeOf Q first → SomeOf Q ways
-    pub one : (Q : List t.Fact → Type 0) → AtMostOne Q ways → AtMostOne Q first
+    pub one : (Q : List t.Fact → Type 0) → AtMostOneHolds Q ways → AtMostOneHolds Q first
 
   left-out : (begin : t.Table) (v : t.Values) (taken : List (Spec (workings t))) (premises : List t.Fact) (ways : List (List t.Fact)) → Parts begin v taken ways → Parts begin v taken (premises ∷ ways)
   left-out begin v taken premises ways x = record { first = x.first; are = x.are; every = λ Q h. x.every Q h.1; back = λ Q s. inr (x.back Q s); one = λ Q h. x.one Q h.1 }
@@ -117,7 +117,7 @@ module _ {Question Response : Type 0} (t : Tables Question Response) (laws : IsT
       ways_of : Parts (handled_of q).begin v h.taken is.found
       ways_of = parts (handled_of q).begin v (is.left h.last) is.specs h.taken is.found h.thinned is.applies
 
-      made : IsMade t (is.left h.last) h.last a
+      made : IsMadeOfResponses t (is.left h.last) h.last a
       made = is.makes h.last a h.ignored h.were h.answered
 
       abbrev Bare : Type 0
@@ -205,17 +205,17 @@ module _ {Question Response : Type 0} (t : Tables Question Response) (laws : IsT
     abbrev Right : ℕ → Type 0
     Right n =
         (q : Question) (v : t.Values) (a : Option Response) → e.IsAsked q v → k.IsClosed (k.shape_of q) → k.IsApart (k.shape_of q) v
-        → IsDecided e.ways Holds n (t.fact_of q v) → By n q a → IsRightFor t Holds (t.fact_of q v) a
+        → HasOneWayWithin e.ways Holds n (t.fact_of q v) → By n q a → IsRightFor t Holds (t.fact_of q v) a
 
-    says_right : (n : ℕ) → Right n → (f : t.Fact) (a : Option Response) → IsDecided e.ways Holds n f → SaysSo n f a → IsRightFor t Holds f a
+    says_right : (n : ℕ) → Right n → (f : t.Fact) (a : Option Response) → HasOneWayWithin e.ways Holds n f → SaysSo n f a → IsRightFor t Holds f a
     says_right n ih f a i s =
-        subst (λ z. IsRightFor t Holds z a) s.fact (ih s.question s.values a s.asked s.closed s.apart (subst (IsDecided e.ways Holds n) (sym s.fact) i) s.says)
+        subst (λ z. IsRightFor t Holds z a) s.fact (ih s.question s.values a s.asked s.closed s.apart (subst (HasOneWayWithin e.ways Holds n) (sym s.fact) i) s.says)
 
-    settled_by : (n : ℕ) → Right n → (ways : List (List t.Fact)) (results : List (Option Response)) → Tells t laws k closing e.IsAsked (By n) IsYesOnly ways results → AtMostOne (Every Holds) ways
-        → Every (Every (IsDecided e.ways Holds n)) ways
+    settled_by : (n : ℕ) → Right n → (ways : List (List t.Fact)) (results : List (Option Response)) → Tells t laws k closing e.IsAsked (By n) IsYesOnly ways results → AtMostOneHolds (Every Holds) ways
+        → Every (Every (HasOneWayWithin e.ways Holds n)) ways
         → ((present results ≡ []) × (SomeOf (λ premises. Every Holds premises) ways → ⊥))
         ⊎ ((r : Response) × (present results ≡ r ∷ []) × (is_yes (operations t) r ≡ true) × SomeOf (λ premises. Every Holds premises) ways)
-    settled_by n ih ways results u one known = tells_settled t laws k closing e.IsAsked (By n) IsYesOnly (λ c y. y) Holds (IsDecided e.ways Holds n) (says_right n ih) ways results u one known
+    settled_by n ih ways results u one known = tells_settled t laws k closing e.IsAsked (By n) IsYesOnly (λ c y. y) Holds (HasOneWayWithin e.ways Holds n) (says_right n ih) ways results u one known
 
     right_step : (n : ℕ) → Right n → Right (suc n)
     right_step n ih q v a asked closed apart i x =
@@ -223,9 +223,9 @@ module _ {Question Response : Type 0} (t : Tables Question Response) (laws : IsT
         let bare = bare_by n (λ q v a j c d y. plain_is_exact n q v a j c d y) in
         let s = selection q v asked closed apart in
         let y = ways_of q v asked closed apart n a h in
-        by bare h (s.one Holds i.0) (s.every (IsDecided e.ways Holds n) i.1)
+        by bare h (s.one Holds i.0) (s.every (HasOneWayWithin e.ways Holds n) i.1)
         (settled_by n ih y.first h.results (all_told q v asked closed apart n a h bare IsYesOnly (sure q v asked closed apart)) (y.one (Every Holds) (s.one Holds i.0))
-        (y.every (Every (IsDecided e.ways Holds n)) (s.every (IsDecided e.ways Holds n) i.1)))
+        (y.every (Every (HasOneWayWithin e.ways Holds n)) (s.every (HasOneWayWithin e.ways Holds n) i.1)))
       where
         no-cons : (r : Response) (rs : List Response) → rs ≡ [] → rs ≡ r ∷ [] → ⊥
         no-cons r rs e f = cc
@@ -237,7 +237,7 @@ module _ {Question Response : Type 0} (t : Tables Question Response) (laws : IsT
         none-holds found rs e (inr z) s = no-cons z.0 rs e z.1
 
         by : ((q : Question) (v : t.Values) (a : Option Response) → e.IsAsked q v → k.IsClosed (k.shape_of q) → k.IsApart (k.shape_of q) v → By n q a → IsBare t a) → (h : Heard q v asked closed apart n a)
-            → AtMostOne (Every Holds) (is q v asked closed apart).found → Every (Every (IsDecided e.ways Holds n)) (is q v asked closed apart).found
+            → AtMostOneHolds (Every Holds) (is q v asked closed apart).found → Every (Every (HasOneWayWithin e.ways Holds n)) (is q v asked closed apart).found
             → ((present h.results ≡ []) × (SomeOf (λ premises. Every Holds premises) (ways_of q v asked closed apart n a h).first → ⊥))
             ⊎ ((r : Response) × (present h.results ≡ r ∷ []) × (is_yes (operations t) r ≡ true) × SomeOf (λ premises. Every Holds premises) (ways_of q v asked closed apart n a h).first)
             → IsRightFor t Holds (t.fact_of q v) a

@@ -1,5 +1,5 @@
 -- Terms for the variables of a goal without unknowns, and candidates without variables of their own at these.
-use Rattle.assembly_laws.specs.Meaning.{Meaning}
+use Rattle.assembly_laws.specs.Meaning.{ViewMeaning}
 use Rattle.std.proofs.Common.{◌≡◌, ℕ, Bool, true, ◌&&◌, List, [], ◌∷◌, map, ◌⊎◌, inl, inr, refl, sym, ◌∙◌, ap, subst, Some}
 use Rattle.type_terms.specs.Label.{of_type, of_const, of_lifetime, canonical, param, placeholder}
 use Rattle.type_terms.specs.Trees.{Trees, none, tree, leaf, ◌+++◌}
@@ -14,8 +14,8 @@ use Rattle.infer_table.specs.declared.canonical.CanonicalVarKind.TheVariants.{Ty
 use Rattle.evaluation.specs.Lists.{Every}
 use Rattle.evaluation.specs.declared.candidate.CandidateSource.{CandidateSource}
 use Rattle.evaluation.specs.Instances.{read_with, as_place, of_sort, term_at}
-use Rattle.evaluation.specs.Content.{Values, Fact, Terms, fits, given}
-use Rattle.evaluation.specs.FrameTables.{Allows, Equation, Meets, Nested, fact}
+use Rattle.evaluation.specs.Content.{Values, Fact, ChosenTerms, fits, given}
+use Rattle.evaluation.specs.FrameTables.{Allows, Equation, EquationIsMet, Nested, fact}
 use Rattle.evaluation.specs.TableOperations.{begin, fresh}
 use Rattle.evaluation.specs.Tables.{frame_tables}
 use Rattle.evaluation.specs.Variables.{is_variable_over}
@@ -25,7 +25,7 @@ use Rattle.solver_exactness.specs.ClosedTables.{AreClosed, ArePlaces, IsClosedKi
 use Rattle.solver_exactness.proofs.ClosedQuestions.{places-fit}
 use Rattle.solver_exactness.proofs.RuleFilling.{filled, filled-allowed}
 use Rattle.assembly_laws.specs.Facts.{beside}
-use Rattle.assembly_laws.specs.Asking.{Asked, asked, all_known, are_clauses}
+use Rattle.assembly_laws.specs.Asking.{GoalOverKinds, goal_over_kinds, all_known, are_clauses}
 use Rattle.assembly_laws.specs.Candidates.{premise, by_rule}
 use Rattle.assembly_laws.specs.Cover.{goal_fact, read_reference}
 use Rattle.assembly_laws.proofs.Cover.{IsAsked, asked-by}
@@ -63,7 +63,7 @@ pub record BeginsWithPlace (t o : Trees) : Type 0 where
   pub number : ℕ
   pub is : (t ≡ tree (param of_type number) none o) ⊎ (t ≡ tree (placeholder of_type number) none o)
 
-module _ (m : Meaning) (f : CanonicalForm) (a : Asked) (is_asked : asked m.view f ≡ Some a) (closed : AreClosed f.kinds) (v : Values) (places : ArePlaces f.kinds v) where
+module _ (m : ViewMeaning) (f : CanonicalForm) (a : GoalOverKinds) (is_asked : goal_over_kinds m.view f ≡ Some a) (closed : AreClosed f.kinds) (v : Values) (places : ArePlaces f.kinds v) where
   abbrev pub V : World
   V = m.view
 
@@ -77,7 +77,7 @@ module _ (m : Meaning) (f : CanonicalForm) (a : Asked) (is_asked : asked m.view 
   kinds-closed = subst AreClosed (sym (kinds-whole f.kinds a.kinds is.kinds_are)) closed
 
   -- the terms
-  abbrev pub terms_of : Terms
+  abbrev pub terms_of : ChosenTerms
   terms_of = filled a.kinds [] kinds-closed tt v []
 
   pub allowed : Allows (fresh (begin a.kinds) []) terms_of
@@ -101,7 +101,7 @@ module _ (m : Meaning) (f : CanonicalForm) (a : Asked) (is_asked : asked m.view 
   premises-are kind [] = refl
   premises-are kind (p ∷ ps) = ap (λ z. fact (premise a kind p) terms_of ∷ z) (premises-are kind ps)
 
-  pub rule-applies : (source : CandidateSource) (es : List Equation) (ps : List Reference) → Every (λ e. Meets e terms_of) es
+  pub rule-applies : (source : CandidateSource) (es : List Equation) (ps : List Reference) → Every (λ e. EquationIsMet e terms_of) es
       → Applies frame_tables (begin a.kinds) v (by_rule V a source es ps) (map (beside instance) (map (read_reference terms_of.slots) ps))
   rule-applies source es ps h = record { assignment = terms_of; allowed = allowed; own = refl; meets = h; needs = premises-are (is_coinductive V a.reference.trait) ps }
 

@@ -14,9 +14,9 @@ use Rattle.evaluation.specs.Instances.{read_with, of_sort, term_at}
 use Rattle.evaluation.specs.Content.{Values, given}
 use Rattle.evaluation.specs.Variables.{is_variable_over}
 use Rattle.solver_exactness.specs.ClosedTables.{AreClosed, ArePlaces}
-use Rattle.assembly_laws.specs.Meaning.{Meaning}
+use Rattle.assembly_laws.specs.Meaning.{ViewMeaning}
 use Rattle.assembly_laws.specs.Knowing.{is_knowable}
-use Rattle.assembly_laws.specs.Asking.{Asked, asked}
+use Rattle.assembly_laws.specs.Asking.{GoalOverKinds, goal_over_kinds}
 use Rattle.assembly_laws.specs.Cover.{read_reference}
 use Rattle.assembly_laws.proofs.SoundCalls.{made-rest}
 use Rattle.solver_exactness.proofs.Instances.{terms_of, BeginsWithPlace, read-place}
@@ -44,7 +44,7 @@ const-first V d x o = by (is_a of_const x) refl
     by true e = one x e
     by false e = refl
 
-module _ (m : Meaning) (f : CanonicalForm) (a : Asked) (is_asked : asked m.view f ≡ Some a) (closed : AreClosed f.kinds) (v : Values) (places : ArePlaces f.kinds v) where
+module _ (m : ViewMeaning) (f : CanonicalForm) (a : GoalOverKinds) (is_asked : goal_over_kinds m.view f ≡ Some a) (closed : AreClosed f.kinds) (v : Values) (places : ArePlaces f.kinds v) where
   abbrev V : World
   V = m.view
 

@@ -4,15 +4,15 @@ use Rattle.infer_table.specs.Canonical.{CanonicalForm}
 use Rattle.infer_table.specs.declared.certainty.TypingMode.{TypingMode}
 use Rattle.evaluation.specs.Lists.{Every}
 use Rattle.evaluation.proofs.ListLaws.{Every-mono}
-use Rattle.evaluation.specs.Content.{Values, Question, Terms}
-use Rattle.evaluation.specs.FrameTables.{kinds_known, FrameTable, Nested, IsMadeFrame, Allows, Meets, question, values_at}
+use Rattle.evaluation.specs.Content.{Values, NestedQuestion, ChosenTerms}
+use Rattle.evaluation.specs.FrameTables.{kinds_known, FrameTable, Nested, IsMadeFrame, Allows, EquationIsMet, question, values_at}
 use Rattle.evaluation.specs.TableOperations.{begin, fresh}
 use Rattle.evaluation.specs.Finite.{IsDetermined}
 use Rattle.solver_exactness.specs.ClosedTables.{AreClosed, closed_tables}
 use Rattle.evaluation.specs.Tables.{frame_tables}
 use Rattle.solver_exactness.specs.Closed.{AsksFrom, AsksSuch}
-use Rattle.assembly_laws.specs.Meaning.{Meaning}
-use Rattle.assembly_laws.specs.Asking.{Asked, asked}
+use Rattle.assembly_laws.specs.Meaning.{ViewMeaning}
+use Rattle.assembly_laws.specs.Asking.{GoalOverKinds, goal_over_kinds}
 use Rattle.assembly_laws.specs.Candidates.{Candidate}
 use Rattle.solver_exactness.specs.SolverGoals.{specs_by, IsGoodFor, LeadsToGoals, LeadingAreGoals}
 
@@ -24,8 +24,8 @@ all-numbers P (x ∷ xs) h = (λ n. (h n).0, all-numbers P xs (λ n. (h n).1))
 some-is : {A : Type 0} (a b : A) → Some a ≡ Some b → a ≡ b
 some-is a b e = cc
 
-module _ (m : Meaning) (mode : TypingMode) (fits : CanonicalForm → Bool) where
-  module _ (q : Question) (v : Values) (i : LeadsToGoals m mode fits q v) (a : Asked) (is_asked : asked m.view q.form ≡ Some a) where
+module _ (m : ViewMeaning) (mode : TypingMode) (fits : CanonicalForm → Bool) where
+  module _ (q : NestedQuestion) (v : Values) (i : LeadsToGoals m mode fits q v) (a : GoalOverKinds) (is_asked : goal_over_kinds m.view q.form ≡ Some a) where
     abbrev table : FrameTable
     table = begin (kinds_known q.form.kinds)
 
@@ -36,12 +36,12 @@ module _ (m : Meaning) (mode : TypingMode) (fits : CanonicalForm → Bool) where
 
     abbrev Within : Candidate → ℕ → Nested → Type 0
     Within c n d =
-        (T : FrameTable) (s : Terms) → AsksFrom frame_tables table c T → IsMadeFrame T → AreClosed (map Some T.kinds) → IsDetermined T d → Allows T s → Allows (fresh table c.kinds) s → Every (λ e. Meets e s) c.equations → s.own ≡ v → IsGoodFor m mode fits n (question T d) (values_at T d s)
+        (T : FrameTable) (s : ChosenTerms) → AsksFrom frame_tables table c T → IsMadeFrame T → AreClosed (map Some T.kinds) → IsDetermined T d → Allows T s → Allows (fresh table c.kinds) s → Every (λ e. EquationIsMet e s) c.equations → s.own ≡ v → IsGoodFor m mode fits n (question T d) (values_at T d s)
 
     of-one : (c : Candidate) → ((n : ℕ) → AsksSuch frame_tables closed_tables (IsGoodFor m mode fits n) table v c) → AsksSuch frame_tables closed_tables (LeadsToGoals m mode fits) table v c
     of-one c h =
         Every-mono (λ d. (n : ℕ) → Within c n d)
-        (λ d. (T : FrameTable) (s : Terms) → AsksFrom frame_tables table c T → IsMadeFrame T → AreClosed (map Some T.kinds) → IsDetermined T d → Allows T s → Allows (fresh table c.kinds) s → Every (λ e. Meets e s) c.equations → s.own ≡ v → LeadsToGoals m mode fits (question T d) (values_at T d s))
+        (λ d. (T : FrameTable) (s : ChosenTerms) → AsksFrom frame_tables table c T → IsMadeFrame T → AreClosed (map Some T.kinds) → IsDetermined T d → Allows T s → Allows (fresh table c.kinds) s → Every (λ e. EquationIsMet e s) c.equations → s.own ≡ v → LeadsToGoals m mode fits (question T d) (values_at T d s))
         (λ d g T s z made x y l k e o n. g n T s z made x y l k e o) c.nested (all-numbers (Within c) c.nested h)
 
     onward : Every (AsksSuch frame_tables closed_tables (LeadsToGoals m mode fits) table v) (specs_by m mode a)

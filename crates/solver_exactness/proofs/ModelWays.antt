@@ -3,14 +3,14 @@ use Rattle.std.proofs.Common.{◌≡◌, ℕ, zero, suc, Bool, true, false, not,
 use Rattle.std.specs.List.{flat_map, list_all, list_any}
 use Rattle.type_terms.specs.Worlds.{World, Reference}
 use Rattle.type_terms.specs.Rules.{Rule, rules, strict_supertraits, is_coinductive}
-use Rattle.type_terms.specs.Proofs.{Entry, In, Stands, Follows, IsProof, HasProof}
+use Rattle.type_terms.specs.Proofs.{ProofEntry, In, Stands, Follows, IsProof, HasProof}
 use Rattle.type_terms.specs.Walks.{is_known_in}
 use Rattle.type_terms.specs.Answers.{children, short_chains, is_possible, SingleWay}
 use Rattle.type_terms.proofs.Members.{here, there, in-cases, in-nothing, in-right, in-map}
 use Rattle.type_terms.proofs.ProofEntries.{map-in, stands-more}
 use Rattle.type_terms.proofs.WorkedProofs.{needs-rule}
 use Rattle.evaluation.specs.Lists.{Every, SomeOf}
-use Rattle.solver_exactness.specs.Ways.{AtMostOne, HasShortChains, IsPossible, IsDecided}
+use Rattle.solver_exactness.specs.Ways.{AtMostOneHolds, HasShortChains, IsPossible, HasOneWayWithin}
 use Rattle.solver_exactness.specs.ModelWays.{ways_under, ways_for, ProofsAreByWays, SingleWayIsDecided, PossibleIsByWays, ShortIsByWays}
 use Rattle.type_terms.specs.Proofs as Model
 use Rattle.type_terms.specs.Answers as Answers
@@ -52,25 +52,25 @@ in-some P (x ∷ xs) (inl p) = (x, here x xs, p)
 in-some P (x ∷ xs) (inr s) = let y = in-some P xs s in (y.0, there y.0 x xs y.1, y.2)
 
 -- ---- proofs, one after the other
-stands-after : (p : Reference) (xs ys : List Entry) → Stands p ys → Stands p (xs ++ ys)
+stands-after : (p : Reference) (xs ys : List ProofEntry) → Stands p ys → Stands p (xs ++ ys)
 stands-after p xs ys h =
-    let m = map-in (λ (e : Entry). e.of) ys p h in
-    subst (λ q. Stands q (xs ++ ys)) m.2 (in-map (λ (e : Entry). e.of) (xs ++ ys) m.0 (in-right m.0 xs ys m.1))
+    let m = map-in (λ (e : ProofEntry). e.of) ys p h in
+    subst (λ q. Stands q (xs ++ ys)) m.2 (in-map (λ (e : ProofEntry). e.of) (xs ++ ys) m.0 (in-right m.0 xs ys m.1))
 
 module _ (W : World) (E : List Reference) where
-  abbrev Within : List Entry → List Entry → Type 0
+  abbrev Within : List ProofEntry → List ProofEntry → Type 0
   Within xs ys = (p : Reference) → Stands p xs → Stands p ys
 
-  either : (b : Bool) (all more earlier before : List Entry) → Within all more → Within earlier before → (p : Reference) → Stands p (if b then all else earlier) → Stands p (if b then more else before)
+  either : (b : Bool) (all more earlier before : List ProofEntry) → Within all more → Within earlier before → (p : Reference) → Stands p (if b then all else earlier) → Stands p (if b then more else before)
   either true all more earlier before f g p s = f p s
   either false all more earlier before f g p s = g p s
 
-  within-end : (xs ys : List Entry) (e : Entry) → Within xs ys → Within (xs ++ e ∷ []) (ys ++ e ∷ [])
+  within-end : (xs ys : List ProofEntry) (e : ProofEntry) → Within xs ys → Within (xs ++ e ∷ []) (ys ++ e ∷ [])
   within-end xs ys e f p s =
-      let m = map-in (λ (x : Entry). x.of) (xs ++ e ∷ []) p s in
+      let m = map-in (λ (x : ProofEntry). x.of) (xs ++ e ∷ []) p s in
       subst (λ q. Stands q (ys ++ e ∷ [])) m.2 (by m.0 (parts xs m.0 m.1))
     where
-      parts : (xs : List Entry) (x : Entry) → In x (xs ++ e ∷ []) → In x xs ⊎ (e ≡ x)
+      parts : (xs : List ProofEntry) (x : ProofEntry) → In x (xs ++ e ∷ []) → In x xs ⊎ (e ≡ x)
       parts [] x i = at (in-cases x e [] i)
         where
           at : (e ≡ x) ⊎ In x [] → In x [] ⊎ (e ≡ x)
@@ -86,11 +86,11 @@ module _ (W : World) (E : List Reference) where
               on (inl k) = inl (there x z zs k)
               on (inr q) = inr q
 
-      by : (x : Entry) → In x xs ⊎ (e ≡ x) → Stands x.of (ys ++ e ∷ [])
-      by x (inl i) = stands-more x.of ys (e ∷ []) (f x.of (in-map (λ (y : Entry). y.of) xs x i))
-      by x (inr q) = stands-after x.of ys (e ∷ []) (in-map (λ (y : Entry). y.of) (e ∷ []) x (subst (λ y. In y (e ∷ [])) q (here e [])))
+      by : (x : ProofEntry) → In x xs ⊎ (e ≡ x) → Stands x.of (ys ++ e ∷ [])
+      by x (inl i) = stands-more x.of ys (e ∷ []) (f x.of (in-map (λ (y : ProofEntry). y.of) xs x i))
+      by x (inr q) = stands-after x.of ys (e ∷ []) (in-map (λ (y : ProofEntry). y.of) (e ∷ []) x (subst (λ y. In y (e ∷ [])) q (here e [])))
 
-  more : (all after earlier before left : List Entry) → Within all after → Within earlier before → Follows W E all earlier left → Follows W E after before left
+  more : (all after earlier before left : List ProofEntry) → Within all after → Within earlier before → Follows W E all earlier left → Follows W E after before left
   more all after earlier before [] f g h = tt
   more all after earlier before (e ∷ rest) f g h = (
     h.0,
@@ -102,7 +102,7 @@ module _ (W : World) (E : List Reference) where
       each [] h = tt
       each (p ∷ ps) h = (either (is_coinductive W e.of.trait) all after earlier before f g p h.0, each ps h.1)
 
-  onward : (all earlier xs ys : List Entry) → Follows W E all earlier xs → Follows W E all (earlier ++ xs) ys → Follows W E all earlier (xs ++ ys)
+  onward : (all earlier xs ys : List ProofEntry) → Follows W E all earlier xs → Follows W E all (earlier ++ xs) ys → Follows W E all earlier (xs ++ ys)
   onward all earlier [] ys h g = subst (λ z. Follows W E all z ys) (nil earlier) g
     where
       nil : {A : Type 0} (xs : List A) → xs ++ [] ≡ xs
@@ -110,11 +110,11 @@ module _ (W : World) (E : List Reference) where
       nil (x ∷ xs) = ap (λ z. x ∷ z) (nil xs)
   onward all earlier (x ∷ xs) ys h g = (h.0, h.1, onward all (earlier ++ x ∷ []) xs ys h.2 (subst (λ z. Follows W E all z ys) (sym (append_assoc earlier (x ∷ []) xs)) g))
 
-  nothing-within : (xs : List Entry) → Within [] xs
-  nothing-within xs p s = let m = map-in (λ (x : Entry). x.of) [] p s in absurd (in-nothing m.0 m.1)
+  nothing-within : (xs : List ProofEntry) → Within [] xs
+  nothing-within xs p s = let m = map-in (λ (x : ProofEntry). x.of) [] p s in absurd (in-nothing m.0 m.1)
 
   -- proofs of all premises as one
-  all-proved : (ps : List Reference) → Model.Every (HasProof W E) ps → (es : List Entry) × IsProof W E es × Model.Every (λ p. Stands p es) ps
+  all-proved : (ps : List Reference) → Model.Every (HasProof W E) ps → (es : List ProofEntry) × IsProof W E es × Model.Every (λ p. Stands p es) ps
   all-proved [] h = ([], tt, tt)
   all-proved (p ∷ ps) h =
       let first = h.0 in
@@ -126,7 +126,7 @@ module _ (W : World) (E : List Reference) where
         (stands-more p first.0 rest.0 first.2, later ps first.0 rest.0 rest.2),
       )
     where
-      later : (ps : List Reference) (xs ys : List Entry) → Model.Every (λ p. Stands p ys) ps → Model.Every (λ p. Stands p (xs ++ ys)) ps
+      later : (ps : List Reference) (xs ys : List ProofEntry) → Model.Every (λ p. Stands p ys) ps → Model.Every (λ p. Stands p (xs ++ ys)) ps
       later [] xs ys h = tt
       later (p ∷ ps) xs ys h = (stands-after p xs ys h.0, later ps xs ys h.1)
 
@@ -134,17 +134,17 @@ module _ (W : World) (E : List Reference) where
   pub by-rule : (r : Reference) (u : Rule) → In u (rules W E r) → Model.Every (HasProof W E) u.premises → HasProof W E r
   by-rule r u i h =
       let x = all-proved u.premises h in
-      let e : Entry = record { of = r; rule = u } in (
+      let e : ProofEntry = record { of = r; rule = u } in (
         x.0 ++ e ∷ [],
         onward (x.0 ++ e ∷ []) [] x.0 (e ∷ []) (more x.0 (x.0 ++ e ∷ []) [] [] x.0 (λ q s. stands-more q x.0 (e ∷ []) s) (λ q s. s) x.1) (i, each e x.0 u.premises x.2, tt),
-        stands-after r x.0 (e ∷ []) (in-map (λ (y : Entry). y.of) (e ∷ []) e (here e [])),
+        stands-after r x.0 (e ∷ []) (in-map (λ (y : ProofEntry). y.of) (e ∷ []) e (here e [])),
       )
     where
-      pick : (b : Bool) (e : Entry) (es : List Entry) (p : Reference) → Stands p es → Stands p (if b then es ++ e ∷ [] else es)
+      pick : (b : Bool) (e : ProofEntry) (es : List ProofEntry) (p : Reference) → Stands p es → Stands p (if b then es ++ e ∷ [] else es)
       pick true e es p s = stands-more p es (e ∷ []) s
       pick false e es p s = s
 
-      each : (e : Entry) (es : List Entry) (ps : List Reference) → Model.Every (λ p. Stands p es) ps → Model.Every (λ p. Stands p (if is_coinductive W r.trait then es ++ e ∷ [] else es)) ps
+      each : (e : ProofEntry) (es : List ProofEntry) (ps : List Reference) → Model.Every (λ p. Stands p es) ps → Model.Every (λ p. Stands p (if is_coinductive W r.trait then es ++ e ∷ [] else es)) ps
       each e es [] h = tt
       each e es (p ∷ ps) h = (pick (is_coinductive W r.trait) e es p h.0, each e es ps h.1)
 
@@ -170,7 +170,7 @@ proofs_are_by_ways W E = record {
 
 -- ---- one way at most
 module _ (W : World) (E : List Reference) where
-  at-most : (us : List Rule) → Answers.AtMostOne W E us → AtMostOne (Every (HasProof W E)) (map (λ u. u.premises) us)
+  at-most : (us : List Rule) → Answers.AtMostOne W E us → AtMostOneHolds (Every (HasProof W E)) (map (λ u. u.premises) us)
   at-most [] h = tt
   at-most (u ∷ us) h = (
     λ p s.
@@ -189,13 +189,13 @@ module _ (W : World) (E : List Reference) where
   every-mapped P [] h = tt
   every-mapped P (u ∷ us) h = (h.0, every-mapped P us h.1)
 
-  decided : (n : ℕ) (r : Reference) → SingleWay n W E r → IsDecided (ways_under W E) (HasProof W E) n r
+  decided : (n : ℕ) (r : Reference) → SingleWay n W E r → HasOneWayWithin (ways_under W E) (HasProof W E) n r
   decided zero r h = absurd h
   decided (suc n) r h = (
     at-most (rules W E r) h.0,
-    every-mapped (Every (IsDecided (ways_under W E) (HasProof W E) n)) (rules W E r)
-        (every-to (λ (u : Rule). Model.Every (λ p. SingleWay n W E p) u.premises) (λ (u : Rule). Every (IsDecided (ways_under W E) (HasProof W E) n) u.premises)
-        (λ u i. every-to (λ p. SingleWay n W E p) (IsDecided (ways_under W E) (HasProof W E) n) (λ p s. decided n p s) u.premises i) (rules W E r) h.1),
+    every-mapped (Every (HasOneWayWithin (ways_under W E) (HasProof W E) n)) (rules W E r)
+        (every-to (λ (u : Rule). Model.Every (λ p. SingleWay n W E p) u.premises) (λ (u : Rule). Every (HasOneWayWithin (ways_under W E) (HasProof W E) n) u.premises)
+        (λ u i. every-to (λ p. SingleWay n W E p) (HasOneWayWithin (ways_under W E) (HasProof W E) n) (λ p s. decided n p s) u.premises i) (rules W E r) h.1),
   )
 
 pub single_way_is_decided : SingleWayIsDecided

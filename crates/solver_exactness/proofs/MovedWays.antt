@@ -1,7 +1,7 @@
 -- What ways of one kind that are those of another keep.
 use Rattle.std.proofs.Common.{◌≡◌, ℕ, zero, suc, List, [], ◌∷◌, map, sym, subst, inl, inr}
 use Rattle.evaluation.specs.Lists.{Every, SomeOf}
-use Rattle.solver_exactness.specs.Ways.{AtMostOne, HasShortChains, IsPossible, IsDecided, HoldsByWays}
+use Rattle.solver_exactness.specs.Ways.{AtMostOneHolds, HasShortChains, IsPossible, HasOneWayWithin, HoldsByWays}
 
 module _ {A B : Type 0} (read : A → B) (ways : A → List (List A)) (others : B → List (List B)) where
   -- the ways of what is read are what the ways are read as
@@ -13,7 +13,7 @@ module _ {A B : Type 0} (read : A → B) (ways : A → List (List A)) (others : 
     pub possible_to : (n : ℕ) (a : A) → IsPossible others n (read a) → IsPossible ways n a
     pub possible_from : (n : ℕ) (a : A) → IsPossible ways n a → IsPossible others n (read a)
     pub short : (n : ℕ) (a : A) → HasShortChains others n (read a) → HasShortChains ways n a
-    pub decided : (Holds : B → Type 0) (n : ℕ) (a : A) → IsDecided others Holds n (read a) → IsDecided ways (λ b. Holds (read b)) n a
+    pub decided : (Holds : B → Type 0) (n : ℕ) (a : A) → HasOneWayWithin others Holds n (read a) → HasOneWayWithin ways (λ b. Holds (read b)) n a
     pub holds : (Holds : B → Type 0) → HoldsByWays others Holds → HoldsByWays ways (λ b. Holds (read b))
 
 pub every-from : {A B : Type 0} (f : A → B) (P : B → Type 0) (S : A → Type 0) → ((x : A) → P (f x) → S x) → (xs : List A) → Every P (map f xs) → Every S xs
@@ -34,11 +34,11 @@ some-to f P S g [] s = absurd s
 some-to f P S g (x ∷ xs) (inl p) = inl (g x p)
 some-to f P S g (x ∷ xs) (inr s) = inr (some-to f P S g xs s)
 
-one-from : {A B : Type 0} (f : A → B) (P : B → Type 0) (S : A → Type 0) → ((x : A) → S x → P (f x)) → (xs : List A) → AtMostOne P (map f xs) → AtMostOne S xs
+one-from : {A B : Type 0} (f : A → B) (P : B → Type 0) (S : A → Type 0) → ((x : A) → S x → P (f x)) → (xs : List A) → AtMostOneHolds P (map f xs) → AtMostOneHolds S xs
 one-from f P S g [] h = tt
 one-from f P S g (x ∷ xs) h = (λ p s. h.0 (g x p) (some-to f P S g xs s), one-from f P S g xs h.1)
 
-pub one-to : {A B : Type 0} (f : A → B) (P : B → Type 0) (S : A → Type 0) → ((x : A) → P (f x) → S x) → (xs : List A) → AtMostOne S xs → AtMostOne P (map f xs)
+pub one-to : {A B : Type 0} (f : A → B) (P : B → Type 0) (S : A → Type 0) → ((x : A) → P (f x) → S x) → (xs : List A) → AtMostOneHolds S xs → AtMostOneHolds P (map f xs)
 one-to f P S g [] h = tt
 one-to f P S g (x ∷ xs) h = (λ p s. h.0 (g x p) (some-from f P S g xs s), one-to f P S g xs h.1)
 
@@ -65,12 +65,12 @@ module _ {A B : Type 0} (read : A → B) (ways : A → List (List A)) (others : 
     abbrev Held : A → Type 0
     Held a = Holds (read a)
 
-    decided : (n : ℕ) (a : A) → IsDecided others Holds n (read a) → IsDecided ways Held n a
+    decided : (n : ℕ) (a : A) → HasOneWayWithin others Holds n (read a) → HasOneWayWithin ways Held n a
     decided zero a h = h
     decided (suc n) a h = (
-      one-from (map read) (Every Holds) (Every Held) (λ ps i. every-to read Holds Held (λ b j. j) ps i) (ways a) (subst (AtMostOne (Every Holds)) (sym (are a)) h.0),
-      every-from (map read) (Every (IsDecided others Holds n)) (Every (IsDecided ways Held n)) (λ ps i. every-from read (IsDecided others Holds n) (IsDecided ways Held n) (λ b j. decided n b j) ps i) (ways a)
-          (subst (Every (Every (IsDecided others Holds n))) (sym (are a)) h.1),
+      one-from (map read) (Every Holds) (Every Held) (λ ps i. every-to read Holds Held (λ b j. j) ps i) (ways a) (subst (AtMostOneHolds (Every Holds)) (sym (are a)) h.0),
+      every-from (map read) (Every (HasOneWayWithin others Holds n)) (Every (HasOneWayWithin ways Held n)) (λ ps i. every-from read (HasOneWayWithin others Holds n) (HasOneWayWithin ways Held n) (λ b j. decided n b j) ps i) (ways a)
+          (subst (Every (Every (HasOneWayWithin others Holds n))) (sym (are a)) h.1),
     )
 
     holds : HoldsByWays others Holds → HoldsByWays ways Held

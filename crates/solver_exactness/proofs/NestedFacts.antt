@@ -3,7 +3,7 @@ use Rattle.std.proofs.Common.{◌≡◌, List, [], ◌∷◌, sym, ◌∙◌, su
 use Rattle.evaluation.specs.Lists.{Every}
 use Rattle.evaluation.specs.Table.{Tables, workings}
 use Rattle.evaluation.specs.Candidate.{Spec}
-use Rattle.solver_exactness.specs.Closed.{Refuses, AreWays, no_more, refused, applied, DeterminesNested}
+use Rattle.solver_exactness.specs.Closed.{EquationsRefuse, AreWays, no_more, refused, applied, DeterminesNested}
 use Rattle.solver_exactness.specs.NestedFacts.{AsksOnly}
 use Rattle.solver_exactness.proofs.MovedWays.{every-from}
 
@@ -12,7 +12,7 @@ module _ {Question Response : Type 0} (t : Tables Question Response) (begin : t.
   abbrev Asks : Spec (workings t) → List t.Nested → Type 0
   Asks c ns = Every (λ n. (s : t.Assignment) → t.Allows (t.fresh begin c.kinds) s → Every (λ e. t.Meets e s) c.equations → t.own s ≡ v → P (t.fact n s)) ns
 
-  none-asked : (c : Spec (workings t)) → Refuses t begin v c → (ns : List t.Nested) → Asks c ns
+  none-asked : (c : Spec (workings t)) → EquationsRefuse t begin v c → (ns : List t.Nested) → Asks c ns
   none-asked c r [] = tt
   none-asked c r (n ∷ ns) = (λ s l m o. absurd (r s l o m), none-asked c r ns)
 

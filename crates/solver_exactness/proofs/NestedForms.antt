@@ -17,7 +17,7 @@ use Rattle.infer_table.specs.declared.canonical.CanonicalVarKind.{CanonicalVarKi
 use Rattle.infer_table.proofs.SolutionLaws.{resolved-none}
 use Rattle.evaluation.specs.Lists.{Every}
 use Rattle.evaluation.specs.Instances.{read_with, put_in, term_at}
-use Rattle.evaluation.specs.Content.{Terms, standing, given}
+use Rattle.evaluation.specs.Content.{ChosenTerms, standing, given}
 use Rattle.evaluation.specs.FrameTables.{FrameTable, IsMadeFrame, Allows, Nested, good_in, goal_in, question, fact, slot_at, is_open_label}
 use Rattle.evaluation.specs.TableAnswers.{kinds_of}
 use Rattle.evaluation.specs.Finite.{IsDetermined}
@@ -33,8 +33,8 @@ use Rattle.goal_frames.specs.Forms.{is_unnumbered}
 use Rattle.solver_exactness.specs.ClosedTables.{AreClosed}
 use Rattle.solver_exactness.proofs.FreeTables.{no-unknown}
 use Rattle.assembly_laws.specs.Facts.{is_unerased, reference_in}
-use Rattle.assembly_laws.specs.Asking.{Asked, asked, asked_if, asked_with, are_clauses, begins_with_type, next_of}
-use Rattle.solver_exactness.specs.GoalSets.{begins_typed, any_label, IsAskable}
+use Rattle.assembly_laws.specs.Asking.{GoalOverKinds, goal_over_kinds, asked_if, asked_with, are_clauses, begins_with_type, next_of}
+use Rattle.solver_exactness.specs.GoalSets.{begins_typed, any_label, IsAskableFact}
 use Rattle.solver_exactness.proofs.QuestionTerms.{is_unknown, made-back}
 use Rattle.solver_exactness.proofs.QuestionNames.{names-back, names-numbered}
 use Rattle.solver_exactness.proofs.Renumbering.{kinds-known, made-numbered, made-in-clause, goal-open, goal-listed}
@@ -54,7 +54,7 @@ no-unknowns (tree l c o) h = none-of (is_unknown l) (some_node is_unknown c) (so
     first m f = refl
 
 -- ---- the first type
-module _ (s : Terms) (sorted : (k : Sort) (v : ℕ) → sort_of (s.unknowns k v).0 ≡ k) (ls : List Label) where
+module _ (s : ChosenTerms) (sorted : (k : Sort) (v : ℕ) → sort_of (s.unknowns k v).0 ≡ k) (ls : List Label) where
   abbrev read : Trees → Trees
   read t = read_with (standing s) t
 
@@ -188,7 +188,7 @@ same-goal e d p q x y = cc
 all-true : (a b c d e : Bool) → a ≡ true → b ≡ true → c ≡ true → d ≡ true → e ≡ true → (a && (b && ((c && d) && e))) ≡ true
 all-true a b c d e f g h i j = rw (f, g, h, i, j) refl
 
-module _ (V : World) (T : FrameTable) (made : IsMadeFrame T) (closed : AreClosed (map Some T.kinds)) (s : Terms) (allowed : Allows T s) where
+module _ (V : World) (T : FrameTable) (made : IsMadeFrame T) (closed : AreClosed (map Some T.kinds)) (s : ChosenTerms) (allowed : Allows T s) where
   -- a goal for this trait and these arguments, under where-clauses over variables of these kinds
   module _ (kinds : List CanonicalVarKind) (environment : Trees) (clauses : are_clauses kinds environment ≡ true) (t : ℕ) (args : Trees) (coinductive : Bool) where
     abbrev n : Nested
@@ -222,7 +222,7 @@ module _ (V : World) (T : FrameTable) (made : IsMadeFrame T) (closed : AreClosed
     opens : Every (λ l. IsSome (kind_of_leaf l)) ls
     opens = goal-open g
 
-    module _ (determined : IsDetermined T n) (askable : IsAskable V (fact n s)) where
+    module _ (determined : IsDetermined T n) (askable : IsAskableFact V (fact n s)) where
       known : some_node is_unknown x ≡ false
       known = no-unknowns x (λ k v h i. no-unknown T made closed n determined k h v (subst (λ z. StandsInGoal z (infer k v)) (sym goal-is) (inr (inr (inl i)))))
 
@@ -266,14 +266,14 @@ module _ (V : World) (T : FrameTable) (made : IsMadeFrame T) (closed : AreClosed
       clauses-are : are_clauses (kinds_of ls) d ≡ true
       clauses-are = clauses-numbered T made ls opens kinds environment clauses (λ l i. goal-listed g l (inl i))
 
-      abbrev form : Asked
+      abbrev form : GoalOverKinds
       form = record { kinds = kinds_of ls; environment = d; reference = record { trait = t; args = y } }
 
-      form-asked : asked V (canonical_form g) ≡ Some form
+      form-asked : goal_over_kinds V (canonical_form g) ≡ Some form
       form-asked =
           ap (asked_with V d (tree (predicate (of_trait t)) y none)) (kinds-known ls opens)
           ∙ ap (λ b. asked_if b form)
           (all-true (written_in V form.reference) (is_made (is_variable_over (kinds_of ls)) terms y) (begins_with_type y) (not (t == unsize) || begins_with_type (next_of y)) (are_clauses (kinds_of ls) d) written is-made begins target clauses-are)
 
-      pub question-decided : (a : Asked) × (asked V (question T n).form ≡ Some a)
-      question-decided = (form, ap (λ z. asked V (canonical_form z)) goal-is ∙ form-asked)
+      pub question-decided : (a : GoalOverKinds) × (goal_over_kinds V (question T n).form ≡ Some a)
+      question-decided = (form, ap (λ z. goal_over_kinds V (canonical_form z)) goal-is ∙ form-asked)

@@ -12,7 +12,7 @@ use Rattle.evaluation.specs.History.{CameInOrder}
 use Rattle.evaluation.specs.Promises.{frame_of_goal, Anything}
 use Rattle.evaluation.proofs.Ends.{ignores_finished}
 use Rattle.goal_frames.specs.Programs.{Programs, ArePrograms}
-use Rattle.goal_frames.specs.Searches.{replies_of, request_of, Handles, kind_of, Asked, goal_in, asks, meaning}
+use Rattle.goal_frames.specs.Searches.{replies_of, request_of, Handles, kind_of, GoalInMode, goal_in, asks, meaning}
 use Rattle.goal_frames.proofs.Histories.{came, in_order, told-begin}
 use Rattle.evaluation.specs.History as Frames
 
@@ -33,7 +33,7 @@ module _ {C I R F : Type 0} (m : Meaning C I R F) where
   begin_by P (Done a) = tt
 
 module _ {Question Response : Type 0} (t : Tables Question Response) (p : Programs t) (laws : ArePrograms t p)
-    {C I R F : Type 0} (handles : Handles C I R F p.World (Asked t p) (Option Response)) (w : p.World) (g : Asked t p) where
+    {C I R F : Type 0} (handles : Handles C I R F p.World (GoalInMode t p) (Option Response)) (w : p.World) (g : GoalInMode t p) where
   abbrev m : Meaning C I R F
   m = meaning t p handles
 
@@ -43,7 +43,7 @@ module _ {Question Response : Type 0} (t : Tables Question Response) (p : Progra
   abbrev frame : Frame Question (Option Response)
   frame = frame_of_goal t handled
 
-  module _ (P : Asked t p → Option Response → Type 0) where
+  module _ (P : GoalInMode t p → Option Response → Type 0) where
     came_anyhow : (last : Reply (Option Response)) (heard : List (Reply (Option Response))) → AreReplies m P w g (last ∷ heard) → CameInOrder (Anything t handled) frame (replies_of (last ∷ heard))
     came_anyhow last heard r = came m Question (goal_in t p g.0) (kind_of t) w g frame (λ h. refl) P (Anything t handled) (λ before q a c e fair. tt) last heard r
 

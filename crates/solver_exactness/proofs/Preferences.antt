@@ -13,11 +13,11 @@ use Rattle.evaluation.specs.PlanAnswers.{passes, first_passing, if_so, taken_or_
 use Rattle.evaluation.proofs.ListLaws.{SomeOf-mono}
 use Rattle.evaluation.specs.FrameTables.{FrameTable}
 use Rattle.evaluation.specs.Tables.{frame_tables}
-use Rattle.solver_exactness.specs.Exact.{IsMade}
+use Rattle.solver_exactness.specs.Exact.{IsMadeOfResponses}
 use Rattle.solver_exactness.proofs.ExactPlans.{IsExactFrom}
 use Rattle.solver_exactness.proofs.Merging.{merged, merged-one, merged-some, merged-bare}
 use Rattle.assembly_laws.specs.Candidates.{Candidate}
-use Rattle.assembly_laws.specs.Solver.{Past, from, holds_from, is_clause, is_non_global, is_global, is_impl, is_object, is_trivial, gives_none, oldest_gives_none, remain, remains, says_nothing, is_settled, preferred}
+use Rattle.assembly_laws.specs.Solver.{SolverPast, from, holds_from, is_clause, is_non_global, is_global, is_impl, is_object, is_trivial, gives_none, oldest_gives_none, remain, remains, says_nothing, is_settled, preferred}
 
 abbrev Heed : Type 0
 Heed = Considered (workings frame_tables)
@@ -35,10 +35,10 @@ right-true false b e = false-is-true e
 
 -- ---- what was heard
 -- some candidate from there was not refused
-abbrev pub Heard : (CandidateSource → Bool) → Past → Type 0
+abbrev pub Heard : (CandidateSource → Bool) → SolverPast → Type 0
 Heard p seen = SomeOf (λ (c : Heed). (from p c ≡ true) × (is_some c.response ≡ true)) seen
 
-pub heard-from : (p : CandidateSource → Bool) (seen : Past) → holds_from p seen ≡ true → Heard p seen
+pub heard-from : (p : CandidateSource → Bool) (seen : SolverPast) → holds_from p seen ≡ true → Heard p seen
 heard-from p [] e = false-is-true e
 heard-from p (c ∷ seen) e = by (from p c && is_some c.response) refl e (λ f. heard-from p seen f)
   where
@@ -46,11 +46,11 @@ heard-from p (c ∷ seen) e = by (from p c && is_some c.response) refl e (λ f. 
     by true q e go = inl (left-true (from p c) (is_some c.response) q, right-true (from p c) (is_some c.response) q)
     by false q e go = inr (go e)
 
-heard-more : (p q : CandidateSource → Bool) → ((s : CandidateSource) → p s ≡ true → q s ≡ true) → (seen : Past) → Heard p seen → Heard q seen
+heard-more : (p q : CandidateSource → Bool) → ((s : CandidateSource) → p s ≡ true → q s ≡ true) → (seen : SolverPast) → Heard p seen → Heard q seen
 heard-more p q f seen h = SomeOf-mono (λ (c : Heed). (from p c ≡ true) × (is_some c.response ≡ true)) (λ (c : Heed). (from q c ≡ true) × (is_some c.response ≡ true)) (λ c x. (f c.spec.source x.0, x.1)) seen h
 
 -- those that pass a test, or one that doesn't
-heard-either : (p : CandidateSource → Bool) (seen : Past) → Heard (λ s. true) seen → Heard p seen ⊎ Heard (λ s. not (p s)) seen
+heard-either : (p : CandidateSource → Bool) (seen : SolverPast) → Heard (λ s. true) seen → Heard p seen ⊎ Heard (λ s. not (p s)) seen
 heard-either p [] h = absurd h
 heard-either p (c ∷ seen) (inl x) = by (from p c) refl
   where
@@ -64,7 +64,7 @@ heard-either p (c ∷ seen) (inr h) = by (heard-either p seen h)
     by (inr x) = inr (inr x)
 
 -- ---- responses
-pub any-heard : (r : AnswerTrees) (rs : List AnswerTrees) (seen : Past) → responses frame_tables seen ≡ r ∷ rs → Heard (λ s. true) seen
+pub any-heard : (r : AnswerTrees) (rs : List AnswerTrees) (seen : SolverPast) → responses frame_tables seen ≡ r ∷ rs → Heard (λ s. true) seen
 any-heard r rs [] e = absurd (cc)
 any-heard r rs (c ∷ seen) e = by c.response refl (responses frame_tables seen) refl e (λ x xs f. any-heard x xs seen f)
   where
@@ -86,7 +86,7 @@ if-there (Some x) e = (x, refl)
 if-there None e = false-is-true e
 
 -- those that are kept have a response
-kept-heard : (p : CandidateSource → Bool) (seen : Past) → Heard p seen → (r : AnswerTrees) × (rs : List AnswerTrees) × (responses frame_tables (filter (from p) seen) ≡ r ∷ rs)
+kept-heard : (p : CandidateSource → Bool) (seen : SolverPast) → Heard p seen → (r : AnswerTrees) × (rs : List AnswerTrees) × (responses frame_tables (filter (from p) seen) ≡ r ∷ rs)
 kept-heard p [] h = absurd h
 kept-heard p (c ∷ seen) (inl x) = by (from p c) x.0
   where
@@ -109,7 +109,7 @@ every-parts P [] ys h = (tt, h)
 every-parts P (x ∷ xs) ys h = let y = every-parts P xs ys h.1 in ((h.0, y.0), y.1)
 
 -- what holds of all responses holds of those that are kept
-kept-every : (P : AnswerTrees → Type 0) (p : CandidateSource → Bool) (seen : Past) → Every P (responses frame_tables seen) → Every P (responses frame_tables (filter (from p) seen))
+kept-every : (P : AnswerTrees → Type 0) (p : CandidateSource → Bool) (seen : SolverPast) → Every P (responses frame_tables seen) → Every P (responses frame_tables (filter (from p) seen))
 kept-every P p [] h = tt
 kept-every P p (c ∷ seen) h =
     let y = every-parts P (responses frame_tables seen) (if_there c.response) h in by (from p c) (kept-every P p seen y.0) y.1
@@ -119,7 +119,7 @@ kept-every P p (c ∷ seen) h =
     by true h g = every-append P (responses frame_tables (filter (from p) seen)) (if_there c.response) h g
     by false h g = h
 
-kept-fewer : (p : CandidateSource → Bool) (seen : Past) → length (responses frame_tables (filter (from p) seen)) ≤ length (responses frame_tables seen)
+kept-fewer : (p : CandidateSource → Bool) (seen : SolverPast) → length (responses frame_tables (filter (from p) seen)) ≤ length (responses frame_tables seen)
 kept-fewer p [] = omega arith
 kept-fewer p (c ∷ seen) = by (from p c) (kept-fewer p seen)
   where
@@ -128,14 +128,14 @@ kept-fewer p (c ∷ seen) = by (from p c) (kept-fewer p seen)
     by true h = omega (arith, h, length-append (responses frame_tables (filter (from p) seen)) (if_there c.response), length-append (responses frame_tables seen) (if_there c.response))
     by false h = omega (arith, h, length-append (responses frame_tables seen) (if_there c.response))
 
-none-kept : (p : CandidateSource → Bool) (seen : Past) → responses frame_tables seen ≡ [] → responses frame_tables (filter (from p) seen) ≡ []
+none-kept : (p : CandidateSource → Bool) (seen : SolverPast) → responses frame_tables seen ≡ [] → responses frame_tables (filter (from p) seen) ≡ []
 none-kept p seen e = by (responses frame_tables (filter (from p) seen)) (kept-every (λ r. ⊥) p seen (subst (λ rs. Every (λ r. ⊥) rs) (sym e) tt))
   where
     by : (rs : List AnswerTrees) → Every (λ r. ⊥) rs → rs ≡ []
     by [] h = refl
     by (x ∷ xs) h = absurd h.0
 
-one-kept : (p : CandidateSource → Bool) (seen : Past) (r : AnswerTrees) → responses frame_tables seen ≡ r ∷ [] → Heard p seen → responses frame_tables (filter (from p) seen) ≡ r ∷ []
+one-kept : (p : CandidateSource → Bool) (seen : SolverPast) (r : AnswerTrees) → responses frame_tables seen ≡ r ∷ [] → Heard p seen → responses frame_tables (filter (from p) seen) ≡ r ∷ []
 one-kept p seen r e h =
     by (responses frame_tables (filter (from p) seen)) (kept-heard p seen h).0 (kept-heard p seen h).1 (kept-heard p seen h).2
     (kept-every (λ x. x ≡ r) p seen (subst (λ rs. Every (λ x. x ≡ r) rs) (sym e) (refl, tt)))
@@ -147,7 +147,7 @@ one-kept p seen r e h =
     by (y ∷ z ∷ ys) x xs f g n = absurd (omega (arith, n))
 
 -- ---- which are merged where no where-clause is preferred
-oldest-heard : (p : CandidateSource → Bool) (b : Bool) (seen : Past) → oldest_gives_none p b seen ≡ true → (b ≡ true) ⊎ Heard p seen
+oldest-heard : (p : CandidateSource → Bool) (b : Bool) (seen : SolverPast) → oldest_gives_none p b seen ≡ true → (b ≡ true) ⊎ Heard p seen
 oldest-heard p b [] e = inl e
 oldest-heard p b (c ∷ seen) e = by (oldest-heard p (gives_none c.response (from p c) b) seen e)
   where
@@ -164,7 +164,7 @@ oldest-heard p b (c ∷ seen) e = by (oldest-heard p (gives_none c.response (fro
     by (inl x) = then_so (first c.response (from p c) x)
     by (inr h) = inr (inr h)
 
-object-heard : (seen : Past) → oldest_gives_none is_object false seen ≡ true → Heard is_object seen
+object-heard : (seen : SolverPast) → oldest_gives_none is_object false seen ≡ true → Heard is_object seen
 object-heard seen e = by (oldest-heard is_object false seen e)
   where
     by : (false ≡ true) ⊎ Heard is_object seen → Heard is_object seen
@@ -178,7 +178,7 @@ object-stays b (ParamEnv g) e = false-is-true e
 object-stays b CoherenceUnknowable e = false-is-true e
 object-stays b (BuiltinImpl x) e = refl
 
-abbrev local_remain : Past → CandidateSource → Bool
+abbrev local_remain : SolverPast → CandidateSource → Bool
 local_remain seen s = remain seen s && not (is_global s)
 
 -- what remains and is not global remains in the end, and so does what is global if there is no other
@@ -193,10 +193,10 @@ alone-stays true false false e f = refl
 alone-stays true g true e f = false-is-true (sym e)
 alone-stays false g b e f = false-is-true f
 
-remains-local : (seen : Past) → Heard (local_remain seen) seen → Heard (remains seen) seen
+remains-local : (seen : SolverPast) → Heard (local_remain seen) seen → Heard (remains seen) seen
 remains-local seen h = heard-more (local_remain seen) (remains seen) (λ s e. not-global-stays (remain seen s) (is_global s) (holds_from (λ r. remain seen r && not (is_global r)) seen) e) seen h
 
-remains-first : (seen : Past) → Heard (remain seen) seen → Heard (remains seen) seen
+remains-first : (seen : SolverPast) → Heard (remain seen) seen → Heard (remains seen) seen
 remains-first seen h = by (holds_from (λ r. remain seen r && not (is_global r)) seen) refl
   where
     by : (b : Bool) → holds_from (λ r. remain seen r && not (is_global r)) seen ≡ b → Heard (remains seen) seen
@@ -208,12 +208,12 @@ was-dropped true true e = refl
 was-dropped true false e = false-is-true e
 was-dropped false b e = false-is-true e
 
-dropped-by : (b : Bool) (seen : Past) → Heard (λ s. not (not (is_impl s && b))) seen → b ≡ true
+dropped-by : (b : Bool) (seen : SolverPast) → Heard (λ s. not (not (is_impl s && b))) seen → b ≡ true
 dropped-by b [] h = absurd h
 dropped-by b (c ∷ seen) (inl x) = was-dropped (from is_impl c) b x.0
 dropped-by b (c ∷ seen) (inr h) = dropped-by b seen h
 
-remains-heard : (seen : Past) → Heard (λ s. true) seen → Heard (remains seen) seen
+remains-heard : (seen : SolverPast) → Heard (λ s. true) seen → Heard (remains seen) seen
 remains-heard seen h = by (heard-either (remain seen) seen h)
   where
     by : Heard (remain seen) seen ⊎ Heard (λ s. not (remain seen s)) seen → Heard (remains seen) seen
@@ -231,8 +231,8 @@ module _ (applicable : AnswerTrees → Bool) (same : AnswerTrees → AnswerTrees
   Joined rs = merged frame_tables applicable same begin rs
 
   -- the kept ones are merged, and some one is kept where something was not refused
-  pub kept-made : (p : CandidateSource → Bool) (left : List Candidate) (seen : Past) → (responses frame_tables seen ≡ [] → left ≡ []) → (Heard (λ s. true) seen → Heard p seen)
-      → IsMade frame_tables left seen (Joined (responses frame_tables (filter (from p) seen)))
+  pub kept-made : (p : CandidateSource → Bool) (left : List Candidate) (seen : SolverPast) → (responses frame_tables seen ≡ [] → left ≡ []) → (Heard (λ s. true) seen → Heard p seen)
+      → IsMadeOfResponses frame_tables left seen (Joined (responses frame_tables (filter (from p) seen)))
   kept-made p left seen none_left keeps = record {
     refused = λ e. (ap Joined (none-kept p seen e), none_left e);
     answers = λ r rs e. let y = kept-heard p seen (keeps (any-heard r rs seen e)) in let z = merged-some frame_tables applicable same begin y.0 y.1 in (z.0, ap Joined y.2 ∙ z.1);
@@ -241,7 +241,7 @@ module _ (applicable : AnswerTrees → Bool) (same : AnswerTrees → AnswerTrees
   }
 
   -- ---- the first that passes
-  pub passing-holds : (P : AnswerTrees → Type 0) (seen : Past) (c : Heed) → first_passing frame_tables applicable same begin seen ≡ Some c → Every P (responses frame_tables seen)
+  pub passing-holds : (P : AnswerTrees → Type 0) (seen : SolverPast) (c : Heed) → first_passing frame_tables applicable same begin seen ≡ Some c → Every P (responses frame_tables seen)
       → (x : AnswerTrees) × (c.response ≡ Some x) × P x
   passing-holds P [] c e h = absurd (cc)
   passing-holds P (d ∷ seen) c e h =
@@ -264,8 +264,8 @@ module _ (applicable : AnswerTrees → Bool) (same : AnswerTrees → AnswerTrees
       by (Some z) q f g go = go (q ∙ f)
       by None q f g go = at d.response refl f g
 
-  module _ (p : CandidateSource → Bool) (left : List Candidate) (seen : Past) (none_left : responses frame_tables seen ≡ [] → left ≡ []) (keeps : Heard (λ s. true) seen → Heard p seen) where
-    taken : (c : Heed) → first_passing frame_tables applicable same begin (filter (from p) seen) ≡ Some c → IsMade frame_tables left seen c.response
+  module _ (p : CandidateSource → Bool) (left : List Candidate) (seen : SolverPast) (none_left : responses frame_tables seen ≡ [] → left ≡ []) (keeps : Heard (λ s. true) seen → Heard p seen) where
+    taken : (c : Heed) → first_passing frame_tables applicable same begin (filter (from p) seen) ≡ Some c → IsMadeOfResponses frame_tables left seen c.response
     taken c e = record {
       refused = λ n. absurd ((passing-holds (λ r. ⊥) (filter (from p) seen) c e (kept-every (λ r. ⊥) p seen (subst (λ rs. Every (λ r. ⊥) rs) (sym n) tt))).2);
       answers = λ r rs n. let y = passing-holds (λ r. Unit {0}) (filter (from p) seen) c e (all-units (responses frame_tables (filter (from p) seen))) in (y.0, y.1);
@@ -288,7 +288,7 @@ module _ (applicable : AnswerTrees → Bool) (same : AnswerTrees → AnswerTrees
   non-global-clause CoherenceUnknowable e = false-is-true e
 
   -- the preferences
-  pub preferred-exact : (left : List Candidate) (seen : Past) → (responses frame_tables seen ≡ [] → left ≡ []) → IsExactFrom frame_tables left seen (preferred applicable same begin seen)
+  pub preferred-exact : (left : List Candidate) (seen : SolverPast) → (responses frame_tables seen ≡ [] → left ≡ []) → IsExactFrom frame_tables left seen (preferred applicable same begin seen)
   preferred-exact left seen none_left = by (holds_from is_trivial seen) refl (holds_from is_non_global seen) refl
     where
       by : (b : Bool) → holds_from is_trivial seen ≡ b → (d : Bool) → holds_from is_non_global seen ≡ d
@@ -302,7 +302,7 @@ module _ (applicable : AnswerTrees → Bool) (same : AnswerTrees → AnswerTrees
       by false e false f = kept-made (remains seen) left seen none_left (remains-heard seen)
 
 -- a where-clause that settles the goal was not refused
-pub settled-heard : (seen : Past) → is_settled seen ≡ true → responses frame_tables seen ≡ [] → ⊥
+pub settled-heard : (seen : SolverPast) → is_settled seen ≡ true → responses frame_tables seen ≡ [] → ⊥
 settled-heard [] e n = false-is-true e
 settled-heard (c ∷ seen) e n = by (from is_non_global c && says_nothing c.response) refl e (λ f g. settled-heard seen f g)
   where

@@ -2,7 +2,7 @@
 use Rattle.std.proofs.Common.{◌≡◌, Bool, true, false, if◌then◌else◌, List, [], ◌∷◌, ◌++◌, refl, sym, ap, subst, inl, inr}
 use Rattle.evaluation.specs.Lists.{Every, SomeOf, IsAmong}
 use Rattle.evaluation.proofs.ListLaws.{SomeOf-found, SomeOf-at, Every-mono}
-use Rattle.evaluation.specs.Proof.{Entry, facts, Continues, IsProof, HasProof}
+use Rattle.evaluation.specs.Proof.{FactEntry, facts, EntriesContinue, IsFactProof, FactHasProof}
 use Rattle.solver_exactness.specs.Ways.{HoldsByWays}
 
 -- the rules are the ways
@@ -12,7 +12,7 @@ pub record AreTheWays {Fact : Type 0} (ways : Fact → List (List Fact)) (Rule :
 
 -- then a reference has a proof exactly if the premises of some way have proofs, whichever references are coinductive
 abbrev pub ListProofsAreByWays : {Fact : Type 0} → (Fact → List (List Fact)) → (Fact → List Fact → Type 0) → (Fact → Bool) → Type 0
-ListProofsAreByWays {Fact = Fact} ways Rule coinductive = AreTheWays ways Rule → HoldsByWays ways (HasProof Fact Rule coinductive)
+ListProofsAreByWays {Fact = Fact} ways Rule coinductive = AreTheWays ways Rule → HoldsByWays ways (FactHasProof Fact Rule coinductive)
 
 among-left : {A : Type 0} (x : A) (xs ys : List A) → IsAmong x xs → IsAmong x (xs ++ ys)
 among-left x [] ys i = absurd i
@@ -25,16 +25,16 @@ among-right x (y ∷ xs) ys i = inr (among-right x xs ys i)
 
 module _ {Fact : Type 0} (ways : Fact → List (List Fact)) (Rule : Fact → List Fact → Type 0) (coinductive : Fact → Bool) (are : AreTheWays ways Rule) where
   abbrev Entry' : Type 0
-  Entry' = Entry Fact Rule coinductive
+  Entry' = FactEntry Fact Rule coinductive
 
   abbrev facts' : List Entry' → List Fact
   facts' es = facts Fact Rule coinductive es
 
   abbrev Continues' : List Fact → List Fact → List Entry' → Type 0
-  Continues' all earlier es = Continues Fact Rule coinductive all earlier es
+  Continues' all earlier es = EntriesContinue Fact Rule coinductive all earlier es
 
   abbrev Proved : Fact → Type 0
-  Proved f = HasProof Fact Rule coinductive f
+  Proved f = FactHasProof Fact Rule coinductive f
 
   abbrev Within : List Fact → List Fact → Type 0
   Within xs ys = (p : Fact) → IsAmong p xs → IsAmong p ys
@@ -92,7 +92,7 @@ module _ {Fact : Type 0} (ways : Fact → List (List Fact)) (Rule : Fact → Lis
 
   pub record Together (premises : List Fact) : Type 0 where
     pub entries : List Entry'
-    pub proof : IsProof Fact Rule coinductive entries
+    pub proof : IsFactProof Fact Rule coinductive entries
     pub each : Every (λ p. IsAmong p (facts' entries)) premises
 
   together : (premises : List Fact) → Every Proved premises → Together premises

@@ -8,7 +8,7 @@ use Rattle.type_terms.proofs.Fitting.{head-shut, child-shut, next-shut}
 use Rattle.type_terms.proofs.Made.{false-true}
 use Rattle.infer_table.specs.Canonical.{OpenKinds, relabeled, canonical_label}
 use Rattle.evaluation.specs.Instances.{read_with, as_place, term_at}
-use Rattle.evaluation.specs.Content.{Terms, standing}
+use Rattle.evaluation.specs.Content.{ChosenTerms, standing}
 use Rattle.evaluation.proofs.Nodes.{AreNodes}
 use Rattle.evaluation.proofs.Whole.{as-place-one}
 use Rattle.solver_exactness.proofs.QuestionTerms.{is_unknown}
@@ -33,7 +33,7 @@ module _ (V : World) where
   at-leaf : (l : Label) (c o : Trees) → is_undeclared V l ≡ false → c ≡ none → Declares o → Declares (tree l c o)
   at-leaf l c o e p g = node l c o e (subst Declares (sym p) refl) g
 
-  module _ (s : Terms) where
+  module _ (s : ChosenTerms) where
     abbrev read : Trees → Trees
     read t = read_with (standing s) t
 

@@ -7,7 +7,7 @@ use Rattle.type_terms.specs.Made.{Standing, terms, bounds, traits, is_leaf_label
 use Rattle.type_terms.proofs.Made.{false-true, left, right, both, is_ordinary, made-ordinary, makes-ordinary, made-rest, last-bound, last-trait, never-dynamic, never-dynamic-bound, never-principal}
 use Rattle.infer_table.proofs.SolutionLaws.{is_sort-equal as is-sort}
 use Rattle.evaluation.specs.Instances.{read_with, is_place, as_place, term_at}
-use Rattle.evaluation.specs.Content.{Terms, standing}
+use Rattle.evaluation.specs.Content.{ChosenTerms, standing}
 use Rattle.evaluation.proofs.Labels.{last-made}
 use Rattle.evaluation.proofs.Nodes.{AreNodes}
 use Rattle.evaluation.proofs.Questions.{is-place}
@@ -37,7 +37,7 @@ place-label k t h = absurd (false-true h)
 place-of : (k : Sort) (t : Trees) → IsPlaceLabel k (as_place k t)
 place-of k t = place-label k (as_place k t) (is-place k t)
 
-module _ (s : Terms) (sorted : (k : Sort) (v : ℕ) → sort_of (s.unknowns k v).0 ≡ k) (G : Label → Bool) where
+module _ (s : ChosenTerms) (sorted : (k : Sort) (v : ℕ) → sort_of (s.unknowns k v).0 ≡ k) (G : Label → Bool) where
   abbrev read : Trees → Trees
   read t = read_with (standing s) t
 

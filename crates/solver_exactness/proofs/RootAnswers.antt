@@ -6,12 +6,12 @@ use Rattle.infer_table.specs.Responses.{AnswerTrees}
 use Rattle.evaluation.specs.Tables.{frame_tables}
 use Rattle.goal_frames.specs.Programs.{ArePrograms}
 use Rattle.solver_context.specs.Searching.{handles}
-use Rattle.assembly_laws.specs.Meaning.{Meaning}
+use Rattle.assembly_laws.specs.Meaning.{ViewMeaning}
 use Rattle.solver_exactness.specs.SolverAnswers.{solver_programs}
 use Rattle.solver_exactness.specs.RootAnswers.{solver_in, declared_in, RootsAreExact, RootsAreRight, RootsTellPossible}
 use Rattle.solver_exactness.proofs.FormedAnswers.{formed-searches-are-exact, formed-searches-are-right, formed-tells-possible}
 
-module _ {W : Type 0} (applicable : AnswerTrees → Bool) (same : AnswerTrees → AnswerTrees → Bool) (meaning_of : W → Meaning) (fits_in : W → CanonicalForm → Bool)
+module _ {W : Type 0} (applicable : AnswerTrees → Bool) (same : AnswerTrees → AnswerTrees → Bool) (meaning_of : W → ViewMeaning) (fits_in : W → CanonicalForm → Bool)
     {Handler : Type 0} (is_ready : Handler → List Entry → Type 0) (declares : Handler → List Entry → W) (programs : ArePrograms frame_tables (solver_programs applicable same meaning_of fits_in)) where
   pub roots-are-exact : RootsAreExact applicable same meaning_of fits_in is_ready declares
   roots-are-exact c depth n mode sorts admits d q v a g l short found =

@@ -5,7 +5,7 @@ use Rattle.evaluation.specs.Operations.{is_yes}
 use Rattle.evaluation.specs.Table.{Tables, operations, Narrows, IsDetermined, IsTable}
 use Rattle.evaluation.specs.Rounds.{Round, kept, judged, applied, replied, round}
 use Rattle.solver_exactness.specs.Plays.{Ends}
-use Rattle.solver_exactness.specs.Closed.{Closing, IsClosing, IsBare, Reaches, here, answered}
+use Rattle.solver_exactness.specs.Closed.{Closing, IsClosing, IsBare, TableReaches, here, answered}
 use Rattle.solver_exactness.proofs.Plays.{Ends-followed}
 
 module _ {Question Response : Type 0} (t : Tables Question Response) (laws : IsTable t) (k : Closing t) (closing : IsClosing t k) (IsAsked : Question → t.Values → Type 0) (P : Question → Option Response → Type 0) where
@@ -32,21 +32,21 @@ module _ {Question Response : Type 0} (t : Tables Question Response) (laws : IsT
   pub record IsNested (T : t.Table) (v : t.Values) (n : t.Nested) (f : t.Fact) : Type 0 where
     pub determined : IsDetermined t T n
     pub is : (s : t.Assignment) → t.Allows T s → t.own s ≡ v → t.fact n s ≡ f
-    pub asked : (U : t.Table) (s : t.Assignment) → Reaches t T U → t.Made U → k.IsClosed (k.shape U) → IsDetermined t U n → t.Allows U s → t.Allows T s → t.own s ≡ v → IsAsked (t.question U n) (t.at U n s)
+    pub asked : (U : t.Table) (s : t.Assignment) → TableReaches t T U → t.Made U → k.IsClosed (k.shape U) → IsDetermined t U n → t.Allows U s → t.Allows T s → t.own s ≡ v → IsAsked (t.question U n) (t.at U n s)
 
   -- what is reached from a table that is reached
-  onward : (T U W : t.Table) → Reaches t T U → Reaches t U W → Reaches t T W
+  onward : (T U W : t.Table) → TableReaches t T U → TableReaches t U W → TableReaches t T W
   onward T U W x here = x
   onward T U W x (answered y q b) = answered (onward T U _ x y) q b
 
-  narrowed : (T U : t.Table) (v : t.Values) (n : t.Nested) (f : t.Fact) → Reaches t T U → Narrows t T U → IsNested T v n f → IsNested U v n f
+  narrowed : (T U : t.Table) (v : t.Values) (n : t.Nested) (f : t.Fact) → TableReaches t T U → Narrows t T U → IsNested T v n f → IsNested U v n f
   narrowed T U v n f reach narrow i = record {
     determined = λ s r a b e. i.determined s r (narrow.allows s a) (narrow.allows r b) e;
     is = λ s a e. i.is s (narrow.allows s a) e;
     asked = λ W s z m x y a b e. i.asked W s (onward T U W reach z) m x y a (narrow.allows s b) e;
   }
 
-  pub all_narrowed : (T U : t.Table) (v : t.Values) (ns : List t.Nested) (fs : List t.Fact) → Reaches t T U → Narrows t T U → Pairwise (IsNested T v) ns fs → Pairwise (IsNested U v) ns fs
+  pub all_narrowed : (T U : t.Table) (v : t.Values) (ns : List t.Nested) (fs : List t.Fact) → TableReaches t T U → Narrows t T U → Pairwise (IsNested T v) ns fs → Pairwise (IsNested U v) ns fs
   all_narrowed T U v [] [] reach narrow p = tt
   all_narrowed T U v (n ∷ ns) (f ∷ fs) reach narrow p = (narrowed T U v n f reach narrow p.0, all_narrowed T U v ns fs reach narrow p.1)
   all_narrowed T U v [] (f ∷ fs) reach narrow p = absurd p

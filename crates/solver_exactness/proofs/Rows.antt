@@ -15,8 +15,8 @@ use Rattle.solver_exactness.specs.Closed.{no_more, applied}
 use Rattle.solver_exactness.specs.ClosedTables.{AreClosed, ArePlaces}
 use Rattle.assembly_laws.specs.Facts.{is_plain, is_unerased, reference_in}
 use Rattle.assembly_laws.specs.Declared.{is_declared_view}
-use Rattle.assembly_laws.specs.Meaning.{Meaning}
-use Rattle.assembly_laws.specs.Asking.{Asked, asked, is_rigid, self_of, with_plain_head}
+use Rattle.assembly_laws.specs.Meaning.{ViewMeaning}
+use Rattle.assembly_laws.specs.Asking.{GoalOverKinds, goal_over_kinds, is_rigid, self_of, with_plain_head}
 use Rattle.assembly_laws.specs.Candidates.{misc, if_so, as_written}
 use Rattle.assembly_laws.specs.Cover.{goal_fact}
 use Rattle.assembly_laws.proofs.ByView.{rigid-read, rigid-head}
@@ -28,7 +28,7 @@ use Rattle.solver_exactness.specs.SolverWays.{premises_of}
 use Rattle.solver_exactness.specs.RowWays.{AreWaysOf, RowsAreWaysAt, RowsAreWays}
 use Rattle.solver_exactness.proofs.Instances.{is, terms_of, allowed, proper, Read, instance, instance-is, rule-applies, BeginsWithPlace, read-place}
 
-module _ (m : Meaning) (declared : is_declared_view m.view ≡ true) (f : CanonicalForm) (a : Asked) (is_asked : asked m.view f ≡ Some a) (closed : AreClosed f.kinds) (v : Values) (places : ArePlaces f.kinds v)
+module _ (m : ViewMeaning) (declared : is_declared_view m.view ≡ true) (f : CanonicalForm) (a : GoalOverKinds) (is_asked : goal_over_kinds m.view f ≡ Some a) (closed : AreClosed f.kinds) (v : Values) (places : ArePlaces f.kinds v)
     (plain : is_plain (goal_fact f v) ≡ true) where
   abbrev read : Trees → Trees
   read t = Read m f a is_asked closed v places t

@@ -4,7 +4,7 @@ use Rattle.infer_table.specs.Responses.{AnswerTrees}
 use Rattle.evaluation.specs.Content.{Fact}
 use Rattle.evaluation.specs.Tables.{frame_tables}
 use Rattle.evaluation.proofs.FrameTableLaws.{tables_are_lawful}
-use Rattle.goal_frames.specs.Searches.{Handles, Asked}
+use Rattle.goal_frames.specs.Searches.{Handles, GoalInMode}
 use Rattle.goal_frames.specs.RulePrograms.{DeclaredRules}
 use Rattle.solver_exactness.specs.RuleAnswers.{rule_programs}
 use Rattle.goal_frames.proofs.RulePrograms.{rules-are-programs}
@@ -15,7 +15,7 @@ use Rattle.solver_exactness.proofs.Induction.{plain_is_exact, plain_is_right}
 use Rattle.solver_exactness.proofs.Found.{answers_plainly}
 use Rattle.solver_exactness.proofs.RuleHandlers.{rules_answer_exactly, rules_are_sure}
 
-module _ {C I R F : Type 0} (handles : Handles C I R F DeclaredRules (Asked frame_tables rule_programs) (Option AnswerTrees)) where
+module _ {C I R F : Type 0} (handles : Handles C I R F DeclaredRules (GoalInMode frame_tables rule_programs) (Option AnswerTrees)) where
   pub rules_are_exact : RulesAreExact handles
   rules_are_exact w mode n q v a g x =
       (plain_is_exact frame_tables tables_are_lawful closed_tables closed_tables_are_lawful rule_programs w mode (rules_answer_exactly w mode) handles n q v a g.asked g.closed g.places x).1

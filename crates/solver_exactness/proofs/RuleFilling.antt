@@ -11,7 +11,7 @@ use Rattle.infer_table.specs.Raw.{sort_of_kind}
 use Rattle.infer_table.specs.Applying.{table_after}
 use Rattle.evaluation.specs.Lists.{Every}
 use Rattle.evaluation.specs.Instances.{read_with, of_sort, term_at}
-use Rattle.evaluation.specs.Content.{Values, Terms, standing, reading_of}
+use Rattle.evaluation.specs.Content.{Values, ChosenTerms, standing, reading_of}
 use Rattle.evaluation.specs.FrameTables.{kind_at, FrameTable, IsMadeFrame, Allows, types_in, consts_in, labels_from, first_content, unknown, labels_for}
 use Rattle.evaluation.proofs.Applying.{for-bindings}
 use Rattle.evaluation.proofs.TableBeginning.{begin-made}
@@ -120,7 +120,7 @@ module _ (ks js : List CanonicalVarKind) (c : AreClosed (map Some ks)) (g : Ever
   table-made = fresh-made (begin ks) (begin-made ks) js
 
   -- the terms of a frame of the rule's own
-  abbrev pub alone : Terms
+  abbrev pub alone : ChosenTerms
   alone = (begins-free js own-values).0
 
   pub alone-allowed : Allows (begin js) alone
@@ -132,7 +132,7 @@ module _ (ks js : List CanonicalVarKind) (c : AreClosed (map Some ks)) (g : Ever
   pub alone-sorted : (k : Sort) (n : ℕ) → sort_of (alone.unknowns k n).0 ≡ k
   alone-sorted k n = alone-allowed.sorted k n
 
-  abbrev pub filled : Terms
+  abbrev pub filled : ChosenTerms
   filled = whole table table-made c v alone.unknowns alone-sorted
 
   pub filled-allowed : Allows table filled

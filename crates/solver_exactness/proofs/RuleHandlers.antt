@@ -17,8 +17,8 @@ use Rattle.evaluation.specs.Table.{workings}
 use Rattle.evaluation.specs.Candidate.{Spec}
 use Rattle.evaluation.proofs.ListLaws.{Every-mono, Every-map}
 use Rattle.evaluation.specs.Instances.{read_with, goal_read, put_in}
-use Rattle.evaluation.specs.Content.{Values, Fact, Question, Terms, fits, given, fact_of}
-use Rattle.evaluation.specs.FrameTables.{FrameTable, IsMadeFrame, Allows, Meets, Nested, fact, kinds_known, good_in, slot_at, goal_in, question}
+use Rattle.evaluation.specs.Content.{Values, Fact, NestedQuestion, ChosenTerms, fits, given, fact_of}
+use Rattle.evaluation.specs.FrameTables.{FrameTable, IsMadeFrame, Allows, EquationIsMet, Nested, fact, kinds_known, good_in, slot_at, goal_in, question}
 use Rattle.type_terms.proofs.Made.{false-true, right}
 use Rattle.evaluation.proofs.Labels.{made-more}
 use Rattle.evaluation.proofs.Equating.{made-put, slots-of}
@@ -26,8 +26,8 @@ use Rattle.evaluation.proofs.Resolved.{made-resolved}
 use Rattle.evaluation.proofs.TableBeginning.{begin-made}
 use Rattle.evaluation.specs.TableOperations.{begin, fresh}
 use Rattle.evaluation.specs.Tables.{frame_tables}
-use Rattle.goal_frames.specs.Rules.{Bound, goal_of, Rule, RuleBook, IsOver, IsRule, AreRules, instance_of}
-use Rattle.goal_frames.specs.Handlers.{Asked, asked, behind, as_one, nested_of_bound, spec_of, specs_for, candidates_of, listing_of, same_answer, applies_always}
+use Rattle.goal_frames.specs.Rules.{TraitBound, goal_of, Rule, RuleBook, BoundIsOver, IsRule, AreRules, instance_of}
+use Rattle.goal_frames.specs.Handlers.{BareGoal, bare_goal, bound_behind, as_one, nested_of_bound, spec_of, specs_for, candidates_of, listing_of, same_answer, applies_always}
 use Rattle.goal_frames.specs.RulePrograms.{DeclaredRules, book_of}
 use Rattle.solver_exactness.specs.RuleAnswers.{rule_programs}
 use Rattle.goal_frames.specs.Forms.{is_unnumbered}
@@ -38,7 +38,7 @@ use Rattle.goal_frames.proofs.Asked.{IsAsked, asked-is, kinds-are}
 use Rattle.goal_frames.proofs.Sound.{term-one, fact-behind, heads, determined}
 use Rattle.goal_frames.proofs.Forms.{canonical-goals-are-asked}
 use Rattle.evaluation.specs.Variables.{is_variable_over}
-use Rattle.solver_exactness.specs.Closed.{Applies, Refuses, AreWays, no_more, refused, applied, DeterminesNested, AsksFrom, AsksSuch}
+use Rattle.solver_exactness.specs.Closed.{Applies, EquationsRefuse, AreWays, no_more, refused, applied, DeterminesNested, AsksFrom, AsksSuch}
 use Rattle.evaluation.specs.Finite.{IsDetermined}
 use Rattle.solver_exactness.specs.ClosedTables.{AreClosed, ArePlaces, closed_tables}
 use Rattle.solver_exactness.specs.Ways.{IsSelection}
@@ -74,12 +74,12 @@ resolved-trait (b ∷ older) i c = ap (replace b.sort b.var (resolved older b.va
 same-goal : (e d p q : Trees) → e ≡ d → p ≡ q → ◌≡◌ {A = GoalTrees} (record { environment = e; predicate = p }) (record { environment = d; predicate = q })
 same-goal e d p q x y = cc
 
-module _ (T : FrameTable) (made : IsMadeFrame T) (kind : Bool) (n : ℕ) (kinds : List CanonicalVarKind) (b : Bound) (over : IsOver kinds b) where
-  abbrev inside : Bound
-  inside = record { trait = b.trait; arguments = resolved T.content.bindings (put_in (slot_at T.labels) (behind n b).arguments) }
+module _ (T : FrameTable) (made : IsMadeFrame T) (kind : Bool) (n : ℕ) (kinds : List CanonicalVarKind) (b : TraitBound) (over : BoundIsOver kinds b) where
+  abbrev inside : TraitBound
+  inside = record { trait = b.trait; arguments = resolved T.content.bindings (put_in (slot_at T.labels) (bound_behind n b).arguments) }
 
-  goal-inside : goal_in T (nested_of_bound kind (behind n b)) ≡ goal_of inside
-  goal-inside = same-goal _ _ _ _ (resolved-none T.content.bindings) (resolved-trait T.content.bindings b.trait (put_in (slot_at T.labels) (behind n b).arguments))
+  goal-inside : goal_in T (nested_of_bound kind (bound_behind n b)) ≡ goal_of inside
+  goal-inside = same-goal _ _ _ _ (resolved-none T.content.bindings) (resolved-trait T.content.bindings b.trait (put_in (slot_at T.labels) (bound_behind n b).arguments))
 
   unnumbered : (l : Label) → good_in T l ≡ true → is_unnumbered l ≡ true
   unnumbered (canonical k i) g = absurd (false-true g)
@@ -88,14 +88,14 @@ module _ (T : FrameTable) (made : IsMadeFrame T) (kind : Bool) (n : ℕ) (kinds 
   made-inside : is_made is_unnumbered terms inside.arguments ≡ true
   made-inside =
       made-more (good_in T) is_unnumbered unnumbered terms inside.arguments
-      (made-resolved (good_in T) T.content.bindings made.table.values terms (put_in (slot_at T.labels) (behind n b).arguments)
-      (made-put (good_in T) T.labels (slots-of T made) terms (behind n b).arguments (made-behind kinds n terms b.arguments over)))
+      (made-resolved (good_in T) T.content.bindings made.table.values terms (put_in (slot_at T.labels) (bound_behind n b).arguments)
+      (made-put (good_in T) T.labels (slots-of T made) terms (bound_behind n b).arguments (made-behind kinds n terms b.arguments over)))
 
-  question-asked : IsAskedForm (question T (nested_of_bound kind (behind n b)))
-  question-asked = let x = canonical-goals-are-asked inside made-inside in (x.0, ap (λ g. asked (canonical_form g)) goal-inside ∙ x.1)
+  question-asked : IsAskedForm (question T (nested_of_bound kind (bound_behind n b)))
+  question-asked = let x = canonical-goals-are-asked inside made-inside in (x.0, ap (λ g. bare_goal (canonical_form g)) goal-inside ∙ x.1)
 
 -- ---- one rule
-module _ (f : CanonicalForm) (a : Asked) (h : IsAsked f a) (closed : AreClosed (map Some a.kinds)) (kind : Bool) (v : Values) (places : ArePlaces (map Some a.kinds) v) where
+module _ (f : CanonicalForm) (a : BareGoal) (h : IsAsked f a) (closed : AreClosed (map Some a.kinds)) (kind : Bool) (v : Values) (places : ArePlaces (map Some a.kinds) v) where
   abbrev n : ℕ
   n = length a.kinds
 
@@ -146,39 +146,39 @@ module _ (f : CanonicalForm) (a : Asked) (h : IsAsked f a) (closed : AreClosed (
     spec = spec_of kind a r
 
     -- ---- it applies
-    abbrev terms_of : Terms
+    abbrev terms_of : ChosenTerms
     terms_of = filled a.kinds r.kinds closed good.kinds v values
 
     terms-allowed : Allows table terms_of
     terms-allowed = filled-allowed a.kinds r.kinds closed good.kinds v values
 
-    values-read : (b : Bound) → IsOver r.kinds b → read_with (given (dropped n terms_of.slots)) b.arguments ≡ read_with (given values) b.arguments
+    values-read : (b : TraitBound) → BoundIsOver r.kinds b → read_with (given (dropped n terms_of.slots)) b.arguments ≡ read_with (given values) b.arguments
     values-read b m = reads-agree (dropped n terms_of.slots) values b.arguments (filled-agrees a.kinds r.kinds closed good.kinds v values b.arguments m)
 
-    meets : concludes r goal ≡ true → Meets (record { left = as_one a.bound; right = as_one (behind n r.head) }) terms_of
+    meets : concludes r goal ≡ true → EquationIsMet (record { left = as_one a.bound; right = as_one (bound_behind n r.head) }) terms_of
     meets c =
         let parts = concludes-parts c in
         ap (read_with (given terms_of.slots)) (term-one a.bound (made-open a.kinds terms a.bound.arguments h.over))
         ∙ ap (λ z. tree (adt a.bound.trait) z none)
         (sym (reads-agree v.terms terms_of.slots a.bound.arguments (own-slots-agree table terms_of terms-allowed fits-here a.bound.arguments h.over))
         ∙ parts.1 ∙ sym (values-read r.head good.head) ∙ sym (read-behind n terms_of.slots r.head.arguments))
-        ∙ ap (λ z. tree (adt z) (read_with (given terms_of.slots) (behind n r.head).arguments) none) parts.0
-        ∙ ap (read_with (given terms_of.slots)) (sym (term-one (behind n r.head) (made-behind r.kinds n terms r.head.arguments good.head)))
+        ∙ ap (λ z. tree (adt z) (read_with (given terms_of.slots) (bound_behind n r.head).arguments) none) parts.0
+        ∙ ap (read_with (given terms_of.slots)) (sym (term-one (bound_behind n r.head) (made-behind r.kinds n terms r.head.arguments good.head)))
 
     proper-is : terms_of.proper ≡ goal.proper
     proper-is = ap (λ z. v.proper && fits z v.terms) (sym h.kinds)
 
-    same-instance : (p q : Bool) (b : Bound) (x y : Trees) → p ≡ q → x ≡ y
+    same-instance : (p q : Bool) (b : TraitBound) (x y : Trees) → p ≡ q → x ≡ y
         → ◌≡◌ {A = Fact} (record { trait = Some b.trait; goal = record { environment = none; predicate = tree (predicate (of_trait b.trait)) x none }; proper = p }) (record { trait = Some b.trait; goal = record { environment = none; predicate = tree (predicate (of_trait b.trait)) y none }; proper = q })
     same-instance p q b x y e g = cc
 
-    premise-is : (b : Bound) → IsOver r.kinds b → fact (nested_of_bound kind (behind n b)) terms_of ≡ instance_of goal.proper values b
+    premise-is : (b : TraitBound) → BoundIsOver r.kinds b → fact (nested_of_bound kind (bound_behind n b)) terms_of ≡ instance_of goal.proper values b
     premise-is b m = fact-behind kind n terms_of b ∙ same-instance terms_of.proper goal.proper b _ _ proper-is (values-read b m)
 
     cons : (x y : Fact) (xs ys : List Fact) → x ≡ y → xs ≡ ys → x ∷ xs ≡ y ∷ ys
     cons x y xs ys e g = cc
 
-    premises-are : (bs : List Bound) → Every (IsOver r.kinds) bs → map (λ (m : Nested). fact m terms_of) (map (λ b. nested_of_bound kind (behind n b)) bs) ≡ map (instance_of goal.proper values) bs
+    premises-are : (bs : List TraitBound) → Every (BoundIsOver r.kinds) bs → map (λ (m : Nested). fact m terms_of) (map (λ b. nested_of_bound kind (bound_behind n b)) bs) ≡ map (instance_of goal.proper values) bs
     premises-are [] m = refl
     premises-are (b ∷ bs) m = cons _ _ _ _ (premise-is b m.0) (premises-are bs m.1)
 
@@ -186,7 +186,7 @@ module _ (f : CanonicalForm) (a : Asked) (h : IsAsked f a) (closed : AreClosed (
     applies c = record { assignment = terms_of; allowed = terms-allowed; own = refl; meets = (meets c, tt); needs = premises-are r.premises good.premises }
 
     -- ---- or refuses
-    refuses : r.head.trait ≡ a.bound.trait → concludes r goal ≡ false → Refuses frame_tables (begin a.kinds) v spec
+    refuses : r.head.trait ≡ a.bound.trait → concludes r goal ≡ false → EquationsRefuse frame_tables (begin a.kinds) v spec
     refuses t c s allowed own m =
         false-true (sym c ∙ concludes-true (dropped n s.slots) t
         (sym (heads f a h r good kind s m)
@@ -207,7 +207,7 @@ module _ (f : CanonicalForm) (a : Asked) (h : IsAsked f a) (closed : AreClosed (
   all-ways (r ∷ rules) g = one-way r g.0 rules (all-ways rules g.1) (r.head.trait == a.bound.trait) refl (concludes r goal) refl
 
 -- ---- what holds of the candidate of each rule
-each-spec : (P : Spec (workings frame_tables) → Type 0) (kind : Bool) (a : Asked) (rules : List Rule) → Every IsRule rules → ((r : Rule) → IsRule r → P (spec_of kind a r)) → Every P (specs_for kind a rules)
+each-spec : (P : Spec (workings frame_tables) → Type 0) (kind : Bool) (a : BareGoal) (rules : List Rule) → Every IsRule rules → ((r : Rule) → IsRule r → P (spec_of kind a r)) → Every P (specs_for kind a rules)
 each-spec P kind a [] g f = tt
 each-spec P kind a (r ∷ rules) g f = by (r.head.trait == a.bound.trait) (each-spec P kind a rules g.1 f)
   where
@@ -219,11 +219,11 @@ itself : {A : Type 0} (xs : List (List A)) → IsSelection xs xs
 itself xs = record { every = λ P h. h; some = λ P s. s; back = λ P s. s; one = λ P h. h }
 
 -- whatever its placeholders stand for
-abbrev AskedAt : Question → Values → Type 0
+abbrev AskedAt : NestedQuestion → Values → Type 0
 AskedAt q v = IsAskedForm q
 
-module _ (book : RuleBook) (rules_are : AreRules book) (mode : TypingMode) (q : Question) (v : Values) (closed : AreClosed q.form.kinds) (places : ArePlaces q.form.kinds v) where
-  exact-listing : (a : Asked) → IsAsked q.form a → IsExactListing frame_tables closed_tables (rule_ways book.rules) AskedAt q v (listing_of book mode q.form a.kinds (Some a))
+module _ (book : RuleBook) (rules_are : AreRules book) (mode : TypingMode) (q : NestedQuestion) (v : Values) (closed : AreClosed q.form.kinds) (places : ArePlaces q.form.kinds v) where
+  exact-listing : (a : BareGoal) → IsAsked q.form a → IsExactListing frame_tables closed_tables (rule_ways book.rules) AskedAt q v (listing_of book mode q.form a.kinds (Some a))
   exact-listing a h =
       let kind = book.coinductive a.bound.trait in
       let c = subst AreClosed h.kinds closed in
@@ -236,8 +236,8 @@ module _ (book : RuleBook) (rules_are : AreRules book) (mode : TypingMode) (q : 
         nested =
             each-spec (AsksSuch frame_tables closed_tables AskedAt (begin a.kinds) v) kind a book.rules rules_are
             (λ r good.
-            Every-map (Asks r) (λ b. nested_of_bound kind (behind (length a.kinds) b)) r.premises
-            (Every-mono (IsOver r.kinds) (λ b. Asks r (nested_of_bound kind (behind (length a.kinds) b)))
+            Every-map (Asks r) (λ b. nested_of_bound kind (bound_behind (length a.kinds) b)) r.premises
+            (Every-mono (BoundIsOver r.kinds) (λ b. Asks r (nested_of_bound kind (bound_behind (length a.kinds) b)))
             (λ b over T s z made x d l i e o. question-asked T made kind (length a.kinds) r.kinds b over) r.premises good.premises));
         found = rule_ways book.rules (fact_of q v);
         applies = all-ways q.form a h c kind v (subst (λ ks. ArePlaces ks v) h.kinds places) book.rules rules_are;
@@ -246,10 +246,10 @@ module _ (book : RuleBook) (rules_are : AreRules book) (mode : TypingMode) (q : 
     where
       Asks : Rule → Nested → Type 0
       Asks r n =
-          (T : FrameTable) (s : Terms) → AsksFrom frame_tables (begin a.kinds) (spec_of (book.coinductive a.bound.trait) a r) T → IsMadeFrame T → AreClosed (map Some T.kinds) → IsDetermined T n → Allows T s → Allows (fresh (begin a.kinds) r.kinds) s → Every (λ e. Meets e s) (spec_of (book.coinductive a.bound.trait) a r).equations → s.own ≡ v → IsAskedForm (question T n)
+          (T : FrameTable) (s : ChosenTerms) → AsksFrom frame_tables (begin a.kinds) (spec_of (book.coinductive a.bound.trait) a r) T → IsMadeFrame T → AreClosed (map Some T.kinds) → IsDetermined T n → Allows T s → Allows (fresh (begin a.kinds) r.kinds) s → Every (λ e. EquationIsMet e s) (spec_of (book.coinductive a.bound.trait) a r).equations → s.own ≡ v → IsAskedForm (question T n)
 
   -- the same, of the goal's form as it is
-  pub form-listing : IsAskedForm q → IsExactListing frame_tables closed_tables (rule_ways book.rules) AskedAt q v (listing_of book mode q.form (kinds_known q.form.kinds) (asked q.form))
+  pub form-listing : IsAskedForm q → IsExactListing frame_tables closed_tables (rule_ways book.rules) AskedAt q v (listing_of book mode q.form (kinds_known q.form.kinds) (bare_goal q.form))
   form-listing x =
       let h = asked-is q.form x.0 x.1 in
       subst (λ o. IsExactListing frame_tables closed_tables (rule_ways book.rules) AskedAt q v (listing_of book mode q.form (kinds_known q.form.kinds) o)) (sym x.1)
@@ -262,12 +262,12 @@ rules_answer_exactly w mode = record {
   ways = rule_ways w.rules;
   exact = λ q v i c d.
       let book = book_of w in
-      listed-exact frame_tables closed_tables closed_tables_are_lawful (rule_ways w.rules) AskedAt q v applies_always same_answer (listing_of book mode q.form (kinds_known q.form.kinds) (asked q.form)) (form-listing book w.made mode q v c d i);
+      listed-exact frame_tables closed_tables closed_tables_are_lawful (rule_ways w.rules) AskedAt q v applies_always same_answer (listing_of book mode q.form (kinds_known q.form.kinds) (bare_goal q.form)) (form-listing book w.made mode q v c d i);
 }
 
 -- ---- none of their candidates is unsure
-specs-sure : (book : RuleBook) (rules_are : AreRules book) (mode : TypingMode) (q : Question) (closed : AreClosed q.form.kinds) (a : Asked) (x : asked q.form ≡ Some a) (h : IsAsked q.form a)
-    → Every (λ (c : Spec (workings frame_tables)). c.certainty ≡ Yes) (candidates_of book (asked q.form))
+specs-sure : (book : RuleBook) (rules_are : AreRules book) (mode : TypingMode) (q : NestedQuestion) (closed : AreClosed q.form.kinds) (a : BareGoal) (x : bare_goal q.form ≡ Some a) (h : IsAsked q.form a)
+    → Every (λ (c : Spec (workings frame_tables)). c.certainty ≡ Yes) (candidates_of book (bare_goal q.form))
 specs-sure book rules_are mode q closed a x h =
     subst (λ o. Every (λ (c : Spec (workings frame_tables)). c.certainty ≡ Yes) (candidates_of book o)) (sym x)
     (each-spec (λ (c : Spec (workings frame_tables)). c.certainty ≡ Yes) (book.coinductive a.bound.trait) a book.rules rules_are (λ r good. refl))

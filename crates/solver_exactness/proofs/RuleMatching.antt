@@ -13,7 +13,7 @@ use Rattle.evaluation.specs.FrameTables.{kind_at}
 use Rattle.type_terms.proofs.Made.{false-true, left, right}
 use Rattle.infer_table.proofs.SolutionLaws.{is_sort-equal, is_sort-self}
 use Rattle.evaluation.proofs.TableBeginning.{node_of, node-is}
-use Rattle.evaluation.specs.Variables.{StandsIn}
+use Rattle.evaluation.specs.Variables.{LabelStandsIn}
 use Rattle.evaluation.proofs.Readings.{HasLeaves, AgreeIn}
 use Rattle.evaluation.proofs.Slots.{HasKind, of-sort-twice}
 use Rattle.solver_exactness.specs.RuleWays.{value_at, or_none, matched}
@@ -27,7 +27,7 @@ module _ (ys : List Trees) (k : Sort) (i : ℕ) (g : HasValues k) where
 
   -- found with its value, or nowhere
   abbrev Found : Trees → Trees → Type 0
-  Found t x = (value_at k i t x ≡ Some wanted) ⊎ ((value_at k i t x ≡ None) × (StandsIn (canonical k i) t → ⊥))
+  Found t x = (value_at k i t x ≡ Some wanted) ⊎ ((value_at k i t x ≡ None) × (LabelStandsIn (canonical k i) t → ⊥))
 
   label-parts : (j : Sort) (m : ℕ) → canonical j m ≡ canonical k i → (j ≡ k) × (m ≡ i)
   label-parts j m e = (cc, cc)
@@ -43,11 +43,11 @@ module _ (ys : List Trees) (k : Sort) (i : ℕ) (g : HasValues k) where
       is : j ≡ k → m ≡ i → tree_of n ≡ wanted
       is e f = (node-is j (term_at ys m)).whole ∙ ap (λ z. of_sort z (term_at ys m)) e ∙ ap (λ z. of_sort k (term_at ys z)) f
 
-      not-here : (is_sort j k && (m == i)) ≡ false → (StandsIn (canonical k i) o → ⊥) → StandsIn (canonical k i) (tree (canonical j m) c o) → ⊥
+      not-here : (is_sort j k && (m == i)) ≡ false → (LabelStandsIn (canonical k i) o → ⊥) → LabelStandsIn (canonical k i) (tree (canonical j m) c o) → ⊥
       not-here q h (inl e) =
           let x = label-parts j m e in
           false-true (sym q ∙ subst (λ z. (is_sort z k && (m == i)) ≡ true) (sym x.0) (subst (λ z. (is_sort k k && (z == i)) ≡ true) (sym x.1) (ap (λ b. b && (i == i)) (is_sort-self k) ∙ eq-eqb i i refl)))
-      not-here q h (inr (inl s)) = subst (StandsIn (canonical k i)) leafy s
+      not-here q h (inr (inl s)) = subst (LabelStandsIn (canonical k i)) leafy s
       not-here q h (inr (inr s)) = h s
 
       on : (is_sort j k && (m == i)) ≡ false → Found o (read o) → Found (tree (canonical j m) c o) (tree_of n +++ read o)
@@ -60,12 +60,12 @@ module _ (ys : List Trees) (k : Sort) (i : ℕ) (g : HasValues k) where
 
   -- no variable
   or-found : (l : Label) (c o x y : Trees) → (l ≡ canonical k i → ⊥) → Found c x → Found o y
-      → (or_else (value_at k i c x) (value_at k i o y) ≡ Some wanted) ⊎ ((or_else (value_at k i c x) (value_at k i o y) ≡ None) × (StandsIn (canonical k i) (tree l c o) → ⊥))
+      → (or_else (value_at k i c x) (value_at k i o y) ≡ Some wanted) ⊎ ((or_else (value_at k i c x) (value_at k i o y) ≡ None) × (LabelStandsIn (canonical k i) (tree l c o) → ⊥))
   or-found l c o x y n (inl e) f = inl (ap (λ z. or_else z (value_at k i o y)) e)
   or-found l c o x y n (inr e) (inl f) = inl (ap (λ z. or_else z (value_at k i o y)) e.0 ∙ f)
   or-found l c o x y n (inr e) (inr f) = inr (ap (λ z. or_else z (value_at k i o y)) e.0 ∙ f.0, by)
     where
-      by : StandsIn (canonical k i) (tree l c o) → ⊥
+      by : LabelStandsIn (canonical k i) (tree l c o) → ⊥
       by (inl s) = n s
       by (inr (inl s)) = e.1 s
       by (inr (inr s)) = f.1 s
@@ -75,7 +75,7 @@ module _ (ys : List Trees) (k : Sort) (i : ℕ) (g : HasValues k) where
 
   -- a leaf that is read as another leaf
   leafy : (l : Label) (c o x : Trees) → c ≡ none → (l ≡ canonical k i → ⊥) → Found o (read o)
-      → (or_else (value_at k i c x) (value_at k i o (read o)) ≡ Some wanted) ⊎ ((or_else (value_at k i c x) (value_at k i o (read o)) ≡ None) × (StandsIn (canonical k i) (tree l c o) → ⊥))
+      → (or_else (value_at k i c x) (value_at k i o (read o)) ≡ Some wanted) ⊎ ((or_else (value_at k i c x) (value_at k i o (read o)) ≡ None) × (LabelStandsIn (canonical k i) (tree l c o) → ⊥))
   leafy l c o x e n f = or-found l c o x (read o) n (subst (λ z. Found z x) (sym e) (inr (refl, λ s. s))) f
 
   pub found : (t : Trees) → HasLeaves t → Found t (read t)
@@ -87,9 +87,9 @@ module _ (ys : List Trees) (k : Sort) (i : ℕ) (g : HasValues k) where
       never : (is_sort of_lifetime k && (m == i)) ≡ true → ⊥
       never q = subst HasValues (sym (is_sort-equal of_lifetime k (left (is_sort of_lifetime k) _ q))) g
 
-      absent : (StandsIn (canonical k i) o → ⊥) → StandsIn (canonical k i) (tree (canonical of_lifetime m) c o) → ⊥
+      absent : (LabelStandsIn (canonical k i) o → ⊥) → LabelStandsIn (canonical k i) (tree (canonical of_lifetime m) c o) → ⊥
       absent f (inl e) = lifetime-absent m e
-      absent f (inr (inl s)) = subst (StandsIn (canonical k i)) (h.0 refl) s
+      absent f (inr (inl s)) = subst (LabelStandsIn (canonical k i)) (h.0 refl) s
       absent f (inr (inr s)) = f s
 
       on : (is_sort of_lifetime k && (m == i)) ≡ false → Found o (read o) → Found (tree (canonical of_lifetime m) c o) (tree static none (read o))
@@ -125,7 +125,7 @@ matched-at n (k ∷ ks) pattern x (suc i) kind e = matched-at (suc n) ks pattern
     plus-suc n i = omega arith
 
 -- what is matched agrees with the values with which the pattern is read
-pub matched-agree : (ks : List CanonicalVarKind) (pattern : Trees) → HasLeaves pattern → ((k : Sort) (i : ℕ) → StandsIn (canonical k i) pattern → HasKind ks k i) → (ys : List Trees)
+pub matched-agree : (ks : List CanonicalVarKind) (pattern : Trees) → HasLeaves pattern → ((k : Sort) (i : ℕ) → LabelStandsIn (canonical k i) pattern → HasKind ks k i) → (ys : List Trees)
     → AgreeIn (matched 0 ks pattern (read_with (given ys) pattern)) ys pattern
 matched-agree ks pattern leaves kinds ys k i g s =
     let y = kinds k i s in
@@ -136,7 +136,7 @@ matched-agree ks pattern leaves kinds ys k i g s =
     zero-plus : (i : ℕ) → 0 + i ≡ i
     zero-plus i = omega arith
 
-    by : (value_at k i pattern (read_with (given ys) pattern) ≡ Some (of_sort k (term_at ys i))) ⊎ ((value_at k i pattern (read_with (given ys) pattern) ≡ None) × (StandsIn (canonical k i) pattern → ⊥))
+    by : (value_at k i pattern (read_with (given ys) pattern) ≡ Some (of_sort k (term_at ys i))) ⊎ ((value_at k i pattern (read_with (given ys) pattern) ≡ None) × (LabelStandsIn (canonical k i) pattern → ⊥))
         → or_none (value_at k i pattern (read_with (given ys) pattern)) ≡ of_sort k (term_at ys i)
     by (inl e) = ap or_none e
     by (inr e) = absurd (e.1 s)

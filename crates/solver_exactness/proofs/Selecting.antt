@@ -10,7 +10,7 @@ use Rattle.type_terms.proofs.Walking.{left, right}
 use Rattle.type_terms.proofs.Made.{false-true}
 use Rattle.evaluation.specs.Lists.{Every, SomeOf}
 use Rattle.evaluation.specs.Content.{Fact}
-use Rattle.solver_exactness.specs.Ways.{AtMostOne, IsSelection}
+use Rattle.solver_exactness.specs.Ways.{AtMostOneHolds, IsSelection}
 use Rattle.assembly_laws.specs.DeclaredWell.{are_distinct}
 use Rattle.assembly_laws.specs.Facts.{beside}
 use Rattle.assembly_laws.proofs.ByView.{some-left, some-right}
@@ -42,20 +42,20 @@ module _ {A : Type 0} (Q : A → Type 0) where
   some-both xs ys (inl s) = some-left Q xs ys s
   some-both xs ys (inr s) = some-right Q xs ys s
 
-  pub one-left : (xs ys : List A) → AtMostOne Q (xs ++ ys) → AtMostOne Q xs
+  pub one-left : (xs ys : List A) → AtMostOneHolds Q (xs ++ ys) → AtMostOneHolds Q xs
   one-left [] ys h = tt
   one-left (x ∷ xs) ys h = (λ p s. h.0 p (some-left Q xs ys s), one-left xs ys h.1)
 
-  pub one-right : (xs ys : List A) → AtMostOne Q (xs ++ ys) → AtMostOne Q ys
+  pub one-right : (xs ys : List A) → AtMostOneHolds Q (xs ++ ys) → AtMostOneHolds Q ys
   one-right [] ys h = h
   one-right (x ∷ xs) ys h = one-right xs ys h.1
 
-  pub one-cross : (xs ys : List A) → AtMostOne Q (xs ++ ys) → SomeOf Q xs → SomeOf Q ys → ⊥
+  pub one-cross : (xs ys : List A) → AtMostOneHolds Q (xs ++ ys) → SomeOf Q xs → SomeOf Q ys → ⊥
   one-cross [] ys h s t = s
   one-cross (x ∷ xs) ys h (inl p) t = h.0 p (some-right Q xs ys t)
   one-cross (x ∷ xs) ys h (inr s) t = one-cross xs ys h.1 s t
 
-  pub one-both : (xs ys : List A) → AtMostOne Q xs → AtMostOne Q ys → (SomeOf Q xs → SomeOf Q ys → ⊥) → AtMostOne Q (xs ++ ys)
+  pub one-both : (xs ys : List A) → AtMostOneHolds Q xs → AtMostOneHolds Q ys → (SomeOf Q xs → SomeOf Q ys → ⊥) → AtMostOneHolds Q (xs ++ ys)
   one-both [] ys h g c = g
   one-both (x ∷ xs) ys h g c = (λ p s. by p (some-cases xs ys s), one-both xs ys h.1 g (λ s t. c (inr s) t))
     where
@@ -116,11 +116,11 @@ module _ {A : Type 0} (Q : A → Type 0) (x : A) where
   of-some (suc n) (inl q) = (omega arith, q)
   of-some (suc n) (inr s) = (omega arith, (of-some n s).1)
 
-  one-copy : (n : ℕ) → (2 ≤ n → Q x → ⊥) → AtMostOne Q (copies n x)
+  one-copy : (n : ℕ) → (2 ≤ n → Q x → ⊥) → AtMostOneHolds Q (copies n x)
   one-copy zero h = tt
   one-copy (suc n) h = (λ q s. let l = (of-some n s).0 in h (omega (arith, l)) q, one-copy n (λ l q. h (omega (arith, l)) q))
 
-  of-one : (n : ℕ) → AtMostOne Q (copies n x) → 2 ≤ n → Q x → ⊥
+  of-one : (n : ℕ) → AtMostOneHolds Q (copies n x) → 2 ≤ n → Q x → ⊥
   of-one zero h l q = omega (arith, l)
   of-one (suc zero) h l q = omega (arith, l)
   of-one (suc (suc n)) h l q = h.0 q (inl q)

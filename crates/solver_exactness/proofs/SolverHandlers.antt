@@ -6,7 +6,7 @@ use Rattle.infer_table.specs.declared.certainty.TypingMode.{TypingMode}
 use Rattle.infer_table.specs.declared.certainty.TypingMode.TheVariants.{Coherence, PostAnalysis}
 use Rattle.type_terms.proofs.Walking.{both}
 use Rattle.evaluation.specs.Lists.{Every}
-use Rattle.evaluation.specs.Content.{Values, Fact, Question}
+use Rattle.evaluation.specs.Content.{Values, Fact, NestedQuestion}
 use Rattle.evaluation.specs.FrameTables.{kinds_known}
 use Rattle.evaluation.specs.TableOperations.{begin}
 use Rattle.evaluation.proofs.TableBeginning.{begin-made}
@@ -16,9 +16,9 @@ use Rattle.solver_exactness.specs.ClosedTables.{AreClosed, ArePlaces, closed_tab
 use Rattle.solver_exactness.specs.Ways.{IsSelection}
 use Rattle.solver_exactness.specs.Exact.{AnswersExactly, AreSure}
 use Rattle.solver_exactness.proofs.ExactPlans.{IsExactFrom, IsExactPlan, planned-exact}
-use Rattle.assembly_laws.specs.Meaning.{Meaning}
+use Rattle.assembly_laws.specs.Meaning.{ViewMeaning}
 use Rattle.assembly_laws.specs.DeclaredWell.{IsDeclaredWell}
-use Rattle.assembly_laws.specs.Asking.{Asked, asked, all_known}
+use Rattle.assembly_laws.specs.Asking.{GoalOverKinds, goal_over_kinds, all_known}
 use Rattle.assembly_laws.specs.Cover.{goal_fact}
 use Rattle.assembly_laws.specs.Solver.{solver_planned, by_mode}
 use Rattle.assembly_laws.proofs.Cover.{asked-by}
@@ -33,12 +33,12 @@ use Rattle.solver_exactness.proofs.SolverSpecs.{specs-are-determined, specs-are-
 use Rattle.solver_exactness.proofs.SolverSelections.{outside, in-coherence}
 
 -- what the candidates apply with, as facts
-pub record Chosen (m : Meaning) (mode : TypingMode) (f : CanonicalForm) (a : Asked) (v : Values) : Type 1 where
+pub record Chosen (m : ViewMeaning) (mode : TypingMode) (f : CanonicalForm) (a : GoalOverKinds) (v : Values) : Type 1 where
   pub found : List (List Fact)
   pub applies : AreWays frame_tables (begin a.kinds) v (specs_by m mode a) found
   pub selects : IsSelection found (ways_by m mode (goal_fact f v))
 
-module _ (m : Meaning) (well : IsDeclaredWell m.view) (f : CanonicalForm) (a : Asked) (is_asked : asked m.view f ≡ Some a) (closed : AreClosed f.kinds) where
+module _ (m : ViewMeaning) (well : IsDeclaredWell m.view) (f : CanonicalForm) (a : GoalOverKinds) (is_asked : goal_over_kinds m.view f ≡ Some a) (closed : AreClosed f.kinds) where
   pub chosen : (v : Values) → ArePlaces f.kinds v → IsGoal m.view (goal_fact f v) → (mode : TypingMode) → Chosen m mode f a v
   chosen v places goal mode = at mode (subst (IsGoal m.view) stands goal)
     where
@@ -53,8 +53,8 @@ module _ (m : Meaning) (well : IsDeclaredWell m.view) (f : CanonicalForm) (a : A
           let x = outside m well f a is_asked closed v places goal.plain g.once g.elaborated in
           record { found = facts_beside (instance m f a is_asked closed v places) x.found; applies = x.are; selects = subst (λ (z : Fact). IsSelection (facts_beside (instance m f a is_asked closed v places) x.found) (ways_by m PostAnalysis z)) (sym stands) x.selects }
 
-module _ (applicable : AnswerTrees → Bool) (same : AnswerTrees → AnswerTrees → Bool) (m : Meaning) (sound : m.is_sound ≡ true) (well : IsDeclaredWell m.view) where
-  module _ (f : CanonicalForm) (a : Asked) (is_asked : asked m.view f ≡ Some a) (closed : AreClosed f.kinds) where
+module _ (applicable : AnswerTrees → Bool) (same : AnswerTrees → AnswerTrees → Bool) (m : ViewMeaning) (sound : m.is_sound ≡ true) (well : IsDeclaredWell m.view) where
+  module _ (f : CanonicalForm) (a : GoalOverKinds) (is_asked : goal_over_kinds m.view f ≡ Some a) (closed : AreClosed f.kinds) where
     pub specs-exact : (mode : TypingMode) → IsExactFrom frame_tables (specs_by m mode a) [] (by_mode applicable same (begin (kinds_known f.kinds)) m mode a)
     specs-exact Coherence = coherence-exact applicable same (begin (kinds_known f.kinds)) (silent applicable same m sound f a is_asked closed) m a
     specs-exact PostAnalysis = outside-exact applicable same (begin (kinds_known f.kinds)) (silent applicable same m sound f a is_asked closed) m a
@@ -76,18 +76,18 @@ module _ (applicable : AnswerTrees → Bool) (same : AnswerTrees → AnswerTrees
         (kinds-whole f.kinds a.kinds (asked-by m.view f.goal.environment f.goal.predicate (all_known f.kinds) a is_asked).kinds_are)
 
 -- what is considered, and what facts follow from, is that of the declarations, whatever goals fit them
-pub specs-same : (m : Meaning) (fits : CanonicalForm → Bool) (f : CanonicalForm) (mode : TypingMode) (a : Asked) → specs_by m mode a ≡ specs_by (meant_for m fits f) mode a
+pub specs-same : (m : ViewMeaning) (fits : CanonicalForm → Bool) (f : CanonicalForm) (mode : TypingMode) (a : GoalOverKinds) → specs_by m mode a ≡ specs_by (meant_for m fits f) mode a
 specs-same m fits f Coherence a = refl
 specs-same m fits f PostAnalysis a = refl
 
-pub ways-same : (m : Meaning) (fits : CanonicalForm → Bool) (f : CanonicalForm) (mode : TypingMode) (g : Fact) → ways_by (meant_for m fits f) mode g ≡ ways_by m mode g
+pub ways-same : (m : ViewMeaning) (fits : CanonicalForm → Bool) (f : CanonicalForm) (mode : TypingMode) (g : Fact) → ways_by (meant_for m fits f) mode g ≡ ways_by m mode g
 ways-same m fits f Coherence g = refl
 ways-same m fits f PostAnalysis g = refl
 
-module _ (applicable : AnswerTrees → Bool) (same : AnswerTrees → AnswerTrees → Bool) (m : Meaning) (sound : m.is_sound ≡ true) (well : IsDeclaredWell m.view) (fits : CanonicalForm → Bool) where
-  module _ (mode : TypingMode) (IsAsked : Question → Values → Type 0) (are : AreGoals m mode fits IsAsked) where
+module _ (applicable : AnswerTrees → Bool) (same : AnswerTrees → AnswerTrees → Bool) (m : ViewMeaning) (sound : m.is_sound ≡ true) (well : IsDeclaredWell m.view) (fits : CanonicalForm → Bool) where
+  module _ (mode : TypingMode) (IsAsked : NestedQuestion → Values → Type 0) (are : AreGoals m mode fits IsAsked) where
     -- the plan of each question of the set is exact
-    abbrev pub plans_exactly : (q : Question) (v : Values) (i : IsAsked q v) → (closed : AreClosed q.form.kinds) → ArePlaces q.form.kinds v
+    abbrev pub plans_exactly : (q : NestedQuestion) (v : Values) (i : IsAsked q v) → (closed : AreClosed q.form.kinds) → ArePlaces q.form.kinds v
         → IsExactPlan frame_tables closed_tables (ways_by m mode) IsAsked q v (solver_planned applicable same (meant_for m fits q.form) mode q.form)
     plans_exactly q v i closed places =
         let p = meant_for m fits q.form in
@@ -109,8 +109,8 @@ module _ (applicable : AnswerTrees → Bool) (same : AnswerTrees → AnswerTrees
           selects = subst (IsSelection x.found) (ways-same m fits q.form mode (goal_fact q.form v)) x.selects;
         }
 
-module _ {W : Type 0} (applicable : AnswerTrees → Bool) (same : AnswerTrees → AnswerTrees → Bool) (meaning_of : W → Meaning) (fits_in : W → CanonicalForm → Bool) (w : W)
-    (sound : (meaning_of w).is_sound ≡ true) (well : IsDeclaredWell (meaning_of w).view) (IsAsked : Question → Values → Type 0) where
+module _ {W : Type 0} (applicable : AnswerTrees → Bool) (same : AnswerTrees → AnswerTrees → Bool) (meaning_of : W → ViewMeaning) (fits_in : W → CanonicalForm → Bool) (w : W)
+    (sound : (meaning_of w).is_sound ≡ true) (well : IsDeclaredWell (meaning_of w).view) (IsAsked : NestedQuestion → Values → Type 0) where
   -- so the solver answers these exactly
   abbrev pub solver_answers_exactly : (mode : TypingMode) → AreGoals (meaning_of w) mode (fits_in w) IsAsked → AnswersExactly frame_tables closed_tables (solver_programs applicable same meaning_of fits_in) w mode
   solver_answers_exactly mode are = record {

@@ -16,24 +16,24 @@ use Rattle.evaluation.specs.TableOperations.{begin}
 use Rattle.evaluation.proofs.TableBeginning.{begin-made}
 use Rattle.evaluation.specs.Tables.{frame_tables}
 use Rattle.solver_exactness.specs.ClosedTables.{AreClosed, IsClosedKind}
-use Rattle.solver_exactness.specs.Exact.{IsMade}
+use Rattle.solver_exactness.specs.Exact.{IsMadeOfResponses}
 use Rattle.solver_exactness.proofs.ClosedLaws.{closed_tables_are_lawful}
 use Rattle.solver_exactness.proofs.ExactPlans.{IsExactFrom, left_at, goes, makes}
 use Rattle.solver_exactness.proofs.Listed.{each-exact}
 use Rattle.solver_exactness.proofs.Merging.{merged, merged-one, merged-some, merged-bare}
-use Rattle.assembly_laws.specs.Meaning.{Meaning}
+use Rattle.assembly_laws.specs.Meaning.{ViewMeaning}
 use Rattle.assembly_laws.specs.Knowing.{is_knowable}
-use Rattle.assembly_laws.specs.Asking.{Asked, asked, all_known, clauses, self_of, begins_unknown, is_unknown_kind}
+use Rattle.assembly_laws.specs.Asking.{GoalOverKinds, goal_over_kinds, all_known, clauses, self_of, begins_unknown, is_unknown_kind}
 use Rattle.assembly_laws.specs.Candidates.{Candidate, unknowable, by_clauses, built_in, by_impls, by_objects}
 use Rattle.assembly_laws.specs.Cover.{all_candidates}
-use Rattle.assembly_laws.specs.Solver.{Past, everything, preferred, is_settled, in_coherence, outside_coherence, plan_for, solver_planned, solver_handled, by_mode}
+use Rattle.assembly_laws.specs.Solver.{SolverPast, everything, preferred, is_settled, in_coherence, outside_coherence, plan_for, solver_planned, solver_handled, by_mode}
 use Rattle.assembly_laws.proofs.Cover.{asked-by, known-kinds}
 use Rattle.assembly_laws.proofs.SoundCandidates.{kinds-whole}
 use Rattle.solver_exactness.specs.SolverPlans.{specs_in_coherence, specs_outside, GoesThrough, PlansAreExact}
 use Rattle.solver_exactness.proofs.Preferences.{preferred-exact, settled-heard}
 
 -- some are considered, and then the plan goes on with others
-pub each-then : (first others : List Candidate) (go : Past → Plan frame_tables) (seen : Past) → ((later : Past) → IsExactFrom frame_tables others later (go later))
+pub each-then : (first others : List Candidate) (go : SolverPast → Plan frame_tables) (seen : SolverPast) → ((later : SolverPast) → IsExactFrom frame_tables others later (go later))
     → IsExactFrom frame_tables (first ++ others) seen (each_of frame_tables first go seen)
 each-then [] others go seen h = h seen
 each-then (c ∷ first) others go seen h = ([], first ++ others, refl, λ n. refl, λ a n. each-then first others go (came frame_tables c a n ∷ seen) h)
@@ -43,7 +43,7 @@ module _ (applicable : AnswerTrees → Bool) (same : AnswerTrees → AnswerTrees
   Joined rs = merged frame_tables applicable same begin_table rs
 
   -- the one response of the first candidate is the answer, whatever is left
-  one-made : (left : List Candidate) (seen : Past) (r : AnswerTrees) → responses frame_tables seen ≡ r ∷ [] → IsMade frame_tables left seen (Joined (responses frame_tables seen))
+  one-made : (left : List Candidate) (seen : SolverPast) (r : AnswerTrees) → responses frame_tables seen ≡ r ∷ [] → IsMadeOfResponses frame_tables left seen (Joined (responses frame_tables seen))
   one-made left seen r e = record {
     refused = λ n. absurd (never (sym n ∙ e));
     answers = λ x xs n. let z = merged-some frame_tables applicable same begin_table x xs in (z.0, ap Joined n ∙ z.1);
@@ -54,7 +54,7 @@ module _ (applicable : AnswerTrees → Bool) (same : AnswerTrees → AnswerTrees
       never : [] ≡ r ∷ [] → ⊥
       never q = absurd (cc)
 
-  module _ (m : Meaning) (a : Asked) where
+  module _ (m : ViewMeaning) (a : GoalOverKinds) where
     abbrev all : List Candidate
     all = all_candidates m.view a
 
@@ -82,7 +82,7 @@ module _ (applicable : AnswerTrees → Bool) (same : AnswerTrees → AnswerTrees
     append-none [] = refl
     append-none (x ∷ xs) = ap (λ z. x ∷ z) (append-none xs)
 
-    after-early : (seen : Past) (b : Bool) → is_settled seen ≡ b
+    after-early : (seen : SolverPast) (b : Bool) → is_settled seen ≡ b
         → IsExactFrom frame_tables late seen (if b then preferred applicable same begin_table seen else each_of frame_tables late (preferred applicable same begin_table) seen)
     after-early seen true e = preferred-exact applicable same begin_table silent late seen (λ n. absurd (settled-heard seen e n))
     after-early seen false e =
@@ -114,7 +114,7 @@ begins-known ks c none = refl
 begins-known ks c (tree (canonical of_type i) d o) = no-unknown (kind_at ks i) (λ k e. closed-at ks c i k e)
 begins-known ks c (tree l d o) = refl
 
-module _ (applicable : AnswerTrees → Bool) (same : AnswerTrees → AnswerTrees → Bool) (m : Meaning) (sound : m.is_sound ≡ true) (f : CanonicalForm) (a : Asked) (is_asked : asked m.view f ≡ Some a) (closed : AreClosed f.kinds) where
+module _ (applicable : AnswerTrees → Bool) (same : AnswerTrees → AnswerTrees → Bool) (m : ViewMeaning) (sound : m.is_sound ≡ true) (f : CanonicalForm) (a : GoalOverKinds) (is_asked : goal_over_kinds m.view f ≡ Some a) (closed : AreClosed f.kinds) where
   pub kinds-closed : AreClosed (map Some a.kinds)
   kinds-closed = subst AreClosed (sym (kinds-whole f.kinds a.kinds (asked-by m.view f.goal.environment f.goal.predicate (all_known f.kinds) a is_asked).kinds_are)) closed
 

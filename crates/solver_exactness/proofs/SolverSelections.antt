@@ -13,9 +13,9 @@ use Rattle.solver_exactness.specs.ClosedTables.{AreClosed, ArePlaces}
 use Rattle.solver_exactness.specs.Ways.{IsSelection}
 use Rattle.solver_exactness.specs.ModelWays.{ways_under}
 use Rattle.assembly_laws.specs.Facts.{is_plain, beside, clauses_of, reference_in}
-use Rattle.assembly_laws.specs.Meaning.{Meaning}
+use Rattle.assembly_laws.specs.Meaning.{ViewMeaning}
 use Rattle.assembly_laws.specs.DeclaredWell.{IsDeclaredWell}
-use Rattle.assembly_laws.specs.Asking.{Asked, asked, clauses, self_of, next_of, begins_unknown}
+use Rattle.assembly_laws.specs.Asking.{GoalOverKinds, goal_over_kinds, clauses, self_of, next_of, begins_unknown}
 use Rattle.assembly_laws.specs.Candidates.{Candidate, unknowable, unsure, by_clauses, built_in, by_sized, by_copy, by_auto, by_tuple, by_fn_ptr, by_call, by_unsize, by_impls, by_objects, as_written, misc, if_so, unsize_known, unsizing_outlives, unsize_recording, unsize_array_of, upcasts_of, unsize_struct_of}
 use Rattle.assembly_laws.specs.Cover.{all_candidates, goal_fact, read_reference}
 use Rattle.assembly_laws.specs.Knowing.{is_knowable}
@@ -39,7 +39,7 @@ use Rattle.solver_exactness.proofs.ImplRows.{impls}
 use Rattle.solver_exactness.proofs.Arranging.{rules-arranged, mixed-select, clauses-select}
 use Rattle.solver_exactness.proofs.SolverPlans.{begins-known}
 
-module _ (m : Meaning) (well : IsDeclaredWell m.view) (f : CanonicalForm) (a : Asked) (is_asked : asked m.view f ≡ Some a) (closed : AreClosed f.kinds) (v : Values) (places : ArePlaces f.kinds v)
+module _ (m : ViewMeaning) (well : IsDeclaredWell m.view) (f : CanonicalForm) (a : GoalOverKinds) (is_asked : goal_over_kinds m.view f ≡ Some a) (closed : AreClosed f.kinds) (v : Values) (places : ArePlaces f.kinds v)
     (plain : is_plain (goal_fact f v) ≡ true) where
   abbrev V : World
   V = m.view

@@ -18,10 +18,10 @@ use Rattle.evaluation.specs.TableOperations.{begin}
 use Rattle.evaluation.specs.Tables.{frame_tables}
 use Rattle.solver_exactness.specs.Closed.{DeterminesNested}
 use Rattle.solver_exactness.specs.ClosedTables.{AreClosed}
-use Rattle.assembly_laws.specs.Meaning.{Meaning}
+use Rattle.assembly_laws.specs.Meaning.{ViewMeaning}
 use Rattle.assembly_laws.specs.Knowing.{is_knowable}
 use Rattle.assembly_laws.specs.DeclaredWell.{IsDeclaredWell}
-use Rattle.assembly_laws.specs.Asking.{Asked, asked, all_known, clauses, self_of, next_of, begins_unknown}
+use Rattle.assembly_laws.specs.Asking.{GoalOverKinds, goal_over_kinds, all_known, clauses, self_of, next_of, begins_unknown}
 use Rattle.assembly_laws.specs.Candidates.{Candidate, unsure, unknowable, by_clauses, can_match, by_impls, as_written, misc, if_so, by_sized, by_copy, by_auto, by_tuple, by_fn_ptr, call_of, by_call, unsize_array_of, upcasts_from, upcasts_to, upcasts_of, unsize_by_struct, unsize_struct_of, unsize_known, unsizing_outlives, unsize_recording, by_unsize, built_in, bounds_from, object_source, written_source, objects_of, by_objects, upcast_source, all_equal, by_rule}
 use Rattle.assembly_laws.specs.Cover.{all_candidates}
 use Rattle.assembly_laws.specs.Solver.{most_candidates}
@@ -42,11 +42,11 @@ append-assoc : (xs ys zs : List Candidate) → xs ++ (ys ++ zs) ≡ (xs ++ ys) +
 append-assoc [] ys zs = refl
 append-assoc (x ∷ xs) ys zs = ap (λ l. x ∷ l) (append-assoc xs ys zs)
 
-pub outside-is : (m : Meaning) (a : Asked) → all_candidates m.view a ≡ specs_outside m a
+pub outside-is : (m : ViewMeaning) (a : GoalOverKinds) → all_candidates m.view a ≡ specs_outside m a
 outside-is m a = append-assoc (by_clauses m.view a (clauses a)) (built_in m.view a) (by_impls m.view a m.view.impls ++ by_objects m.view a)
 
 -- ---- what is determined
-module _ (m : Meaning) (well : IsDeclaredWell m.view) (f : CanonicalForm) (a : Asked) (is_asked : asked m.view f ≡ Some a) where
+module _ (m : ViewMeaning) (well : IsDeclaredWell m.view) (f : CanonicalForm) (a : GoalOverKinds) (is_asked : goal_over_kinds m.view f ≡ Some a) where
   kinds-are : kinds_known f.kinds ≡ a.kinds
   kinds-are = known-kinds f.kinds a.kinds (asked-by m.view f.goal.environment f.goal.predicate (all_known f.kinds) a is_asked).kinds_are
 
@@ -94,7 +94,7 @@ specs-are-few m well f a e = few-both m well f a e
 abbrev Sure : Candidate → Type 0
 Sure c = c.certainty ≡ Yes
 
-module _ (V : World) (a : Asked) where
+module _ (V : World) (a : GoalOverKinds) where
   so : (b : Bool) (xs : List Candidate) → Every Sure xs → Every Sure (if_so b xs)
   so true xs h = h
   so false xs h = tt

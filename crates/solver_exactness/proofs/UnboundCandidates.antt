@@ -22,8 +22,8 @@ use Rattle.infer_table.specs.Values.{Value}
 use Rattle.declarations.specs.Elaboration.{elaborate, supertraits}
 use Rattle.assembly_laws.specs.Declared.{is_declared, are_terms, are_references}
 use Rattle.assembly_laws.specs.DeclaredWell.{IsDeclaredWell}
-use Rattle.assembly_laws.specs.Asking.{Asked, clauses, self_of, next_of, begins_unknown, with_plain_head}
-use Rattle.assembly_laws.specs.Candidates.{Candidate, premise, first_value, all_equal, clause_source, by_rule, moved, behind, by_the_impl, unsure, unknowable, by_clauses, as_written, if_so, misc, by_sized, by_copy, by_auto, by_tuple, by_fn_ptr, call_of, by_call, unsize_array_of, upcast_source, upcasts_from, upcasts_to, upcasts_of, unsize_by_struct, unsize_struct_of, unsize_known, unsizing_outlives, unsize_recording, built_in, by_impls, can_match, bounds_from, object_source, written_source, objects_of}
+use Rattle.assembly_laws.specs.Asking.{GoalOverKinds, clauses, self_of, next_of, begins_unknown, with_plain_head}
+use Rattle.assembly_laws.specs.Candidates.{Candidate, premise, first_value, all_equal, clause_source, by_rule, moved, rules_behind, by_the_impl, unsure, unknowable, by_clauses, as_written, if_so, misc, by_sized, by_copy, by_auto, by_tuple, by_fn_ptr, call_of, by_call, unsize_array_of, upcast_source, upcasts_from, upcasts_to, upcasts_of, unsize_by_struct, unsize_struct_of, unsize_known, unsizing_outlives, unsize_recording, built_in, by_impls, can_match, bounds_from, object_source, written_source, objects_of}
 use Rattle.assembly_laws.specs.Cover.{all_candidates}
 use Rattle.assembly_laws.proofs.Instances.{is_bound, Unbound}
 use Rattle.assembly_laws.proofs.CandidateKinds.{every-append}
@@ -250,7 +250,7 @@ module _ (V : World) (well : IsDeclaredWell V) where
   supers-shut r h = each-in (supertraits V r) (λ x i. every-in (strict_supertraits V r) (strict-within (length V.traits) r h) x (supertraits-only V well.rank well.acyclic r x i))
 
   -- ---- candidates
-  module _ (a : Asked) (open_shut : Shut a.reference) where
+  module _ (a : GoalOverKinds) (open_shut : Shut a.reference) where
     abbrev pub IsFine : Candidate → Type 0
     IsFine c = Every (λ (n : Nested). Unbound n.goal.predicate) c.nested × ((c.kinds ≡ []) ⊎ Every IsUnboundEquation c.equations)
 
@@ -357,11 +357,11 @@ module _ (V : World) (well : IsDeclaredWell V) where
     impl-fine : (i : ImplDecl) → In i V.impls → IsFine (by_the_impl V a i)
     impl-fine i k =
         let d = member-each (λ (x : ImplDecl). are_terms x.header.args && are_references x.clauses) V.impls i impls-declared k in (
-          premises-shut (is_coinductive V a.reference.trait) (map (behind (length a.kinds)) i.clauses) (clauses-moved i.clauses (right (are_terms i.header.args) _ d)),
-          inr (equal-unbound a.reference.args (behind (length a.kinds) i.header).args open_shut (moved-shut (length a.kinds) i.header.args (declared-unbound i.header.args (left (are_terms i.header.args) _ d)))),
+          premises-shut (is_coinductive V a.reference.trait) (map (rules_behind (length a.kinds)) i.clauses) (clauses-moved i.clauses (right (are_terms i.header.args) _ d)),
+          inr (equal-unbound a.reference.args (rules_behind (length a.kinds) i.header).args open_shut (moved-shut (length a.kinds) i.header.args (declared-unbound i.header.args (left (are_terms i.header.args) _ d)))),
         )
       where
-        clauses-moved : (cs : List Reference) → are_references cs ≡ true → Every Shut (map (behind (length a.kinds)) cs)
+        clauses-moved : (cs : List Reference) → are_references cs ≡ true → Every Shut (map (rules_behind (length a.kinds)) cs)
         clauses-moved [] e = tt
         clauses-moved (c ∷ cs) e = (moved-shut (length a.kinds) c.args (declared-unbound c.args (left (are_terms c.args) (are_references cs) e)), clauses-moved cs (right (are_terms c.args) (are_references cs) e))
 

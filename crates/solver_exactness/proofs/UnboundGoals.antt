@@ -11,10 +11,10 @@ use Rattle.infer_table.specs.declared.certainty.TypingMode.TheVariants.{Coherenc
 use Rattle.evaluation.specs.Lists.{Every}
 use Rattle.evaluation.specs.Table.{Narrows}
 use Rattle.evaluation.proofs.ListLaws.{Every-mono}
-use Rattle.evaluation.specs.Content.{Values, Question, Terms}
+use Rattle.evaluation.specs.Content.{Values, NestedQuestion, ChosenTerms}
 use Rattle.evaluation.specs.Equations.{IsValue}
 use Rattle.evaluation.specs.Finite.{IsDetermined}
-use Rattle.evaluation.specs.FrameTables.{kinds_known, FrameTable, IsMadeFrame, Allows, Meets, Nested, Equation, good_in, slot_at, goal_in, question, fact, in_turn, pairs_in, types_in, consts_in}
+use Rattle.evaluation.specs.FrameTables.{kinds_known, FrameTable, IsMadeFrame, Allows, EquationIsMet, Nested, Equation, good_in, slot_at, goal_in, question, fact, in_turn, pairs_in, types_in, consts_in}
 use Rattle.evaluation.specs.Instances.{put_in}
 use Rattle.evaluation.specs.TableOperations.{begin, fresh, equate, recorded}
 use Rattle.evaluation.proofs.TableBeginning.{begin-made}
@@ -27,8 +27,8 @@ use Rattle.solver_exactness.proofs.FreeTables.{no-unknown}
 use Rattle.solver_exactness.proofs.RuleFilling.{no-types, no-consts}
 use Rattle.assembly_laws.specs.DeclaredWell.{IsDeclaredWell}
 use Rattle.assembly_laws.specs.Knowing.{is_knowable}
-use Rattle.assembly_laws.specs.Meaning.{Meaning}
-use Rattle.assembly_laws.specs.Asking.{Asked, asked, all_known}
+use Rattle.assembly_laws.specs.Meaning.{ViewMeaning}
+use Rattle.assembly_laws.specs.Asking.{GoalOverKinds, goal_over_kinds, all_known}
 use Rattle.assembly_laws.specs.Candidates.{Candidate, unknowable}
 use Rattle.assembly_laws.specs.Cover.{all_candidates}
 use Rattle.assembly_laws.proofs.Cover.{asked-by, known-kinds}
@@ -85,10 +85,10 @@ module _ (ks : List CanonicalVarKind) (closed : AreClosed (map Some ks)) (c : Ca
     onto : Narrows frame_tables from.table U
     onto = tables_are_lawful.recorded_narrows from.table c.regions narrow.made
 
-    allows-first : (s : Terms) → Allows U s → Allows t s
+    allows-first : (s : ChosenTerms) → Allows U s → Allows t s
     allows-first s h = narrow.allows s (onto.allows s h)
 
-    meets-first : (s : Terms) → Allows U s → Every (λ e. Meets e s) c.equations
+    meets-first : (s : ChosenTerms) → Allows U s → Every (λ e. EquationIsMet e s) c.equations
     meets-first s h = tables_are_lawful.equate_meets t from.table c.equations t-made from.equal s (onto.allows s h)
 
     same-labels : U.labels ≡ t.labels
@@ -135,7 +135,7 @@ module _ (ks : List CanonicalVarKind) (closed : AreClosed (map Some ks)) (c : Ca
             ∙ resolved-more goes.news U.content.bindings sorted y known
 
 -- ---- all candidates
-module _ (m : Meaning) (well : IsDeclaredWell m.view) (q : Question) (v : Values) (closed : AreClosed q.form.kinds) (a : Asked) (is_asked : asked m.view q.form ≡ Some a) (unbound : is_unbound q.form ≡ true) where
+module _ (m : ViewMeaning) (well : IsDeclaredWell m.view) (q : NestedQuestion) (v : Values) (closed : AreClosed q.form.kinds) (a : GoalOverKinds) (is_asked : goal_over_kinds m.view q.form ≡ Some a) (unbound : is_unbound q.form ≡ true) where
   abbrev kinds : List CanonicalVarKind
   kinds = kinds_known q.form.kinds
 
@@ -154,15 +154,15 @@ module _ (m : Meaning) (well : IsDeclaredWell m.view) (q : Question) (v : Values
       not-so false h = refl
 
   abbrev Kept : Candidate → Type 0
-  Kept c = AsksSuch frame_tables closed_tables (λ (p : Question) (u : Values). is_unbound p.form ≡ true) (begin kinds) v c
+  Kept c = AsksSuch frame_tables closed_tables (λ (p : NestedQuestion) (u : Values). is_unbound p.form ≡ true) (begin kinds) v c
 
   one-kept : (c : Candidate) → IsFine m.view well a reference-shut c → DeterminesNested frame_tables (begin kinds) c → Kept c
   one-kept c fine det = all c.nested fine.0 det
     where
       all : (ns : List Nested) → Every (λ (n : Nested). Unbound n.goal.predicate) ns
-          → ((s r : Terms) → Allows (fresh (begin kinds) c.kinds) s → Allows (fresh (begin kinds) c.kinds) r → Every (λ e. Meets e s) c.equations → Every (λ e. Meets e r) c.equations → s.own ≡ r.own → Every (λ n. fact n s ≡ fact n r) ns)
-          → Every (λ (n : Nested). (T : FrameTable) (s : Terms) → AsksFrom frame_tables (begin kinds) c T → IsMadeFrame T → AreClosed (map Some T.kinds) → IsDetermined T n → Allows T s → Allows (fresh (begin kinds) c.kinds) s
-          → Every (λ e. Meets e s) c.equations → s.own ≡ v → is_unbound (question T n).form ≡ true) ns
+          → ((s r : ChosenTerms) → Allows (fresh (begin kinds) c.kinds) s → Allows (fresh (begin kinds) c.kinds) r → Every (λ e. EquationIsMet e s) c.equations → Every (λ e. EquationIsMet e r) c.equations → s.own ≡ r.own → Every (λ n. fact n s ≡ fact n r) ns)
+          → Every (λ (n : Nested). (T : FrameTable) (s : ChosenTerms) → AsksFrom frame_tables (begin kinds) c T → IsMadeFrame T → AreClosed (map Some T.kinds) → IsDetermined T n → Allows T s → Allows (fresh (begin kinds) c.kinds) s
+          → Every (λ e. EquationIsMet e s) c.equations → s.own ≡ v → is_unbound (question T n).form ≡ true) ns
       all [] h d = tt
       all (n ∷ ns) h d = (
         λ T s from made shut det allowed own_allowed meets own.

@@ -22,7 +22,7 @@ use Rattle.evaluation.specs.Lists.{Every}
 use Rattle.evaluation.specs.TableAnswers.{put_into, is_fitting_answer, originals_of}
 use Rattle.evaluation.specs.Instances.{put_in, default_label}
 use Rattle.evaluation.specs.FrameTables.{FrameTable, IsMadeFrame, Nested, Equation, term_of, good_in, label_at, label_of_sort, slot_at, labels_from, labels_for, first_content, unknown, in_turn, pairs_in}
-use Rattle.evaluation.specs.Equations.{IsTerm, IsPair, IsValue, IsMade}
+use Rattle.evaluation.specs.Equations.{IsTermOf, IsTermPair, IsValue, IsMadeTable}
 use Rattle.evaluation.proofs.TableBeginning.{begin-made}
 use Rattle.evaluation.proofs.Fresh.{fresh-made}
 use Rattle.evaluation.proofs.ListLaws.{Every-mono}
@@ -30,7 +30,7 @@ use Rattle.evaluation.specs.TableOperations.{apply, begin, fresh, equate}
 use Rattle.evaluation.proofs.Applying.{for-bindings}
 use Rattle.evaluation.proofs.Equating.{with-content-is, pairs-terms, in-turn-narrows}
 use Rattle.evaluation.specs.Tables.{frame_tables}
-use Rattle.solver_exactness.specs.Closed.{Reaches, here, answered}
+use Rattle.solver_exactness.specs.Closed.{TableReaches, here, answered}
 use Rattle.assembly_laws.proofs.Instances.{is_bound, Unbound, shift-unbound}
 use Rattle.solver_exactness.proofs.QuestionTerms.{is_unknown}
 
@@ -237,7 +237,7 @@ apply-goes U W n r e =
     let a = put-adds U.content (originals_of U n) r x.0 x.1 in
     record { labels = ap (λ (z : FrameTable). z.labels) (sym x.2); news = a.0; bindings = ap (λ (z : FrameTable). z.content.bindings) (sym x.2) ∙ a.1 }
 
-pub reaches-goes : (U T : FrameTable) → Reaches frame_tables U T → GoesOn U T
+pub reaches-goes : (U T : FrameTable) → TableReaches frame_tables U T → GoesOn U T
 reaches-goes U T here = record { labels = refl; news = []; bindings = refl }
 reaches-goes U T (answered {U = V} {n = n} {r = r} y q b) =
     let x = reaches-goes U V y in
@@ -293,13 +293,13 @@ fresh-labels ks js = both-labels (labels_from 0 0 0 0 ks) (labels_for (first_con
 abbrev pub IsUnboundEquation : Equation → Type 0
 IsUnboundEquation e = Unbound (term_of e.left) × Unbound (term_of e.right)
 
-free-pairs : (t : FrameTable) → IsMadeFrame t → AreUnboundLabels t.labels → (es : List Equation) → Every IsUnboundEquation es → Every (IsPair (free_of (good_in t))) (pairs_in t es)
+free-pairs : (t : FrameTable) → IsMadeFrame t → AreUnboundLabels t.labels → (es : List Equation) → Every IsUnboundEquation es → Every (IsTermPair (free_of (good_in t))) (pairs_in t es)
 free-pairs t made ls [] h = tt
 free-pairs t made ls (e ∷ es) h =
     let x = (pairs-terms t made (e ∷ [])).0 in
     ((side e.left x.0 h.0.0, side e.right x.1 h.0.1), free-pairs t made ls es h.1)
   where
-    side : (v : Value) → IsTerm (good_in t) (put_in (slot_at t.labels) (term_of v)) → Unbound (term_of v) → IsTerm (free_of (good_in t)) (put_in (slot_at t.labels) (term_of v))
+    side : (v : Value) → IsTermOf (good_in t) (put_in (slot_at t.labels) (term_of v)) → Unbound (term_of v) → IsTermOf (free_of (good_in t)) (put_in (slot_at t.labels) (term_of v))
     side v x u = record { single = x.single; made = made-free (good_in t) terms (put_in (slot_at t.labels) (term_of v)) x.made (put-unbound t.labels ls (term_of v) u) }
 
 first-of : (a b : Bool) → (a && b) ≡ true → a ≡ true
@@ -313,7 +313,7 @@ values-unbound ks js es h U e =
     let good = free_of (good_in t) in
     let x = with-content-is t (in_turn (pairs_in t es) t.content) U e in
     let none-there : t.content.bindings ≡ [] = for-bindings unknown (first_content ks) 0 js in
-    let start : IsMade good t.content = record {
+    let start : IsMadeTable good t.content = record {
       acyclic = made.table.acyclic;
       values = subst (Every (IsValue good)) (sym none-there) tt;
       counted = record { types = λ v g. made.table.counted.types v (first-of _ _ g); consts = λ v g. made.table.counted.consts v (first-of _ _ g) };

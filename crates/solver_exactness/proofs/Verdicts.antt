@@ -9,7 +9,7 @@ use Rattle.evaluation.specs.Table.{Tables, operations, workings, IsTable}
 use Rattle.evaluation.specs.Candidate.{Spec, candidate}
 use Rattle.solver_exactness.specs.Plays.{Ends}
 use Rattle.solver_exactness.specs.Closed.{Closing, IsClosing, IsBare, AreWays, no_more, refused, applied, DeterminesNested, AsksSuch}
-use Rattle.solver_exactness.specs.Ways.{AtMostOne, IsRightFor}
+use Rattle.solver_exactness.specs.Ways.{AtMostOneHolds, IsRightFor}
 use Rattle.solver_exactness.proofs.Rounds.{Says, SaysSome, SaysYes, SaysMaybe}
 use Rattle.solver_exactness.proofs.Candidates.{Told, refused_is, applied_is}
 use Rattle.solver_exactness.proofs.Merging.{present}
@@ -129,7 +129,7 @@ module _ {Question Response : Type 0} (t : Tables Question Response) (laws : IsT
     add-yes premises ways r rs one h y (inl x) = inr (r, ap (λ z. r ∷ z) x.0, y, inl h)
     add-yes premises ways r rs one h y (inr x) = absurd (one h x.3)
 
-    pub tells_settled : (ways : List (List t.Fact)) (xs : List (Option Response)) → Tells ways xs → AtMostOne (λ premises. Every Holds premises) ways → Every (λ premises. Every Known premises) ways → Settled ways (present xs)
+    pub tells_settled : (ways : List (List t.Fact)) (xs : List (Option Response)) → Tells ways xs → AtMostOneHolds (λ premises. Every Holds premises) ways → Every (λ premises. Every Known premises) ways → Settled ways (present xs)
     tells_settled [] [] end one i = inl (refl, λ s. s)
     tells_settled (premises ∷ ways) [] s one i = elim s [ ]
     tells_settled [] (Some r ∷ xs) s one i = elim s [ ]

@@ -4,11 +4,11 @@ use Rattle.type_terms.specs.Label.{of_type, adt, placeholder, canonical}
 use Rattle.type_terms.specs.Trees.{Trees, none, tree, leaf}
 use Rattle.infer_table.specs.declared.canonical.CanonicalVarKind.TheVariants.{Ty}
 use Rattle.evaluation.specs.Content.{Fact}
-use Rattle.goal_frames.specs.Rules.{Bound, goal_of, Rule}
+use Rattle.goal_frames.specs.Rules.{TraitBound, goal_of, Rule}
 use Rattle.solver_exactness.specs.Ways.{HasShortChains, IsPossible}
 use Rattle.solver_exactness.specs.RuleWays.{rule_ways}
 
-abbrev show : Trees → Bound
+abbrev show : Trees → TraitBound
 show t = record { trait = 0; arguments = t }
 
 abbrev vec : Trees → Trees

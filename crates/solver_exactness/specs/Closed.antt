@@ -48,15 +48,15 @@ module _ {Question Response : Type 0} (t : Tables Question Response) where
     pub needs : map (λ n. t.fact n assignment) c.nested ≡ premises
 
   -- its equations hold for no choice
-  abbrev pub Refuses : t.Table → t.Values → Spec (workings t) → Type 0
-  Refuses begin v c =
+  abbrev pub EquationsRefuse : t.Table → t.Values → Spec (workings t) → Type 0
+  EquationsRefuse begin v c =
       (s : t.Assignment) → t.Allows (t.fresh begin c.kinds) s → t.own s ≡ v → Every (λ e. t.Meets e s) c.equations → ⊥
 
   -- the candidates that apply are these ways to conclude the goal, each by its premises, in order
   pub data AreWays (begin : t.Table) (v : t.Values) : List (Spec (workings t)) → List (List t.Fact) → Type 0 where
     no_more : AreWays begin v [] []
     refused : {c : Spec (workings t)} {cs : List (Spec (workings t))} {ways : List (List t.Fact)}
-        → Refuses begin v c → AreWays begin v cs ways → AreWays begin v (c ∷ cs) ways
+        → EquationsRefuse begin v c → AreWays begin v cs ways → AreWays begin v (c ∷ cs) ways
     applied : {c : Spec (workings t)} {cs : List (Spec (workings t))} {premises : List t.Fact} {ways : List (List t.Fact)}
         → Applies begin v c premises → AreWays begin v cs ways → AreWays begin v (c ∷ cs) (premises ∷ ways)
 
@@ -69,15 +69,15 @@ module _ {Question Response : Type 0} (t : Tables Question Response) where
 
   -- ---- the tables over which a candidate asks
   -- what answers without values make of a table
-  pub data Reaches (T : t.Table) : t.Table → Type 0 where
-    here : Reaches T T
-    answered : {U W : t.Table} {n : t.Nested} {r : Response} → Reaches T U → t.apply U n r ≡ Some W → t.has_values r ≡ false → Reaches T W
+  pub data TableReaches (T : t.Table) : t.Table → Type 0 where
+    here : TableReaches T T
+    answered : {U W : t.Table} {n : t.Nested} {r : Response} → TableReaches T U → t.apply U n r ≡ Some W → t.has_values r ≡ false → TableReaches T W
 
   -- its equations hold there, and what it says of lifetimes is recorded; and answers without values were put in
   pub record AsksFrom (begin : t.Table) (c : Spec (workings t)) (T : t.Table) : Type 0 where
     pub table : t.Table
     pub equal : t.equate (t.fresh begin c.kinds) c.equations ≡ Some table
-    pub reached : Reaches (t.recorded table c.regions) T
+    pub reached : TableReaches (t.recorded table c.regions) T
 
   -- where its equations hold, its nested goals are such goals, from whatever table without unknowns it asks them that determines them
   abbrev pub AsksSuch : Closing → (Question → t.Values → Type 0) → t.Table → t.Values → Spec (workings t) → Type 0

@@ -6,7 +6,7 @@ use Rattle.infer_table.specs.declared.canonical.CanonicalVarKind.{CanonicalVarKi
 use Rattle.infer_table.specs.declared.canonical.CanonicalVarKind.TheVariants.{Ty, PlaceholderTy, Const, PlaceholderConst, Region}
 use Rattle.evaluation.specs.Lists.{Every}
 use Rattle.evaluation.specs.Instances.{is_place, as_place, first_term, other_terms, term_at}
-use Rattle.evaluation.specs.Content.{Values, Question}
+use Rattle.evaluation.specs.Content.{Values, NestedQuestion}
 use Rattle.evaluation.specs.FrameTables.{FrameTable, is_placeholder_of}
 use Rattle.evaluation.specs.Tables.{frame_tables}
 use Rattle.solver_exactness.specs.Closed.{Closing}
@@ -53,7 +53,7 @@ abbrev pub closed_tables : Closing frame_tables
 closed_tables = record {
   Shape = Kinds;
   shape = λ (t : FrameTable). map Some t.kinds;
-  shape_of = λ (q : Question). q.form.kinds;
+  shape_of = λ (q : NestedQuestion). q.form.kinds;
   IsClosed = AreClosed;
   IsApart = ArePlaces;
 }

@@ -8,10 +8,10 @@ use Rattle.evaluation.specs.Candidate.{Spec, Considered, Next, consider, answer}
 use Rattle.evaluation.specs.Merge.{responses}
 use Rattle.evaluation.specs.Handler.{Handled}
 use Rattle.goal_frames.specs.Programs.{Programs}
-use Rattle.goal_frames.specs.Searches.{Handles, Asked, meaning}
+use Rattle.goal_frames.specs.Searches.{Handles, GoalInMode, meaning}
 use Rattle.search_graph.specs.Plain.{IsPlain}
 use Rattle.solver_exactness.specs.Closed.{Closing, AreWays, DeterminesNested, AsksSuch, IsBare}
-use Rattle.solver_exactness.specs.Ways.{IsSelection, HasShortChains, IsDecided, IsExactFor, IsRightFor}
+use Rattle.solver_exactness.specs.Ways.{IsSelection, HasShortChains, HasOneWayWithin, IsExactFor, IsRightFor}
 
 module _ {Question Response : Type 0} (t : Tables Question Response) where
   -- each candidate was the one to consider
@@ -30,7 +30,7 @@ module _ {Question Response : Type 0} (t : Tables Question Response) where
 
   -- what is made of the responses: a refusal where all candidates were refused; else an answer, also before all candidates were
   -- considered; it holds no values where they hold none, and is the only response if that is a definite yes
-  pub record IsMade (left : List (Spec (workings t))) (seen : List (Considered (workings t))) (a : Option Response) : Type 0 where
+  pub record IsMadeOfResponses (left : List (Spec (workings t))) (seen : List (Considered (workings t))) (a : Option Response) : Type 0 where
     pub refused : responses t seen ≡ [] → (a ≡ None) × (left ≡ [])
     pub answers : (r : Response) (rs : List Response) → responses t seen ≡ r ∷ rs → (x : Response) × (a ≡ Some x)
     pub bare : Every (λ r. t.has_values r ≡ false) (responses t seen) → IsBare t a
@@ -53,7 +53,7 @@ module _ {Question Response : Type 0} (t : Tables Question Response) (k : Closin
     pub considers : (seen : List (Considered (workings t))) (c : Spec (workings t))
         → WereConsidered t h.next seen → h.next seen ≡ consider c → GoesTo t left seen c
     pub makes : (seen : List (Considered (workings t))) (a : Option Response) (ignored : List ℕ)
-        → WereConsidered t h.next seen → h.next seen ≡ answer a ignored → IsMade t (left seen) seen a
+        → WereConsidered t h.next seen → h.next seen ≡ answer a ignored → IsMadeOfResponses t (left seen) seen a
     -- the goal determines the nested goals of each, and these are goals that are asked
     pub determined : Every (DeterminesNested t h.begin) specs
     pub nested : Every (AsksSuch t k IsAsked h.begin v) specs
@@ -77,7 +77,7 @@ module _ {Question Response : Type 0} (t : Tables Question Response) (k : Closin
         (q : Question) (v : t.Values) (i : e.IsAsked q v) (c : k.IsClosed (k.shape_of q)) (d : k.IsApart (k.shape_of q) v)
         → Every (λ (c : Spec (workings t)). c.certainty ≡ Yes) (e.exact q v i c d).specs
 
-    module _ (e : AnswersExactly) {C I R F : Type 0} (handles : Handles C I R F p.World (Asked t p) (Option Response)) where
+    module _ (e : AnswersExactly) {C I R F : Type 0} (handles : Handles C I R F p.World (GoalInMode t p) (Option Response)) where
       -- plain recursion in chains of fewer than n questions
       abbrev pub Plain : ℕ → Question → Option Response → Type 0
       Plain n q a = IsPlain (meaning t p handles) w n (mode, p.goal_of q) a
@@ -92,7 +92,7 @@ module _ {Question Response : Type 0} (t : Tables Question Response) (k : Closin
       abbrev pub PlainIsRight : (t.Fact → Type 0) → Type 0
       PlainIsRight Holds =
           (n : ℕ) (q : Question) (v : t.Values) (a : Option Response) → e.IsAsked q v → k.IsClosed (k.shape_of q) → k.IsApart (k.shape_of q) v
-          → IsDecided e.ways Holds n (t.fact_of q v) → Plain n q a → IsRightFor t Holds (t.fact_of q v) a
+          → HasOneWayWithin e.ways Holds n (t.fact_of q v) → Plain n q a → IsRightFor t Holds (t.fact_of q v) a
 
       -- a goal whose chains of premises are short enough has an answer by plain recursion
       abbrev pub PlainAnswers : Type 0

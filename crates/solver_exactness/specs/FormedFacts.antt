@@ -9,15 +9,15 @@ use Rattle.type_terms.specs.Proofs.{In}
 use Rattle.type_terms.specs.Walks.{struct_is, trait_is}
 use Rattle.type_terms.specs.Made.{terms, is_made}
 use Rattle.infer_table.specs.declared.certainty.TypingMode.{TypingMode}
-use Rattle.evaluation.specs.Content.{Values, Fact, Question, fact_of}
+use Rattle.evaluation.specs.Content.{Values, Fact, NestedQuestion, fact_of}
 use Rattle.declarations.specs.Applied.{sorts_of}
 use Rattle.assembly_laws.specs.Facts.{is_unerased, is_plain, clauses_of, reference_in}
-use Rattle.assembly_laws.specs.Asking.{Asked, asked, next_of}
+use Rattle.assembly_laws.specs.Asking.{GoalOverKinds, goal_over_kinds, next_of}
 use Rattle.assembly_laws.specs.DeclaredWell.{IsDeclaredWell}
-use Rattle.assembly_laws.specs.Meaning.{Meaning}
+use Rattle.assembly_laws.specs.Meaning.{ViewMeaning}
 use Rattle.solver_exactness.specs.RowWays.{autos_stand_once}
 use Rattle.solver_exactness.specs.SolverChoices.{IsElaborated}
-use Rattle.solver_exactness.specs.GoalSets.{begins_typed, any_label, AreKept}
+use Rattle.solver_exactness.specs.GoalSets.{begins_typed, any_label, IsGoalSet}
 
 -- the sorts of the parameters of structs and traits, by name; of a trait Self first
 pub record Sorts : Type 0 where
@@ -29,9 +29,9 @@ abbrev pub EachNode : (Label → Trees → Type 0) → Trees → Type 0
 EachNode P none = Unit {0}
 EachNode P (tree l c o) = P l c × EachNode P c × EachNode P o
 
-abbrev pub AreTypes : List Sort → Type 0
-AreTypes [] = Unit {0}
-AreTypes (s ∷ ss) = (s ≡ of_type) × AreTypes ss
+abbrev pub AreTypeSorts : List Sort → Type 0
+AreTypeSorts [] = Unit {0}
+AreTypeSorts (s ∷ ss) = (s ≡ of_type) × AreTypeSorts ss
 
 -- the parameter is one of these, of its sort
 abbrev pub IsParamOf : List Sort → ℕ → Sort → Type 0
@@ -53,8 +53,8 @@ module _ (V : World) (sorts : Sorts) where
   FitsNode (principal n t) c = IsTraitOf t (of_type ∷ sorts_of c)
   FitsNode (auto_trait t) c = IsTraitOf t (of_type ∷ [])
   FitsNode (predicate (of_trait t)) c = IsTraitOf t (sorts_of c)
-  FitsNode tuple c = AreTypes (sorts_of c)
-  FitsNode (fn_ptr n) c = AreTypes (sorts_of c)
+  FitsNode tuple c = AreTypeSorts (sorts_of c)
+  FitsNode (fn_ptr n) c = AreTypeSorts (sorts_of c)
   FitsNode (raw_pointer b) c = begins_typed c ≡ true
   FitsNode array c = begins_typed c ≡ true
   FitsNode slice c = begins_typed c ≡ true
@@ -89,7 +89,7 @@ module _ (V : World) (sorts : Sorts) where
     pub sort : sorts_of t ≡ of_type ∷ []
     pub params : EachNode (HasParams ss) t
 
-  pub record IsBound (ss : List Sort) (r : Reference) : Type 0 where
+  pub record IsFormedBound (ss : List Sort) (r : Reference) : Type 0 where
     pub nodes : NodesFit r.args
     pub trait : IsTraitOf r.trait (sorts_of r.args)
     pub params : EachNode (HasParams ss) r.args
@@ -97,7 +97,7 @@ module _ (V : World) (sorts : Sorts) where
   -- all that is declared is formed, Self is a type, and the traits of core have the parameters that they have there
   pub record IsFormedView : Type 0 where
     pub fields : (x : StructDecl) (t : Trees) → In x V.structs → In t x.fields → IsField (sorts.of_struct x.name) t
-    pub bounds : (x : TraitDecl) (b : Reference) → In x V.traits → In b x.bounds → IsBound (sorts.of_trait x.name) b
+    pub bounds : (x : TraitDecl) (b : Reference) → In x V.traits → In b x.bounds → IsFormedBound (sorts.of_trait x.name) b
     pub clause_nodes : (i : ImplDecl) (c : Reference) → In i V.impls → In c i.clauses → NodesFit c.args
     pub clause_traits : (i : ImplDecl) (c : Reference) → In i V.impls → In c i.clauses → IsTraitOf c.trait (sorts_of c.args)
     pub self_first : (t : ℕ) → trait_is (λ x. true) V t ≡ true → (ss : List Sort) × (sorts.of_trait t ≡ of_type ∷ ss)
@@ -115,8 +115,8 @@ pub record FitsSorts (V : World) (sorts : Sorts) (r : Reference) : Type 0 where
 -- so are those of a decided goal, if its fact is formed, whatever stands for its variables
 abbrev pub FormedGoalsFit : Type 0
 FormedGoalsFit =
-    (V : World) (sorts : Sorts) (q : Question) (v : Values) (a : Asked) → asked V q.form ≡ Some a → IsFormedFact V sorts (fact_of q v) → FitsSorts V sorts a.reference
+    (V : World) (sorts : Sorts) (q : NestedQuestion) (v : Values) (a : GoalOverKinds) → goal_over_kinds V q.form ≡ Some a → IsFormedFact V sorts (fact_of q v) → FitsSorts V sorts a.reference
 
 -- a view that is declared well and formed keeps such facts along ways, in both modes
 abbrev pub FormedAreKept : Type 0
-FormedAreKept = (m : Meaning) (mode : TypingMode) (sorts : Sorts) → IsDeclaredWell m.view → IsFormedView m.view sorts → AreKept m mode (IsFormedFact m.view sorts)
+FormedAreKept = (m : ViewMeaning) (mode : TypingMode) (sorts : Sorts) → IsDeclaredWell m.view → IsFormedView m.view sorts → IsGoalSet m mode (IsFormedFact m.view sorts)

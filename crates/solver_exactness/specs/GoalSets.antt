@@ -10,7 +10,7 @@ use Rattle.type_terms.specs.Made.{terms, is_made}
 use Rattle.infer_table.specs.Canonical.{CanonicalForm}
 use Rattle.infer_table.specs.declared.certainty.TypingMode.{TypingMode}
 use Rattle.evaluation.specs.Lists.{Every}
-use Rattle.evaluation.specs.Content.{Values, Fact, Question, fact_of}
+use Rattle.evaluation.specs.Content.{Values, Fact, NestedQuestion, fact_of}
 use Rattle.evaluation.specs.FrameTables.{kinds_known}
 use Rattle.evaluation.specs.TableOperations.{begin}
 use Rattle.evaluation.specs.Tables.{frame_tables}
@@ -18,8 +18,8 @@ use Rattle.solver_exactness.specs.Closed.{AsksSuch}
 use Rattle.solver_exactness.specs.ClosedTables.{AreClosed, ArePlaces, closed_tables}
 use Rattle.assembly_laws.specs.Facts.{reference_in}
 use Rattle.assembly_laws.specs.DeclaredWell.{IsDeclaredWell}
-use Rattle.assembly_laws.specs.Meaning.{Meaning}
-use Rattle.assembly_laws.specs.Asking.{Asked, asked, next_of}
+use Rattle.assembly_laws.specs.Meaning.{ViewMeaning}
+use Rattle.assembly_laws.specs.Asking.{GoalOverKinds, goal_over_kinds, next_of}
 use Rattle.solver_exactness.specs.SolverGoals.{specs_by, ways_by, IsGoal, AreGoals}
 
 -- the first of the trees is a type
@@ -31,7 +31,7 @@ abbrev pub any_label : Label → Bool
 any_label l = true
 
 -- the fact's terms are made as terms are, of names of the view, and the self type is a type, as is what it is to unsize to
-pub record IsAskable (V : World) (f : Fact) : Type 0 where
+pub record IsAskableFact (V : World) (f : Fact) : Type 0 where
   pub goal : IsGoal V f
   pub made : is_made any_label terms (reference_in f).args ≡ true
   pub written : written_in V (reference_in f) ≡ true
@@ -39,25 +39,25 @@ pub record IsAskable (V : World) (f : Fact) : Type 0 where
   pub target : (not ((reference_in f).trait == unsize) || begins_typed (next_of (reference_in f).args)) ≡ true
 
 -- facts of which P holds can be asked, and what they follow from are such facts
-pub record AreKept (m : Meaning) (mode : TypingMode) (P : Fact → Type 0) : Type 0 where
-  pub askable : (f : Fact) → P f → IsAskable m.view f
+pub record IsGoalSet (m : ViewMeaning) (mode : TypingMode) (P : Fact → Type 0) : Type 0 where
+  pub askable : (f : Fact) → P f → IsAskableFact m.view f
   pub kept : (f : Fact) → P f → Every (Every P) (ways_by m mode f)
 
 -- the decided questions of such facts that are admitted
-pub record IsGoalOf (V : World) (admits : CanonicalForm → Bool) (P : Fact → Type 0) (q : Question) (v : Values) : Type 0 where
-  pub form : Asked
-  pub decided : asked V q.form ≡ Some form
+pub record IsGoalOf (V : World) (admits : CanonicalForm → Bool) (P : Fact → Type 0) (q : NestedQuestion) (v : Values) : Type 0 where
+  pub form : GoalOverKinds
+  pub decided : goal_over_kinds V q.form ≡ Some form
   pub admitted : admits q.form ≡ true
   pub of_fact : P (fact_of q v)
 
 -- what is asked of such a goal is admitted again; and such goals fit the declarations
-pub record FitsAreKept (m : Meaning) (mode : TypingMode) (fits admits : CanonicalForm → Bool) (P : Fact → Type 0) : Type 0 where
-  pub fitting : (q : Question) (v : Values) → IsGoalOf m.view admits P q v → fits q.form ≡ true
-  pub kept : (q : Question) (v : Values) → IsGoalOf m.view admits P q v → AreClosed q.form.kinds → ArePlaces q.form.kinds v → (a : Asked) → asked m.view q.form ≡ Some a
-      → Every (AsksSuch frame_tables closed_tables (λ (p : Question) (u : Values). admits p.form ≡ true) (begin (kinds_known q.form.kinds)) v) (specs_by m mode a)
+pub record FitsAreKept (m : ViewMeaning) (mode : TypingMode) (fits admits : CanonicalForm → Bool) (P : Fact → Type 0) : Type 0 where
+  pub fitting : (q : NestedQuestion) (v : Values) → IsGoalOf m.view admits P q v → fits q.form ≡ true
+  pub kept : (q : NestedQuestion) (v : Values) → IsGoalOf m.view admits P q v → AreClosed q.form.kinds → ArePlaces q.form.kinds v → (a : GoalOverKinds) → goal_over_kinds m.view q.form ≡ Some a
+      → Every (AsksSuch frame_tables closed_tables (λ (p : NestedQuestion) (u : Values). admits p.form ≡ true) (begin (kinds_known q.form.kinds)) v) (specs_by m mode a)
 
 -- so these questions are a set that leads to no others, in each mode in which facts and fits are kept
 abbrev pub GoalsLeadToGoals : (Fact → Type 0) → Type 0
 GoalsLeadToGoals P =
-    (m : Meaning) (mode : TypingMode) (fits admits : CanonicalForm → Bool) → IsDeclaredWell m.view → AreKept m mode P → FitsAreKept m mode fits admits P
+    (m : ViewMeaning) (mode : TypingMode) (fits admits : CanonicalForm → Bool) → IsDeclaredWell m.view → IsGoalSet m mode P → FitsAreKept m mode fits admits P
     → AreGoals m mode fits (IsGoalOf m.view admits P)

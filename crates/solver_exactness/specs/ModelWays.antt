@@ -5,7 +5,7 @@ use Rattle.type_terms.specs.Rules.{rules, strict_supertraits}
 use Rattle.type_terms.specs.Proofs.{HasProof}
 use Rattle.type_terms.specs.Walks.{is_known_in}
 use Rattle.type_terms.specs.Answers.{short_chains, is_possible, SingleWay}
-use Rattle.solver_exactness.specs.Ways.{HasShortChains, IsPossible, IsDecided, HoldsByWays}
+use Rattle.solver_exactness.specs.Ways.{HasShortChains, IsPossible, HasOneWayWithin, HoldsByWays}
 
 -- under where-clauses, one way for each rule
 abbrev pub ways_under : World → List Reference → Reference → List (List Reference)
@@ -19,7 +19,7 @@ abbrev pub ProofsAreByWays : Type 0
 ProofsAreByWays = (W : World) (E : List Reference) → HoldsByWays (ways_under W E) (HasProof W E)
 
 abbrev pub SingleWayIsDecided : Type 0
-SingleWayIsDecided = (W : World) (E : List Reference) (n : ℕ) (r : Reference) → SingleWay n W E r → IsDecided (ways_under W E) (HasProof W E) n r
+SingleWayIsDecided = (W : World) (E : List Reference) (n : ℕ) (r : Reference) → SingleWay n W E r → HasOneWayWithin (ways_under W E) (HasProof W E) n r
 
 pub record PossibleIsByWays : Type 0 where
   pub to : (V : World) (c n : ℕ) (r : Reference) → is_possible n V c r ≡ true → IsPossible (ways_for V c) n r

@@ -4,7 +4,7 @@ use Rattle.type_terms.specs.Worlds.{World, Reference}
 use Rattle.type_terms.specs.Answers.{is_closed}
 use Rattle.evaluation.specs.Content.{Fact}
 use Rattle.assembly_laws.specs.Facts.{clauses_of, reference_in}
-use Rattle.assembly_laws.specs.Meaning.{Meaning}
+use Rattle.assembly_laws.specs.Meaning.{ViewMeaning}
 use Rattle.solver_exactness.specs.ModelWays.{ways_under, ways_for}
 use Rattle.solver_exactness.specs.SolverWays.{ways_outside, ways_in_coherence}
 
@@ -18,4 +18,4 @@ OutsideComesBack = (V : World) (f : Fact) → read_back (ways_outside V f) ≡ w
 -- in coherence of closed references without where-clauses
 abbrev pub CoherenceComesBack : Type 0
 CoherenceComesBack =
-    (m : Meaning) (f : Fact) → clauses_of f.goal.environment ≡ [] → is_closed (reference_in f).args ≡ true → read_back (ways_in_coherence m f) ≡ ways_for m.view m.crate (reference_in f)
+    (m : ViewMeaning) (f : Fact) → clauses_of f.goal.environment ≡ [] → is_closed (reference_in f).args ≡ true → read_back (ways_in_coherence m f) ≡ ways_for m.view m.crate (reference_in f)

@@ -7,7 +7,7 @@ use Rattle.infer_table.specs.declared.certainty.TypingMode.{TypingMode}
 use Rattle.infer_table.specs.declared.certainty.TypingMode.TheVariants.{Coherence, PostAnalysis}
 use Rattle.infer_table.specs.Responses.{AnswerTrees}
 use Rattle.search_graph.specs.Meaning as Search
-use Rattle.evaluation.specs.Content.{Values, Question, fact_of}
+use Rattle.evaluation.specs.Content.{Values, NestedQuestion, fact_of}
 use Rattle.evaluation.specs.Tables.{frame_tables}
 use Rattle.goal_frames.specs.Meanings.{HandlerMeaning}
 use Rattle.goal_frames.specs.declared.store.InputId.{InputId}
@@ -15,17 +15,17 @@ use Rattle.goal_frames.specs.declared.store.ResponseId.{ResponseId}
 use Rattle.goal_frames.specs.declared.frame.GoalFrame.{GoalFrame}
 use Rattle.solver_context.specs.declared.context.SolverCx.{SolverCx}
 use Rattle.solver_context.specs.Contexts.{entries_of}
-use Rattle.solver_context.specs.Evaluations.{IsFound}
+use Rattle.solver_context.specs.Evaluations.{IsFoundBySearch}
 use Rattle.solver_context.specs.Searching.{solver_meaning}
 use Rattle.solver_exactness.specs.Ways.{HasShortChains, IsExactFor, IsRightFor}
 use Rattle.assembly_laws.specs.Facts.{clauses_of, reference_in}
-use Rattle.assembly_laws.specs.Meaning.{Meaning}
-use Rattle.solver_exactness.specs.SolverGoals.{ways_by, IsProved}
+use Rattle.assembly_laws.specs.Meaning.{ViewMeaning}
+use Rattle.solver_exactness.specs.SolverGoals.{ways_by, FactIsProved}
 use Rattle.solver_exactness.specs.SolverAnswers.{solver_goals, TellsPossible}
 use Rattle.solver_exactness.specs.FormedFacts.{Sorts}
 use Rattle.solver_exactness.specs.FormedAnswers.{IsFormedGoal, AreDeclared}
 
-module _ {W : Type 0} (applicable : AnswerTrees → Bool) (same : AnswerTrees → AnswerTrees → Bool) (meaning_of : W → Meaning) (fits_in : W → CanonicalForm → Bool)
+module _ {W : Type 0} (applicable : AnswerTrees → Bool) (same : AnswerTrees → AnswerTrees → Bool) (meaning_of : W → ViewMeaning) (fits_in : W → CanonicalForm → Bool)
     {Handler : Type 0} (is_ready : Handler → List Entry → Type 0) (declares : Handler → List Entry → W) where
   -- the solver's goals for such a handler, and what they mean to the search of a context with it
   abbrev pub solver_in : HandlerMeaning Handler
@@ -38,28 +38,28 @@ module _ {W : Type 0} (applicable : AnswerTrees → Bool) (same : AnswerTrees �
   declared_in c = declares c.handler (entries_of c)
 
   -- the search within this depth gives the question this answer
-  abbrev pub Gives : SolverCx Handler → ℕ → TypingMode → Question → Option AnswerTrees → Type 0
-  Gives c depth mode q a = IsFound root_meaning (declared_in c) depth (mode, q.form) a
+  abbrev pub SearchGives : SolverCx Handler → ℕ → TypingMode → NestedQuestion → Option AnswerTrees → Type 0
+  SearchGives c depth mode q a = IsFoundBySearch root_meaning (declared_in c) depth (mode, q.form) a
 
   -- a bounded goal is refused exactly if it is not possible
   abbrev pub RootsAreExact : Type 0
   RootsAreExact =
       (c : SolverCx Handler) (depth n : ℕ) (mode : TypingMode) (sorts : Sorts) (admits : CanonicalForm → Bool) → let m = meaning_of (declared_in c) in
-      AreDeclared m mode (fits_in (declared_in c)) admits sorts → (q : Question) (v : Values) (a : Option AnswerTrees) → IsFormedGoal m.view sorts admits q v
-      → n ≤ depth + 1 → HasShortChains (ways_by m mode) n (fact_of q v) → Gives c depth mode q a → IsExactFor (ways_by m mode) n (fact_of q v) a
+      AreDeclared m mode (fits_in (declared_in c)) admits sorts → (q : NestedQuestion) (v : Values) (a : Option AnswerTrees) → IsFormedGoal m.view sorts admits q v
+      → n ≤ depth + 1 → HasShortChains (ways_by m mode) n (fact_of q v) → SearchGives c depth mode q a → IsExactFor (ways_by m mode) n (fact_of q v) a
 
   -- outside coherence a decided reference is answered a definite yes if it has a proof, and refused if not
   abbrev pub RootsAreRight : Type 0
   RootsAreRight =
       (c : SolverCx Handler) (depth n : ℕ) (sorts : Sorts) (admits : CanonicalForm → Bool) → let m = meaning_of (declared_in c) in
-      AreDeclared m PostAnalysis (fits_in (declared_in c)) admits sorts → (q : Question) (v : Values) (a : Option AnswerTrees) → IsFormedGoal m.view sorts admits q v
-      → n ≤ depth + 1 → SingleWay n m.view (clauses_of (fact_of q v).goal.environment) (reference_in (fact_of q v)) → Gives c depth PostAnalysis q a
-      → IsRightFor frame_tables (IsProved m.view) (fact_of q v) a
+      AreDeclared m PostAnalysis (fits_in (declared_in c)) admits sorts → (q : NestedQuestion) (v : Values) (a : Option AnswerTrees) → IsFormedGoal m.view sorts admits q v
+      → n ≤ depth + 1 → SingleWay n m.view (clauses_of (fact_of q v).goal.environment) (reference_in (fact_of q v)) → SearchGives c depth PostAnalysis q a
+      → IsRightFor frame_tables (FactIsProved m.view) (fact_of q v) a
 
   -- in coherence a bounded reference without where-clauses is refused exactly if it is not possible in the crate
   abbrev pub RootsTellPossible : Type 0
   RootsTellPossible =
       (c : SolverCx Handler) (depth n : ℕ) (sorts : Sorts) (admits : CanonicalForm → Bool) → let m = meaning_of (declared_in c) in
-      AreDeclared m Coherence (fits_in (declared_in c)) admits sorts → (q : Question) (v : Values) (a : Option AnswerTrees) → IsFormedGoal m.view sorts admits q v
-      → n ≤ depth + 1 → clauses_of (fact_of q v).goal.environment ≡ [] → is_bounded n m.view m.crate (reference_in (fact_of q v)) ≡ true → Gives c depth Coherence q a
+      AreDeclared m Coherence (fits_in (declared_in c)) admits sorts → (q : NestedQuestion) (v : Values) (a : Option AnswerTrees) → IsFormedGoal m.view sorts admits q v
+      → n ≤ depth + 1 → clauses_of (fact_of q v).goal.environment ≡ [] → is_bounded n m.view m.crate (reference_in (fact_of q v)) ≡ true → SearchGives c depth Coherence q a
       → TellsPossible m.view m.crate n (reference_in (fact_of q v)) a

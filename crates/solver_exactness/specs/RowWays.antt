@@ -13,8 +13,8 @@ use Rattle.solver_exactness.specs.ClosedTables.{AreClosed, ArePlaces}
 use Rattle.assembly_laws.specs.Facts.{clauses_of, reference_in, is_plain}
 use Rattle.assembly_laws.specs.Declared.{is_declared_view}
 use Rattle.assembly_laws.specs.DeclaredWell.{are_distinct}
-use Rattle.assembly_laws.specs.Meaning.{Meaning}
-use Rattle.assembly_laws.specs.Asking.{Asked, asked, clauses, self_of}
+use Rattle.assembly_laws.specs.Meaning.{ViewMeaning}
+use Rattle.assembly_laws.specs.Asking.{GoalOverKinds, goal_over_kinds, clauses, self_of}
 use Rattle.assembly_laws.specs.Candidates.{Candidate, by_sized, by_copy, by_auto, by_tuple, by_fn_ptr, by_call, by_clauses, misc, if_so, as_written, unsize_array_of, unsize_struct_of}
 use Rattle.assembly_laws.specs.Cover.{goal_fact}
 use Rattle.solver_exactness.specs.SolverWays.{facts_beside, premises_of}
@@ -39,11 +39,11 @@ autos_stand_once (tree dynamic bounds o) = are_distinct (map (λ (r : Reference)
 autos_stand_once t = true
 
 -- at these values the candidates are these ways to conclude the fact
-abbrev pub AreWaysOf : Asked → Values → Fact → List Candidate → List (List Reference) → Type 0
+abbrev pub AreWaysOf : GoalOverKinds → Values → Fact → List Candidate → List (List Reference) → Type 0
 AreWaysOf a v g cs ways = AreWays frame_tables (begin a.kinds) v cs (facts_beside g ways)
 
 -- each candidate applies with the premises of one rule of the instance, in the order of the rules, or refuses
-pub record RowsAreWaysAt (V : World) (a : Asked) (v : Values) (g : Fact) (r : Reference) : Type 0 where
+pub record RowsAreWaysAt (V : World) (a : GoalOverKinds) (v : Values) (g : Fact) (r : Reference) : Type 0 where
   pub sizeds : AreWaysOf a v g (by_sized V a) (premises_of (if_of (r.trait == sized) (sized_rules V r.args)))
   pub copies : AreWaysOf a v g (by_copy V a) (premises_of (if_of ((r.trait == copy) || (r.trait == clone)) (copy_rules r.trait r.args)))
   pub autos : AreWaysOf a v g (by_auto V a) (premises_of (if_of (is_auto V r.trait) (auto_rules V r.trait r.args)))
@@ -53,11 +53,11 @@ pub record RowsAreWaysAt (V : World) (a : Asked) (v : Values) (g : Fact) (r : Re
 -- of an instance that is written up to lifetimes
 abbrev pub RowsAreWays : Type 0
 RowsAreWays =
-    (m : Meaning) → is_declared_view m.view ≡ true → (f : CanonicalForm) (a : Asked) → asked m.view f ≡ Some a → AreClosed f.kinds
+    (m : ViewMeaning) → is_declared_view m.view ≡ true → (f : CanonicalForm) (a : GoalOverKinds) → goal_over_kinds m.view f ≡ Some a → AreClosed f.kinds
     → (v : Values) → ArePlaces f.kinds v → is_plain (goal_fact f v) ≡ true → RowsAreWaysAt m.view a v (goal_fact f v) (reference_in (goal_fact f v))
 
 -- the same of rules that equate: calls of fn pointers, and arrays, types that are no `dyn`, and structs that unsize
-pub record EquatedRowsAreWaysAt (V : World) (a : Asked) (v : Values) (g : Fact) (r : Reference) : Type 0 where
+pub record EquatedRowsAreWaysAt (V : World) (a : GoalOverKinds) (v : Values) (g : Fact) (r : Reference) : Type 0 where
   pub calls : AreWaysOf a v g (by_call V a) (premises_of (if_of (is_fn_trait r.trait) (call_rules r.args)))
   pub arrays : AreWaysOf a v g (if_so (r.trait == unsize) (unsize_array_of V a (self_of a))) (premises_of (if_of (r.trait == unsize) (unsize_array_rules r.args)))
   pub to_dyns : AreWaysOf a v g (if_so (r.trait == unsize) (as_written V a misc (unsize_to_dyn_rules V (self_of a)))) (premises_of (if_of (r.trait == unsize) (unsize_to_dyn_rules V r.args)))
@@ -65,11 +65,11 @@ pub record EquatedRowsAreWaysAt (V : World) (a : Asked) (v : Values) (g : Fact) 
 
 abbrev pub EquatedRowsAreWays : Type 0
 EquatedRowsAreWays =
-    (m : Meaning) → is_declared_view m.view ≡ true → (f : CanonicalForm) (a : Asked) → asked m.view f ≡ Some a → AreClosed f.kinds
+    (m : ViewMeaning) → is_declared_view m.view ≡ true → (f : CanonicalForm) (a : GoalOverKinds) → goal_over_kinds m.view f ≡ Some a → AreClosed f.kinds
     → (v : Values) → ArePlaces f.kinds v → is_plain (goal_fact f v) ≡ true → EquatedRowsAreWaysAt m.view a v (goal_fact f v) (reference_in (goal_fact f v))
 
 -- where-clauses apply with no premises where they are the instance
 abbrev pub ClausesAreWays : Type 0
 ClausesAreWays =
-    (m : Meaning) (f : CanonicalForm) (a : Asked) → asked m.view f ≡ Some a → AreClosed f.kinds → (v : Values) → ArePlaces f.kinds v
+    (m : ViewMeaning) (f : CanonicalForm) (a : GoalOverKinds) → goal_over_kinds m.view f ≡ Some a → AreClosed f.kinds → (v : Values) → ArePlaces f.kinds v
     → AreWaysOf a v (goal_fact f v) (by_clauses m.view a (clauses a)) (clause_ways (reference_in (goal_fact f v)) (clauses_of (goal_fact f v).goal.environment))

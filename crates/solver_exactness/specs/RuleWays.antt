@@ -7,9 +7,9 @@ use Rattle.infer_table.specs.declared.canonical.CanonicalVarKind.{CanonicalVarKi
 use Rattle.infer_table.specs.Raw.{sort_of_kind}
 use Rattle.evaluation.specs.Merge.{or_else}
 use Rattle.evaluation.specs.Instances.{goal_read}
-use Rattle.evaluation.specs.Content.{given, Fact, Question}
+use Rattle.evaluation.specs.Content.{given, Fact, NestedQuestion}
 use Rattle.goal_frames.specs.Rules.{goal_of, Rule, instance_of}
-use Rattle.goal_frames.specs.Handlers.{Asked, asked}
+use Rattle.goal_frames.specs.Handlers.{BareGoal, bare_goal}
 
 -- what stands in the second trees where the variable stands first in the first
 abbrev pub value_at : Sort → ℕ → Trees → Trees → Option Trees
@@ -42,5 +42,5 @@ rule_ways [] f = []
 rule_ways (r ∷ rules) f = if concludes r f then map (instance_of f.proper (values_for r f)) r.premises ∷ rule_ways rules f else rule_ways rules f
 
 -- the goals that a list of rules decides
-abbrev pub IsAskedForm : Question → Type 0
-IsAskedForm q = (a : Asked) × (asked q.form ≡ Some a)
+abbrev pub IsAskedForm : NestedQuestion → Type 0
+IsAskedForm q = (a : BareGoal) × (bare_goal q.form ≡ Some a)

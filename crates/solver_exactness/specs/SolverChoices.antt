@@ -9,9 +9,9 @@ use Rattle.solver_exactness.specs.ClosedTables.{AreClosed, ArePlaces}
 use Rattle.solver_exactness.specs.ModelWays.{ways_under}
 use Rattle.assembly_laws.specs.Facts.{clauses_of, reference_in, is_plain}
 use Rattle.assembly_laws.specs.DeclaredWell.{IsDeclaredWell}
-use Rattle.assembly_laws.specs.Meaning.{Meaning}
+use Rattle.assembly_laws.specs.Meaning.{ViewMeaning}
 use Rattle.assembly_laws.specs.Knowing.{is_knowable}
-use Rattle.assembly_laws.specs.Asking.{Asked, asked}
+use Rattle.assembly_laws.specs.Asking.{GoalOverKinds, goal_over_kinds}
 use Rattle.assembly_laws.specs.Cover.{goal_fact}
 use Rattle.solver_exactness.specs.SolverPlans.{specs_in_coherence, specs_outside}
 use Rattle.solver_exactness.specs.RowWays.{autos_stand_once}
@@ -25,7 +25,7 @@ IsElaborated V E = (s t : Reference) → In s E → In t (strict_supertraits V s
 -- `dyn` stands twice
 abbrev pub SpecsAreWays : (Fact → Type 0) → Type 0
 SpecsAreWays P =
-    (m : Meaning) → IsDeclaredWell m.view → (f : CanonicalForm) (a : Asked) → asked m.view f ≡ Some a → AreClosed f.kinds
+    (m : ViewMeaning) → IsDeclaredWell m.view → (f : CanonicalForm) (a : GoalOverKinds) → goal_over_kinds m.view f ≡ Some a → AreClosed f.kinds
     → (v : Values) → ArePlaces f.kinds v → is_plain (goal_fact f v) ≡ true
     → autos_stand_once (reference_in (goal_fact f v)).args ≡ true → IsElaborated m.view (clauses_of (goal_fact f v).goal.environment)
     → AreSelectedFor P a v (goal_fact f v) (specs_outside m a) (ways_under m.view (clauses_of (goal_fact f v).goal.environment) (reference_in (goal_fact f v)))
@@ -33,7 +33,7 @@ SpecsAreWays P =
 -- and in coherence, where what is not knowable has one way more, by its supertraits
 abbrev pub CoherenceSpecsAreWays : (Fact → Type 0) → Type 0
 CoherenceSpecsAreWays P =
-    (m : Meaning) → IsDeclaredWell m.view → (f : CanonicalForm) (a : Asked) → asked m.view f ≡ Some a → AreClosed f.kinds
+    (m : ViewMeaning) → IsDeclaredWell m.view → (f : CanonicalForm) (a : GoalOverKinds) → goal_over_kinds m.view f ≡ Some a → AreClosed f.kinds
     → (v : Values) → ArePlaces f.kinds v → is_plain (goal_fact f v) ≡ true
     → autos_stand_once (reference_in (goal_fact f v)).args ≡ true → IsElaborated m.view (clauses_of (goal_fact f v).goal.environment)
     → AreSelectedFor P a v (goal_fact f v) (specs_in_coherence m a)

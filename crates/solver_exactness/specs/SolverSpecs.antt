@@ -8,9 +8,9 @@ use Rattle.evaluation.specs.TableOperations.{begin}
 use Rattle.evaluation.specs.Tables.{frame_tables}
 use Rattle.solver_exactness.specs.Closed.{DeterminesNested}
 use Rattle.solver_exactness.specs.ClosedTables.{AreClosed}
-use Rattle.assembly_laws.specs.Meaning.{Meaning}
+use Rattle.assembly_laws.specs.Meaning.{ViewMeaning}
 use Rattle.assembly_laws.specs.DeclaredWell.{IsDeclaredWell}
-use Rattle.assembly_laws.specs.Asking.{Asked, asked}
+use Rattle.assembly_laws.specs.Asking.{GoalOverKinds, goal_over_kinds}
 use Rattle.assembly_laws.specs.Candidates.{Candidate}
 use Rattle.assembly_laws.specs.Solver.{most_candidates}
 use Rattle.solver_exactness.specs.SolverPlans.{specs_in_coherence, specs_outside}
@@ -19,16 +19,16 @@ use Rattle.solver_exactness.specs.SolverPlans.{specs_in_coherence, specs_outside
 abbrev pub AreDetermined : CanonicalForm → List Candidate → Type 0
 AreDetermined f specs = Every (DeterminesNested frame_tables (begin (kinds_known f.kinds))) specs
 
-abbrev pub AreFew : Meaning → CanonicalForm → List Candidate → Type 0
+abbrev pub AreFew : ViewMeaning → CanonicalForm → List Candidate → Type 0
 AreFew m f specs = length specs ≤ most_candidates m.view f
 
 -- in both modes
 abbrev pub SpecsAreDetermined : Type 0
-SpecsAreDetermined = (m : Meaning) → IsDeclaredWell m.view → (f : CanonicalForm) (a : Asked) → asked m.view f ≡ Some a → AreDetermined f (specs_in_coherence m a) × AreDetermined f (specs_outside m a)
+SpecsAreDetermined = (m : ViewMeaning) → IsDeclaredWell m.view → (f : CanonicalForm) (a : GoalOverKinds) → goal_over_kinds m.view f ≡ Some a → AreDetermined f (specs_in_coherence m a) × AreDetermined f (specs_outside m a)
 
 abbrev pub SpecsAreFew : Type 0
-SpecsAreFew = (m : Meaning) → IsDeclaredWell m.view → (f : CanonicalForm) (a : Asked) → asked m.view f ≡ Some a → AreFew m f (specs_in_coherence m a) × AreFew m f (specs_outside m a)
+SpecsAreFew = (m : ViewMeaning) → IsDeclaredWell m.view → (f : CanonicalForm) (a : GoalOverKinds) → goal_over_kinds m.view f ≡ Some a → AreFew m f (specs_in_coherence m a) × AreFew m f (specs_outside m a)
 
 -- outside coherence no candidate is unsure by itself
 abbrev pub SpecsAreSure : Type 0
-SpecsAreSure = (m : Meaning) (f : CanonicalForm) (a : Asked) → asked m.view f ≡ Some a → AreClosed f.kinds → Every (λ (c : Candidate). c.certainty ≡ Yes) (specs_outside m a)
+SpecsAreSure = (m : ViewMeaning) (f : CanonicalForm) (a : GoalOverKinds) → goal_over_kinds m.view f ≡ Some a → AreClosed f.kinds → Every (λ (c : Candidate). c.certainty ≡ Yes) (specs_outside m a)

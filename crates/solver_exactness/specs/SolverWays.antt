@@ -5,7 +5,7 @@ use Rattle.type_terms.specs.Rules.{Rule, strict_supertraits}
 use Rattle.evaluation.specs.Content.{Fact}
 use Rattle.assembly_laws.specs.Facts.{clauses_of, reference_in, beside}
 use Rattle.assembly_laws.specs.Knowing.{is_knowable}
-use Rattle.assembly_laws.specs.Meaning.{Meaning}
+use Rattle.assembly_laws.specs.Meaning.{ViewMeaning}
 use Rattle.solver_exactness.specs.ModelWays.{ways_under}
 
 -- references as facts, under the where-clauses of this one
@@ -22,7 +22,7 @@ ways_outside V f = facts_beside f (ways_under V (clauses_of f.goal.environment) 
 
 -- in coherence an impl that the crate does not see may conclude what it does not know, and this has its supertraits. Of a
 -- reference with open places only that is known which is so whatever stands there
-abbrev pub ways_in_coherence : Meaning → Fact → List (List Fact)
+abbrev pub ways_in_coherence : ViewMeaning → Fact → List (List Fact)
 ways_in_coherence m f =
     let r = reference_in f in
     facts_beside f (ways_under m.view (clauses_of f.goal.environment) r ++ (if is_knowable m.view m.crate r then [] else strict_supertraits m.view r ∷ []))

@@ -5,15 +5,15 @@ use Rattle.type_terms.specs.Worlds.{World}
 use Rattle.infer_table.specs.Canonical.{CanonicalForm}
 use Rattle.infer_table.specs.declared.certainty.TypingMode.{TypingMode}
 use Rattle.evaluation.specs.Lists.{Every}
-use Rattle.evaluation.specs.Content.{Values, Question}
+use Rattle.evaluation.specs.Content.{Values, NestedQuestion}
 use Rattle.evaluation.specs.FrameTables.{kinds_known}
 use Rattle.evaluation.specs.TableOperations.{begin}
 use Rattle.evaluation.specs.Tables.{frame_tables}
 use Rattle.solver_exactness.specs.Closed.{AsksSuch}
 use Rattle.solver_exactness.specs.ClosedTables.{AreClosed, closed_tables}
 use Rattle.assembly_laws.specs.DeclaredWell.{IsDeclaredWell}
-use Rattle.assembly_laws.specs.Meaning.{Meaning}
-use Rattle.assembly_laws.specs.Asking.{Asked, asked}
+use Rattle.assembly_laws.specs.Meaning.{ViewMeaning}
+use Rattle.assembly_laws.specs.Asking.{GoalOverKinds, goal_over_kinds}
 use Rattle.assembly_laws.proofs.Instances.{is_bound}
 use Rattle.solver_exactness.specs.SolverGoals.{specs_by}
 use Rattle.solver_exactness.specs.GoalSets.{FitsAreKept}
@@ -26,16 +26,16 @@ is_unbound f = not (some_node is_bound f.goal.predicate)
 -- where the view is declared well, all that is asked of such a goal without unknowns is so, in both modes
 abbrev pub UnboundAreKept : Type 0
 UnboundAreKept =
-    (m : Meaning) (mode : TypingMode) → IsDeclaredWell m.view → (q : Question) (v : Values) → AreClosed q.form.kinds → (a : Asked) → asked m.view q.form ≡ Some a → is_unbound q.form ≡ true
-    → Every (AsksSuch frame_tables closed_tables (λ (p : Question) (u : Values). is_unbound p.form ≡ true) (begin (kinds_known q.form.kinds)) v) (specs_by m mode a)
+    (m : ViewMeaning) (mode : TypingMode) → IsDeclaredWell m.view → (q : NestedQuestion) (v : Values) → AreClosed q.form.kinds → (a : GoalOverKinds) → goal_over_kinds m.view q.form ≡ Some a → is_unbound q.form ≡ true
+    → Every (AsksSuch frame_tables closed_tables (λ (p : NestedQuestion) (u : Values). is_unbound p.form ≡ true) (begin (kinds_known q.form.kinds)) v) (specs_by m mode a)
 
 -- ---- tests of forms that read names and sorts alone
 -- decided goals fit if nothing is bound in them and their terms have the sorts that are declared
 abbrev pub FitsBySorts : World → Sorts → (CanonicalForm → Bool) → Type 0
-FitsBySorts V sorts fits = (f : CanonicalForm) (a : Asked) → asked V f ≡ Some a → is_unbound f ≡ true → FitsSorts V sorts a.reference → fits f ≡ true
+FitsBySorts V sorts fits = (f : CanonicalForm) (a : GoalOverKinds) → goal_over_kinds V f ≡ Some a → is_unbound f ≡ true → FitsSorts V sorts a.reference → fits f ≡ true
 
 -- so goals of formed facts in which nothing is bound fit, and what is asked of them does
 abbrev pub UnboundAreAdmitted : Type 0
 UnboundAreAdmitted =
-    (m : Meaning) (mode : TypingMode) (fits : CanonicalForm → Bool) (sorts : Sorts) → IsDeclaredWell m.view → FitsBySorts m.view sorts fits
+    (m : ViewMeaning) (mode : TypingMode) (fits : CanonicalForm → Bool) (sorts : Sorts) → IsDeclaredWell m.view → FitsBySorts m.view sorts fits
     → FitsAreKept m mode fits is_unbound (IsFormedFact m.view sorts)

@@ -5,9 +5,9 @@ use Rattle.evaluation.specs.Table.{Tables}
 use Rattle.evaluation.specs.Law.{IsYes}
 
 -- P holds of one at most
-abbrev pub AtMostOne : {A : Type 0} → (A → Type 0) → List A → Type 0
-AtMostOne P [] = Unit {0}
-AtMostOne P (x ∷ xs) = (P x → SomeOf P xs → ⊥) × AtMostOne P xs
+abbrev pub AtMostOneHolds : {A : Type 0} → (A → Type 0) → List A → Type 0
+AtMostOneHolds P [] = Unit {0}
+AtMostOneHolds P (x ∷ xs) = (P x → SomeOf P xs → ⊥) × AtMostOneHolds P xs
 
 -- the first ways are the second ones, in any order, but for ways that stand there twice, and for the order of premises and what stands
 -- twice among them: of ways it is only asked of which references all premises are
@@ -15,7 +15,7 @@ pub record IsSelection {Fact : Type 0} (found all : List (List Fact)) : Type 1 w
   pub every : (P : Fact → Type 0) → Every (Every P) all → Every (Every P) found
   pub some : (P : Fact → Type 0) → SomeOf (Every P) all → SomeOf (Every P) found
   pub back : (P : Fact → Type 0) → SomeOf (Every P) found → SomeOf (Every P) all
-  pub one : (P : Fact → Type 0) → AtMostOne (Every P) all → AtMostOne (Every P) found
+  pub one : (P : Fact → Type 0) → AtMostOneHolds (Every P) all → AtMostOneHolds (Every P) found
 
 module _ {Fact : Type 0} (ways : Fact → List (List Fact)) where
   -- each chain of premises has fewer than n steps
@@ -29,9 +29,9 @@ module _ {Fact : Type 0} (ways : Fact → List (List Fact)) where
   IsPossible (suc n) f = SomeOf (Every (IsPossible n)) (ways f)
 
   -- by chains of fewer than n steps, each reference has one way at most whose premises all hold
-  abbrev pub IsDecided : (Fact → Type 0) → ℕ → Fact → Type 0
-  IsDecided Holds zero f = ⊥
-  IsDecided Holds (suc n) f = AtMostOne (Every Holds) (ways f) × Every (Every (IsDecided Holds n)) (ways f)
+  abbrev pub HasOneWayWithin : (Fact → Type 0) → ℕ → Fact → Type 0
+  HasOneWayWithin Holds zero f = ⊥
+  HasOneWayWithin Holds (suc n) f = AtMostOneHolds (Every Holds) (ways f) × Every (Every (HasOneWayWithin Holds n)) (ways f)
 
   -- a reference holds exactly if the premises of some way do
   pub record HoldsByWays (Holds : Fact → Type 0) : Type 0 where

@@ -8,7 +8,7 @@ ghost use Rattle.evaluation.specs.Table.{Tables, IsTable};
 ghost use Rattle.evaluation.specs.Content.{Fact};
 ghost use Rattle.evaluation.specs.Tables.{frame_tables};
 ghost use Rattle.goal_frames.specs.Programs.{Programs, ArePrograms};
-ghost use Rattle.goal_frames.specs.Searches.{Handles, Asked};
+ghost use Rattle.goal_frames.specs.Searches.{Handles, GoalInMode};
 ghost use Rattle.goal_frames.specs.RulePrograms.{DeclaredRules};
 ghost use Rattle.solver_exactness.specs.Closed.{Closing, IsClosing};
 ghost use Rattle.solver_exactness.specs.ClosedTables.{closed_tables};
@@ -75,7 +75,7 @@ pub trait ExactPrograms {
 
     ghost Frame: { Type 0 };
 
-    ghost handles: { Handles Context Input Result Frame programs.World (Asked tables programs) (Option Response) };
+    ghost handles: { Handles Context Input Result Frame programs.World (GoalInMode tables programs) (Option Response) };
 }
 
 /// What holds of all premises of the ways that candidates are holds of all nested goals that these ask where their equations hold,
@@ -138,7 +138,7 @@ pub trait RuleSearching {
 
     ghost Frame: { Type 0 };
 
-    ghost handles: { Handles Context Input Result Frame DeclaredRules (Asked frame_tables rule_programs) (Option AnswerTrees) };
+    ghost handles: { Handles Context Input Result Frame DeclaredRules (GoalInMode frame_tables rule_programs) (Option AnswerTrees) };
 
     /// What is read as the truth of a reference.
     ghost Holds: { Fact → Type 0 };

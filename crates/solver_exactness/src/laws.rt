@@ -4,7 +4,7 @@ ghost use Rattle.type_terms.specs.Terms.{Entry};
 ghost use Rattle.infer_table.specs.Canonical.{CanonicalForm};
 ghost use Rattle.infer_table.specs.Responses.{AnswerTrees};
 ghost use Rattle.evaluation.specs.Tables.{frame_tables};
-ghost use Rattle.assembly_laws.specs.Meaning.{Meaning};
+ghost use Rattle.assembly_laws.specs.Meaning.{ViewMeaning};
 ghost use Rattle.goal_frames.specs.Programs.{ArePrograms};
 ghost use Rattle.solver_exactness.specs.SolverAnswers.{solver_programs};
 ghost use Rattle.solver_exactness.specs.GoalSets.{GoalsLeadToGoals};
@@ -69,7 +69,7 @@ pub trait RootSearching {
     /// What a handler declares.
     ghost World: { Type 0 };
 
-    ghost meaning_of: { World → Meaning };
+    ghost meaning_of: { World → ViewMeaning };
 
     /// Which goals fit the declarations.
     ghost fits_in: { World → CanonicalForm → Bool };

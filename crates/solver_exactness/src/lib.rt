@@ -9,11 +9,11 @@ ghost use Rattle.solver_exactness.specs.RowWays.{RowsAreWays, EquatedRowsAreWays
 ghost use Rattle.std.specs.Prelude.{Bool, Option};
 ghost use Rattle.infer_table.specs.Canonical.{CanonicalForm};
 ghost use Rattle.infer_table.specs.Responses.{AnswerTrees};
-ghost use Rattle.evaluation.specs.Content.{Fact, Question, Values};
+ghost use Rattle.evaluation.specs.Content.{Fact, NestedQuestion, Values};
 ghost use Rattle.evaluation.specs.Tables.{frame_tables};
 ghost use Rattle.goal_frames.specs.Programs.{ArePrograms};
-ghost use Rattle.goal_frames.specs.Searches.{Handles, Asked};
-ghost use Rattle.assembly_laws.specs.Meaning.{Meaning};
+ghost use Rattle.goal_frames.specs.Searches.{Handles, GoalInMode};
+ghost use Rattle.assembly_laws.specs.Meaning.{ViewMeaning};
 ghost use Rattle.solver_exactness.specs.SolverAnswers.{solver_programs, SolverIsExact, SolverSearchesAreExact, SolverSearchesAreRight, SolverTellsPossible};
 ghost use Rattle.solver_exactness.specs.SolverGoals.{LeadingAreGoals};
 ghost use Rattle.solver_exactness.specs.BoundWays.{BoundRowsAreWays, ImplsAreWays};
@@ -103,7 +103,7 @@ pub trait SolverSearching {
     /// What a context declares.
     ghost World: { Type 0 };
 
-    ghost meaning_of: { World → Meaning };
+    ghost meaning_of: { World → ViewMeaning };
 
     /// Which goals fit the declarations: of others nothing is decided.
     ghost fits_in: { World → CanonicalForm → Bool };
@@ -121,9 +121,9 @@ pub trait SolverSearching {
 
     ghost Frame: { Type 0 };
 
-    ghost handles: { Handles Context Input Result Frame World (Asked frame_tables (solver_programs applicable same meaning_of fits_in)) (Option AnswerTrees) };
+    ghost handles: { Handles Context Input Result Frame World (GoalInMode frame_tables (solver_programs applicable same meaning_of fits_in)) (Option AnswerTrees) };
 
-    ghost IsAsked: { Question → Values → Type 0 };
+    ghost IsAsked: { NestedQuestion → Values → Type 0 };
 }
 
 /// On a set of goals without unknowns that leads to no others, plain recursion over the solver's frames refuses, in both modes, only

@@ -11,7 +11,7 @@ use Rattle.std.proofs.lemmas.Bool.{eqb-true}
 use Rattle.std.specs.HashMap.{get}
 use Rattle.term_folds.specs.Folds.{Does, Folds, nothing, entered, put, in_turn, IsFold}
 use Rattle.type_terms.specs.Visits.{around}
-use Rattle.term_folds.specs.Memos.{IsKnown, Remembers, place_eq}
+use Rattle.term_folds.specs.Memos.{IsMemo, Remembers, place_eq}
 use Rattle.type_terms.specs.Kept.{has-later, trees-later}
 use Rattle.term_folds.proofs.FoldFacts.{by-action}
 
@@ -31,7 +31,7 @@ module _ (f : List ℕ → Trees → Does) (law : (bs cs : List ℕ) (t : Trees)
       in_turn (sym (law bs cs (tree l c none) e) ∙ a) (by-length bs cs s r e h) (by-length bs cs o o' e g)
 
 -- what is known stays so while the interner grows
-pub known-later : (f g : List ℕ → Trees → Does) (old new : List Entry) → Keeps old new → g ≡ f → (i d j : ℕ) → IsKnown f old i d j → IsKnown g new i d j
+pub known-later : (f g : List ℕ → Trees → Does) (old new : List Entry) → Keeps old new → g ≡ f → (i d j : ℕ) → IsMemo f old i d j → IsMemo g new i d j
 known-later f g old new k e i d j h = record {
   of = has-later old new k types i h.of;
   has = has-later old new k types j h.has;
@@ -41,12 +41,12 @@ known-later f g old new k e i d j h = record {
 pub remembers-later : (f g : List ℕ → Trees → Does) (old new : List Entry) (m : Memo) → Keeps old new → g ≡ f → Remembers f old m → Remembers g new m
 remembers-later f g old new m k e h p = go (get place_eq m.found p) (h p)
   where
-    go : (o : Option Ty) → IfSome o (λ (t : Ty). IsKnown f old p.ty p.depth t.0) → IfSome o (λ (t : Ty). IsKnown g new p.ty p.depth t.0)
+    go : (o : Option Ty) → IfSome o (λ (t : Ty). IsMemo f old p.ty p.depth t.0) → IfSome o (λ (t : Ty). IsMemo g new p.ty p.depth t.0)
     go None x = tt
     go (Some t) x = known-later f g old new k e _ _ _ x
 
 -- a fold that is known is the fold
-pub known-fold : (f : List ℕ → Trees → Does) (bs : List ℕ) (es : List Entry) (i j : ℕ) → IsKnown f es i (length bs) j → IsFold f bs (trees_at es i) es types j
+pub known-fold : (f : List ℕ → Trees → Does) (bs : List ℕ) (es : List Entry) (i j : ℕ) → IsMemo f es i (length bs) j → IsFold f bs (trees_at es i) es types j
 known-fold f bs es i j h = record { has = h.has; folded = h.folded bs refl }
 
 pub under-limit : (n most d : ℕ) → d ≡ min n most → (d ≡ most → ⊥) → n ≡ d
@@ -58,17 +58,17 @@ same-number a b e = eqb-true a b e
 
 -- one more place
 pub remembers-more : (f : List ℕ → Trees → Does) (es : List Entry) (old new : Memo) (i d : ℕ) (t : Ty) → ((q : Place) → get place_eq new.found q ≡ cond (place_eq (record { ty = i; depth = d }) q) (Some t) (get place_eq old.found q))
-    → Remembers f es old → IsKnown f es i d t.0 → Remembers f es new
+    → Remembers f es old → IsMemo f es i d t.0 → Remembers f es new
 remembers-more f es old new i d t u h k p = rw (u p) (go (nat_eq i p.ty) refl (nat_eq d p.depth) refl)
   where
-    go : (a : Bool) → nat_eq i p.ty ≡ a → (b : Bool) → nat_eq d p.depth ≡ b → IfSome (cond (a && b) (Some t) (get place_eq old.found p)) (λ s. IsKnown f es p.ty p.depth s.0)
+    go : (a : Bool) → nat_eq i p.ty ≡ a → (b : Bool) → nat_eq d p.depth ≡ b → IfSome (cond (a && b) (Some t) (get place_eq old.found p)) (λ s. IsMemo f es p.ty p.depth s.0)
     go true x true y = rw (← same-number i p.ty x, ← same-number d p.depth y) k
     go true x false y = h p
     go false x b y = h p
 
 -- a fold that was made is known from then on
 pub fold-known : (f g : List ℕ → Trees → Does) (bs : List ℕ) (old new : List Entry) → Keeps old new → g ≡ f → ((bs cs : List ℕ) (t : Trees) → length bs ≡ length cs → g bs t ≡ g cs t)
-    → (i j : ℕ) → Has old types i → IsFold f bs (trees_at old i) new types j → IsKnown g new i (length bs) j
+    → (i j : ℕ) → Has old types i → IsFold f bs (trees_at old i) new types j → IsMemo g new i (length bs) j
 fold-known f g bs old new k e law i j h r = record {
   of = has-later old new k types i h;
   has = r.has;

@@ -12,7 +12,7 @@ abbrev pub Action : Type 0
 Action = List ℕ → Trees → Does
 
 -- the type j is the fold of the type i under so many binders, whatever they bind
-pub record IsKnown (f : Action) (es : List Entry) (i depth j : ℕ) : Type 0 where
+pub record IsMemo (f : Action) (es : List Entry) (i depth j : ℕ) : Type 0 where
   pub of : Has es types i
   pub has : Has es types j
   pub folded : (bs : List ℕ) → length bs ≡ depth → Folds f bs (trees_at es i) (trees_at es j)
@@ -22,4 +22,4 @@ place_eq p q = nat_eq p.ty q.ty && nat_eq p.depth q.depth
 
 -- what is kept is the fold
 abbrev pub Remembers : Action → List Entry → Memo → Type 0
-Remembers f es m = (p : Place) → IfSome (get place_eq m.found p) (λ t. IsKnown f es p.ty p.depth t.0)
+Remembers f es m = (p : Place) → IfSome (get place_eq m.found p) (λ t. IsMemo f es p.ty p.depth t.0)

@@ -6,7 +6,7 @@
 ghost use Rattle.std.specs.Prelude.{◌≡◌, ℕ, List, length, IfSome, IfErr, OnOk};
 ghost use Rattle.type_terms.specs.Terms.{Entry};
 ghost use Rattle.type_terms.specs.Binders.{counts_of};
-ghost use Rattle.term_folds.specs.Memos.{Action, IsKnown, Remembers};
+ghost use Rattle.term_folds.specs.Memos.{Action, IsMemo, Remembers};
 
 use std::alloc::Global;
 use std::collections::HashMap;
@@ -48,7 +48,7 @@ impl Memo {
 
     /// The fold of a type under these binders, if it is known.
     pub fn known(&mut self, ty: Ty, binders: &Binders) -> Option<Ty>
-        ensures found { (f : Action) (es : List Entry) → Remembers f es self.old → IfSome result (λ t. IsKnown f es ty.0 (length (counts_of binders.now)) t.0) }
+        ensures found { (f : Action) (es : List Entry) → Remembers f es self.old → IfSome result (λ t. IsMemo f es ty.0 (length (counts_of binders.now)) t.0) }
         ensures same { self.new.found ≡ self.old.found }
     {
         if self.steps < BEFORE {
@@ -64,7 +64,7 @@ impl Memo {
 
     /// Keeps the fold of a type under these binders.
     pub fn note(&mut self, ty: Ty, binders: &Binders, folded: Ty) -> Result<(), Fault>
-        ensures noted { (f : Action) (es : List Entry) → Remembers f es self.old → IsKnown f es ty.0 (length (counts_of binders.now)) folded.0 → OnOk result (Remembers f es self.new) }
+        ensures noted { (f : Action) (es : List Entry) → Remembers f es self.old → IsMemo f es ty.0 (length (counts_of binders.now)) folded.0 → OnOk result (Remembers f es self.new) }
         ensures memory { IfErr result (λ e. e ≡ Fault.Memory) }
     {
         let depth = binders.depth().index;

@@ -5,13 +5,13 @@ use Rattle.evaluation.specs.Operations.{Workings}
 use Rattle.evaluation.specs.Correspondences.{IsCandidateCorrespondence}
 use Rattle.evaluation.specs.Table.{workings}
 use Rattle.term_tests.specs.Atoms.{atoms}
-use Rattle.term_tests.specs.Counted.{Counted, with_count, counting, but_for_tables, but_for_counts}
+use Rattle.term_tests.specs.Counted.{CountedAnswers, with_count, counting, but_for_tables, but_for_counts}
 
 abbrev some_or : {A : Type 0} → A → Option A → A
 some_or x None = x
 some_or x (Some y) = y
 
-counted_same : {A : Type 0} (n : ℕ) (o p : Option A) → o ≡ p → OnBoth (λ (x : A) (y : Counted A). x ≡ y.table) o (with_count n p)
+counted_same : {A : Type 0} (n : ℕ) (o p : Option A) → o ≡ p → OnBoth (λ (x : A) (y : CountedAnswers A). x ≡ y.table) o (with_count n p)
 counted_same n None None e = tt
 counted_same n (Some x) (Some y) e = ap (some_or x) e
 counted_same n None (Some y) e = absurd (cc)

@@ -9,8 +9,8 @@ use Rattle.evaluation.specs.Table.{workings}
 use Rattle.evaluation.specs.Candidate.{Spec, Considered, Next, consider, answer, used_numbers, IsHistory}
 use Rattle.evaluation.specs.Law.{IsYes, AgreesTo, Realizes}
 use Rattle.evaluation.specs.Handler.{nested_of, AnswerWithin, IsHandler}
-use Rattle.evaluation.specs.Merge.{if_there, responses, is_always_applicable, merge_or_flounder, same_certainty, IsMerge}
-use Rattle.term_tests.specs.Atoms.{Argument, atom, unknown, value_at, Goal, Response, atoms, Rule, RuleBook, IsBy, put_in, goal_put_in, spec_of, specs_for, candidates_for, nested_in, rest_of, remaining, same_value, same_response, if_refused, refused_numbers, next_of, FollowsByRule, HasProofByBook, handled_by}
+use Rattle.evaluation.specs.Merge.{if_there, responses, is_always_applicable, merge_or_flounder, same_certainty, IsMergeOfResponses}
+use Rattle.term_tests.specs.Atoms.{Argument, atom, unknown, value_at, Goal, Response, atoms, AtomRule, AtomRuleBook, AtomIsBy, put_in, goal_put_in, spec_of, specs_for, candidates_for, nested_in, rest_of, remaining, same_value, same_response, if_refused, refused_numbers, next_of, AtomFollowsByRule, AtomHasProofByBook, handled_by}
 use Rattle.evaluation.proofs.ListLaws.{Every-mono, SomeOf-mono, SomeOf-found, SomeOf-at, Every-at, among-all, both-left, both-right}
 use Rattle.term_tests.proofs.AtomTables.{atoms_are_lawful}
 use Rattle.evaluation.proofs.LastRules.{last_rule}
@@ -31,24 +31,24 @@ premises-put_in k argument x (n ∷ ns) =
     ∙ ap (λ fs. (n.predicate, value_at (put_in argument n.argument) x) ∷ fs) (premises-put_in k argument x ns)
 
 -- ---- the candidates are the rules
-from_rule_if : (k : Bool) (g : Goal) (c : Spec (workings atoms)) (r : Rule) (rules : List Rule) (b : Bool) → (r.predicate == g.predicate) ≡ b
-    → (IsAmong c (specs_for k g rules) → SomeOf (λ (q : Rule). (q.predicate ≡ g.predicate) × (c ≡ spec_of k g.argument q)) rules)
+from_rule_if : (k : Bool) (g : Goal) (c : Spec (workings atoms)) (r : AtomRule) (rules : List AtomRule) (b : Bool) → (r.predicate == g.predicate) ≡ b
+    → (IsAmong c (specs_for k g rules) → SomeOf (λ (q : AtomRule). (q.predicate ≡ g.predicate) × (c ≡ spec_of k g.argument q)) rules)
     → IsAmong c (if b then spec_of k g.argument r ∷ specs_for k g rules else specs_for k g rules)
-    → SomeOf (λ (q : Rule). (q.predicate ≡ g.predicate) × (c ≡ spec_of k g.argument q)) (r ∷ rules)
+    → SomeOf (λ (q : AtomRule). (q.predicate ≡ g.predicate) × (c ≡ spec_of k g.argument q)) (r ∷ rules)
 from_rule_if k g c r rules true e rest (inl f) = inl (eqb-true r.predicate g.predicate e, f)
 from_rule_if k g c r rules true e rest (inr i) = inr (rest i)
 from_rule_if k g c r rules false e rest i = inr (rest i)
 
-from_rule : (k : Bool) (g : Goal) (c : Spec (workings atoms)) (rules : List Rule) → IsAmong c (specs_for k g rules) → SomeOf (λ (q : Rule). (q.predicate ≡ g.predicate) × (c ≡ spec_of k g.argument q)) rules
+from_rule : (k : Bool) (g : Goal) (c : Spec (workings atoms)) (rules : List AtomRule) → IsAmong c (specs_for k g rules) → SomeOf (λ (q : AtomRule). (q.predicate ≡ g.predicate) × (c ≡ spec_of k g.argument q)) rules
 from_rule k g c [] i = absurd i
 from_rule k g c (r ∷ rules) i = from_rule_if k g c r rules (r.predicate == g.predicate) refl (λ j. from_rule k g c rules j) i
 
-spec_if : (k : Bool) (g : Goal) (P : Spec (workings atoms) → Type 0) (r : Rule) (rules : List Rule) (b : Bool) → SomeOf P (specs_for k g rules)
+spec_if : (k : Bool) (g : Goal) (P : Spec (workings atoms) → Type 0) (r : AtomRule) (rules : List AtomRule) (b : Bool) → SomeOf P (specs_for k g rules)
     → SomeOf P (if b then spec_of k g.argument r ∷ specs_for k g rules else specs_for k g rules)
 spec_if k g P r rules true s = inr s
 spec_if k g P r rules false s = s
 
-from_spec : (k : Bool) (g : Goal) (P : Spec (workings atoms) → Type 0) (rules : List Rule) → SomeOf (λ (q : Rule). (q.predicate ≡ g.predicate) × P (spec_of k g.argument q)) rules → SomeOf P (specs_for k g rules)
+from_spec : (k : Bool) (g : Goal) (P : Spec (workings atoms) → Type 0) (rules : List AtomRule) → SomeOf (λ (q : AtomRule). (q.predicate ≡ g.predicate) × P (spec_of k g.argument q)) rules → SomeOf P (specs_for k g rules)
 from_spec k g P [] s = absurd s
 from_spec k g P (r ∷ rules) (inl x) =
     subst (λ b. SomeOf P (if b then spec_of k g.argument r ∷ specs_for k g rules else specs_for k g rules)) (sym (eq-eqb r.predicate g.predicate x.0)) (inl x.1)
@@ -176,7 +176,7 @@ abbrev ignored_in : List ℕ → Next (workings atoms) → List ℕ
 ignored_in d (consider c) = d
 ignored_in d (answer a ignored) = ignored
 
-module _ (book : RuleBook) (g : Goal) where
+module _ (book : AtomRuleBook) (g : Goal) where
   abbrev kind : Bool
   kind = book.coinductive g.predicate
 
@@ -243,17 +243,17 @@ module _ (book : RuleBook) (g : Goal) where
       (omega (arith, a, p), omega (arith, b, q))
 
   -- ---- the laws
-  rule_at : (x : ℕ) (r : Rule) → r.predicate ≡ g.predicate → value_at g.argument x ≡ value_at (put_in g.argument r.shape) x
-      → IsBy (g.predicate, value_at g.argument x) (map (instance_at x) (map (goal_put_in kind g.argument) r.premises)) r
+  rule_at : (x : ℕ) (r : AtomRule) → r.predicate ≡ g.predicate → value_at g.argument x ≡ value_at (put_in g.argument r.shape) x
+      → AtomIsBy (g.predicate, value_at g.argument x) (map (instance_at x) (map (goal_put_in kind g.argument) r.premises)) r
   rule_at x r e m = record { concludes = e; fits = sym (m ∙ value-put_in g.argument r.shape x); needs = premises-put_in kind g.argument x r.premises }
 
   rule_of : (x : ℕ) (c : Spec (workings atoms)) → IsAmong c specs → Every (λ (e : Argument × Argument). value_at e.0 x ≡ value_at e.1 x) c.equations
-      → FollowsByRule book (g.predicate, value_at g.argument x) (map (instance_at x) c.nested)
+      → AtomFollowsByRule book (g.predicate, value_at g.argument x) (map (instance_at x) c.nested)
   rule_of x c i m =
-      SomeOf-mono (λ (r : Rule). (r.predicate ≡ g.predicate) × (c ≡ spec_of kind g.argument r)) (IsBy (g.predicate, value_at g.argument x) (map (instance_at x) c.nested))
+      SomeOf-mono (λ (r : AtomRule). (r.predicate ≡ g.predicate) × (c ≡ spec_of kind g.argument r)) (AtomIsBy (g.predicate, value_at g.argument x) (map (instance_at x) c.nested))
       (λ r e.
       let meets = subst (λ (d : Spec (workings atoms)). Every (λ (e : Argument × Argument). value_at e.0 x ≡ value_at e.1 x) d.equations) e.1 m in
-      subst (λ (d : Spec (workings atoms)). IsBy (g.predicate, value_at g.argument x) (map (instance_at x) d.nested) r) (sym e.1) (rule_at x r e.0 meets.0))
+      subst (λ (d : Spec (workings atoms)). AtomIsBy (g.predicate, value_at g.argument x) (map (instance_at x) d.nested) r) (sym e.1) (rule_at x r e.0 meets.0))
       book.rules (from_rule kind g c book.rules i)
 
   all_same : (x y : ℕ) → x ≡ y → (ns : List Goal) → Every (λ n. instance_at x n ≡ instance_at y n) ns
@@ -272,7 +272,7 @@ module _ (book : RuleBook) (g : Goal) where
   none [] e c i = i
   none (s ∷ left) e c i = e
 
-  proved_all : (x : ℕ) (ns : List Goal) → Every (HasProofByBook book) (map (instance_at x) ns) → Every (λ n. Unit {0} × HasProofByBook book (instance_at x n)) ns
+  proved_all : (x : ℕ) (ns : List Goal) → Every (AtomHasProofByBook book) (map (instance_at x) ns) → Every (λ n. Unit {0} × AtomHasProofByBook book (instance_at x n)) ns
   proved_all x [] h = tt
   proved_all x (n ∷ ns) h = ((tt, h.0), proved_all x ns h.1)
 
@@ -283,15 +283,15 @@ module _ (book : RuleBook) (g : Goal) where
   -- the steps of a candidate are of the goal's kind
   steps_of : (c : Spec (workings atoms)) → IsAmong c specs → Every (λ (n : Goal). n.coinductive ≡ kind) c.nested
   steps_of c i =
-      let x = SomeOf-found (λ (r : Rule). (r.predicate ≡ g.predicate) × (c ≡ spec_of kind g.argument r)) book.rules (from_rule kind g c book.rules i) in
+      let x = SomeOf-found (λ (r : AtomRule). (r.predicate ≡ g.predicate) × (c ≡ spec_of kind g.argument r)) book.rules (from_rule kind g c book.rules i) in
       subst (λ (d : Spec (workings atoms)). Every (λ (n : Goal). n.coinductive ≡ kind) d.nested) (sym x.2.1) (steps_in g.argument x.0.premises)
 
-  solves_all : (x : ℕ) (ns : List Goal) (ps : List (ℕ × ℕ)) → map (instance_at x) ns ≡ ps → Every (HasProofByBook book) ps → Every (λ n. Unit {0} × HasProofByBook book (instance_at x n)) ns
-  solves_all x ns ps e h = proved_all x ns (subst (Every (HasProofByBook book)) (sym e) h)
+  solves_all : (x : ℕ) (ns : List Goal) (ps : List (ℕ × ℕ)) → map (instance_at x) ns ≡ ps → Every (AtomHasProofByBook book) ps → Every (λ n. Unit {0} × AtomHasProofByBook book (instance_at x n)) ns
+  solves_all x ns ps e h = proved_all x ns (subst (Every (AtomHasProofByBook book)) (sym e) h)
 
   -- a solution is one by the candidate of its last rule
-  realizes : (x : ℕ) (ps : List (ℕ × ℕ)) (r : Rule) → IsBy (g.predicate, value_at g.argument x) ps r → Every (HasProofByBook book) ps
-      → Realizes atoms (HasProofByBook book) None x (spec_of kind g.argument r)
+  realizes : (x : ℕ) (ps : List (ℕ × ℕ)) (r : AtomRule) → AtomIsBy (g.predicate, value_at g.argument x) ps r → Every (AtomHasProofByBook book) ps
+      → Realizes atoms (AtomHasProofByBook book) None x (spec_of kind g.argument r)
   realizes x ps r by h = record {
     assignment = x;
     allowed = tt;
@@ -300,11 +300,11 @@ module _ (book : RuleBook) (g : Goal) where
     solves = solves_all x (map (goal_put_in kind g.argument) r.premises) ps (sym (premises-put_in kind g.argument x r.premises) ∙ by.needs) h;
   }
 
-  realized : (x : ℕ) → HasProofByBook book (g.predicate, value_at g.argument x) → SomeOf (Realizes atoms (HasProofByBook book) None x) specs
+  realized : (x : ℕ) → AtomHasProofByBook book (g.predicate, value_at g.argument x) → SomeOf (Realizes atoms (AtomHasProofByBook book) None x) specs
   realized x h =
-      let last = last_rule (ℕ × ℕ) (FollowsByRule book) (λ f. book.coinductive f.0) (g.predicate, value_at g.argument x) h in
-      from_spec kind g (Realizes atoms (HasProofByBook book) None x) book.rules
-      (SomeOf-mono (IsBy (g.predicate, value_at g.argument x) last.0) (λ (r : Rule). (r.predicate ≡ g.predicate) × Realizes atoms (HasProofByBook book) None x (spec_of kind g.argument r))
+      let last = last_rule (ℕ × ℕ) (AtomFollowsByRule book) (λ f. book.coinductive f.0) (g.predicate, value_at g.argument x) h in
+      from_spec kind g (Realizes atoms (AtomHasProofByBook book) None x) book.rules
+      (SomeOf-mono (AtomIsBy (g.predicate, value_at g.argument x) last.0) (λ (r : AtomRule). (r.predicate ≡ g.predicate) × Realizes atoms (AtomHasProofByBook book) None x (spec_of kind g.argument r))
       (λ r by. (by.concludes, realizes x last.0 r by last.2)) book.rules last.1)
 
   -- what holds of some candidate holds of some that was considered, if none is left
@@ -347,9 +347,9 @@ module _ (book : RuleBook) (g : Goal) where
     answer = λ seen a ignored h e.
         let end = none_left seen (remaining seen specs) a ignored e in
         let merge = merge_is atoms atoms_are_lawful (is_always_applicable atoms) (always_is_test atoms) same_response same_response_is None (λ c. bare c) (responses atoms seen) in
-        let is : IsMerge atoms None (responses atoms seen) a = subst (IsMerge atoms None (responses atoms seen)) end.1 merge in
+        let is : IsMergeOfResponses atoms None (responses atoms seen) a = subst (IsMergeOfResponses atoms None (responses atoms seen)) end.1 merge in
         record {
-          cover = λ w x p. considered_all seen h end.0 (Realizes atoms (HasProofByBook book) None x) (realized x p);
+          cover = λ w x p. considered_all seen h end.0 (Realizes atoms (AtomHasProofByBook book) None x) (realized x p);
           yes = λ y.
               let x = SomeOf-found (λ (c : Considered (workings atoms)). a ≡ c.response) seen (from_responses seen a (is.yes y)) in
               let is_yes = subst (IsYes atoms) x.2 y in

@@ -10,7 +10,7 @@ use Rattle.evaluation.specs.Table.{Tables, workings}
 use Rattle.evaluation.specs.Candidate.{Spec, Considered, Next, consider, answer}
 use Rattle.evaluation.specs.Handler.{Handled}
 use Rattle.evaluation.specs.Merge.{responses, is_always_applicable, merge_or_flounder, same_certainty}
-use Rattle.evaluation.specs.Proof.{HasProof}
+use Rattle.evaluation.specs.Proof.{FactHasProof}
 use Rattle.evaluation.specs.System.{System}
 
 pub data Argument : Type 0 where
@@ -112,17 +112,17 @@ atoms = record {
 
 -- ---- the handler of a list of rules
 -- `predicate(shape)` holds if the premises do; the unknown stands for the same atom in all of them
-pub record Rule : Type 0 where
+pub record AtomRule : Type 0 where
   pub predicate : ℕ
   pub shape : Argument
   pub premises : List Goal
 
-pub record RuleBook : Type 0 where
-  pub rules : List Rule
+pub record AtomRuleBook : Type 0 where
+  pub rules : List AtomRule
   pub coinductive : ℕ → Bool
 
 -- the reference follows by the rule from these
-pub record IsBy (f : ℕ × ℕ) (premises : List (ℕ × ℕ)) (r : Rule) : Type 0 where
+pub record AtomIsBy (f : ℕ × ℕ) (premises : List (ℕ × ℕ)) (r : AtomRule) : Type 0 where
   pub concludes : r.predicate ≡ f.0
   pub fits : value_at r.shape f.1 ≡ f.1
   pub needs : map (λ (n : Goal). (n.predicate, value_at n.argument f.1)) r.premises ≡ premises
@@ -136,7 +136,7 @@ abbrev pub goal_put_in : Bool → Argument → Goal → Goal
 goal_put_in kind argument n = record { predicate = n.predicate; argument = put_in argument n.argument; coinductive = kind }
 
 -- the rule as a candidate for a goal of this argument, with steps of this kind
-abbrev pub spec_of : Bool → Argument → Rule → Spec (workings atoms)
+abbrev pub spec_of : Bool → Argument → AtomRule → Spec (workings atoms)
 spec_of kind argument r = record {
   source = BuiltinImpl Misc;
   kinds = tt;
@@ -147,7 +147,7 @@ spec_of kind argument r = record {
 }
 
 -- the candidates: one for each rule of the goal's predicate
-abbrev pub specs_for : Bool → Goal → List Rule → List (Spec (workings atoms))
+abbrev pub specs_for : Bool → Goal → List AtomRule → List (Spec (workings atoms))
 specs_for kind g [] = []
 specs_for kind g (r ∷ rules) = if r.predicate == g.predicate then spec_of kind g.argument r ∷ specs_for kind g rules else specs_for kind g rules
 
@@ -187,12 +187,12 @@ abbrev pub next_of : List (Considered (workings atoms)) → List (Spec (workings
 next_of seen [] = answer (merge_or_flounder atoms (is_always_applicable atoms) same_response None (responses atoms seen)) (refused_numbers seen)
 next_of seen (s ∷ specs) = consider s
 
-module _ (book : RuleBook) where
-  abbrev pub FollowsByRule : ℕ × ℕ → List (ℕ × ℕ) → Type 0
-  FollowsByRule f premises = SomeOf (IsBy f premises) book.rules
+module _ (book : AtomRuleBook) where
+  abbrev pub AtomFollowsByRule : ℕ × ℕ → List (ℕ × ℕ) → Type 0
+  AtomFollowsByRule f premises = SomeOf (AtomIsBy f premises) book.rules
 
-  abbrev pub HasProofByBook : ℕ × ℕ → Type 0
-  HasProofByBook f = HasProof (ℕ × ℕ) FollowsByRule (λ g. book.coinductive g.0) f
+  abbrev pub AtomHasProofByBook : ℕ × ℕ → Type 0
+  AtomHasProofByBook f = FactHasProof (ℕ × ℕ) AtomFollowsByRule (λ g. book.coinductive g.0) f
 
   abbrev pub candidates_for : Goal → List (Spec (workings atoms))
   candidates_for g = specs_for (book.coinductive g.predicate) g book.rules
@@ -202,9 +202,9 @@ module _ (book : RuleBook) where
     goal = λ x. (g.predicate, value_at g.argument x);
     begin = None;
     next = λ seen. next_of seen (remaining seen (candidates_for g));
-    Rule = FollowsByRule;
+    Rule = AtomFollowsByRule;
     World = Unit {0};
-    Proves = λ w f. HasProofByBook f;
+    Proves = λ w f. AtomHasProofByBook f;
     coinductive = book.coinductive g.predicate;
     candidates = length (candidates_for g);
     number = nested_in (candidates_for g);
@@ -216,7 +216,7 @@ module _ (book : RuleBook) where
     Goal = Goal;
     handled = handled_by;
     goal_of = λ g. g;
-    Rule = FollowsByRule;
+    Rule = AtomFollowsByRule;
     coinductive = λ f. book.coinductive f.0;
     made_of = λ g x. x ∷ [];
   }

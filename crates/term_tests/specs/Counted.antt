@@ -4,11 +4,11 @@ use Rattle.evaluation.specs.Operations.{Workings}
 use Rattle.evaluation.specs.Correspondences.{CandidateCorrespondence}
 
 -- a table, and how many answers were put into it
-pub record Counted (Table : Type 0) : Type 0 where
+pub record CountedAnswers (Table : Type 0) : Type 0 where
   pub table : Table
   pub answers : ℕ
 
-abbrev pub with_count : {Table : Type 0} → ℕ → Option Table → Option (Counted Table)
+abbrev pub with_count : {Table : Type 0} → ℕ → Option Table → Option (CountedAnswers Table)
 with_count n None = None
 with_count n (Some T) = Some (record { table = T; answers = n })
 
@@ -16,7 +16,7 @@ module _ {Question Response : Type 0} (t : Workings Question Response) where
   abbrev pub counting : Workings Question Response
   counting = record {
     operations = record {
-      Table = Counted t.operations.Table;
+      Table = CountedAnswers t.operations.Table;
       Nested = t.operations.Nested;
       question = λ T n. t.operations.question T.table n;
       apply = λ T n r. with_count (suc T.answers) (t.operations.apply T.table n r);
@@ -33,7 +33,7 @@ module _ {Question Response : Type 0} (t : Workings Question Response) where
   }
 
   -- all but the tables corresponds to itself
-  abbrev pub but_for_tables : (t.operations.Table → Counted t.operations.Table → Type 0) → CandidateCorrespondence t counting
+  abbrev pub but_for_tables : (t.operations.Table → CountedAnswers t.operations.Table → Type 0) → CandidateCorrespondence t counting
   but_for_tables Tables = record {
     rounds = record { Tables = Tables; Goals = λ n m. n ≡ m; Questions = λ p q. p ≡ q; Responses = λ q r s. r ≡ s };
     Responses = λ r s. r ≡ s;

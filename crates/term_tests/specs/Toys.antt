@@ -4,7 +4,7 @@ use Rattle.infer_table.specs.declared.certainty.Certainty.TheVariants.{Yes, Mayb
 use Rattle.infer_table.specs.declared.certainty.MaybeCause.TheVariants.{Ambiguity, Overflow}
 use Rattle.evaluation.specs.History.{Request, Reply, evaluated, asks}
 use Rattle.evaluation.specs.Promises.{frame_of_goal}
-use Rattle.term_tests.specs.Atoms.{Argument, atom, unknown, Goal, Response, atoms, RuleBook, Rule, handled_by}
+use Rattle.term_tests.specs.Atoms.{Argument, atom, unknown, Goal, Response, atoms, AtomRuleBook, AtomRule, handled_by}
 
 -- the atoms u8 and bool, and the predicates of the rules; the steps to `send` are those of its own rule, which are coinductive
 abbrev pub u8 : ℕ
@@ -29,34 +29,34 @@ abbrev pub send : Argument → Goal
 send a = record { predicate = 4; argument = a; coinductive = true }
 
 -- the goal holds if these do
-abbrev pub holds_if : Goal → List Goal → Rule
+abbrev pub holds_if : Goal → List Goal → AtomRule
 holds_if g premises = record { predicate = g.predicate; shape = g.argument; premises = premises }
 
 -- `send` is coinductive
-abbrev pub book : List Rule → RuleBook
+abbrev pub book : List AtomRule → AtomRuleBook
 book rules = record { rules = rules; coinductive = λ p. p == 4 }
 
-abbrev pub no_rule : RuleBook
+abbrev pub no_rule : AtomRuleBook
 no_rule = book []
 
 -- show(u8)
-abbrev pub one_rule : RuleBook
+abbrev pub one_rule : AtomRuleBook
 one_rule = book (holds_if (show (atom u8)) [] ∷ [])
 
 -- show(u8); show(bool)
-abbrev pub two_rules : RuleBook
+abbrev pub two_rules : AtomRuleBook
 two_rules = book (holds_if (show (atom u8)) [] ∷ holds_if (show (atom bool)) [] ∷ [])
 
 -- show(x) if clone(x), copy(x), sized(x)
-abbrev pub three_premises : RuleBook
+abbrev pub three_premises : AtomRuleBook
 three_premises = book (holds_if (show unknown) (clone unknown ∷ copy unknown ∷ sized unknown ∷ []) ∷ [])
 
 -- show(x) if clone(x); clone(u8)
-abbrev pub premise_binds : RuleBook
+abbrev pub premise_binds : AtomRuleBook
 premise_binds = book (holds_if (show unknown) (clone unknown ∷ []) ∷ holds_if (clone (atom u8)) [] ∷ [])
 
 -- send(x) if send(x)
-abbrev pub coinductive_rule : RuleBook
+abbrev pub coinductive_rule : AtomRuleBook
 coinductive_rule = book (holds_if (send unknown) (send unknown ∷ []) ∷ [])
 
 -- ---- responses
@@ -78,5 +78,5 @@ rounds_with_values zero heard = heard
 rounds_with_values (suc n) heard = evaluated (yes_with u8) ∷ rounds_with_values n heard
 
 -- the goal's frame makes this request after these replies, the newest first
-abbrev pub Asks : RuleBook → Goal → List (Reply (Option Response)) → Request Goal (Option Response) → Type 0
-Asks rules g heard request = asks (frame_of_goal atoms (handled_by rules g)) heard ≡ request
+abbrev pub ToyAsks : AtomRuleBook → Goal → List (Reply (Option Response)) → Request Goal (Option Response) → Type 0
+ToyAsks rules g heard request = asks (frame_of_goal atoms (handled_by rules g)) heard ≡ request

@@ -6,10 +6,10 @@ ghost use Rattle.evaluation.specs.Handler.{IsHandler};
 ghost use Rattle.evaluation.specs.System.{IsSystem, GraphsProve};
 ghost use Rattle.evaluation.specs.Promises.{DefiniteYesFollows, AnswerCoversGoal};
 ghost use Rattle.evaluation.specs.History.{evaluate, enter_candidate, finish_candidate, returns, begin, entered, evaluated, finished, ignored, ignore_candidate};
-ghost use Rattle.term_tests.specs.Atoms.{Goal, Response, RuleBook, atoms, atom, unknown, handled_by, system_of, HasProofByBook};
+ghost use Rattle.term_tests.specs.Atoms.{Goal, Response, AtomRuleBook, atoms, atom, unknown, handled_by, system_of, AtomHasProofByBook};
 ghost use Rattle.evaluation.specs.Correspondences.{RoundsCorrespond, CandidatesCorrespond, FramesCorrespond};
 ghost use Rattle.term_tests.specs.Counted.{counting, but_for_tables, but_for_counts};
-ghost use Rattle.term_tests.specs.Toys.{no_rule, one_rule, two_rules, three_premises, premise_binds, coinductive_rule, u8, bool, show, clone, copy, sized, send, yes, yes_with, maybe, overflow, rounds_with_values, Asks};
+ghost use Rattle.term_tests.specs.Toys.{no_rule, one_rule, two_rules, three_premises, premise_binds, coinductive_rule, u8, bool, show, clone, copy, sized, send, yes, yes_with, maybe, overflow, rounds_with_values, ToyAsks};
 
 use evaluation::promises::{
     CorrespondingOperations, CorrespondingWorkings, Evaluation, GoalSystem, answer_covers_goal,
@@ -27,7 +27,7 @@ impl Evaluation for RuleBooks {
 
     ghost tables = { atoms };
 
-    ghost Goal = { RuleBook × Goal };
+    ghost Goal = { AtomRuleBook × Goal };
 
     ghost handled = { λ goal. handled_by goal.0 goal.1 };
 }
@@ -39,18 +39,18 @@ pub fn atoms_are_lawful()
 
 /// The handler of each list of rules is lawful.
 pub fn rule_books_are_lawful()
-    ensures { (book : RuleBook) (goal : Goal) → IsHandler atoms (handled_by book goal) }
+    ensures { (book : AtomRuleBook) (goal : Goal) → IsHandler atoms (handled_by book goal) }
 {}
 
 /// The goals of a list of rules, with the rules that conclude them.
 pub fn rule_books_are_systems()
-    ensures { (book : RuleBook) → IsSystem atoms (system_of book) }
+    ensures { (book : AtomRuleBook) → IsSystem atoms (system_of book) }
 {}
 
 /// So the promises hold of their frames.
 pub fn rule_books_keep_promises()
-    ensures yes { (book : RuleBook) (goal : Goal) → DefiniteYesFollows atoms (handled_by book goal) }
-    ensures covers { (book : RuleBook) (goal : Goal) → AnswerCoversGoal atoms (handled_by book goal) }
+    ensures yes { (book : AtomRuleBook) (goal : Goal) → DefiniteYesFollows atoms (handled_by book goal) }
+    ensures covers { (book : AtomRuleBook) (goal : Goal) → AnswerCoversGoal atoms (handled_by book goal) }
 {
     atoms_are_lawful();
     rule_books_are_lawful();
@@ -128,51 +128,51 @@ pub fn counting_changes_nothing()
 
 /// Without a rule there is no candidate, and the goal is refused at once.
 pub fn no_rule_is_refused()
-    ensures { Asks no_rule (show (atom u8)) (begin ∷ []) (returns None) }
+    ensures { ToyAsks no_rule (show (atom u8)) (begin ∷ []) (returns None) }
 {}
 
 /// `show(u8)` holds by a rule without premises; `show(bool)` is refused by its equation; an unknown is given its value.
 pub fn one_rule_answers()
-    ensures begins { Asks one_rule (show (atom u8)) (begin ∷ []) enter_candidate }
-    ensures ends { Asks one_rule (show (atom u8)) (entered ∷ begin ∷ []) finish_candidate }
-    ensures yes { Asks one_rule (show (atom u8)) (finished 0 ∷ entered ∷ begin ∷ []) (returns yes) }
-    ensures ignores { Asks one_rule (show (atom bool)) (finished 0 ∷ entered ∷ begin ∷ []) (ignore_candidate 0) }
-    ensures refused { Asks one_rule (show (atom bool)) (ignored ∷ finished 0 ∷ entered ∷ begin ∷ []) (returns None) }
-    ensures bound { Asks one_rule (show unknown) (finished 0 ∷ entered ∷ begin ∷ []) (returns (yes_with u8)) }
+    ensures begins { ToyAsks one_rule (show (atom u8)) (begin ∷ []) enter_candidate }
+    ensures ends { ToyAsks one_rule (show (atom u8)) (entered ∷ begin ∷ []) finish_candidate }
+    ensures yes { ToyAsks one_rule (show (atom u8)) (finished 0 ∷ entered ∷ begin ∷ []) (returns yes) }
+    ensures ignores { ToyAsks one_rule (show (atom bool)) (finished 0 ∷ entered ∷ begin ∷ []) (ignore_candidate 0) }
+    ensures refused { ToyAsks one_rule (show (atom bool)) (ignored ∷ finished 0 ∷ entered ∷ begin ∷ []) (returns None) }
+    ensures bound { ToyAsks one_rule (show unknown) (finished 0 ∷ entered ∷ begin ∷ []) (returns (yes_with u8)) }
 {}
 
 /// Two rules with different values leave the unknown open.
 pub fn two_rules_are_ambiguous()
-    ensures known { Asks two_rules (show (atom bool)) (ignored ∷ finished 1 ∷ entered ∷ finished 0 ∷ entered ∷ begin ∷ []) (returns yes) }
-    ensures open { Asks two_rules (show unknown) (finished 1 ∷ entered ∷ finished 0 ∷ entered ∷ begin ∷ []) (returns maybe) }
+    ensures known { ToyAsks two_rules (show (atom bool)) (ignored ∷ finished 1 ∷ entered ∷ finished 0 ∷ entered ∷ begin ∷ []) (returns yes) }
+    ensures open { ToyAsks two_rules (show unknown) (finished 1 ∷ entered ∷ finished 0 ∷ entered ∷ begin ∷ []) (returns maybe) }
 {}
 
 /// Three premises are asked in order; where the second is refused, the third is not asked.
 pub fn three_premises_are_asked_in_order()
-    ensures first { Asks three_premises (show (atom u8)) (entered ∷ begin ∷ []) (evaluate (clone (atom u8))) }
-    ensures second { Asks three_premises (show (atom u8)) (evaluated yes ∷ entered ∷ begin ∷ []) (evaluate (copy (atom u8))) }
-    ensures third { Asks three_premises (show (atom u8)) (evaluated yes ∷ evaluated yes ∷ entered ∷ begin ∷ []) (evaluate (sized (atom u8))) }
-    ensures yes { Asks three_premises (show (atom u8)) (finished 0 ∷ evaluated yes ∷ evaluated yes ∷ evaluated yes ∷ entered ∷ begin ∷ []) (returns yes) }
-    ensures refused { Asks three_premises (show (atom u8)) (evaluated None ∷ evaluated yes ∷ entered ∷ begin ∷ []) finish_candidate }
+    ensures first { ToyAsks three_premises (show (atom u8)) (entered ∷ begin ∷ []) (evaluate (clone (atom u8))) }
+    ensures second { ToyAsks three_premises (show (atom u8)) (evaluated yes ∷ entered ∷ begin ∷ []) (evaluate (copy (atom u8))) }
+    ensures third { ToyAsks three_premises (show (atom u8)) (evaluated yes ∷ evaluated yes ∷ entered ∷ begin ∷ []) (evaluate (sized (atom u8))) }
+    ensures yes { ToyAsks three_premises (show (atom u8)) (finished 0 ∷ evaluated yes ∷ evaluated yes ∷ evaluated yes ∷ entered ∷ begin ∷ []) (returns yes) }
+    ensures refused { ToyAsks three_premises (show (atom u8)) (evaluated None ∷ evaluated yes ∷ entered ∷ begin ∷ []) finish_candidate }
 
     // In a round without values, those that are not yes stay, and an overflow among them is the cause.
-    ensures ambiguous { Asks three_premises (show (atom u8)) (finished 0 ∷ evaluated yes ∷ evaluated maybe ∷ evaluated yes ∷ entered ∷ begin ∷ []) (returns maybe) }
-    ensures overflowed { Asks three_premises (show (atom u8)) (finished 0 ∷ evaluated maybe ∷ evaluated overflow ∷ evaluated yes ∷ entered ∷ begin ∷ []) (returns overflow) }
+    ensures ambiguous { ToyAsks three_premises (show (atom u8)) (finished 0 ∷ evaluated yes ∷ evaluated maybe ∷ evaluated yes ∷ entered ∷ begin ∷ []) (returns maybe) }
+    ensures overflowed { ToyAsks three_premises (show (atom u8)) (finished 0 ∷ evaluated maybe ∷ evaluated overflow ∷ evaluated yes ∷ entered ∷ begin ∷ []) (returns overflow) }
 {}
 
 /// A premise that binds the unknown is asked again with its value; after eight rounds with values the answer is an overflow
 /// without values.
 pub fn premise_binds_unknown()
-    ensures asked { Asks premise_binds (show unknown) (entered ∷ begin ∷ []) (evaluate (clone unknown)) }
-    ensures asked_again { Asks premise_binds (show unknown) (evaluated (yes_with u8) ∷ entered ∷ begin ∷ []) (evaluate (clone (atom u8))) }
-    ensures bound { Asks premise_binds (show unknown) (finished 0 ∷ evaluated yes ∷ evaluated (yes_with u8) ∷ entered ∷ begin ∷ []) (returns (yes_with u8)) }
-    ensures eighth { Asks premise_binds (show unknown) (rounds_with_values 7 (entered ∷ begin ∷ [])) (evaluate (clone (atom u8))) }
-    ensures no_ninth { Asks premise_binds (show unknown) (finished 0 ∷ rounds_with_values 8 (entered ∷ begin ∷ [])) (returns overflow) }
+    ensures asked { ToyAsks premise_binds (show unknown) (entered ∷ begin ∷ []) (evaluate (clone unknown)) }
+    ensures asked_again { ToyAsks premise_binds (show unknown) (evaluated (yes_with u8) ∷ entered ∷ begin ∷ []) (evaluate (clone (atom u8))) }
+    ensures bound { ToyAsks premise_binds (show unknown) (finished 0 ∷ evaluated yes ∷ evaluated (yes_with u8) ∷ entered ∷ begin ∷ []) (returns (yes_with u8)) }
+    ensures eighth { ToyAsks premise_binds (show unknown) (rounds_with_values 7 (entered ∷ begin ∷ [])) (evaluate (clone (atom u8))) }
+    ensures no_ninth { ToyAsks premise_binds (show unknown) (finished 0 ∷ rounds_with_values 8 (entered ∷ begin ∷ [])) (returns overflow) }
 {}
 
 /// A coinductive goal that needs itself has a proof, and its frame asks for itself.
 pub fn coinductive_rule_needs_itself()
-    ensures asked { Asks coinductive_rule (send (atom u8)) (entered ∷ begin ∷ []) (evaluate (send (atom u8))) }
-    ensures yes { Asks coinductive_rule (send (atom u8)) (finished 0 ∷ evaluated yes ∷ entered ∷ begin ∷ []) (returns yes) }
-    ensures proved { HasProofByBook coinductive_rule (4, u8) }
+    ensures asked { ToyAsks coinductive_rule (send (atom u8)) (entered ∷ begin ∷ []) (evaluate (send (atom u8))) }
+    ensures yes { ToyAsks coinductive_rule (send (atom u8)) (finished 0 ∷ evaluated yes ∷ entered ∷ begin ∷ []) (returns yes) }
+    ensures proved { AtomHasProofByBook coinductive_rule (4, u8) }
 {}

@@ -213,12 +213,12 @@ SectionFaults =
     × IsFaulty later_foreign_auto 6 11 × IsFaulty later_built_in 2 12
 
 -- what is checked, and the headers that the sections add; and how many impls the crates have beside core's
-pub record Added : Type 0 where
+pub record AddedHeaders : Type 0 where
   pub checks : List Check
   pub headers : List (ℕ × (ℕ × Reference))
   pub impls : ℕ
 
-abbrev pub added_in : Result Declarations (ℕ × ℕ) → Option Added
+abbrev pub added_in : Result Declarations (ℕ × ℕ) → Option AddedHeaders
 added_in (Ok d) = Some (record {
   checks = d.checks;
   headers = map (λ i. (i.section, (i.added.item.home, i.added.item.header))) d.later_impls;

@@ -22,7 +22,7 @@ use Rattle.workspace.specs.declared.declared.Param as kept
 use Rattle.workspace.specs.declared.declared.QuestionEntry.{QuestionEntry}
 use Rattle.workspace.specs.declared.declared.ReferenceCells.{ReferenceCells}
 use Rattle.text_reader.specs.BareLines.{sort_of_param, sorted_param}
-use Rattle.text_reader.specs.Entries.{OfRead, AreFields, AreBounds, IsMain, AreClauses, SaysStruct, SaysTrait, SaysImpl, IsStruct, IsTrait, IsImpl, IsAsking, IsEntry}
+use Rattle.text_reader.specs.Entries.{OfRead, AreFields, AreBoundsOfLine, IsMain, AreClauses, SaysStruct, SaysTrait, SaysImpl, IsStruct, IsTrait, IsImpl, IsAsking, IsQuestionEntry}
 use Rattle.text_reader.proofs.WhatIsAdded.{crate-line, later-line, supers-line, struct-line, trait-line, impl-line, question-line, Says, firsts, firsts-kept, variables-kept}
 
 -- the name that it declares is new
@@ -73,7 +73,7 @@ struct-adds d e read f n ps kinds cells says k are adds =
     λ l r. adds l (struct-line d f n ps ss (sorts_of kinds) (trees_of (cells_of cells)) l (sym line ∙ r.0) k (are l r))
 
 pub trait-adds : (d e : Declarations) (read : LineRead) (f a : Bool) (n : List ℕ) (ps : List Param) (kinds : List ParamKind) (rs : List ReferenceCells)
-    → SaysTrait (statement_of read.statement) f a n ps → sorts_of kinds ≡ map sort_of_param ps → OfRead read (λ l. AreBounds d l (map reference_of rs)) → AddsTraitLine d e n f a kinds rs → AddsLine d read e
+    → SaysTrait (statement_of read.statement) f a n ps → sorts_of kinds ≡ map sort_of_param ps → OfRead read (λ l. AreBoundsOfLine d l (map reference_of rs)) → AddsTraitLine d e n f a kinds rs → AddsLine d read e
 trait-adds d e read f a n ps kinds rs says k are adds =
     let (ss, line) = trait-said (statement_of read.statement) f a n ps says in
     λ l r. adds l (trait-line d f a n ps ss (sorts_of kinds) (map reference_of rs) l (sym line ∙ r.0) k (are l r))
@@ -86,7 +86,7 @@ impl-adds d e read ps params header rs says named main are adds =
     λ l r. adds l (impl-line d ps k ks (sorted_params params) (reference_of header) (map reference_of rs) l (sym line ∙ r.0) named (main l r) (are l r))
 
 pub question-adds : (d e : Declarations) (read : LineRead) (how : Asked) (ps : List Param) (q : QuestionEntry)
-    → IsAsking d (statement_of read.statement) how ps → q.asked_how ≡ how → IsEntry d ps read q → AddsQuestionLine d e (question_of q) → AddsLine d read e
+    → IsAsking d (statement_of read.statement) how ps → q.asked_how ≡ how → IsQuestionEntry d ps read q → AddsQuestionLine d e (question_of q) → AddsLine d read e
 question-adds d e read how ps q asking same entry adds = λ l r.
     let says : Says d (is_refute how) asking.0 ps (question_of q) l = record {
       refutes = ap is_refute same;

@@ -18,7 +18,7 @@ use Rattle.line_reader.proofs.FittingUses.{faultless-uses}
 use Rattle.workspace.specs.Numbered.{IsNumbered, IsFew}
 use Rattle.text_reader.proofs.Each.{Every, Every-from_Each}
 use Rattle.text_reader.specs.Laws.{AllOf, BoundFits, ClauseFits, LineFits}
-use Rattle.text_reader.specs.Meant.{KnownFits, NumbersFit, IsStruct, NameMeans, UseMeans, UsesMean}
+use Rattle.text_reader.specs.Meant.{KnownFits, NumbersFit, IsKnownStruct, NameMeans, UseMeans, UsesMean}
 
 -- ---- what fits can be meant
 among-either : (n : List ℕ) (xs ys : List (List ℕ)) → is_among n (xs ++ ys) ≡ is_among n xs || is_among n ys
@@ -32,7 +32,7 @@ among-either n (x ∷ xs) ys = ap (λ b. bytes_eq x n || b) (among-either n xs y
 is-zero : (k : ℕ) → (k == 0) ≡ true → k ≡ 0
 is-zero k h = grind (arith, nat_tests, h)
 
-a-struct : (o : Option Known) (k : ℕ) → option_map_or (is_type_of of_type k) o false ≡ true → IsStruct o
+a-struct : (o : Option Known) (k : ℕ) → option_map_or (is_type_of of_type k) o false ≡ true → IsKnownStruct o
 a-struct None k h = absurd cc
 a-struct (Some (a_crate i)) k h = absurd cc
 a-struct (Some (a_struct i c ks)) k h = tt

@@ -11,12 +11,12 @@ use Rattle.name_resolution.specs.Views.{resolved_in}
 use Rattle.name_resolution.specs.declared.resolved.ResolvedCell as code
 use Rattle.name_resolution.specs.Standing.{standing}
 use Rattle.workspace.specs.TermCells.{behind_cells, behind_cell, trees_of}
-use Rattle.workspace.specs.Made.{Part, parts_of, parts_behind, CellHeld, CellsHeld, AreMade}
+use Rattle.workspace.specs.Made.{StackPart, parts_of, parts_behind, CellHeld, CellsHeld, AreMade}
 use Rattle.workspace.specs.Views.{cell_of, cells_of}
 use Rattle.workspace.specs.declared.cell.TermCell.{TermCell}
 use Rattle.text_reader.proofs.Each.{Every}
 use Rattle.text_reader.specs.Making.{Makes, label_autos, next_autos, term_of}
-use Rattle.text_reader.specs.Keeping.{pushed, Keeps, AddsCells}
+use Rattle.text_reader.specs.Keeping.{pushed, PutsTrees, AddsCells}
 use Rattle.text_reader.specs.Numbering.{CellStands}
 use Rattle.text_reader.proofs.Standing.{cells-same, pushed-append, pushed-back}
 
@@ -24,12 +24,12 @@ held-both : (a b : List TermCell) → CellsHeld a → CellsHeld b → CellsHeld 
 held-both [] b h g = g
 held-both (c ∷ a) b h g = (h.0, held-both a b h.1 g)
 
-parts-then : (c : TermCell) (a b : List TermCell) (o : Option (List Part)) → ((M : List Part) → parts_of (a ++ b) M ≡ option_and_then (parts_of b) (parts_of a M))
+parts-then : (c : TermCell) (a b : List TermCell) (o : Option (List StackPart)) → ((M : List StackPart) → parts_of (a ++ b) M ≡ option_and_then (parts_of b) (parts_of a M))
     → option_and_then (parts_of (a ++ b)) o ≡ option_and_then (parts_of b) (option_and_then (parts_of a) o)
 parts-then c a b None h = refl
 parts-then c a b (Some M) h = h M
 
-parts-both : (a b : List TermCell) (S : List Part) → parts_of (a ++ b) S ≡ option_and_then (parts_of b) (parts_of a S)
+parts-both : (a b : List TermCell) (S : List StackPart) → parts_of (a ++ b) S ≡ option_and_then (parts_of b) (parts_of a S)
 parts-both [] b S = refl
 parts-both (c ∷ a) b S = parts-then c a b (parts_behind c S) (parts-both a b)
 
@@ -37,21 +37,21 @@ trees-both : (a b : List TermCell) (S : List Trees) → behind_cells (cells_of (
 trees-both [] b S = refl
 trees-both (c ∷ a) b S = trees-both a b (behind_cell (cell_of c) S)
 
-pub keeps-both : (a b : List TermCell) (ts us : List Trees) (xs ys : List Part) → Keeps a ts xs → Keeps b us ys → Keeps (a ++ b) (ts ++ us) (xs ++ ys)
+pub keeps-both : (a b : List TermCell) (ts us : List Trees) (xs ys : List StackPart) → PutsTrees a ts xs → PutsTrees b us ys → PutsTrees (a ++ b) (ts ++ us) (xs ++ ys)
 keeps-both a b ts us xs ys h g = record {
   held = held-both a b h.held g.held;
   trees = λ S. trees-both a b S ∙ ap (behind_cells (cells_of b)) (h.trees S) ∙ g.trees (pushed ts S) ∙ sym (pushed-append ts us S);
   parts = λ S. parts-both a b S ∙ ap (option_and_then (parts_of b)) (h.parts S) ∙ g.parts (pushed xs S) ∙ ap Some (sym (pushed-append xs ys S));
 }
 
-pub keeps-none : Keeps [] [] []
+pub keeps-none : PutsTrees [] [] []
 keeps-none = record { held = tt; trees = λ S. refl; parts = λ S. refl }
 
 -- what was added stands for trees behind the others
-pub kept-more : (e : Meanings) (cs : List ResolvedCell) (old new : List TermCell) (us : List Trees) (ys : List Part) → AddsCells e cs old new → ((S : List Part) → Makes e 0 cs S (pushed ys S)) → ((S : List Trees) → standing e cs S ≡ pushed us S)
-    → (ts : List Trees) (xs : List Part) → Keeps old ts xs → Keeps new (ts ++ us) (xs ++ ys)
+pub kept-more : (e : Meanings) (cs : List ResolvedCell) (old new : List TermCell) (us : List Trees) (ys : List StackPart) → AddsCells e cs old new → ((S : List StackPart) → Makes e 0 cs S (pushed ys S)) → ((S : List Trees) → standing e cs S ≡ pushed us S)
+    → (ts : List Trees) (xs : List StackPart) → PutsTrees old ts xs → PutsTrees new (ts ++ us) (xs ++ ys)
 kept-more e cs old new us ys h makes stands ts xs k =
-    subst (λ z. Keeps z (ts ++ us) (xs ++ ys)) (sym h.behind)
+    subst (λ z. PutsTrees z (ts ++ us) (xs ++ ys)) (sym h.behind)
     (keeps-both old h.added ts us xs ys k (record {
       held = h.held;
       trees = λ S. ap (λ z. behind_cells z S) (h.cells [] (pushed ys []) (makes [])) ∙ cells-same e cs S ∙ stands S;
@@ -62,14 +62,14 @@ kept-more e cs old new us ys h makes stands ts xs k =
 and-true : (a b : Bool) → a ≡ true → b ≡ true → a && b ≡ true
 and-true a b h g = ap (λ x. x && b) h ∙ g
 
-all-pushed : (p : Part → Bool) (xs S : List Part) → Every (λ x. p x ≡ true) xs → list_all p S ≡ true → list_all p (pushed xs S) ≡ true
+all-pushed : (p : StackPart → Bool) (xs S : List StackPart) → Every (λ x. p x ≡ true) xs → list_all p S ≡ true → list_all p (pushed xs S) ≡ true
 all-pushed p [] S h g = g
 all-pushed p (x ∷ xs) S h g = all-pushed p xs (x ∷ S) h.1 (and-true (p x) (list_all p S) h.0 g)
 
-pub kept-trees : (cs : List TermCell) (ts : List Trees) (xs : List Part) → Keeps cs ts xs → trees_of (cells_of cs) ≡ ts
+pub kept-trees : (cs : List TermCell) (ts : List Trees) (xs : List StackPart) → PutsTrees cs ts xs → trees_of (cells_of cs) ≡ ts
 kept-trees cs ts xs k = ap reverse (k.trees []) ∙ pushed-back ts
 
-pub kept-made : (p : Part → Bool) (cs : List TermCell) (ts : List Trees) (xs : List Part) → Keeps cs ts xs → Every (λ x. p x ≡ true) xs → AreMade p cs
+pub kept-made : (p : StackPart → Bool) (cs : List TermCell) (ts : List Trees) (xs : List StackPart) → PutsTrees cs ts xs → Every (λ x. p x ≡ true) xs → AreMade p cs
 kept-made p cs ts xs k h = record { held = k.held; parts = ap (option_map (list_all p)) (k.parts []) ∙ ap Some (all-pushed p xs [] h refl) }
 
 -- ---- the loop over cells: some were put there, the others are to come
@@ -77,7 +77,7 @@ pub record Adding (e : Meanings) (all rest : List ResolvedCell) (autos : ℕ) (o
   pub added : List TermCell
   pub behind : now ≡ old ++ added
   pub held : CellsHeld added
-  pub far : (S R : List Part) → Makes e 0 all S R → (M : List Part) × (parts_of added S ≡ Some M) × Makes e autos rest M R × (cells_of added ++ map (term_of e) rest ≡ map (term_of e) all)
+  pub far : (S R : List StackPart) → Makes e 0 all S R → (M : List StackPart) × (parts_of added S ≡ Some M) × Makes e autos rest M R × (cells_of added ++ map (term_of e) rest ≡ map (term_of e) all)
 
 pub adding-starts : (e : Meanings) (all : List ResolvedCell) (old : List TermCell) → Adding e all all 0 old old
 adding-starts e all old = record { added = []; behind = sym (append-nil old); held = tt; far = λ S R m. (S, refl, m, refl) }

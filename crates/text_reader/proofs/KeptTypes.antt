@@ -34,14 +34,14 @@ use Rattle.name_resolution.specs.Views.{resolved_in, variable_in}
 use Rattle.name_resolution.specs.declared.parts.ResolvedPart.{ResolvedPart}
 use Rattle.name_resolution.proofs.StandingLaws.{at-type}
 use Rattle.workspace.specs.TermCells.{trees_of, joined}
-use Rattle.workspace.specs.Made.{Part, type_part, is_arg, is_type, AreMade, ReferenceMade, ReferencesMade}
+use Rattle.workspace.specs.Made.{StackPart, type_part, is_arg, is_type, AreMade, ReferenceMade, ReferencesMade}
 use Rattle.workspace.specs.Views.{cells_of, reference_of}
 use Rattle.workspace.specs.declared.cell.TermCell.{TermCell}
 use Rattle.workspace.specs.declared.cell.TermCell.TheVariants as term
 use Rattle.workspace.specs.declared.declared.ReferenceCells.{ReferenceCells}
 use Rattle.text_reader.proofs.Each.{Every}
-use Rattle.text_reader.specs.Keeping.{pushed, Keeps, AddsCells}
-use Rattle.text_reader.specs.Kept.{IsSightOf, IsReady, NumberingFits, IsShort, IsReadAs, IsOfLine, KeepsType, MeansBound, MeansReference}
+use Rattle.text_reader.specs.Keeping.{pushed, PutsTrees, AddsCells}
+use Rattle.text_reader.specs.Kept.{IsSightOf, HasSmallNumbers, NumberingFits, HasSmallPlaces, IsReadAs, IsOfLine, KeepsType, MeansBound, MeansReference}
 use Rattle.text_reader.specs.Laws.{AllOf, ClauseFits}
 use Rattle.text_reader.specs.Meant.{FewNames, UsesMean}
 use Rattle.text_reader.specs.Numbering.{meanings, first_number, variables_of}
@@ -105,14 +105,14 @@ from-type t cells s few st = record {
   plain = stands-plain (cells_in cells) t s (cells-plain cells) st;
 }
 
-short-type : (t : TypeTree) → IsShort (line.type_part t) → FromLine t
+short-type : (t : TypeTree) → HasSmallPlaces (line.type_part t) → FromLine t
 short-type t (cells, at, few, st) = by at st
   where
     by : (at : places.LinePart) → PartStands (cells_in cells) (line.type_part t) at → FromLine t
     by (place.Type s) st = from-type t cells s few st
     by (place.Bound s) st = absurd st
 
-short-bound : (b : Bound) → IsShort (line.bound_part b) → FromLine (named b.trait b.args)
+short-bound : (b : Bound) → HasSmallPlaces (line.bound_part b) → FromLine (named b.trait b.args)
 short-bound b (cells, at, few, st) = by at st
   where
     by : (at : places.LinePart) → PartStands (cells_in cells) (line.bound_part b) at → FromLine (named b.trait b.args)
@@ -142,10 +142,10 @@ few-by : (n : Numbering) → NumberingFits n → (first_number n ≤ 1) × (leng
 few-by (Item first) h = (h, omega arith)
 few-by (Question vs) h = (omega arith, omega (arith, length-map vs.now variable_in, h))
 
-pub few-names : (v : Sight) (n : Numbering) → IsReady v n → FewNames (meanings v n)
+pub few-names : (v : Sight) (n : Numbering) → HasSmallNumbers v n → FewNames (meanings v n)
 few-names v n h = let b = few-by n h.numbering in (omega (arith, few-params (params v), h.params, b.0), omega (arith, b.1))
 
-pub line-ready : (v : Sight) (n : Numbering) (l : Line) → IsReady v n → IsSightOf v l → IsOfLine v (meanings v n) l
+pub line-ready : (v : Sight) (n : Numbering) (l : Line) → HasSmallNumbers v n → IsSightOf v l → IsOfLine v (meanings v n) l
 line-ready v n l h s = record { sight = s; items = refl; params = refl; few = few-names v n h; numbers = h.numbers }
 
 -- ---- a type
@@ -178,7 +178,7 @@ bound-kept v e f self r adds small l b t o is u k =
     let around : Around e [] (args_size b.args) = record { few = o.few; numbers = o.numbers; short = tt; room = room } in
     let w = with_own v.before l in
     let all : UsesMean e (bound_uses e.items b) = subst (λ d. UsesMean e (bound_uses d b)) (sym (at-items v e l o)) (uses-mean e v.before l (bound_uses w b) (at-items v e l o) (at-params v e l o) u) in
-    let kept : Keeps r.args.items (t ∷ args_list e [] ks b.args) (type_part ∷ arg_kinds ks b.args) =
+    let kept : PutsTrees r.args.items (t ∷ args_list e [] ks b.args) (type_part ∷ arg_kinds ks b.args) =
     kept-more e (args_before e.items e.params [] ks b.args []) self r.args.items (args_list e [] ks b.args) (arg_kinds ks b.args)
     (subst (λ cs. AddsCells e cs self r.args.items) same adds)
     (λ S. args-make e [] ks b.args [] S (pushed (arg_kinds ks b.args) S) around from.plain all.1 (kinds-pushed ks b.args S))
@@ -202,19 +202,19 @@ one-front all i d x h same =
 -- ---- the loop over the fields of a struct
 pub record Fields (v : Sight) (e : Meanings) (l : Line) (fs : Types) (rest : List ResolvedPart) (kept : List TermCell) : Type 0 where
   pub done : List Trees
-  pub parts : List Part
+  pub parts : List StackPart
   pub behind : Types
   pub whole : field_trees e fs ≡ done ++ field_trees e behind
   pub stand : EachOf (IsReadAs v) (map line.type_part (type_list behind)) rest
   pub fit : UsesFit v.before l (types_uses (with_own v.before l) [] behind)
   pub are : Every (λ x. is_type x ≡ true) parts
-  pub keeps : Keeps kept done parts
+  pub keeps : PutsTrees kept done parts
 
 pub fields-start : (v : Sight) (e : Meanings) (l : Line) (fs : Types) (rs : List ResolvedPart) → EachOf (IsReadAs v) (map line.type_part (type_list fs)) rs → UsesFit v.before l (types_uses (with_own v.before l) [] fs)
     → (kept : List TermCell) → kept ≡ [] → Fields v e l fs rs kept
-fields-start v e l fs rs st f kept z = record { done = []; parts = []; behind = fs; whole = refl; stand = st; fit = f; are = tt; keeps = subst (λ x. Keeps x [] []) (sym z) keeps-none }
+fields-start v e l fs rs st f kept z = record { done = []; parts = []; behind = fs; whole = refl; stand = st; fit = f; are = tt; keeps = subst (λ x. PutsTrees x [] []) (sym z) keeps-none }
 
-every-push : (xs : List Part) (x : Part) → Every (λ y. is_type y ≡ true) xs → is_type x ≡ true → Every (λ y. is_type y ≡ true) (xs ++ x ∷ [])
+every-push : (xs : List StackPart) (x : StackPart) → Every (λ y. is_type y ≡ true) xs → is_type x ≡ true → Every (λ y. is_type y ≡ true) (xs ++ x ∷ [])
 every-push [] x h q = (q, tt)
 every-push (y ∷ ys) x h q = (h.0, every-push ys x h.1 q)
 
@@ -298,8 +298,8 @@ references-at Stands Fits f all ys i d y rs new r h same b one g =
     subst (References Stands Fits f all (drop (i + 1) ys)) (sym b) (references-on Stands Fits f all y (drop (i + 1) ys) rs r one (subst (λ z. References Stands Fits f all z rs) (one-front ys i d y h same) g))
 
 -- Self of a trait
-pub self-kept : (cs : List TermCell) → cs ≡ term.Param 0 ∷ [] → Keeps cs (leaf (param of_type 0) ∷ []) (type_part ∷ [])
-self-kept cs z = subst (λ x. Keeps x (leaf (param of_type 0) ∷ []) (type_part ∷ [])) (sym z) (record { held = (tt, tt); trees = λ S. refl; parts = λ S. refl })
+pub self-kept : (cs : List TermCell) → cs ≡ term.Param 0 ∷ [] → PutsTrees cs (leaf (param of_type 0) ∷ []) (type_part ∷ [])
+self-kept cs z = subst (λ x. PutsTrees x (leaf (param of_type 0) ∷ []) (type_part ∷ [])) (sym z) (record { held = (tt, tt); trees = λ S. refl; parts = λ S. refl })
 
 pub references-end : {T Y : Type 0} (Stands : T → Y → Type 0) (Fits : T → Type 0) (f : T → Reference) (all : List T) (rs : List ReferenceCells) → References Stands Fits f all [] rs → (map reference_of rs ≡ map f all) × ReferencesMade rs
 references-end {T} {Y} Stands Fits f all rs g = by g.behind g.whole g.stand

@@ -32,7 +32,7 @@ use Rattle.name_resolution.specs.declared.line.LineFound.{LineFound}
 use Rattle.name_resolution.specs.declared.parts.ResolvedPart.{ResolvedPart}
 use Rattle.name_resolution.specs.declared.resolved.Variable.{Variable}
 use Rattle.text_reader.specs.Declaring.{IsFaultless, IsFoundOf}
-use Rattle.text_reader.specs.Kept.{IsSightOf, IsReady, NumberingFits, IsReadAs, MeansFields, MeansClause, MeansClauses, MeansBounds}
+use Rattle.text_reader.specs.Kept.{IsSightOf, HasSmallNumbers, NumberingFits, IsReadAs, MeansFields, MeansClause, MeansClauses, MeansBounds}
 use Rattle.text_reader.specs.Meant.{NumbersFit}
 use Rattle.text_reader.specs.Numbering.{meanings}
 use Rattle.text_reader.specs.declared.numbering.Numbering.{Numbering}
@@ -45,7 +45,7 @@ use Rattle.workspace.specs.TermCells.{trees_of}
 use Rattle.workspace.specs.Views.{cells_of, reference_of}
 use Rattle.workspace.specs.declared.cell.TermCell.{TermCell}
 use Rattle.workspace.specs.declared.declared.ReferenceCells.{ReferenceCells}
-use Rattle.text_reader.specs.Entries.{AreFields, AreBounds, IsMain, AreClauses, AreVariables, IsStruct, IsTrait, IsImpl, Asks}
+use Rattle.text_reader.specs.Entries.{AreFields, AreBoundsOfLine, IsMain, AreClauses, AreVariables, IsStruct, IsTrait, IsImpl, AsksQuestion}
 use Rattle.text_reader.specs.Sights.{IsSightOfRead}
 
 pub sight-of : (d : Declarations) (read : LineRead) (v : Sight) (l : Line) → IsSightOfRead d read v → ReadsLine l read → IsSightOf v l
@@ -118,7 +118,7 @@ fields-are d read v found out s none short finds says means l r =
 
 -- ---- bounds
 bounds-at : (d : Declarations) (read : LineRead) (v : Sight) (l : Line) (found : LineFound) (out : List ReferenceCells) → Known d read v l found → IsTrait (line_statement l)
-    → MeansBounds v found.others.parts.items out → AreBounds d l (map reference_of out) × ReferencesMade out
+    → MeansBounds v found.others.parts.items out → AreBoundsOfLine d l (map reference_of out) × ReferencesMade out
 bounds-at d read v (trait_line g b m qs bs) found out known says means =
     let l = trait_line g b m qs bs in
     let h = means l bs known.sight known.others (faultless-parts v.before l (fits-line d read v l found known)) in
@@ -126,7 +126,7 @@ bounds-at d read v (trait_line g b m qs bs) found out known says means =
 bounds-at d read v l found out known says means = absurd says
 
 pub bounds-are : (d : Declarations) (read : LineRead) (v : Sight) (found : LineFound) (out : List ReferenceCells) → IsSightOfRead d read v → IsFaultless d read → length read.cells.items ≤ 1048576
-    → IsFoundOf d read found → IsTrait (statement_of read.statement) → MeansBounds v found.others.parts.items out → (l : Line) → ReadsLine l read → AreBounds d l (map reference_of out) × ReferencesMade out
+    → IsFoundOf d read found → IsTrait (statement_of read.statement) → MeansBounds v found.others.parts.items out → (l : Line) → ReadsLine l read → AreBoundsOfLine d l (map reference_of out) × ReferencesMade out
 bounds-are d read v found out s none short finds says means l r =
     bounds-at d read v l found out (line-known d read v found s none short finds l r) (subst IsTrait r.0 says) means
 
@@ -191,13 +191,13 @@ asked-two v k (x ∷ y ∷ []) st = refl
 asked-two v k (x ∷ y ∷ z ∷ rs) st = absurd st.1.1
 
 -- what is asked is its subject, and then its bound
-pub asked-there : (d : Declarations) (read : LineRead) (v : Sight) (l : Line) (found : LineFound) (b : Bool) (c : List ℕ) (ps : List said.Param) → Known d read v l found → Asks (line_statement l) b c ps → length found.asked.parts.items ≡ 2
+pub asked-there : (d : Declarations) (read : LineRead) (v : Sight) (l : Line) (found : LineFound) (b : Bool) (c : List ℕ) (ps : List said.Param) → Known d read v l found → AsksQuestion (line_statement l) b c ps → length found.asked.parts.items ≡ 2
 asked-there d read v (prove_line a qs k ks) found false c ps known asks = asked-two v k found.asked.parts.items known.asked
 asked-there d read v (refute_line a qs k) found true c ps known asks = asked-two v k found.asked.parts.items known.asked
 asked-there d read v l found b c ps known asks = absurd asks
 
 asked-at : (d : Declarations) (read : LineRead) (v : Sight) (l : Line) (found : LineFound) (q : Bool) (c : List ℕ) (ps : List said.Param) (s b : ResolvedPart) (rest : List ResolvedPart) (vs : Bor (List Variable)) (out : ReferenceCells) → Known d read v l found
-    → Asks (line_statement l) q c ps → AreVariables d l (map variable_in vs.now) → found.asked.parts.items ≡ s ∷ b ∷ rest → MeansClause v (Question vs) s b out → IsMain d l (reference_of out) × ReferenceMade out
+    → AsksQuestion (line_statement l) q c ps → AreVariables d l (map variable_in vs.now) → found.asked.parts.items ≡ s ∷ b ∷ rest → MeansClause v (Question vs) s b out → IsMain d l (reference_of out) × ReferenceMade out
 asked-at d read v (prove_line a qs k ks) found false c ps s b rest vs out known asks are same means =
     let l = prove_line a qs k ks in
     let fits = (faultless-parts v.before l (fits-line d read v l found known)).0 in
@@ -213,7 +213,7 @@ asked-at d read v (refute_line a qs k) found true c ps s b rest vs out known ask
 asked-at d read v l found q c ps s b rest vs out known asks are same means = absurd asks
 
 given-at : (d : Declarations) (read : LineRead) (v : Sight) (l : Line) (found : LineFound) (q : Bool) (c : List ℕ) (ps : List said.Param) (vs : Bor (List Variable)) (out : List ReferenceCells) → Known d read v l found
-    → Asks (line_statement l) q c ps → AreVariables d l (map variable_in vs.now) → MeansClauses v (Question vs) found.others.parts.items out → AreClauses d l (map reference_of out) × ReferencesMade out
+    → AsksQuestion (line_statement l) q c ps → AreVariables d l (map variable_in vs.now) → MeansClauses v (Question vs) found.others.parts.items out → AreClauses d l (map reference_of out) × ReferencesMade out
 given-at d read v (prove_line a qs k ks) found false c ps vs out known asks are means =
     let l = prove_line a qs k ks in
     let fits = (faultless-parts v.before l (fits-line d read v l found known)).1 in
@@ -223,21 +223,21 @@ given-at d read v (refute_line a qs k) found true c ps vs out known asks are mea
 given-at d read v l found q c ps vs out known asks are means = absurd asks
 
 pub asked-is : (d : Declarations) (read : LineRead) (v : Sight) (found : LineFound) (q : Bool) (c : List ℕ) (ps : List said.Param) (s b : ResolvedPart) (rest : List ResolvedPart) (vs : Bor (List Variable)) (out : ReferenceCells) → IsSightOfRead d read v → IsFaultless d read
-    → length read.cells.items ≤ 1048576 → IsFoundOf d read found → Asks (statement_of read.statement) q c ps → map variable_in vs.now ≡ once (map variable_in found.asked.variables.items) → found.asked.parts.items ≡ s ∷ b ∷ rest
+    → length read.cells.items ≤ 1048576 → IsFoundOf d read found → AsksQuestion (statement_of read.statement) q c ps → map variable_in vs.now ≡ once (map variable_in found.asked.variables.items) → found.asked.parts.items ≡ s ∷ b ∷ rest
     → MeansClause v (Question vs) s b out → (l : Line) → ReadsLine l read → IsMain d l (reference_of out) × ReferenceMade out
 asked-is d read v found q c ps s b rest vs out sight none short finds asks is same means l r =
-    asked-at d read v l found q c ps s b rest vs out (line-known d read v found sight none short finds l r) (subst (λ x. Asks x q c ps) r.0 asks)
+    asked-at d read v l found q c ps s b rest vs out (line-known d read v found sight none short finds l r) (subst (λ x. AsksQuestion x q c ps) r.0 asks)
     (variables-are d read v found vs.now sight none short finds is l r) same means
 
 pub given-are : (d : Declarations) (read : LineRead) (v : Sight) (found : LineFound) (q : Bool) (c : List ℕ) (ps : List said.Param) (vs : Bor (List Variable)) (out : List ReferenceCells) → IsSightOfRead d read v → IsFaultless d read
-    → length read.cells.items ≤ 1048576 → IsFoundOf d read found → Asks (statement_of read.statement) q c ps → map variable_in vs.now ≡ once (map variable_in found.asked.variables.items)
+    → length read.cells.items ≤ 1048576 → IsFoundOf d read found → AsksQuestion (statement_of read.statement) q c ps → map variable_in vs.now ≡ once (map variable_in found.asked.variables.items)
     → MeansClauses v (Question vs) found.others.parts.items out → (l : Line) → ReadsLine l read → AreClauses d l (map reference_of out) × ReferencesMade out
 given-are d read v found q c ps vs out sight none short finds asks is means l r =
-    given-at d read v l found q c ps vs out (line-known d read v found sight none short finds l r) (subst (λ x. Asks x q c ps) r.0 asks)
+    given-at d read v l found q c ps vs out (line-known d read v found sight none short finds l r) (subst (λ x. AsksQuestion x q c ps) r.0 asks)
     (variables-are d read v found vs.now sight none short finds is l r) means
 
 -- ---- what is needed of numbers
-ready : (d : Declarations) (read : LineRead) (v : Sight) (n : Numbering) → IsNumbered d → IsFew d 1048640 → IsSightOfRead d read v → IsFaultless d read → NumberingFits n → IsReady v n
+ready : (d : Declarations) (read : LineRead) (v : Sight) (n : Numbering) → IsNumbered d → IsFew d 1048640 → IsSightOfRead d read v → IsFaultless d read → NumberingFits n → HasSmallNumbers v n
 ready d read v n numbered few s f fits =
     let (l, r) = f.0 in
     let limits = faultless-limits d l (f.1 l r) in
@@ -247,11 +247,11 @@ ready d read v n numbered few s f fits =
       numbering = fits;
     }
 
-pub ready-item : (d : Declarations) (read : LineRead) (v : Sight) (k : ℕ) → IsNumbered d → IsFew d 1048640 → IsSightOfRead d read v → IsFaultless d read → k ≤ 1 → IsReady v (Item k)
+pub ready-item : (d : Declarations) (read : LineRead) (v : Sight) (k : ℕ) → IsNumbered d → IsFew d 1048640 → IsSightOfRead d read v → IsFaultless d read → k ≤ 1 → HasSmallNumbers v (Item k)
 ready-item d read v k numbered few s f h = ready d read v (Item k) numbered few s f h
 
 pub ready-question : (d : Declarations) (read : LineRead) (v : Sight) (vs : Bor (List Variable)) → IsNumbered d → IsFew d 1048640 → IsSightOfRead d read v → IsFaultless d read
-    → ((l : Line) → ReadsLine l read → AreVariables d l (map variable_in vs.now)) → IsReady v (Question vs)
+    → ((l : Line) → ReadsLine l read → AreVariables d l (map variable_in vs.now)) → HasSmallNumbers v (Question vs)
 ready-question d read v vs numbered few s f are =
     let (l, r) = f.0 in
     let limits = faultless-limits d l (f.1 l r) in

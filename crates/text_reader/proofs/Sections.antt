@@ -3,9 +3,9 @@ use Rattle.std.proofs.Common.{◌≡◌, ℕ, zero, suc, ◌-◌, ◌<◌, Bool,
 use Rattle.std.specs.Prelude.{slice_get, unwrap_or}
 use Rattle.type_terms.specs.Worlds.{core}
 use Rattle.text_definitions.specs.Declarations.{Declarations, last_crate, last_changed, impl_owner}
-use Rattle.workspace.specs.Numbered.{Each, IsNumbered}
+use Rattle.workspace.specs.Numbered.{EachNumbered, IsNumbered}
 
-small-there : (cs : List ℕ) (n k : ℕ) → Each (λ i c. c < n) cs → k < length cs → unwrap_or (slice_get cs k) core < n
+small-there : (cs : List ℕ) (n k : ℕ) → EachNumbered (λ i c. c < n) cs → k < length cs → unwrap_or (slice_get cs k) core < n
 small-there [] n k h l = absurd (omega (arith, l))
 small-there (c ∷ cs) n zero h l = h zero c refl
 small-there (c ∷ cs) n (suc k) h l = small-there cs n k (λ i x e. h (suc i) x e) (omega (arith, l))

@@ -2,7 +2,7 @@
 use Rattle.std.proofs.Common.{◌≡◌, ℕ, suc, ◌+◌, ◌≤◌, Bool, true, false, cond, List, [], ◌∷◌, ◌++◌, length, map, Option, Some, None, subst, length-append, arith}
 use Rattle.std.specs.Prelude.{◌==◌, ◌&&◌}
 use Rattle.text_definitions.specs.Words.{Sign, comma, open_angle, close_angle, close_square, semicolon, open_round, plus, colon, fundamental_word, struct_word, auto_word, trait_word, impl_word, for_word, where_word, prove_word, refute_word, in_word, fn_word, is_word_byte}
-use Rattle.text_definitions.specs.Tokens.{Token, keyword, name, sign, Piece, word, quoted, queried, pointing, byte, onto, before, pieces, word_token, as_lifetime, as_variable, sign_token, arrow, in_front, tokens_from, tokens_of}
+use Rattle.text_definitions.specs.Tokens.{Token, keyword, name, sign, LinePiece, word, quoted, queried, pointing, byte, onto, before, pieces, word_token, as_lifetime, as_variable, sign_token, arrow, in_front, tokens_from, tokens_of}
 use Rattle.text_definitions.specs.Syntax.{TypeTree, of_primitive, never_type, variable_type, named, reference_to, pointer_to, slice_of, array_of, tuple_of, fn_of, fn_to, dyn_of, Types, no_types, and_type, Args, no_args, and_arg, Arg, lifetime_arg, number_arg, type_arg, Item, bound_item, lifetime_item, Items, no_items, and_item, Bound, Clause, Line, crate_line, struct_line, trait_line, impl_line, prove_line, refute_line, later_line, supers_line}
 use Rattle.text_definitions.specs.Syntax.{more_lifetimes, binder_spelling, lifetime_spelling, mut_spelling, length_token, type_spelling, tuple_spelling, second_item, inputs_spelling, more_types, args_spelling, more_args, arg_spelling, item_spelling, more_items, behind, params_spelling, bound_spelling, clause_spelling, bounds_spelling, where_spelling, fields_spelling, if_so, spelling}
 use Rattle.text_definitions.specs.Written.{IsWritten}
@@ -10,7 +10,7 @@ use Rattle.line_reader.specs.Cells.{Cell, binder_cell, binder_onto, type_onto, t
 use Rattle.line_reader.specs.Statement.{bound_onto, clause_onto, all_onto, type_list, line_cells}
 
 -- ---- tokens
-onto-few : (b : ℕ) (ps : List Piece) → length (onto b ps) ≤ suc (length ps)
+onto-few : (b : ℕ) (ps : List LinePiece) → length (onto b ps) ≤ suc (length ps)
 onto-few b [] = omega arith
 onto-few b (word w ∷ ps) = omega arith
 onto-few b (quoted w ∷ ps) = omega arith
@@ -18,11 +18,11 @@ onto-few b (queried w ∷ ps) = omega arith
 onto-few b (pointing ∷ ps) = omega arith
 onto-few b (byte c ∷ ps) = omega arith
 
-either-few : (c : Bool) (xs ys : List Piece) (k : ℕ) → length xs ≤ k → length ys ≤ k → length (cond c xs ys) ≤ k
+either-few : (c : Bool) (xs ys : List LinePiece) (k : ℕ) → length xs ≤ k → length ys ≤ k → length (cond c xs ys) ≤ k
 either-few true xs ys k a b = a
 either-few false xs ys k a b = b
 
-before-few : (b : ℕ) (ps : List Piece) → length (before b ps) ≤ suc (length ps)
+before-few : (b : ℕ) (ps : List LinePiece) → length (before b ps) ≤ suc (length ps)
 before-few b [] = omega arith
 before-few b (word w ∷ ps) =
     either-few (b == 39) (quoted w ∷ ps) (cond (b == 63) (queried w ∷ ps) (byte b ∷ word w ∷ ps)) (suc (suc (length ps))) (omega arith)
@@ -58,7 +58,7 @@ either-tokens : (c : Bool) (x y : Option (List Token)) (k : ℕ) → Few k x →
 either-tokens true x y k a b = a
 either-tokens false x y k a b = b
 
-tokens-few : (ps : List Piece) → Few (length ps) (tokens_from ps)
+tokens-few : (ps : List LinePiece) → Few (length ps) (tokens_from ps)
 unfolding Few
 tokens-few [] = omega arith
 tokens-few (word w ∷ ps) = front-few (length ps) (word_token w) (tokens_from ps) (tokens-few ps)

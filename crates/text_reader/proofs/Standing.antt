@@ -9,11 +9,11 @@ use Rattle.text_definitions.specs.Uses.{next_kind, other_kinds}
 use Rattle.text_definitions.specs.Lowering.{Meanings, arg_tree, args_trees}
 use Rattle.name_resolution.specs.Resolved.{ResolvedCell, node_cell, param_cell, variable_cell, lifetime_cell, reference_cell, args_before, arg_before}
 use Rattle.name_resolution.specs.Standing as standing
-use Rattle.name_resolution.specs.Standing.{behind, standing}
+use Rattle.name_resolution.specs.Standing.{trees_behind, standing}
 use Rattle.name_resolution.proofs.StandingLaws.{at-type, at-region}
 use Rattle.workspace.specs.TermCells as term
 use Rattle.workspace.specs.TermCells.{behind_cell, behind_cells, joined}
-use Rattle.workspace.specs.Made.{Part, is_arg}
+use Rattle.workspace.specs.Made.{StackPart, is_arg}
 use Rattle.text_reader.specs.Making.{term_of}
 use Rattle.text_reader.specs.Keeping.{pushed}
 use Rattle.text_reader.proofs.Each.{Every}
@@ -30,7 +30,7 @@ below-same zero S = refl
 below-same (suc k) [] = refl
 below-same (suc k) (t ∷ S) = below-same k S
 
-cell-same : (e : Meanings) (c : ResolvedCell) (S : List Trees) → behind_cell (term_of e c) S ≡ behind e c S
+cell-same : (e : Meanings) (c : ResolvedCell) (S : List Trees) → behind_cell (term_of e c) S ≡ trees_behind e c S
 cell-same e (node_cell l k) S = ap (λ x. tree l x none ∷ term.below k S) (gathered-same k S none) ∙ ap (λ R. tree l (standing.gathered k S none) none ∷ R) (below-same k S)
 cell-same e (param_cell p i k) S =
     let l = e.parameter p (standing.first_of_sort e p + i) in
@@ -42,7 +42,7 @@ cell-same e (reference_cell r m) (t ∷ S) = refl
 
 pub cells-same : (e : Meanings) (cs : List ResolvedCell) (S : List Trees) → behind_cells (map (term_of e) cs) S ≡ standing e cs S
 cells-same e [] S = refl
-cells-same e (c ∷ cs) S = ap (behind_cells (map (term_of e) cs)) (cell-same e c S) ∙ cells-same e cs (behind e c S)
+cells-same e (c ∷ cs) S = ap (behind_cells (map (term_of e) cs)) (cell-same e c S) ∙ cells-same e cs (trees_behind e c S)
 
 -- ---- arguments
 pub args_list : Meanings → List (List (List ℕ)) → List Sort → Args → List Trees
@@ -66,11 +66,11 @@ unfolding args_list
 args-joined e s ks no_args = refl
 args-joined e s ks (and_arg a args) = ap (λ o. arg_tree e s (next_kind ks) a +++ o) (args-joined e s (other_kinds ks) args)
 
-pub arg_kinds : List Sort → Args → List Part
+pub arg_kinds : List Sort → Args → List StackPart
 arg_kinds ks no_args = []
 arg_kinds ks (and_arg a args) = arg_part (next_kind ks) a ∷ arg_kinds (other_kinds ks) args
 
-pub kinds-pushed : (ks : List Sort) (args : Args) (S : List Part) → args_parts ks args S ≡ pushed (arg_kinds ks args) S
+pub kinds-pushed : (ks : List Sort) (args : Args) (S : List StackPart) → args_parts ks args S ≡ pushed (arg_kinds ks args) S
 unfolding arg_kinds
 kinds-pushed ks no_args S = refl
 kinds-pushed ks (and_arg a args) S = kinds-pushed (other_kinds ks) args (arg_part (next_kind ks) a ∷ S)

@@ -14,9 +14,9 @@ use Rattle.text_definitions.specs.Faults.{is_among, is_auto_name, is_bound, is_l
 use Rattle.text_definitions.specs.Lowering.{Meanings, place_among, trait_number, struct_label, inserted, with_auto, autos}
 use Rattle.name_resolution.specs.Resolved.{Region, bound_region, ResolvedCell, node_cell, param_cell, lifetime_cell, reference_cell, region_under, region_of, optional_region, named_cell, length_cell, autos_before, principals_count, principals, item_region, last_region, dyn_before, type_before, types_before, args_before, arg_before, item_before, items_before}
 use Rattle.name_resolution.specs.Standing.{first_of_sort}
-use Rattle.workspace.specs.Made.{Part, type_part, const_part, lifetime_part, principal_part, auto_part, off_autos, off_principal, putting}
+use Rattle.workspace.specs.Made.{StackPart, type_part, const_part, lifetime_part, principal_part, auto_part, off_autos, off_principal, putting}
 use Rattle.text_reader.specs.Making.{IsSmall, RegionSmall, variable_number, how_many, Makes}
-use Rattle.text_reader.specs.Meant.{KnownFits, NumbersFit, FewNames, IsStruct, NameMeans, UsesMean}
+use Rattle.text_reader.specs.Meant.{KnownFits, NumbersFit, FewNames, IsKnownStruct, NameMeans, UsesMean}
 use Rattle.text_reader.proofs.Plain.{IsPrimitive, PlainType, PlainTypes, PlainArgs, PlainArg, PlainItem}
 use Rattle.text_reader.proofs.Sizes.{type_size, types_size, args_size, arg_size, item_size, items_size, types-counted, args-counted}
 use Rattle.text_reader.proofs.Stacks.{types_parts, types-gone, arg_part, args_parts, args-gone, auto_parts, Rises, autos-gone, inserted-rises, inserted-length}
@@ -117,7 +117,7 @@ number-small e n f = by (known e.items n) (f n)
     by (Some (a_trait k c a ks)) h = h
 
 -- a struct over its arguments
-struct-makes : (e : Meanings) (o : Option Known) (ks : List Sort) (args : Args) (cs : List ResolvedCell) (S R : List Part) → IsStruct o → KnownFits o → IsSmall (args_count args)
+struct-makes : (e : Meanings) (o : Option Known) (ks : List Sort) (args : Args) (cs : List ResolvedCell) (S R : List StackPart) → IsKnownStruct o → KnownFits o → IsSmall (args_count args)
     → Makes e 0 cs (type_part ∷ S) R → Makes e 0 (node_cell (struct_label o) (args_count args) ∷ cs) (args_parts ks args S) R
 struct-makes e None ks args cs S R h f g m = absurd h
 struct-makes e (Some (a_crate k)) ks args cs S R h f g m = absurd h
@@ -125,12 +125,12 @@ struct-makes e (Some (a_struct k c xs)) ks args cs S R h f g m = (type_part ∷ 
 struct-makes e (Some (a_trait k c b xs)) ks args cs S R h f g m = absurd h
 
 -- a parameter over none
-param-makes : (e : Meanings) (i : ℕ) (ks : List Sort) (args : Args) (cs : List ResolvedCell) (S R : List Part) → IsSmall (first_of_sort e of_type + i) → args_count args ≡ 0
+param-makes : (e : Meanings) (i : ℕ) (ks : List Sort) (args : Args) (cs : List ResolvedCell) (S R : List StackPart) → IsSmall (first_of_sort e of_type + i) → args_count args ≡ 0
     → Makes e 0 cs (type_part ∷ S) R → Makes e 0 (param_cell of_type i (args_count args) ∷ cs) (args_parts ks args S) R
 param-makes e i ks no_args cs S R h z m = (type_part ∷ S, (h, refl, refl), m)
 param-makes e i ks (and_arg x args) cs S R h z m = absurd (omega (arith, z))
 
-named-makes : (e : Meanings) (n : List ℕ) (ks : List Sort) (args : Args) (cs : List ResolvedCell) (S R : List Part) → FewNames e → NumbersFit e.items → IsSmall (args_count args)
+named-makes : (e : Meanings) (n : List ℕ) (ks : List Sort) (args : Args) (cs : List ResolvedCell) (S R : List StackPart) → FewNames e → NumbersFit e.items → IsSmall (args_count args)
     → NameMeans (is_among n e.params.types) (known e.items n) (args_count args) → Makes e 0 cs (type_part ∷ S) R
     → Makes e 0 (named_cell e.items e.params n (args_count args) ∷ cs) (args_parts ks args S) R
 named-makes e n ks args cs S R f w g h m = by (is_among n e.params.types) h
@@ -140,7 +140,7 @@ named-makes e n ks args cs S R f w g h m = by (is_among n e.params.types) h
     by true z = param-makes e (place_among n e.params.types) ks args cs S R (type-small e n f) z m
     by false z = struct-makes e (known e.items n) ks args cs S R z (w n) g m
 
-primitive-makes : (e : Meanings) (l : Label) (cs : List ResolvedCell) (S R : List Part) → IsPrimitive l → Makes e 0 cs (type_part ∷ S) R → Makes e 0 (node_cell l 0 ∷ cs) S R
+primitive-makes : (e : Meanings) (l : Label) (cs : List ResolvedCell) (S R : List StackPart) → IsPrimitive l → Makes e 0 cs (type_part ∷ S) R → Makes e 0 (node_cell l 0 ∷ cs) S R
 primitive-makes e bool cs S R h m = (type_part ∷ S, (refl, refl), m)
 primitive-makes e char cs S R h m = (type_part ∷ S, (refl, refl), m)
 primitive-makes e str cs S R h m = (type_part ∷ S, (refl, refl), m)
@@ -149,7 +149,7 @@ primitive-makes e (uint w) cs S R h m = (type_part ∷ S, (refl, refl), m)
 primitive-makes e l cs S R h m = absurd h
 
 -- ---- lengths
-length-makes : (e : Meanings) (n : Length) (cs : List ResolvedCell) (S R : List Part) → FewNames e → UsesMean e (length_uses n) → Makes e 0 cs (const_part ∷ S) R → Makes e 0 (length_cell e.params n ∷ cs) S R
+length-makes : (e : Meanings) (n : Length) (cs : List ResolvedCell) (S R : List StackPart) → FewNames e → UsesMean e (length_uses n) → Makes e 0 cs (const_part ∷ S) R → Makes e 0 (length_cell e.params n ∷ cs) S R
 length-makes e (number_length n) cs S R f u m = (const_part ∷ S, (u.0, (refl, refl)), m)
 length-makes e (name_length n) cs S R f u m = (const_part ∷ S, (const-small e n f, refl, refl), m)
 length-makes e (variable_length n) cs S R f u m = (const_part ∷ S, (variable-small e of_const n f, refl), m)
@@ -235,22 +235,22 @@ autos-length : (d : Declarations) (is : Items) → length (autos d is) ≤ items
 autos-length d no_items = omega arith
 autos-length d (and_item i is) = with-length d i (autos d is) (items_size is) (autos-length d is)
 
-autos-make : (e : Meanings) (a : ℕ) (ns : List ℕ) (cs : List ResolvedCell) (S R : List Part) → AllSmall ns → Makes e (a + length ns) cs (auto_parts ns S) R → Makes e a (autos_before ns cs) S R
+autos-make : (e : Meanings) (a : ℕ) (ns : List ℕ) (cs : List ResolvedCell) (S R : List StackPart) → AllSmall ns → Makes e (a + length ns) cs (auto_parts ns S) R → Makes e a (autos_before ns cs) S R
 autos-make e a [] cs S R h m = let z : a + 0 ≡ a = omega arith in subst (λ k. Makes e k cs S R) z m
 autos-make e a (n ∷ ns) cs S R h m =
     let z : a + suc (length ns) ≡ suc a + length ns = omega arith in
     (auto_part n ∷ S, (h.0, (refl, refl)), autos-make e (suc a) ns cs (auto_part n ∷ S) R h.1 (subst (λ k. Makes e k cs (auto_parts ns (auto_part n ∷ S)) R) z m))
 
-abbrev with_principal : Bool → List Part → List Part
+abbrev with_principal : Bool → List StackPart → List StackPart
 with_principal false S = S
 with_principal true S = principal_part ∷ S
 
-principal-off : (p : Bool) (S : List Part) → off_principal p (with_principal p S) ≡ Some S
+principal-off : (p : Bool) (S : List StackPart) → off_principal p (with_principal p S) ≡ Some S
 principal-off false S = refl
 principal-off true S = refl
 
 -- the autos, the lifetime and the `dyn` itself
-dyn-makes : (e : Meanings) (r : Region) (ns : List ℕ) (p : Bool) (k : ℕ) (cs : List ResolvedCell) (S R : List Part) → RegionSmall e r → AllSmall ns → Rises ns → IsSmall (length ns) → k ≡ how_many p
+dyn-makes : (e : Meanings) (r : Region) (ns : List ℕ) (p : Bool) (k : ℕ) (cs : List ResolvedCell) (S R : List StackPart) → RegionSmall e r → AllSmall ns → Rises ns → IsSmall (length ns) → k ≡ how_many p
     → Makes e 0 cs (type_part ∷ S) R → Makes e 0 (dyn_before r ns k cs) (with_principal p S) R
 dyn-makes e r ns p k cs S R h a i l z m =
     let count : k + (length ns + 1) ≡ how_many p + suc (0 + length ns) = omega (arith, z) in
@@ -263,10 +263,10 @@ dyn-makes e r ns p k cs S R h a i l z m =
     (lifetime_part ∷ all, (h, refl), (type_part ∷ S, (p, count, few, ap (putting type_part) gone), m))
 
 -- what its first item puts there, where it is the principal
-abbrev ArgsMake : Meanings → List (List (List ℕ)) → List Sort → Args → List Part → List Part → Type 0
+abbrev ArgsMake : Meanings → List (List (List ℕ)) → List Sort → Args → List StackPart → List StackPart → Type 0
 ArgsMake e s ks args S R = (cs : List ResolvedCell) → Makes e 0 cs (args_parts ks args S) R → Makes e 0 (args_before e.items e.params s ks args cs) S R
 
-bound-makes : (e : Meanings) (s : List (List (List ℕ))) (b : List (List ℕ)) (n : List ℕ) (args : Args) (r : Region) (ns : List ℕ) (k : ℕ) (cs : List ResolvedCell) (S R : List Part)
+bound-makes : (e : Meanings) (s : List (List (List ℕ))) (b : List (List ℕ)) (n : List ℕ) (args : Args) (r : Region) (ns : List ℕ) (k : ℕ) (cs : List ResolvedCell) (S R : List StackPart)
     → RegionSmall e r → AllSmall ns → Rises ns → IsSmall (length ns) → k ≡ 0 → IsSmall (length b) → IsSmall (args_count args) → NumbersFit e.items → ArgsMake e (b ∷ s) (kinds_of_trait (known e.items n)) args S R
     → Makes e 0 cs (type_part ∷ S) R → Makes e 0 (item_before e.items e.params s (bound_item b n args) (dyn_before r ns (principals_count e.items (bound_item b n args) k) cs)) S R
 bound-makes e s b n args r ns k cs S R h a i l z sb sa w f m = by (is_auto_name e.items n)
@@ -280,7 +280,7 @@ bound-makes e s b n args r ns k cs S R h a i l z sb sa w f m = by (is_auto_name 
 
 mutual
   -- at the place of a type
-  pub type-makes : (e : Meanings) (s : List (List (List ℕ))) (t : TypeTree) (cs : List ResolvedCell) (S R : List Part) → Around e s (type_size t) → PlainType t → UsesMean e (type_uses e.items s of_type t)
+  pub type-makes : (e : Meanings) (s : List (List (List ℕ))) (t : TypeTree) (cs : List ResolvedCell) (S R : List StackPart) → Around e s (type_size t) → PlainType t → UsesMean e (type_uses e.items s of_type t)
       → Makes e 0 cs (type_part ∷ S) R → Makes e 0 (type_before e.items e.params s of_type t cs) S R
   type-makes e s (of_primitive l) cs S R w q u m = primitive-makes e l cs S R q m
   type-makes e s never_type cs S R w q u m = (type_part ∷ S, (refl, refl), m)
@@ -324,14 +324,14 @@ mutual
       (item-makes e s i r ns (principals e.items is) (suc (item_size i + items_size is)) cs S R (last-small e s (suc (item_size i + items_size is)) i is w) (with-small e i (autos e.items is) w.numbers (autos-small e is w.numbers)) (with-rises e.items i (autos e.items is) (autos-rise e.items is))
       (omega (arith, w.room, with-length e.items i (autos e.items is) (items_size is) (autos-length e.items is))) (others-count e.items is late) w (omega arith) q (first-uses e (item_uses e.items s i) (items_uses e.items s is) u.1) m)
 
-  types-make : (e : Meanings) (s : List (List (List ℕ))) (ts : Types) (cs : List ResolvedCell) (S R : List Part) → Around e s (types_size ts) → PlainTypes ts → UsesMean e (types_uses e.items s ts)
+  types-make : (e : Meanings) (s : List (List (List ℕ))) (ts : Types) (cs : List ResolvedCell) (S R : List StackPart) → Around e s (types_size ts) → PlainTypes ts → UsesMean e (types_uses e.items s ts)
       → Makes e 0 cs (types_parts ts S) R → Makes e 0 (types_before e.items e.params s ts cs) S R
   types-make e s no_types cs S R w q u m = m
   types-make e s (and_type t ts) cs S R w q u m =
       type-makes e s t (types_before e.items e.params s ts cs) S R (less e s (type_size t + types_size ts) (type_size t) w (omega arith)) q.0 (first-uses e (type_uses e.items s of_type t) (types_uses e.items s ts) u)
       (types-make e s ts cs (type_part ∷ S) R (less e s (type_size t + types_size ts) (types_size ts) w (omega arith)) q.1 (last-uses e (type_uses e.items s of_type t) (types_uses e.items s ts) u) m)
 
-  pub args-make : (e : Meanings) (s : List (List (List ℕ))) (ks : List Sort) (args : Args) (cs : List ResolvedCell) (S R : List Part) → Around e s (args_size args) → PlainArgs args → UsesMean e (args_uses e.items s ks args)
+  pub args-make : (e : Meanings) (s : List (List (List ℕ))) (ks : List Sort) (args : Args) (cs : List ResolvedCell) (S R : List StackPart) → Around e s (args_size args) → PlainArgs args → UsesMean e (args_uses e.items s ks args)
       → Makes e 0 cs (args_parts ks args S) R → Makes e 0 (args_before e.items e.params s ks args cs) S R
   args-make e s ks no_args cs S R w q u m = m
   args-make e s ks (and_arg a args) cs S R w q u m =
@@ -340,7 +340,7 @@ mutual
       (args-make e s (other_kinds ks) args cs (arg_part (next_kind ks) a ∷ S) R (less e s (arg_size a + args_size args) (args_size args) w (omega arith)) q.1
       (last-uses e (arg_uses e.items s (next_kind ks) a) (args_uses e.items s (other_kinds ks) args) u) m)
 
-  arg-makes : (e : Meanings) (s : List (List (List ℕ))) (p : Sort) (a : Arg) (cs : List ResolvedCell) (S R : List Part) → Around e s (arg_size a) → PlainArg a → UsesMean e (arg_uses e.items s p a)
+  arg-makes : (e : Meanings) (s : List (List (List ℕ))) (p : Sort) (a : Arg) (cs : List ResolvedCell) (S R : List StackPart) → Around e s (arg_size a) → PlainArg a → UsesMean e (arg_uses e.items s p a)
       → Makes e 0 cs (arg_part p a ∷ S) R → Makes e 0 (arg_before e.items e.params s p a cs) S R
   arg-makes e s p (lifetime_arg n) cs S R w q u m = (lifetime_part ∷ S, (region-small e s 1 n w, refl), m)
   arg-makes e s of_const (number_arg n) cs S R w q u m = (const_part ∷ S, (u.0, (refl, refl)), m)
@@ -353,7 +353,7 @@ mutual
   arg-makes e s of_const (type_arg t) cs S R w q u m = absurd u.0
 
   -- the first item of a `dyn`, and the end of it
-  item-makes : (e : Meanings) (s : List (List (List ℕ))) (i : Item) (r : Region) (ns : List ℕ) (k j : ℕ) (cs : List ResolvedCell) (S R : List Part) → RegionSmall e r → AllSmall ns → Rises ns → IsSmall (length ns)
+  item-makes : (e : Meanings) (s : List (List (List ℕ))) (i : Item) (r : Region) (ns : List ℕ) (k j : ℕ) (cs : List ResolvedCell) (S R : List StackPart) → RegionSmall e r → AllSmall ns → Rises ns → IsSmall (length ns)
       → k ≡ 0 → Around e s j → suc (item_size i) ≤ j → PlainItem i → UsesMean e (item_uses e.items s i) → Makes e 0 cs (type_part ∷ S) R
       → Makes e 0 (item_before e.items e.params s i (dyn_before r ns (principals_count e.items i k) cs)) S R
   item-makes e s (bound_item b n args) r ns k j cs S R h a g l z w f q u m =

@@ -12,9 +12,9 @@ use Rattle.line_reader.specs.declared.statement.Span.{Span}
 use Rattle.line_reader.specs.declared.statement.ClauseSpans.{ClauseSpans}
 use Rattle.workspace.specs.declared.declared.Param as kept
 use Rattle.workspace.specs.Views.{param_names, sorted_params, variable_of}
-use Rattle.workspace.specs.Parts.{IsStructLine, IsTraitLine, IsImplLine, IsQuestionLine}
+use Rattle.workspace.specs.Parts.{IsStructLine, IsTraitLine, IsImplLine, IsWrittenQuestion}
 use Rattle.text_reader.specs.BareLines.{sort_of_param, sorted_param}
-use Rattle.text_reader.specs.Entries.{AreFields, AreBounds, IsMain, AreClauses, AreVariables, Asks}
+use Rattle.text_reader.specs.Entries.{AreFields, AreBoundsOfLine, IsMain, AreClauses, AreVariables, AsksQuestion}
 use Rattle.text_reader.proofs.Ordering.{kinds-said}
 
 -- ---- a line with the statement of a struct is the line of a struct, and so on
@@ -61,7 +61,7 @@ struct-line d f n ps ss kinds fields (later_line c) e k h = absurd cc
 struct-line d f n ps ss kinds fields (supers_line c) e k h = absurd cc
 
 pub trait-line : (d : Declarations) (f a : Bool) (n : List ℕ) (ps : List Param) (ss : List Span) (kinds : List Sort) (bounds : List Reference) (l : Line)
-    → trait_statement f a n ps ss ≡ line_statement l → kinds ≡ map sort_of_param ps → AreBounds d l bounds → IsTraitLine d n f a kinds bounds l
+    → trait_statement f a n ps ss ≡ line_statement l → kinds ≡ map sort_of_param ps → AreBoundsOfLine d l bounds → IsTraitLine d n f a kinds bounds l
 trait-line d f a n ps ss kinds bounds (trait_line g b m qs bs) e k h =
     let x : f ≡ g = cc in let y : a ≡ b = cc in let z : n ≡ m = cc in let c : ps ≡ param_list qs = cc in (z, x, y, k ∙ ap (map sort_of_param) c ∙ kinds-said qs, h)
 trait-line d f a n ps ss kinds bounds (crate_line m us) e k h = absurd cc
@@ -146,7 +146,7 @@ params-as : (ps : List Param) (qs : Params) → ps ≡ param_list qs → firsts 
 params-as ps qs e = ap (λ x. firsts (map sorted_param x)) e ∙ ap firsts (names-said qs) ∙ firsts-said qs
 
 asked-line : (d : Declarations) (l : Line) (b : Bool) (c : List ℕ) (ps : List Param) (q : Question)
-    → Asks (line_statement l) b c ps → Says d b c ps q l → IsQuestionLine d q l
+    → AsksQuestion (line_statement l) b c ps → Says d b c ps q l → IsWrittenQuestion d q l
 asked-line d (prove_line a qs j js) false c ps q h s =
     same-question q (question_of d (question_meanings d (prove_line a qs j js)) false a qs j js)
     s.refutes (s.asks ∙ ap (λ n. crate_number (known d n)) (sym h.0)) (s.names ∙ params-as ps qs (sym h.1)) s.main s.clauses (s.variables ∙ ap (map as_variable) s.are)
@@ -156,8 +156,8 @@ asked-line d (refute_line a qs j) true c ps q h s =
 asked-line d l b c ps q h s = absurd h
 
 pub question-line : (d : Declarations) (s : Statement) (b : Bool) (c : List ℕ) (ps : List Param) (q : Question) (l : Line)
-    → s ≡ line_statement l → Asks s b c ps → Says d b c ps q l → IsQuestionLine d q l
-question-line d s b c ps q l e h says = asked-line d l b c ps q (subst (λ x. Asks x b c ps) e h) says
+    → s ≡ line_statement l → AsksQuestion s b c ps → Says d b c ps q l → IsWrittenQuestion d q l
+question-line d s b c ps q l e h says = asked-line d l b c ps q (subst (λ x. AsksQuestion x b c ps) e h) says
 
 -- ---- impls
 pub impl-line : (d : Declarations) (ps : List Param) (k : ClauseSpans) (ks : List ClauseSpans) (params : List (List ℕ × Sort)) (header : Reference) (clauses : List Reference) (l : Line)

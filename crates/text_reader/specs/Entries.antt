@@ -24,9 +24,9 @@ AreFields d (struct_line f n ps fs) fields = fields ≡ field_trees (item_meanin
 AreFields d _ fields = Unit {0}
 
 -- the bounds of a trait, of its Self
-abbrev pub AreBounds : Declarations → Line → List Reference → Type 0
-AreBounds d (trait_line f a n ps bs) bounds = bounds ≡ map (with_self (item_meanings d (trait_line f a n ps bs) 1) (leaf (param of_type 0))) bs
-AreBounds d _ bounds = Unit {0}
+abbrev pub AreBoundsOfLine : Declarations → Line → List Reference → Type 0
+AreBoundsOfLine d (trait_line f a n ps bs) bounds = bounds ≡ map (with_self (item_meanings d (trait_line f a n ps bs) 1) (leaf (param of_type 0))) bs
+AreBoundsOfLine d _ bounds = Unit {0}
 
 -- the header of an impl, or what is asked
 abbrev pub IsMain : Declarations → Line → Reference → Type 0
@@ -76,17 +76,17 @@ IsImpl (impl_statement ps h ks) = Unit {0}
 IsImpl _ = ⊥
 
 -- it asks so, in this crate, with these parameters
-abbrev pub Asks : Statement → (is_refute : Bool) → (asker : List ℕ) → List Param → Type 0
-Asks (prove_statement c ps k ks) false a qs = (c ≡ a) × (ps ≡ qs)
-Asks (refute_statement c ps k) true a qs = (c ≡ a) × (ps ≡ qs)
-Asks _ _ a qs = ⊥
+abbrev pub AsksQuestion : Statement → (is_refute : Bool) → (asker : List ℕ) → List Param → Type 0
+AsksQuestion (prove_statement c ps k ks) false a qs = (c ≡ a) × (ps ≡ qs)
+AsksQuestion (refute_statement c ps k) true a qs = (c ≡ a) × (ps ≡ qs)
+AsksQuestion _ _ a qs = ⊥
 
 -- and the crate has this number
 abbrev pub IsAsking : Declarations → Statement → Asked → List Param → Type 0
-IsAsking d s how ps = (c : List ℕ) × Asks s (is_refute how) c ps × (asker_of how ≡ crate_number (known d c))
+IsAsking d s how ps = (c : List ℕ) × AsksQuestion s (is_refute how) c ps × (asker_of how ≡ crate_number (known d c))
 
 -- the entry of a question has what was read
-pub record IsEntry (d : Declarations) (params : List Param) (read : LineRead) (q : QuestionEntry) : Type 0 where
+pub record IsQuestionEntry (d : Declarations) (params : List Param) (read : LineRead) (q : QuestionEntry) : Type 0 where
   pub named : sorted_params q.params.items ≡ map sorted_param params
   pub asked : OfRead read (λ l. IsMain d l (reference_of q.asked))
   pub clauses : OfRead read (λ l. AreClauses d l (map reference_of q.clauses.items))

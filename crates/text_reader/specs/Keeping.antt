@@ -4,7 +4,7 @@ use Rattle.type_terms.specs.Trees.{Trees}
 use Rattle.text_definitions.specs.Lowering.{Meanings}
 use Rattle.name_resolution.specs.Resolved.{ResolvedCell}
 use Rattle.workspace.specs.TermCells.{behind_cells}
-use Rattle.workspace.specs.Made.{Part, parts_of, CellsHeld}
+use Rattle.workspace.specs.Made.{StackPart, parts_of, CellsHeld}
 use Rattle.workspace.specs.Views.{cells_of}
 use Rattle.workspace.specs.declared.cell.TermCell.{TermCell}
 use Rattle.text_reader.specs.Making.{Makes, term_of}
@@ -15,15 +15,15 @@ pushed [] S = S
 pushed (x ∷ xs) S = pushed xs (x ∷ S)
 
 -- the cells put these trees, which are such parts, on any stack
-pub record Keeps (cs : List TermCell) (ts : List Trees) (xs : List Part) : Type 0 where
+pub record PutsTrees (cs : List TermCell) (ts : List Trees) (xs : List StackPart) : Type 0 where
   pub held : CellsHeld cs
   pub trees : (S : List Trees) → behind_cells (cells_of cs) S ≡ pushed ts S
-  pub parts : (S : List Part) → parts_of cs S ≡ Some (pushed xs S)
+  pub parts : (S : List StackPart) → parts_of cs S ≡ Some (pushed xs S)
 
 -- the cells that are kept for these were put behind others
 pub record AddsCells (e : Meanings) (cs : List ResolvedCell) (old new : List TermCell) : Type 0 where
   pub added : List TermCell
   pub behind : new ≡ old ++ added
   pub held : CellsHeld added
-  pub parts : (S R : List Part) → Makes e 0 cs S R → parts_of added S ≡ Some R
-  pub cells : (S R : List Part) → Makes e 0 cs S R → cells_of added ≡ map (term_of e) cs
+  pub parts : (S R : List StackPart) → Makes e 0 cs S R → parts_of added S ≡ Some R
+  pub cells : (S R : List StackPart) → Makes e 0 cs S R → cells_of added ≡ map (term_of e) cs

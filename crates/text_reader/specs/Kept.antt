@@ -21,11 +21,11 @@ use Rattle.name_resolution.specs.Found.{Resolves}
 use Rattle.name_resolution.specs.Machine.{Sight, items, params}
 use Rattle.name_resolution.specs.declared.parts.ResolvedPart.{ResolvedPart}
 use Rattle.workspace.specs.TermCells.{trees_of}
-use Rattle.workspace.specs.Made.{Part, AreMade, ReferenceMade, ReferencesMade, type_part, is_type}
+use Rattle.workspace.specs.Made.{StackPart, AreMade, ReferenceMade, ReferencesMade, type_part, is_type}
 use Rattle.workspace.specs.Views.{cells_of, reference_of}
 use Rattle.workspace.specs.declared.cell.TermCell.{TermCell}
 use Rattle.workspace.specs.declared.declared.ReferenceCells.{ReferenceCells}
-use Rattle.text_reader.specs.Keeping.{Keeps}
+use Rattle.text_reader.specs.Keeping.{PutsTrees}
 use Rattle.text_reader.specs.Laws.{BoundFits, ClauseFits, AllOf}
 use Rattle.text_reader.specs.Meant.{FewNames, NumbersFit}
 use Rattle.text_reader.specs.Numbering.{meanings}
@@ -43,19 +43,19 @@ NumberingFits (Item first) = first ≤ 1
 NumberingFits (Question vs) = length vs.now ≤ variable_limit
 
 -- What the names of the line stand for has small numbers.
-pub record IsReady (v : Sight) (n : Numbering) : Type 0 where
+pub record HasSmallNumbers (v : Sight) (n : Numbering) : Type 0 where
   pub numbers : NumbersFit (items v)
   pub params : length (kinds_of (params v)) ≤ param_limit
   pub numbering : NumberingFits n
 
 -- ---- types and bounds that were read
 -- It stands among the cells of a line, and the places of these have small numbers.
-abbrev pub IsShort : LinePart → Type 0
-IsShort p = (cells : List Cell) × (at : places.LinePart) × (length cells < MAX_INDEX) × PartStands (cells_in cells) p at
+abbrev pub HasSmallPlaces : LinePart → Type 0
+HasSmallPlaces p = (cells : List Cell) × (at : places.LinePart) × (length cells < MAX_INDEX) × PartStands (cells_in cells) p at
 
 -- It was read, and resolves to this.
 abbrev pub IsReadAs : Sight → LinePart → ResolvedPart → Type 0
-IsReadAs v p r = Resolves v p r × IsShort p
+IsReadAs v p r = Resolves v p r × HasSmallPlaces p
 
 -- ---- what is handed to the tables
 abbrev pub MeansFields : Sight → Numbering → List ResolvedPart → List TermCell → Type 0
@@ -93,12 +93,12 @@ pub record IsOfLine (v : Sight) (e : Meanings) (l : Line) : Type 0 where
 abbrev pub KeepsType : Sight → Meanings → ResolvedPart → (old new : List TermCell) → Type 0
 KeepsType v e r old new =
     (l : Line) (t : TypeTree) → IsOfLine v e l → IsReadAs v (line.type_part t) r → UsesFit v.before l (type_uses (with_own v.before l) [] of_type t)
-    → (ts : List Trees) (xs : List Part) → Keeps old ts xs → Keeps new (ts ++ type_tree e [] of_type t ∷ []) (xs ++ type_part ∷ [])
+    → (ts : List Trees) (xs : List StackPart) → PutsTrees old ts xs → PutsTrees new (ts ++ type_tree e [] of_type t ∷ []) (xs ++ type_part ∷ [])
 
 -- the reference of a self type and the bound
 abbrev pub MeansBound : Sight → Meanings → ResolvedPart → (self : List TermCell) → ReferenceCells → Type 0
 MeansBound v e b self r =
-    (l : Line) (bound : Bound) (t : Trees) → IsOfLine v e l → IsReadAs v (line.bound_part bound) b → BoundFits v.before l bound → Keeps self (t ∷ []) (type_part ∷ [])
+    (l : Line) (bound : Bound) (t : Trees) → IsOfLine v e l → IsReadAs v (line.bound_part bound) b → BoundFits v.before l bound → PutsTrees self (t ∷ []) (type_part ∷ [])
     → (reference_of r ≡ with_self e t bound) × ReferenceMade r
 
 abbrev pub MeansReference : Sight → Meanings → (subject bound : ResolvedPart) → ReferenceCells → Type 0

@@ -8,7 +8,7 @@ use Rattle.text_definitions.specs.Lowering.{Meanings, place_among, variable_labe
 use Rattle.name_resolution.specs.Resolved.{Region, static_region, param_region, bound_region, ResolvedCell, node_cell, param_cell, variable_cell, lifetime_cell, reference_cell}
 use Rattle.name_resolution.specs.Standing.{first_of_sort, region_label}
 use Rattle.workspace.specs.TermCells as term
-use Rattle.workspace.specs.Made.{Part, type_part, const_part, lifetime_part, principal_part, auto_part, is_type, is_const, is_lifetime, is_arg, off, off_autos, off_principal, putting}
+use Rattle.workspace.specs.Made.{StackPart, type_part, const_part, lifetime_part, principal_part, auto_part, is_type, is_const, is_lifetime, is_arg, off, off_autos, off_principal, putting}
 
 abbrev pub IsSmall : ℕ → Type 0
 IsSmall n = n < MAX_INDEX
@@ -27,11 +27,11 @@ abbrev pub how_many : Bool → ℕ
 how_many false = 0
 how_many true = 1
 
-abbrev pub LeafMakes : Part → ℕ → List Part → List Part → Type 0
+abbrev pub LeafMakes : StackPart → ℕ → List StackPart → List StackPart → Type 0
 LeafMakes x k S M = (k ≡ 0) × (M ≡ x ∷ S)
 
 -- A label over k parts puts this on the stack S; so many auto traits stand right before it.
-abbrev pub LabelMakes : (autos : ℕ) → Label → ℕ → List Part → List Part → Type 0
+abbrev pub LabelMakes : (autos : ℕ) → Label → ℕ → List StackPart → List StackPart → Type 0
 LabelMakes a bool k S M = LeafMakes type_part k S M
 LabelMakes a char k S M = LeafMakes type_part k S M
 LabelMakes a str k S M = LeafMakes type_part k S M
@@ -51,13 +51,13 @@ LabelMakes a dynamic k S M =
     (p : Bool) × (k ≡ how_many p + suc a) × IsSmall a × (putting type_part (option_and_then (off_principal p) (option_and_then (off_autos a None) (off is_lifetime 1 S))) ≡ Some M)
 LabelMakes a _ k S M = ⊥
 
-abbrev pub ParamMakes : Sort → List Part → List Part → Type 0
+abbrev pub ParamMakes : Sort → List StackPart → List StackPart → Type 0
 ParamMakes of_type S M = M ≡ type_part ∷ S
 ParamMakes of_const S M = M ≡ const_part ∷ S
 ParamMakes of_lifetime S M = ⊥
 
 -- a cell makes the stack M of S
-abbrev pub CellMakes : Meanings → (autos : ℕ) → ResolvedCell → List Part → List Part → Type 0
+abbrev pub CellMakes : Meanings → (autos : ℕ) → ResolvedCell → List StackPart → List StackPart → Type 0
 CellMakes e a (node_cell l k) S M = LabelMakes a l k S M
 CellMakes e a (param_cell p i k) S M = IsSmall (first_of_sort e p + i) × (k ≡ 0) × ParamMakes p S M
 CellMakes e a (variable_cell p n) S M = IsSmall (variable_number e p n) × ParamMakes p S M
@@ -77,9 +77,9 @@ next_autos a (lifetime_cell r) = a
 next_autos a (reference_cell r m) = 0
 
 -- all cells, one after the other
-abbrev pub Makes : Meanings → (autos : ℕ) → List ResolvedCell → List Part → List Part → Type 0
+abbrev pub Makes : Meanings → (autos : ℕ) → List ResolvedCell → List StackPart → List StackPart → Type 0
 Makes e a [] S R = S ≡ R
-Makes e a (c ∷ cs) S R = (M : List Part) × CellMakes e a c S M × Makes e (next_autos a c) cs M R
+Makes e a (c ∷ cs) S R = (M : List StackPart) × CellMakes e a c S M × Makes e (next_autos a c) cs M R
 
 -- ---- the cell that is kept for a resolved one
 abbrev pub term_of : Meanings → ResolvedCell → term.TermCell

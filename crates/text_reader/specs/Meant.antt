@@ -21,14 +21,14 @@ abbrev pub FewNames : Meanings → Type 0
 FewNames e = (e.first + (length e.params.lifetimes + (length e.params.types + length e.params.consts)) < MAX_INDEX) × (length e.variables < MAX_INDEX)
 
 -- ---- what is used can be meant
-abbrev pub IsStruct : Option Known → Type 0
-IsStruct (Some (a_struct k h ks)) = Unit {0}
-IsStruct _ = ⊥
+abbrev pub IsKnownStruct : Option Known → Type 0
+IsKnownStruct (Some (a_struct k h ks)) = Unit {0}
+IsKnownStruct _ = ⊥
 
 -- a name with so many arguments where a type stands: a parameter has none, and else it is a struct's
 abbrev pub NameMeans : Bool → Option Known → ℕ → Type 0
 NameMeans true o k = k ≡ 0
-NameMeans false o k = IsStruct o
+NameMeans false o k = IsKnownStruct o
 
 abbrev pub UseMeans : Meanings → Use → Type 0
 UseMeans e (name_use of_type n k) = NameMeans (is_among n e.params.types) (known e.items n) k

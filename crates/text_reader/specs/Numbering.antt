@@ -10,7 +10,7 @@ use Rattle.name_resolution.specs.Resolved.{Region, ResolvedCell}
 use Rattle.name_resolution.specs.Standing.{first_of_sort, region_label}
 use Rattle.name_resolution.specs.Views.{variable_in}
 use Rattle.workspace.specs.TermCells.{node_cell}
-use Rattle.workspace.specs.Made.{Part, type_part, parts_behind, CellHeld}
+use Rattle.workspace.specs.Made.{StackPart, type_part, parts_behind, CellHeld}
 use Rattle.workspace.specs.Views.{cell_of}
 use Rattle.workspace.specs.declared.cell.TermCell.{TermCell}
 use Rattle.text_reader.specs.Making.{RegionSmall, LabelMakes, CellMakes, term_of}
@@ -48,20 +48,20 @@ pub record IsNumbersOf (n : Numbers) (e : Meanings) : Type 0 where
 
 -- ---- one cell
 -- the cell of a parameter, which is such a part
-abbrev pub IsParamCell : Numbering → Sort → ℕ → Part → TermCell → Type 0
-IsParamCell n p i x c = (cell_of c ≡ node_cell (parameter_of n p i) 0) × CellHeld c × ((S : List Part) → parts_behind c S ≡ Some (x ∷ S))
+abbrev pub IsParamCell : Numbering → Sort → ℕ → StackPart → TermCell → Type 0
+IsParamCell n p i x c = (cell_of c ≡ node_cell (parameter_of n p i) 0) × CellHeld c × ((S : List StackPart) → parts_behind c S ≡ Some (x ∷ S))
 
 -- the cell of a type without parts
 abbrev pub IsLeafCell : Label → TermCell → Type 0
-IsLeafCell l c = (cell_of c ≡ node_cell l 0) × CellHeld c × ((S : List Part) → parts_behind c S ≡ Some (type_part ∷ S))
+IsLeafCell l c = (cell_of c ≡ node_cell l 0) × CellHeld c × ((S : List StackPart) → parts_behind c S ≡ Some (type_part ∷ S))
 
 -- the cell of a label over k parts, if it finds them
 abbrev pub LabelStands : (autos : ℕ) → Label → ℕ → TermCell → Type 0
-LabelStands a l k x = (S M : List Part) → LabelMakes a l k S M → (parts_behind x S ≡ Some M) × (cell_of x ≡ node_cell l k)
+LabelStands a l k x = (S M : List StackPart) → LabelMakes a l k S M → (parts_behind x S ≡ Some M) × (cell_of x ≡ node_cell l k)
 
 abbrev pub RegionStands : Meanings → Region → RegionKind → Type 0
 RegionStands e r x = RegionSmall e r → kinds.region_label x ≡ region_label e r
 
 -- the cell that is kept for a resolved one, if this finds what stands inside it
 abbrev pub CellStands : Meanings → (autos : ℕ) → ResolvedCell → TermCell → Type 0
-CellStands e a c x = (S M : List Part) → CellMakes e a c S M → (parts_behind x S ≡ Some M) × (cell_of x ≡ term_of e c)
+CellStands e a c x = (S M : List StackPart) → CellMakes e a c S M → (parts_behind x S ≡ Some M) × (cell_of x ≡ term_of e c)

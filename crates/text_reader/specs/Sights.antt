@@ -19,8 +19,8 @@ abbrev pub sight_at : Declarations → LineRead → Sight
 sight_at d read = record { before = d; line = bare_line (statement_of read.statement) }
 
 -- some line was read
-abbrev pub IsOfLine : LineRead → Type 0
-IsOfLine read = (l : Line) × ReadsLine l read
+abbrev pub HasReadLine : LineRead → Type 0
+HasReadLine read = (l : Line) × ReadsLine l read
 
 -- Names are looked up in what is declared before the line that was read, and in what that line declares itself.
 pub record IsSightOfRead (d : Declarations) (read : LineRead) (v : Sight) : Type 0 where

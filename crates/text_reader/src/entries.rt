@@ -7,7 +7,7 @@ ghost use Rattle.workspace.specs.Numbered.{IsFew};
 ghost use Rattle.workspace.specs.Tables.{declared, IsConsistent};
 ghost use Rattle.workspace.specs.TermCells.{trees_of};
 ghost use Rattle.workspace.specs.Views.{cells_of, reference_of};
-ghost use Rattle.text_reader.specs.Entries.{OfRead, AreFields, AreBounds, IsMain, AreClauses, IsStruct, IsTrait, IsImpl, IsAsking, IsEntry};
+ghost use Rattle.text_reader.specs.Entries.{OfRead, AreFields, AreBoundsOfLine, IsMain, AreClauses, IsStruct, IsTrait, IsImpl, IsAsking, IsQuestionEntry};
 ghost use Rattle.text_reader.specs.Sights.{IsSightOfRead, sight_of};
 
 use crate::line_tables::LineTables;
@@ -81,7 +81,7 @@ pub(crate) fn trait_bounds<'a>(
     requires found { IsFoundOf (declared tables.now) read.now found.now }
     requires line { IsTrait (statement_of read.now.statement) }
     ensures made { IfOk result (λ rs. ReferencesMade rs.items) }
-    ensures are { IfOk result (λ rs. OfRead read.now (λ l. AreBounds (declared tables.now) l (map reference_of rs.items))) }
+    ensures are { IfOk result (λ rs. OfRead read.now (λ l. AreBoundsOfLine (declared tables.now) l (map reference_of rs.items))) }
 {
     let names = names_of(tables, alloc, read)?;
     bound_cells(&names, alloc, &found.others.parts)
@@ -136,7 +136,7 @@ pub(crate) fn question_entry<'a>(
     ensures how { IfOk result (λ q. q.asked_how ≡ asked_how) }
     ensures asked_made { IfOk result (λ q. ReferenceMade q.asked) }
     ensures clauses_made { IfOk result (λ q. ReferencesMade q.clauses.items) }
-    ensures entry { IfOk result (λ q. IsEntry (declared tables.now) (params_in params.now) read.now q) }
+    ensures entry { IfOk result (λ q. IsQuestionEntry (declared tables.now) (params_in params.now) read.now q) }
 {
     let names = names_of(tables, alloc, read)?;
     let [subject, bound, ..] = found.asked.parts.as_slice() else {

@@ -9,7 +9,7 @@ ghost use Rattle.name_resolution.specs.Judged.{fault_in};
 ghost use Rattle.text_reader.specs.Declaring.{HandsOnFound};
 ghost use Rattle.workspace.specs.Numbered.{IsFew};
 ghost use Rattle.workspace.specs.Tables.{declared, IsConsistent};
-ghost use Rattle.text_reader.specs.Sights.{IsOfLine};
+ghost use Rattle.text_reader.specs.Sights.{HasReadLine};
 
 use crate::line_tables::LineTables;
 use crate::so_far::SoFar;
@@ -29,7 +29,7 @@ pub fn judge_line<'a>(
 ) -> Result<JudgedLine<'a>, AllocError>
     requires agrees { IsConsistent tables.now }
     requires few { IsFew (declared tables.now) ENTRY_LIMIT }
-    requires line { IsOfLine read.now }
+    requires line { HasReadLine read.now }
     ensures fault { IfOk result (λ judged. (l : Line) → ReadsLine l read.now → option_map fault_number (fault_in judged) ≡ fault_of (declared tables.now) l) }
     ensures found { IfOk result (HandsOnFound (declared tables.now) read.now) }
 {

@@ -5,8 +5,8 @@ ghost use Rattle.type_terms.specs.Trees.{leaf};
 ghost use Rattle.text_definitions.specs.Lowering.{Meanings};
 ghost use Rattle.name_resolution.specs.Machine.{Sight};
 ghost use Rattle.workspace.specs.Made.{type_part};
-ghost use Rattle.text_reader.specs.Keeping.{Keeps};
-ghost use Rattle.text_reader.specs.Kept.{IsReady, MeansFields, MeansClause, MeansClauses, MeansBounds, KeepsType, MeansBound, MeansReference};
+ghost use Rattle.text_reader.specs.Keeping.{PutsTrees};
+ghost use Rattle.text_reader.specs.Kept.{HasSmallNumbers, MeansFields, MeansClause, MeansClauses, MeansBounds, KeepsType, MeansBound, MeansReference};
 ghost use Rattle.text_reader.specs.Numbering.{IsNumbersOf};
 
 use crate::keep::push_cells;
@@ -18,7 +18,7 @@ use workspace::{ReferenceCells, TermCell};
 
 /// Self of a trait, which is its parameter 0.
 fn self_cells(alloc: Global) -> Result<Vec<TermCell>, AllocError>
-    ensures { IfOk result (λ cells. Keeps cells.items (leaf (param of_type 0) ∷ []) (type_part ∷ [])) }
+    ensures { IfOk result (λ cells. PutsTrees cells.items (leaf (param of_type 0) ∷ []) (type_part ∷ [])) }
 {
     let mut cells = Vec::new(alloc);
     cells.push(TermCell::Param(0))?;
@@ -76,7 +76,7 @@ pub fn field_cells<'a, N: Names>(
     numbering: Numbering<'_, 'a>,
     fields: &[ResolvedPart<'a>],
 ) -> Result<Vec<TermCell>, AllocError>
-    requires { IsReady (N.sight names.now) numbering }
+    requires { HasSmallNumbers (N.sight names.now) numbering }
     ensures { IfOk result (λ kept. MeansFields (N.sight names.now) numbering.entry fields.now kept.items) }
 {
     let numbers = Numbers::of(names, numbering);
@@ -97,7 +97,7 @@ pub fn clause_cells<'a, N: Names>(
     subject: &ResolvedPart<'a>,
     bound: &ResolvedPart<'a>,
 ) -> Result<ReferenceCells, AllocError>
-    requires { IsReady (N.sight names.now) numbering }
+    requires { HasSmallNumbers (N.sight names.now) numbering }
     ensures { IfOk result (λ r. MeansClause (N.sight names.now) numbering.entry subject.now bound.now r) }
 {
     let numbers = Numbers::of(names, numbering);
@@ -114,7 +114,7 @@ pub fn clauses_cells<'a, N: Names>(
     numbering: Numbering<'_, 'a>,
     parts: &[ResolvedPart<'a>],
 ) -> Result<Vec<ReferenceCells>, AllocError>
-    requires { IsReady (N.sight names.now) numbering }
+    requires { HasSmallNumbers (N.sight names.now) numbering }
     ensures { IfOk result (λ rs. MeansClauses (N.sight names.now) numbering.entry parts.now rs.items) }
 {
     let numbers = Numbers::of(names, numbering);
@@ -136,7 +136,7 @@ pub fn bound_cells<'a, N: Names>(
     alloc: Global,
     bounds: &[ResolvedPart<'a>],
 ) -> Result<Vec<ReferenceCells>, AllocError>
-    requires { IsReady (N.sight names.now) (Numbering.Item 1) }
+    requires { HasSmallNumbers (N.sight names.now) (Numbering.Item 1) }
     ensures { IfOk result (λ rs. MeansBounds (N.sight names.now) bounds.now rs.items) }
 {
     let numbers = Numbers::of(names, Numbering::Item { first: 1 });

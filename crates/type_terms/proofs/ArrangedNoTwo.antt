@@ -5,7 +5,7 @@ use Rattle.type_terms.specs.Worlds.{World, Reference, ImplDecl, sees, view_of}
 use Rattle.type_terms.specs.Proofs.{In}
 use Rattle.type_terms.specs.Core.{core_world}
 use Rattle.type_terms.specs.Versions.{Added}
-use Rattle.type_terms.specs.LinkedSet.{LinkedSet, Visited, Cleared, IsCheckedPair}
+use Rattle.type_terms.specs.LinkedSet.{LinkedSet, Visited, Cleared, IsPair}
 use Rattle.type_terms.specs.Renumbering.{View, HoldsView, view_before, asker_in_set, renumbered_impl}
 use Rattle.type_terms.specs.Arranging.{Arrangement, turned_back, arranged_impl, arranged_reference, arranged_world}
 use Rattle.type_terms.specs.ArrangingLaws.{Listed, HoldsInOrder, IsAnsweredInOrder, NoTwoImplsInAnyOrder, placed_impl}
@@ -29,7 +29,7 @@ impl-back α x = two (reference-back α x.header) (map-back (arranged_reference 
     two e g = cc
 
 module _ (W : World) (rank : ℕ → ℕ) (l : LinkedSet W [] rank) (os : List Listed) (stand : (o : Listed) → In o os → HoldsInOrder W o.order o.view) (answered : (i : ImplDecl) → In i W.impls → IsAnsweredInOrder os i)
-    (clear : (o : Listed) → In o os → (i j : ImplDecl) → IsCheckedPair o.view i j → Cleared W (placed_impl o.order o.view i) (placed_impl o.order o.view j)) where
+    (clear : (o : Listed) → In o os → (i j : ImplDecl) → IsPair o.view.world o.view.asker i j → Cleared W (placed_impl o.order o.view i) (placed_impl o.order o.view j)) where
   w : BoundWorld W
   w = bound-world W l.joined.dyns_hold_bounds
 

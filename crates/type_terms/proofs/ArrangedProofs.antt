@@ -3,7 +3,7 @@ use Rattle.std.proofs.Common.{◌≡◌, Bool, true, false, List, [], ◌∷◌,
 use Rattle.std.specs.List.{list_all}
 use Rattle.type_terms.specs.Worlds.{World, CrateDecl, Reference, StructDecl, TraitDecl, ImplDecl}
 use Rattle.type_terms.specs.Rules.{is_coinductive}
-use Rattle.type_terms.specs.Proofs.{Entry, In, Every, Stands, Follows, HasProof}
+use Rattle.type_terms.specs.Proofs.{ProofEntry, In, Every, Stands, Follows, HasProof}
 use Rattle.type_terms.specs.Supers.{dyns_of_bounds}
 use Rattle.type_terms.specs.LinkedSet.{all_args, all_written}
 use Rattle.type_terms.specs.Arranging.{Arrangement, turned_back, arranged, arranged_reference, arranged_struct, arranged_trait, arranged_impl, arranged_world}
@@ -67,10 +67,10 @@ module _ (α : Arrangement) (V : World) (w : BoundWorld V) where
   abbrev Q : Reference → Reference
   Q r = arranged_reference α r
 
-  Over : List Entry → List Entry → Type 0
+  Over : List ProofEntry → List ProofEntry → Type 0
   Over ps qs = (p : Reference) → Stands p ps → Stands (Q p) qs
 
-  pub entries : (E : List Reference) (all earlier rest : List Entry) → Follows V E all earlier rest → List Entry
+  pub entries : (E : List Reference) (all earlier rest : List ProofEntry) → Follows V E all earlier rest → List ProofEntry
   entries E all earlier [] f = []
   entries E all earlier (e ∷ rest) f = record { of = Q e.of; rule = (rules-arranged α V w E e.of e.rule f.0).0 } ∷ entries E all (earlier ++ e ∷ []) rest f.2
 
@@ -78,30 +78,30 @@ module _ (α : Arrangement) (V : World) (w : BoundWorld V) where
   each-of P [] f = tt
   each-of P (p ∷ ps) f = (f p (here p ps), each-of P ps (λ q h. f q (there q p ps h)))
 
-  nothing-over : (qs : List Entry) → Over [] qs
+  nothing-over : (qs : List ProofEntry) → Over [] qs
   unfolding Over entries
   nothing-over qs p h = absurd (in-nothing p h)
 
-  more-over : (ps qs : List Entry) (e d : Entry) → d.of ≡ Q e.of → Over ps qs → Over (ps ++ e ∷ []) (qs ++ d ∷ [])
+  more-over : (ps qs : List ProofEntry) (e d : ProofEntry) → d.of ≡ Q e.of → Over ps qs → Over (ps ++ e ∷ []) (qs ++ d ∷ [])
   unfolding Over entries
   more-over ps qs e d q f p h =
-      subst (In (Q p)) (sym (map-append (λ (x : Entry). x.of) qs (d ∷ []))) (by (in-append p (map (λ (x : Entry). x.of) ps) (e.of ∷ []) (subst (In p) (map-append (λ (x : Entry). x.of) ps (e ∷ [])) h)))
+      subst (In (Q p)) (sym (map-append (λ (x : ProofEntry). x.of) qs (d ∷ []))) (by (in-append p (map (λ (x : ProofEntry). x.of) ps) (e.of ∷ []) (subst (In p) (map-append (λ (x : ProofEntry). x.of) ps (e ∷ [])) h)))
     where
-      last : (e.of ≡ p) ⊎ In p [] → In (Q p) (map (λ (x : Entry). x.of) qs ++ d.of ∷ [])
-      last (inl k) = in-right (Q p) (map (λ (x : Entry). x.of) qs) (d.of ∷ []) (subst (λ (x : Reference). In x (d.of ∷ [])) (q ∙ ap Q k) (here d.of []))
+      last : (e.of ≡ p) ⊎ In p [] → In (Q p) (map (λ (x : ProofEntry). x.of) qs ++ d.of ∷ [])
+      last (inl k) = in-right (Q p) (map (λ (x : ProofEntry). x.of) qs) (d.of ∷ []) (subst (λ (x : Reference). In x (d.of ∷ [])) (q ∙ ap Q k) (here d.of []))
       last (inr k) = absurd (in-nothing p k)
 
-      by : In p (map (λ (x : Entry). x.of) ps) ⊎ In p (e.of ∷ []) → In (Q p) (map (λ (x : Entry). x.of) qs ++ d.of ∷ [])
-      by (inl k) = in-left (Q p) (map (λ (x : Entry). x.of) qs) (d.of ∷ []) (f p k)
+      by : In p (map (λ (x : ProofEntry). x.of) ps) ⊎ In p (e.of ∷ []) → In (Q p) (map (λ (x : ProofEntry). x.of) qs ++ d.of ∷ [])
+      by (inl k) = in-left (Q p) (map (λ (x : ProofEntry). x.of) qs) (d.of ∷ []) (f p k)
       by (inr k) = last (in-cases p e.of [] k)
 
-  either-over : (b c : Bool) (all all' earlier earlier' : List Entry) → c ≡ b → Over all all' → Over earlier earlier' → Over (if b then all else earlier) (if c then all' else earlier')
+  either-over : (b c : Bool) (all all' earlier earlier' : List ProofEntry) → c ≡ b → Over all all' → Over earlier earlier' → Over (if b then all else earlier) (if c then all' else earlier')
   either-over true true all all' earlier earlier' e f g = f
   either-over true false all all' earlier earlier' e f g = cc
   either-over false true all all' earlier earlier' e f g = cc
   either-over false false all all' earlier earlier' e f g = g
 
-  follows-arranged : (E : List Reference) (all all' : List Entry) → Over all all' → (earlier earlier' : List Entry) → Over earlier earlier' → (rest : List Entry) (f : Follows V E all earlier rest)
+  follows-arranged : (E : List Reference) (all all' : List ProofEntry) → Over all all' → (earlier earlier' : List ProofEntry) → Over earlier earlier' → (rest : List ProofEntry) (f : Follows V E all earlier rest)
       → Follows U (map Q E) all' earlier' (entries E all earlier rest f)
   unfolding Over entries
   follows-arranged E all all' o earlier earlier' g [] f = tt
@@ -117,15 +117,15 @@ module _ (α : Arrangement) (V : World) (w : BoundWorld V) where
         follows-arranged E all all' o (earlier ++ e ∷ []) (earlier' ++ record { of = Q e.of; rule = v.0 } ∷ []) (more-over earlier earlier' e (record { of = Q e.of; rule = v.0 }) refl g) rest f.2,
       )
 
-  entries-over : (E : List Reference) (all earlier rest : List Entry) (f : Follows V E all earlier rest) → Over rest (entries E all earlier rest f)
+  entries-over : (E : List Reference) (all earlier rest : List ProofEntry) (f : Follows V E all earlier rest) → Over rest (entries E all earlier rest f)
   unfolding Over entries
   entries-over E all earlier [] f p h = absurd (in-nothing p h)
-  entries-over E all earlier (e ∷ rest) f p h = by (in-cases p e.of (map (λ (x : Entry). x.of) rest) h) (entries-over E all (earlier ++ e ∷ []) rest f.2 p)
+  entries-over E all earlier (e ∷ rest) f p h = by (in-cases p e.of (map (λ (x : ProofEntry). x.of) rest) h) (entries-over E all (earlier ++ e ∷ []) rest f.2 p)
     where
-      by : (e.of ≡ p) ⊎ In p (map (λ (x : Entry). x.of) rest) → (In p (map (λ (x : Entry). x.of) rest) → In (Q p) (map (λ (x : Entry). x.of) (entries E all (earlier ++ e ∷ []) rest f.2)))
-          → In (Q p) (Q e.of ∷ map (λ (x : Entry). x.of) (entries E all (earlier ++ e ∷ []) rest f.2))
-      by (inl k) g = subst (λ (x : Reference). In x (Q e.of ∷ map (λ (y : Entry). y.of) (entries E all (earlier ++ e ∷ []) rest f.2))) (ap Q k) (here (Q e.of) _)
-      by (inr k) g = there (Q p) (Q e.of) (map (λ (x : Entry). x.of) (entries E all (earlier ++ e ∷ []) rest f.2)) (g k)
+      by : (e.of ≡ p) ⊎ In p (map (λ (x : ProofEntry). x.of) rest) → (In p (map (λ (x : ProofEntry). x.of) rest) → In (Q p) (map (λ (x : ProofEntry). x.of) (entries E all (earlier ++ e ∷ []) rest f.2)))
+          → In (Q p) (Q e.of ∷ map (λ (x : ProofEntry). x.of) (entries E all (earlier ++ e ∷ []) rest f.2))
+      by (inl k) g = subst (λ (x : Reference). In x (Q e.of ∷ map (λ (y : ProofEntry). y.of) (entries E all (earlier ++ e ∷ []) rest f.2))) (ap Q k) (here (Q e.of) _)
+      by (inr k) g = there (Q p) (Q e.of) (map (λ (x : ProofEntry). x.of) (entries E all (earlier ++ e ∷ []) rest f.2)) (g k)
 
   -- a proof in the one order is one in the other
   pub proof-arranged : (E : List Reference) (r : Reference) → HasProof V E r → HasProof U (map Q E) (Q r)

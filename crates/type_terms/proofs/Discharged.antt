@@ -5,7 +5,7 @@ use Rattle.type_terms.specs.Label.{Label, Sort, dynamic, placeholder}
 use Rattle.type_terms.specs.Trees.{Trees, none, tree}
 use Rattle.type_terms.specs.Worlds.{World, Reference}
 use Rattle.type_terms.specs.Rules.{Rule, Way, by_impl, by_clause, by_super, built_in, rules, impl_rules, built_in_rules, clause_rules, super_rules, strict_supertraits, same_reference, is_coinductive, is_dyn, asked, sized}
-use Rattle.type_terms.specs.Proofs.{Entry, In, Every, Stands, Follows, IsProof, HasProof}
+use Rattle.type_terms.specs.Proofs.{ProofEntry, In, Every, Stands, Follows, IsProof, HasProof}
 use Rattle.type_terms.proofs.Members.{here, there, in-cases, in-nothing, in-append, in-left, in-right, in-flat, not-both}
 use Rattle.type_terms.proofs.ProofEntries.{map-in, stands-more, entry-stands, way-built-in, built-in-way}
 use Rattle.type_terms.proofs.NoHolds.{every-member}
@@ -90,15 +90,15 @@ append-nothing-right (x ∷ xs) = ap (λ z. x ∷ z) (append-nothing-right xs)
 module _ (W : World) (w : PlainWorld W) (σ : Filling) (E : List Reference)
     (never-sized : (c : Trees) → HasProof W [] (asked sized (tree dynamic c none)) → ⊥)
     (opaque-sized : (s : Sort) (i : ℕ) (c : Trees) (u : Rule) → In u (rules W E (asked sized (tree (placeholder s i) c none))) → In u (clause_rules W (asked sized (tree (placeholder s i) c none)) 0 E))
-    (base : List Entry) (base-proof : IsProof W [] base) (base-has : (r : Reference) → Given W E r → Stands (filled_reference W w σ r) base) where
+    (base : List ProofEntry) (base-proof : IsProof W [] base) (base-has : (r : Reference) → Given W E r → Stands (filled_reference W w σ r) base) where
   abbrev Q : Reference → Reference
   Q r = filled_reference W w σ r
 
-  abbrev put_entry : Entry → Entry
+  abbrev put_entry : ProofEntry → ProofEntry
   put_entry e = record { of = Q e.of; rule = filled_rule W w σ e.rule }
 
   -- the entries that are of no where-clause, put into
-  abbrev kept : List Entry → List Entry
+  abbrev kept : List ProofEntry → List ProofEntry
   kept [] = []
   kept (e ∷ es) = if is_own e.rule.way then put_entry e ∷ kept es else kept es
 
@@ -145,11 +145,11 @@ module _ (W : World) (w : PlainWorld W) (σ : Filling) (E : List Reference)
       by (inr k) = absurd (not-both (is_own u.way) g k.0)
 
   -- what stands in the proof stands, put into, in the base or among the entries kept
-  kept-stand : (es : List Entry) → ((e : Entry) → In e es → In e.rule (rules W E e.of)) → (p : Reference) → Stands p es → Stands (Q p) base ⊎ Stands (Q p) (kept es)
+  kept-stand : (es : List ProofEntry) → ((e : ProofEntry) → In e es → In e.rule (rules W E e.of)) → (p : Reference) → Stands p es → Stands (Q p) base ⊎ Stands (Q p) (kept es)
   kept-stand [] f p h = absurd (in-nothing p h)
-  kept-stand (e ∷ es) f p h = by (is_own e.rule.way) refl (in-cases p e.of (map (λ (x : Entry). x.of) es) h) (kept-stand es (λ x g. f x (there x e es g)) p)
+  kept-stand (e ∷ es) f p h = by (is_own e.rule.way) refl (in-cases p e.of (map (λ (x : ProofEntry). x.of) es) h) (kept-stand es (λ x g. f x (there x e es g)) p)
     where
-      by : (b : Bool) → is_own e.rule.way ≡ b → (e.of ≡ p) ⊎ In p (map (λ (x : Entry). x.of) es) → (Stands p es → Stands (Q p) base ⊎ Stands (Q p) (kept es))
+      by : (b : Bool) → is_own e.rule.way ≡ b → (e.of ≡ p) ⊎ In p (map (λ (x : ProofEntry). x.of) es) → (Stands p es → Stands (Q p) base ⊎ Stands (Q p) (kept es))
           → Stands (Q p) base ⊎ Stands (Q p) (if b then put_entry e ∷ kept es else kept es)
       by true q (inl g) again = inr (subst (λ r. Stands (Q r) (put_entry e ∷ kept es)) g (here (Q e.of) _))
       by false q (inl g) again = inl (subst (λ r. Stands (Q r) base) g (from-given e.of e.rule (f e (here e es)) q))
@@ -157,17 +157,17 @@ module _ (W : World) (w : PlainWorld W) (σ : Filling) (E : List Reference)
         where
           more : Stands (Q p) base ⊎ Stands (Q p) (kept es) → Stands (Q p) base ⊎ Stands (Q p) (put_entry e ∷ kept es)
           more (inl k) = inl k
-          more (inr k) = inr (there (Q p) (Q e.of) (map (λ (x : Entry). x.of) (kept es)) k)
+          more (inr k) = inr (there (Q p) (Q e.of) (map (λ (x : ProofEntry). x.of) (kept es)) k)
       by false q (inr g) again = again g
 
   -- no `dyn` is put in where the proof asks for `Sized`
-  no-dyn : (all : List Entry) → ((e : Entry) → In e all → In e.rule (rules W E e.of) × Every (λ p. Stands p all) e.rule.premises) → (e : Entry) → In e all → NoDynAsSized W w σ e.of.args e.rule
-  no-dyn all f e h l c o q plain new asks = at l plain new (map-in (λ (x : Entry). x.of) all (asked sized (tree l c none)) stands)
+  no-dyn : (all : List ProofEntry) → ((e : ProofEntry) → In e all → In e.rule (rules W E e.of) × Every (λ p. Stands p all) e.rule.premises) → (e : ProofEntry) → In e all → NoDynAsSized W w σ e.of.args e.rule
+  no-dyn all f e h l c o q plain new asks = at l plain new (map-in (λ (x : ProofEntry). x.of) all (asked sized (tree l c none)) stands)
     where
       stands : Stands (asked sized (tree l c none)) all
       stands = every-member (λ p. Stands p all) e.rule.premises (asked sized (tree l c none)) (f e h).1 asks
 
-      at : (l : Label) → is_dyn l ≡ false → is_dyn (new_label σ l true) ≡ true → (x : Entry) × In x all × (x.of ≡ asked sized (tree l c none)) → ⊥
+      at : (l : Label) → is_dyn l ≡ false → is_dyn (new_label σ l true) ≡ true → (x : ProofEntry) × In x all × (x.of ≡ asked sized (tree l c none)) → ⊥
       at (placeholder s i) p n m =
           never (σ.label s i) n
           (subst (λ r. Stands (Q r) base) m.2 (base-has m.0.of (from-clauses W m.0.of 0 E m.0.rule
@@ -178,10 +178,10 @@ module _ (W : World) (w : PlainWorld W) (σ : Filling) (E : List Reference)
           never x d st = cc
       at l p n m = not-both (is_dyn l) n p
 
-  pub discharged : (qs : List Entry) → IsProof W E qs → (r : Reference) → Stands r qs → HasProof W [] (Q r)
+  pub discharged : (qs : List ProofEntry) → IsProof W E qs → (r : Reference) → Stands r qs → HasProof W [] (Q r)
   discharged qs h r s = (base ++ kept qs, joined-proof, either r (kept-stand qs (λ e g. (entries e g).0) r s))
     where
-      entries : (e : Entry) → In e qs → In e.rule (rules W E e.of) × Every (λ p. Stands p qs) e.rule.premises
+      entries : (e : ProofEntry) → In e qs → In e.rule (rules W E e.of) × Every (λ p. Stands p qs) e.rule.premises
       entries e g = entry-stands W E qs [] qs refl h e g
 
       either : (p : Reference) → Stands (Q p) base ⊎ Stands (Q p) (kept qs) → Stands (Q p) (base ++ kept qs)
@@ -189,7 +189,7 @@ module _ (W : World) (w : PlainWorld W) (σ : Filling) (E : List Reference)
       either p (inr g) = stands-after (Q p) base (kept qs) g
 
       -- the entries kept follow the base
-      follow : (earlier left : List Entry) → qs ≡ earlier ++ left → Follows W E qs earlier left → Follows W [] (base ++ kept qs) (base ++ kept earlier) (kept left)
+      follow : (earlier left : List ProofEntry) → qs ≡ earlier ++ left → Follows W E qs earlier left → Follows W [] (base ++ kept qs) (base ++ kept earlier) (kept left)
       follow earlier [] q f = tt
       follow earlier (e ∷ left) q f = by (is_own e.rule.way) refl (follow (earlier ++ e ∷ []) left (q ∙ sym (append_assoc earlier (e ∷ []) left)) f.2)
         where
@@ -215,7 +215,7 @@ module _ (W : World) (w : PlainWorld W) (σ : Filling) (E : List Reference)
           asks true (p ∷ ps) g = (there-too p g.0, asks true ps g.1)
           asks false (p ∷ ps) g = (before p g.0, asks false ps g.1)
 
-          kept-after : (xs : List Entry) → kept (xs ++ e ∷ []) ≡ kept xs ++ kept (e ∷ [])
+          kept-after : (xs : List ProofEntry) → kept (xs ++ e ∷ []) ≡ kept xs ++ kept (e ∷ [])
           kept-after [] = refl
           kept-after (x ∷ xs) = at (is_own x.rule.way) (kept-after xs)
             where

@@ -10,7 +10,7 @@ use Rattle.type_terms.specs.Proofs.{In, Every, HasProof}
 use Rattle.type_terms.specs.Answers.{is_open, is_closed}
 use Rattle.type_terms.specs.Core.{core_world, box}
 use Rattle.type_terms.specs.Renumbering.{Renumbering, View, HoldsView, view_before, asker_in_set, renumbered_label, renumbered, renumbered_reference, renumbered_impl}
-use Rattle.type_terms.specs.LinkedSet.{JoinedSet, LinkedSet, IsAnswered, sees_trait, is_stray, all_args}
+use Rattle.type_terms.specs.LinkedSet.{JoinedSet, LinkedSet, IsOfAnAnsweredCrate, sees_trait, is_stray, all_args}
 use Rattle.type_terms.specs.Supers.{opaque, opaque_reference, dyns_of_bounds, SupersHold, IsHeld}
 use Rattle.type_terms.proofs.Members.{in-filter, filter-in, same-number, true-or-false}
 use Rattle.type_terms.proofs.Walking.{left, right, or-cases}
@@ -230,12 +230,12 @@ module _ (W : World) (vs : List View) (rank : ℕ → ℕ) (l : JoinedSet W vs r
             one q (suc n, e) = cc
         at i h A c f p (inr s) = checked-instance W judged i A h s c f p (λ q g. all-supers q (closed-clause i A h c q g) (every-member (HasProof W []) (all_with_args A i.clauses) q p g))
 
-  module _ (answered : (i : ImplDecl) → In i W.impls → IsAnswered vs i) (held : (v : View) → In v vs → IsHeld v.world v.asker) where
+  module _ (answered : (i : ImplDecl) → In i W.impls → IsOfAnAnsweredCrate vs i) (held : (v : View) → In v vs → IsHeld v.world v.asker) where
     -- an impl of core, or one that was checked
     judged-impl : (i : ImplDecl) → In i W.impls → In i core_world.impls ⊎ SupersHold W i
     judged-impl i h = by (answered i h)
       where
-        by : IsAnswered vs i → In i core_world.impls ⊎ SupersHold W i
+        by : IsOfAnAnsweredCrate vs i → In i core_world.impls ⊎ SupersHold W i
         by (inl m) = inl m
         by (inr a) = inr (subst (SupersHold W) x.2 (held-in-set a.0 s x.0 x.1 x-own (subst (λ z. In z W.impls) (sym x.2) h) (held a.0 a.1 x.0 x.1 x-own)))
           where

@@ -6,7 +6,7 @@ use Rattle.type_terms.specs.Trees.{Trees, none, tree, arguments, instantiate, Fi
 use Rattle.type_terms.specs.Worlds.{World, Reference, TraitDecl, ImplDecl, structs_named, traits_named, sees, view_of, with_args}
 use Rattle.type_terms.specs.Walks.{Met, local, struct_leaf, dyn_leaf, entered, struct_is, trait_is, dyn_met, visited, open_walk, walk, ends_local, keeps_orphan_rule, seen, is_known, is_known_in}
 use Rattle.type_terms.specs.Rules.{clause_rules, super_rules, same_reference, by_clause, Rule, rules, impl_rules, built_in_rules, strict_supertraits, is_auto, is_written, same_head}
-use Rattle.type_terms.specs.Proofs.{Entry, In, Every, Follows, HasProof}
+use Rattle.type_terms.specs.Proofs.{ProofEntry, In, Every, Follows, HasProof}
 use Rattle.type_terms.specs.Answers.{is_closed, children, is_bounded, is_possible, CommonInstance, IsFixedClause}
 use Rattle.type_terms.specs.Renumbering.{View}
 use Rattle.type_terms.specs.LinkedSet.{JoinedSet, LinkedSet, Unknown, Cleared, in_scope, sees_struct, sees_trait}
@@ -245,7 +245,7 @@ module _ (W : World) (vs : List View) (rank : ℕ → ℕ) (l : JoinedSet W vs r
           (subst (λ xs. In x (if is_known_in U c r then [] else xs)) (supers-same V V.crates is r) g))
 
   -- a proof by the rules that c had
-  follows-before : (E : List Reference) (all earlier rest : List Entry) → Follows U E all earlier rest → Follows V E all earlier rest
+  follows-before : (E : List Reference) (all earlier rest : List ProofEntry) → Follows U E all earlier rest → Follows V E all earlier rest
   follows-before E all earlier [] f = tt
   follows-before E all earlier (e ∷ rest) f = (rules-of-view E e.of e.rule f.0, f.1, follows-before E all (earlier ++ e ∷ []) rest f.2)
 

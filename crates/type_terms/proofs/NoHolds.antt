@@ -7,7 +7,7 @@ use Rattle.type_terms.specs.Trees.{Trees, none, tree, ◌+++◌, instantiate, sh
 use Rattle.type_terms.specs.Worlds.{World, Reference, StructDecl, TraitDecl, ImplDecl, structs_named, traits_named, sees, view_of, with_args, all_with_args}
 use Rattle.type_terms.specs.Walks.{is_known, is_known_in}
 use Rattle.type_terms.specs.Rules.{BuiltIn, sized_tuple, sized_struct, copy_tuple, auto_element, auto_tuple, auto_struct, fn_ptr_call, object_auto, object_principal, equal_rows, upcasts_principal, upcasts_autos, are_declared, unsize_array, unsize_to_dyn, unsize_dyn, unsize_upcast, unsize_struct, Rule, rules, impl_rules, built_in_rules, plain_rules, sized_rules, copy_rules, tuple_rules, fn_ptr_rules, call_rules, but_last, auto_rules, auto_rules_plain, unsize_rules, unsize_array_rules, unsize_to_dyn_rules, unsize_upcast_rules, unsize_struct_rules, some_unsizing, with_unsizing, last_unsizes, object_rules, principal_with, autos_with, elaborated, is_declared, are_dyn_compatible, is_dyn, same_reference, is_auto, is_written, is_fn_trait, sized, copy, clone, tuple_trait, fn_ptr_trait, unsize, row, asked, last_asked, each_asked, together, fields_of, strict_supertraits, strict_supertraits_within, written_supertraits}
-use Rattle.type_terms.specs.Proofs.{Entry, In, Every, HasProof}
+use Rattle.type_terms.specs.Proofs.{ProofEntry, In, Every, HasProof}
 use Rattle.type_terms.specs.Answers.{is_closed, is_open, children, short_chains, is_possible, is_bounded, written_in, FixedLeft, FixedRight, IsFixedClause}
 use Rattle.type_terms.specs.Renumbering.{View}
 use Rattle.type_terms.specs.LinkedSet.{JoinedSet, Unknown, is_stray, Cleared}
@@ -105,10 +105,10 @@ module _ (W : World) (c : ℕ) (V : World)
   proved-is-possible (suc n) r z h p =
       by (gives r z e.rule rule.0 rule.1) (λ s g q. proved-is-possible n s (sh r s z g) (member-each (λ x. short_chains n V c x) (children V c r) s h g) q)
     where
-      m : (e : Entry) × In e p.0 × (e.of ≡ r)
-      m = map-in (λ (e : Entry). e.of) p.0 r p.2
+      m : (e : ProofEntry) × In e p.0 × (e.of ≡ r)
+      m = map-in (λ (e : ProofEntry). e.of) p.0 r p.2
 
-      e : Entry
+      e : ProofEntry
       e = m.0
 
       rule : In e.rule (rules W [] r) × Every (HasProof W []) e.rule.premises

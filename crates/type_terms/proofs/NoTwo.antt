@@ -6,7 +6,7 @@ use Rattle.type_terms.specs.Trees.{Trees, none, tree, instantiate, Fits, argumen
 use Rattle.type_terms.specs.Worlds.{World, CrateDecl, Reference, ImplDecl, core, structs_named, traits_named, crates_named, sees, sees_within, with_args}
 use Rattle.type_terms.specs.Walks.{Met, local, struct_leaf, dyn_leaf, entered, other_leaf, open_place, struct_is, trait_is, dyn_met, visited, until_decisive, keeps_orphan_rule, is_known}
 use Rattle.type_terms.specs.Rules.{Rule, by_impl, rules, impl_rules}
-use Rattle.type_terms.specs.Proofs.{Entry, In, Every, HasProof, HasProofByImpl}
+use Rattle.type_terms.specs.Proofs.{ProofEntry, In, Every, HasProof, HasProofByImpl}
 use Rattle.type_terms.specs.Answers.{is_closed, CommonInstance}
 use Rattle.type_terms.specs.Renumbering.{View}
 use Rattle.type_terms.specs.Versions.{Added, is_open_place, open_walk_meets_param, in_scope, sees_struct, sees_trait}
@@ -41,7 +41,7 @@ won W r z n h = record {
   clauses = subst (λ (v : Rule). Every (HasProof W []) v.premises) (sym b.is-rule) p.1;
 }
   where
-    e : Entry
+    e : ProofEntry
     e = h.1
 
     p : In e.rule (rules W [] e.of) × Every (HasProof W []) e.rule.premises

@@ -23,7 +23,7 @@ use Rattle.type_terms.specs.declared.visit.Seen.{Seen}
 use Rattle.type_terms.specs.declared.visit.Seen.TheVariants.{Enter}
 use Rattle.type_terms.specs.Visits.{around, IsBound, Visits, ended, entered, broken_below, VisitsBelow, below, VisitsEach, ended_each, next_each, broken_each}
 use Rattle.type_terms.specs.Pieces.{Piece}
-use Rattle.type_terms.specs.Pending.{part_trees, piece, piece_below, pieces_ahead, Follows}
+use Rattle.type_terms.specs.Pending.{part_trees, piece, piece_below, pieces_ahead, VisitsFollow}
 use Rattle.type_terms.proofs.VisitFacts.{visits-append, visits-broken, bounds-visited}
 
 -- ---- lists that are kept the next last
@@ -75,35 +75,35 @@ module _ {V B : Type 0} (sees : List ℕ → Trees → V → V → Seen B → Ty
 
   -- ---- the same of what comes after
   module _ (before before' : List Piece) (v v' : V) (on : (x : V) (q : Option B) → VisitsEach sees bs before' v' x q → VisitsEach sees bs before v x q) where
-    pub follows-by : (after : List Piece) (w : V) (r : Option B) → Follows sees bs before' v' after w r → Follows sees bs before v after w r
+    pub follows-by : (after : List Piece) (w : V) (r : Option B) → VisitsFollow sees bs before' v' after w r → VisitsFollow sees bs before v after w r
     follows-by after w None f = λ x q h. on x q (f x q h)
     follows-by after w (Some b) f = on w (Some b) f
 
-  follows-visited : (cs : List ℕ) (t : Trees) (ps : List Piece) (v w : V) (r : Option B) → Visits sees (cs ++ bs) t v w r → Follows sees bs (piece cs t ∷ ps) v ps w r
+  follows-visited : (cs : List ℕ) (t : Trees) (ps : List Piece) (v w : V) (r : Option B) → Visits sees (cs ++ bs) t v w r → VisitsFollow sees bs (piece cs t ∷ ps) v ps w r
   follows-visited cs t ps v w None h = λ x q g. next_each h g
   follows-visited cs t ps v w (Some b) h = broken_each h
 
   -- a part that is visited at once, where nothing was added to what is ahead
   pub at-once : (es : List Entry) (cs ds ns : List ℕ) (ps qs : List Pending) (t : Trees) (v w : V) (r : Option B) → ds ≡ cs → ns ≡ cs → qs ≡ ps → Visits sees (ds ++ bs) t v w r
-      → Follows sees bs (piece cs t ∷ pieces_ahead es cs ps) v (pieces_ahead es ns qs) w r
+      → VisitsFollow sees bs (piece cs t ∷ pieces_ahead es cs ps) v (pieces_ahead es ns qs) w r
   at-once es cs ds ns ps qs t v w r e f g h =
       let here = subst (λ c. Visits sees (c ++ bs) t v w r) e h in
-      subst (λ n. Follows sees bs (piece cs t ∷ pieces_ahead es cs ps) v (pieces_ahead es n qs) w r) (sym f)
-      (subst (λ q. Follows sees bs (piece cs t ∷ pieces_ahead es cs ps) v (pieces_ahead es cs q) w r) (sym g) (follows-visited cs t (pieces_ahead es cs ps) v w r here))
+      subst (λ n. VisitsFollow sees bs (piece cs t ∷ pieces_ahead es cs ps) v (pieces_ahead es n qs) w r) (sym f)
+      (subst (λ q. VisitsFollow sees bs (piece cs t ∷ pieces_ahead es cs ps) v (pieces_ahead es cs q) w r) (sym g) (follows-visited cs t (pieces_ahead es cs ps) v w r here))
 
   pub at-once-bound : (es : List Entry) (n : ℕ) (cs ds ns : List ℕ) (ps qs : List Pending) (t : Trees) (v w : V) (r : Option B) → ds ≡ cs → ns ≡ cs → qs ≡ ps → Visits sees (n ∷ (ds ++ bs)) t v w r
-      → Follows sees bs (piece (n ∷ cs) t ∷ pieces_ahead es cs ps) v (pieces_ahead es ns qs) w r
+      → VisitsFollow sees bs (piece (n ∷ cs) t ∷ pieces_ahead es cs ps) v (pieces_ahead es ns qs) w r
   at-once-bound es n cs ds ns ps qs t v w r e f g h =
       let here = subst (λ c. Visits sees (n ∷ (c ++ bs)) t v w r) e h in
-      subst (λ m. Follows sees bs (piece (n ∷ cs) t ∷ pieces_ahead es cs ps) v (pieces_ahead es m qs) w r) (sym f)
-      (subst (λ q. Follows sees bs (piece (n ∷ cs) t ∷ pieces_ahead es cs ps) v (pieces_ahead es cs q) w r) (sym g) (follows-visited (n ∷ cs) t (pieces_ahead es cs ps) v w r here))
+      subst (λ m. VisitsFollow sees bs (piece (n ∷ cs) t ∷ pieces_ahead es cs ps) v (pieces_ahead es m qs) w r) (sym f)
+      (subst (λ q. VisitsFollow sees bs (piece (n ∷ cs) t ∷ pieces_ahead es cs ps) v (pieces_ahead es cs q) w r) (sym g) (follows-visited (n ∷ cs) t (pieces_ahead es cs ps) v w r here))
 
   -- two parts that were put ahead
   pub both-ahead : (es : List Entry) (cs ns : List ℕ) (ps qs : List Pending) (p q : Part) (v : V) → ns ≡ cs → qs ≡ Visit p ∷ Visit q ∷ ps
-      → Follows sees bs (piece cs (part_trees es p +++ part_trees es q) ∷ pieces_ahead es cs ps) v (pieces_ahead es ns qs) v None
+      → VisitsFollow sees bs (piece cs (part_trees es p +++ part_trees es q) ∷ pieces_ahead es cs ps) v (pieces_ahead es ns qs) v None
   both-ahead es cs ns ps qs p q v f g =
-      subst (λ n. Follows sees bs (piece cs (part_trees es p +++ part_trees es q) ∷ pieces_ahead es cs ps) v (pieces_ahead es n qs) v None) (sym f)
-      (subst (λ z. Follows sees bs (piece cs (part_trees es p +++ part_trees es q) ∷ pieces_ahead es cs ps) v (pieces_ahead es cs z) v None) (sym g)
+      subst (λ n. VisitsFollow sees bs (piece cs (part_trees es p +++ part_trees es q) ∷ pieces_ahead es cs ps) v (pieces_ahead es n qs) v None) (sym f)
+      (subst (λ z. VisitsFollow sees bs (piece cs (part_trees es p +++ part_trees es q) ∷ pieces_ahead es cs ps) v (pieces_ahead es cs z) v None) (sym g)
       (λ x r h. visits-joined cs (part_trees es p) (part_trees es q) (pieces_ahead es cs ps) v x r h))
 
   -- a kind without parts

@@ -6,7 +6,7 @@ use Rattle.type_terms.specs.Codes.{same}
 use Rattle.type_terms.specs.Trees.{Trees, none, tree}
 use Rattle.type_terms.specs.Worlds.{World, Reference, ImplDecl, structs_named}
 use Rattle.type_terms.specs.Rules.{BuiltIn, sized_struct, auto_struct, fn_ptr_call, unsize_array, unsize_to_dyn, unsize_dyn, unsize_upcast, unsize_struct, object_auto, object_principal, equal_rows, upcasts_principal, upcasts_autos, are_declared, principal_with, autos_with, Rule, Way, by_impl, by_clause, by_super, built_in, rules, impl_rules, built_in_rules, plain_rules, sized_rules, copy_rules, tuple_rules, fn_ptr_rules, call_rules, but_last, auto_rules, auto_rules_plain, unsize_rules, unsize_array_rules, unsize_to_dyn_rules, unsize_upcast_rules, unsize_struct_rules, last_unsizes, object_rules, object_bound_rules, is_declared, are_dyn_compatible, same_reference, elaborated, strict_supertraits, is_auto, is_written, is_fn_trait, sized, copy, clone, tuple_trait, fn_ptr_trait, unsize, row, last_asked, each_asked, fields_of, is_coinductive}
-use Rattle.type_terms.specs.Proofs.{Entry, In, Every, Stands, Follows, IsProof, HasProof}
+use Rattle.type_terms.specs.Proofs.{ProofEntry, In, Every, Stands, Follows, IsProof, HasProof}
 use Rattle.type_terms.proofs.Members.{here, there, in-cases, in-nothing, in-append, in-left, in-map, in-flat}
 use Rattle.type_terms.proofs.RuleLists.{append-all, if-all, unless-all, row-all, equal-all, flat-all, member-all}
 
@@ -18,17 +18,17 @@ map-in {A = A} f (x ∷ xs) y h = by (in-cases y (f x) (map f xs) h) (map-in f x
     by (inl q) g = (x, here x xs, q)
     by (inr q) g = let r = g q in (r.0, there r.0 x xs r.1, r.2)
 
-pub stands-more : (p : Reference) (xs ys : List Entry) → Stands p xs → Stands p (xs ++ ys)
+pub stands-more : (p : Reference) (xs ys : List ProofEntry) → Stands p xs → Stands p (xs ++ ys)
 stands-more p xs ys h =
-    let m = map-in (λ (e : Entry). e.of) xs p h in
-    subst (λ q. Stands q (xs ++ ys)) m.2 (in-map (λ (e : Entry). e.of) (xs ++ ys) m.0 (in-left m.0 xs ys m.1))
+    let m = map-in (λ (e : ProofEntry). e.of) xs p h in
+    subst (λ q. Stands q (xs ++ ys)) m.2 (in-map (λ (e : ProofEntry). e.of) (xs ++ ys) m.0 (in-left m.0 xs ys m.1))
 
 pub every-map : {A : Type 0} (P Q : A → Type 0) (xs : List A) → ((x : A) → P x → Q x) → Every P xs → Every Q xs
 every-map P Q [] f h = tt
 every-map P Q (x ∷ xs) f h = (f x h.0, every-map P Q xs f h.1)
 
 -- an entry's rule is one of its reference's, and its premises stand in the proof
-pub entry-stands : (W : World) (E : List Reference) (all earlier rest : List Entry) → all ≡ earlier ++ rest → Follows W E all earlier rest → (e : Entry) → In e rest
+pub entry-stands : (W : World) (E : List Reference) (all earlier rest : List ProofEntry) → all ≡ earlier ++ rest → Follows W E all earlier rest → (e : ProofEntry) → In e rest
     → In e.rule (rules W E e.of) × Every (λ p. Stands p all) e.rule.premises
 entry-stands W E all earlier [] q f e h = absurd (in-nothing e h)
 entry-stands W E all earlier (x ∷ rest) q f e h =
@@ -41,11 +41,11 @@ entry-stands W E all earlier (x ∷ rest) q f e h =
     by : (x ≡ e) ⊎ In e rest → (In e rest → In e.rule (rules W E e.of) × Every (λ p. Stands p all) e.rule.premises)
         → In e.rule (rules W E e.of) × Every (λ p. Stands p all) e.rule.premises
     by (inl z) g =
-        subst (λ (y : Entry). In y.rule (rules W E y.of) × Every (λ p. Stands p all) y.rule.premises) z
+        subst (λ (y : ProofEntry). In y.rule (rules W E y.of) × Every (λ p. Stands p all) y.rule.premises) z
         (f.0, every-map (λ p. Stands p (if is_coinductive W x.of.trait then all else earlier)) (λ p. Stands p all) x.rule.premises (more (is_coinductive W x.of.trait)) f.1)
     by (inr z) g = g z
 
-pub entry-proved : (W : World) (E : List Reference) (ps : List Entry) → IsProof W E ps → (e : Entry) → In e ps
+pub entry-proved : (W : World) (E : List Reference) (ps : List ProofEntry) → IsProof W E ps → (e : ProofEntry) → In e ps
     → In e.rule (rules W E e.of) × Every (HasProof W E) e.rule.premises
 entry-proved W E ps f e h =
     let m = entry-stands W E ps [] ps refl f e h in

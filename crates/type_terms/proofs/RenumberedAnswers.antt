@@ -5,7 +5,7 @@ use Rattle.type_terms.specs.Label.{Label, of_type, of_const, of_lifetime, dynami
 use Rattle.type_terms.specs.Trees.{Trees, none, tree}
 use Rattle.type_terms.specs.Worlds.{World, Reference, StructDecl, TraitDecl, structs_named, traits_named}
 use Rattle.type_terms.specs.Rules.{Rule, Way, by_impl, rules, strict_supertraits, is_coinductive, sized}
-use Rattle.type_terms.specs.Proofs.{Entry, In, Every, Stands, Follows, HasProof}
+use Rattle.type_terms.specs.Proofs.{ProofEntry, In, Every, Stands, Follows, HasProof}
 use Rattle.type_terms.specs.Walks.{Met, local, struct_leaf, dyn_leaf, entered, open_place, struct_is, trait_is, is_home, dyn_met, visited, until_decisive, walk, open_walk, ends_local, keeps_orphan_rule, item_in, is_known_in}
 use Rattle.type_terms.specs.Answers.{is_closed, is_undeclared, written_in, children, short_chains, is_bounded, is_possible}
 use Rattle.type_terms.specs.Versions.{is_open_place, is_addable}
@@ -193,19 +193,19 @@ module _ (ρ : Renumbering) (V U : World) (h : IsRenumbering ρ V U) where
   coinductive-same : (t : ℕ) → is_coinductive U (ρ.traits.to t) ≡ is_coinductive V t
   coinductive-same t = or-same (auto-same ρ V U h t) (is-core ρ V U h t sized refl)
 
-  abbrev N : Entry → Entry
+  abbrev N : ProofEntry → ProofEntry
   N e = record { of = Q e.of; rule = M e.rule }
 
-  stands-over : (p : Reference) (es : List Entry) → Stands p es → Stands (Q p) (map N es)
+  stands-over : (p : Reference) (es : List ProofEntry) → Stands p es → Stands (Q p) (map N es)
   stands-over p es g =
-      let m = map-in (λ (e : Entry). e.of) es p g in
-      subst (λ q. Stands q (map N es)) (ap Q m.2) (in-map (λ (e : Entry). e.of) (map N es) (N m.0) (in-map N es m.0 m.1))
+      let m = map-in (λ (e : ProofEntry). e.of) es p g in
+      subst (λ q. Stands q (map N es)) (ap Q m.2) (in-map (λ (e : ProofEntry). e.of) (map N es) (N m.0) (in-map N es m.0 m.1))
 
   premises-over : (P T : Reference → Type 0) → ((p : Reference) → P p → T (Q p)) → (ps : List Reference) → Every P ps → Every T (map Q ps)
   premises-over P T f [] g = tt
   premises-over P T f (p ∷ ps) g = (f p g.0, premises-over P T f ps g.1)
 
-  follows-over : (E : List Reference) (all earlier rest : List Entry) → Follows V E all earlier rest → Follows U (map Q E) (map N all) (map N earlier) (map N rest)
+  follows-over : (E : List Reference) (all earlier rest : List ProofEntry) → Follows V E all earlier rest → Follows U (map Q E) (map N all) (map N earlier) (map N rest)
   follows-over E all earlier [] f = tt
   follows-over E all earlier (e ∷ rest) f = (
     rules-there ρ V U h E e.of e.rule f.0,

@@ -6,7 +6,7 @@ use Rattle.type_terms.specs.Label.{Sort, dynamic, placeholder}
 use Rattle.type_terms.specs.Trees.{Trees, none, tree, Fits, arguments, some_node, erase}
 use Rattle.type_terms.specs.Worlds.{World, Reference, ImplDecl, with_args, all_with_args}
 use Rattle.type_terms.specs.Rules.{Rule, rules, impl_rules, built_in_rules, clause_rules, strict_supertraits, is_auto, is_written, auto_rules, is_declared, are_dyn_compatible, object_rules, object_bound_rules, principal_with, autos_with, asked, sized}
-use Rattle.type_terms.specs.Proofs.{Entry, In, Every, Stands, IsProof, HasProof}
+use Rattle.type_terms.specs.Proofs.{ProofEntry, In, Every, Stands, IsProof, HasProof}
 use Rattle.type_terms.specs.Answers.{is_open, is_closed}
 use Rattle.type_terms.specs.Supers.{opaque_reference, mentions_as, SupersHold}
 use Rattle.type_terms.proofs.Members.{here, there, in-cases, in-nothing, in-append, in-flat, flat-in, in-map, self-number, not-both}
@@ -68,7 +68,7 @@ module _ (W : World) (j : Judged W) where
 
   never-sized : (c : Trees) → HasProof W [] (asked sized (tree dynamic c none)) → ⊥
   never-sized c p =
-      let m = map-in (λ (e : Entry). e.of) p.0 (asked sized (tree dynamic c none)) p.2 in
+      let m = map-in (λ (e : ProofEntry). e.of) p.0 (asked sized (tree dynamic c none)) p.2 in
       no-rule-of-dyn c m.0.rule (subst (λ r. In m.0.rule (rules W [] r)) m.2 (entry-proved W [] p.0 p.1 m.0 m.1).0)
 
   -- a placeholder is `Sized` by where-clauses alone
@@ -147,7 +147,7 @@ module _ (W : World) (j : Judged W) where
               either (inl q) = subst (HasProof W []) q (every-member (HasProof W []) ps n.0 proved n.1)
               either (inr q) = every-member (HasProof W []) (strict_supertraits W n.0) x (before n.0 n.1) q
 
-      base : (qs : List Entry) × IsProof W [] qs × Every (λ x. Stands x qs) all-given
+      base : (qs : List ProofEntry) × IsProof W [] qs × Every (λ x. Stands x qs) all-given
       base = all-stand W [] all-given all-proved
 
       stands : (x p : Reference) → In p ps → In x (p ∷ strict_supertraits W p) → Stands x base.0

@@ -6,7 +6,7 @@ use Rattle.type_terms.specs.Label.{of_type, param, fn_ptr, tuple, dynamic}
 use Rattle.type_terms.specs.Trees.{Trees, none, tree, ◌+++◌, instantiate, arguments, some_node}
 use Rattle.type_terms.specs.Worlds.{World, Reference, TraitDecl, ImplDecl, core, traits_named, view_of}
 use Rattle.type_terms.specs.Rules.{BuiltIn, sized_leaf, sized_tuple, copy_fn_ptr, copy_tuple, built_in, Rule, rules, impl_rules, built_in_rules, plain_rules, sized_rules, copy_rules, tuple_rules, fn_ptr_rules, call_rules, auto_rules, unsize_rules, object_rules, principal_with, autos_with, is_auto, is_declared, is_coinductive, is_fn_trait, sized, clone, copy, tuple_trait, fn_ptr_trait, fn_once, fn_mut, fn_shared, unsize, row, asked, last_asked, each_asked, strict_supertraits}
-use Rattle.type_terms.specs.Proofs.{Entry, In, Every, Stands, Follows, HasProof}
+use Rattle.type_terms.specs.Proofs.{ProofEntry, In, Every, Stands, Follows, HasProof}
 use Rattle.type_terms.specs.Answers.{is_closed, is_open}
 use Rattle.type_terms.specs.Core.{core_world, type_param}
 use Rattle.type_terms.specs.Renumbering.{View}
@@ -309,11 +309,11 @@ module _ (W : World) (k : CoreLike W) (C : Reference → Type 0) (items : (t : �
       by (inr i) = rest (in-append u (built_in_rules W r) [] i)
 
   -- each entry, where those before it have their supertraits proved
-  supers-in : (all earlier left : List Entry) → ((e : Entry) → In e left → Every (HasProof W []) e.rule.premises) → Follows W [] all earlier left
+  supers-in : (all earlier left : List ProofEntry) → ((e : ProofEntry) → In e left → Every (HasProof W []) e.rule.premises) → Follows W [] all earlier left
       → ((p : Reference) → Stands p earlier → C p → Supers W p) → (p : Reference) → Stands p left → C p → Supers W p
   supers-in all earlier [] proved f before p s c = absurd (in-nothing p s)
   supers-in all earlier (e ∷ left) proved f before p s c =
-      by (in-cases p e.of (map (λ (x : Entry). x.of) left) s) (λ q. supers-in all (earlier ++ e ∷ []) left (λ x h. proved x (there x e left h)) f.2 more p q c)
+      by (in-cases p e.of (map (λ (x : ProofEntry). x.of) left) s) (λ q. supers-in all (earlier ++ e ∷ []) left (λ x h. proved x (there x e left h)) f.2 more p q c)
     where
       here-too : C e.of → Supers W e.of
       here-too d =
@@ -331,7 +331,7 @@ module _ (W : World) (k : CoreLike W) (C : Reference → Type 0) (items : (t : �
               last (inl q) = subst (Supers W) q (here-too (subst C (sym q) z))
               last (inr q) = absurd (in-nothing x q)
 
-      by : (e.of ≡ p) ⊎ In p (map (λ (x : Entry). x.of) left) → (In p (map (λ (x : Entry). x.of) left) → Supers W p) → Supers W p
+      by : (e.of ≡ p) ⊎ In p (map (λ (x : ProofEntry). x.of) left) → (In p (map (λ (x : ProofEntry). x.of) left) → Supers W p) → Supers W p
       by (inl q) again = subst (Supers W) q (here-too (subst C (sym q) c))
       by (inr q) again = again q
 

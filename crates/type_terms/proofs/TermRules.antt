@@ -5,7 +5,7 @@ use Rattle.type_terms.specs.Codes.{same}
 use Rattle.type_terms.specs.Label.{Label, of_type, of_const, of_lifetime, param, placeholder, infer, canonical, bound, inside, shift_label, never, array, slice, tuple, adt, raw_pointer, ref, fn_ptr, dynamic, principal, auto_trait}
 use Rattle.type_terms.specs.Trees.{Trees, none, tree, ◌+++◌, leaf, instantiate, shift, nth, some_node, arguments, arguments_from, standing_at, first_of, erase, erase_label}
 use Rattle.type_terms.specs.Worlds.{World, Reference, CrateDecl, StructDecl, TraitDecl, ImplDecl, structs_named, traits_named, crates_named, sees, sees_within, view_of, with_args, all_with_args}
-use Rattle.type_terms.specs.Erased.{IsTerm, IsTerms, erased_reference, erased_struct, erased_trait, erased_impl, erased_world}
+use Rattle.type_terms.specs.Erased.{IsErasedTerm, IsTerms, erased_reference, erased_struct, erased_trait, erased_impl, erased_world}
 use Rattle.type_terms.specs.Rules.{BuiltIn, sized_tuple, sized_struct, copy_tuple, auto_element, auto_tuple, auto_struct, fn_ptr_call, object_auto, object_principal, equal_rows, upcasts_principal, upcasts_autos, are_declared, unsize_array, unsize_to_dyn, unsize_dyn, unsize_upcast, unsize_struct, Rule, rules, impl_rules, built_in_rules, plain_rules, sized_rules, copy_rules, tuple_rules, fn_ptr_rules, call_rules, but_last, auto_rules, auto_rules_plain, unsize_rules, unsize_array_rules, unsize_to_dyn_rules, unsize_upcast_rules, unsize_struct_rules, some_unsizing, with_unsizing, last_unsizes, object_rules, principal_with, autos_with, elaborated, is_declared, are_dyn_compatible, is_dyn, same_reference, is_auto, is_written, is_fn_trait, sized, copy, clone, tuple_trait, fn_ptr_trait, unsize, row, asked, last_asked, each_asked, together, fields_of, strict_supertraits, strict_supertraits_within, written_supertraits, clause_rules, super_rules, by_clause, by_super}
 use Rattle.type_terms.specs.Proofs.{In, Every}
 use Rattle.type_terms.proofs.Members.{here, there, in-cases, in-nothing, in-filter, in-append, in-flat}
@@ -417,7 +417,7 @@ module _ (W : World) (t : IsTerms W) where
   clauses-free : (i : ImplDecl) (k : Reference) → In i W.impls → In k i.clauses → some_node lifetimes k.args ≡ false
   clauses-free i k h g = reference-free k (same-at erased_reference i.clauses (ap (λ (z : ImplDecl). z.clauses) (same-at erased_impl W.impls (ap (λ (z : World). z.impls) t) i h)) k g)
 
-  pub terms-of-terms : (E : List Reference) (r : Reference) → IsTerm r.args → (u : Rule) → In u (rules W E r) → (p : Reference) → In p u.premises → IsTerm p.args
+  pub terms-of-terms : (E : List Reference) (r : Reference) → IsErasedTerm r.args → (u : Rule) → In u (rules W E r) → (p : Reference) → In p u.premises → IsErasedTerm p.args
   terms-of-terms E r z u h p g = free-term p.args (not-true (some_node lifetimes p.args) (by (in-append u (flat_map (impl_rules r) W.impls) (built_in_rules W r ++ clause_rules W r 0 E) h)))
     where
       rs : Shuts r.args
@@ -451,8 +451,8 @@ every-of : (P : Reference → Type 0) (ps : List Reference) → ((p : Reference)
 every-of P [] f = tt
 every-of P (p ∷ ps) f = (f p (here p ps), every-of P ps (λ q h. f q (there q p ps h)))
 
-pub rules-ask-terms : (W : World) → IsTerms W → (E : List Reference) (r : Reference) → IsTerm r.args → (u : Rule) → In u (rules W E r) → Every (λ (p : Reference). IsTerm p.args) u.premises
-rules-ask-terms W t E r z u h = every-of (λ (p : Reference). IsTerm p.args) u.premises (terms-of-terms W t E r z u h)
+pub rules-ask-terms : (W : World) → IsTerms W → (E : List Reference) (r : Reference) → IsErasedTerm r.args → (u : Rule) → In u (rules W E r) → Every (λ (p : Reference). IsErasedTerm p.args) u.premises
+rules-ask-terms W t E r z u h = every-of (λ (p : Reference). IsErasedTerm p.args) u.premises (terms-of-terms W t E r z u h)
 
 -- An erased world is one of terms, and its views are those of the world, erased
 label-twice : (l : Label) → erase_label (erase_label l) ≡ erase_label l

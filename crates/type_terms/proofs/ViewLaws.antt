@@ -9,7 +9,7 @@ use Rattle.type_terms.specs.Answers.{is_closed, is_bounded, is_possible, CommonI
 use Rattle.type_terms.specs.Core.{core_world}
 use Rattle.type_terms.specs.Versions.{Added}
 use Rattle.type_terms.specs.Renumbering.{Renumbering, View, HoldsView, view_before, asker_in_set, IsRenumbering, renumbered, renumbered_reference, renumbered_rule, renumbered_impl}
-use Rattle.type_terms.specs.LinkedSet.{LinkedSet, Unknown, Visited, Cleared, IsAnswered, IsCheckedPair}
+use Rattle.type_terms.specs.LinkedSet.{LinkedSet, Unknown, Visited, Cleared, IsOfAnAnsweredCrate, IsPair}
 use Rattle.type_terms.specs.Laws.{CarriesOver}
 use Rattle.type_terms.proofs.Members.{filter-in, in-map, true-or-false, same-number, self-number, not-both}
 use Rattle.type_terms.proofs.Walking.{or-left}
@@ -186,8 +186,8 @@ module _ (W : World) (vs : List View) (rank : ℕ → ℕ) (l : LinkedSet W vs r
       by (inr (inl e)) = e
       by (inr (inr e)) = let z : rank core ≡ 0 = l.joined.core_first in absurd (omega (arith, e, z))
 
-  visited-cleared : ((i : ImplDecl) → In i W.impls → IsAnswered vs i)
-      → ((v : View) → In v vs → (i j : ImplDecl) → IsCheckedPair v i j → Cleared W (renumbered_impl v.numbers i) (renumbered_impl v.numbers j))
+  visited-cleared : ((i : ImplDecl) → In i W.impls → IsOfAnAnsweredCrate vs i)
+      → ((v : View) → In v vs → (i j : ImplDecl) → IsPair v.world v.asker i j → Cleared W (renumbered_impl v.numbers i) (renumbered_impl v.numbers j))
       → (i j : ImplDecl) → In i W.impls → In j W.impls → Visited W i j → Cleared W i j
   visited-cleared answered clear i j hi hj vis = by (answered i hi)
     where
@@ -242,18 +242,18 @@ module _ (W : World) (vs : List View) (rank : ℕ → ℕ) (l : LinkedSet W vs r
           either (inr a) = λ m p q. added-apart W vs rank l.joined (asker_in_set v) (seen-then v) s.later i j hi (sym e) seen-j a.0 a.1 m
 
       -- an impl that core has from the first: the other is one of core's too, then or by an answer on a later version of core
-      of-core : In i core_world.impls → IsAnswered vs j → Cleared W i j
+      of-core : In i core_world.impls → IsOfAnAnsweredCrate vs j → Cleared W i j
       of-core e (inl g) = λ m p q. differ (core-coherent.1 i j e g m)
         where
           differ : i.name ≡ j.name → ⊥
           differ n = let o : j.name < i.name = vis.1 (home-of i e ∙ sym (home-of j g)) in omega (arith, o, n)
       of-core e (inr a) = of-answer a.0 a.1 (a.2 ∙ core-alone j.home (subst (λ c. sees W c j.home ≡ true) (home-of i e) vis.0) ∙ sym (home-of i e))
 
-      by : IsAnswered vs i → Cleared W i j
+      by : IsOfAnAnsweredCrate vs i → Cleared W i j
       by (inl e) = of-core e (answered j hj)
       by (inr a) = of-answer a.0 a.1 a.2
 
-  pub no-two-of-accepted : ((i : ImplDecl) → In i W.impls → IsAnswered vs i)
-      → ((v : View) → In v vs → (i j : ImplDecl) → IsCheckedPair v i j → Cleared W (renumbered_impl v.numbers i) (renumbered_impl v.numbers j))
+  pub no-two-of-accepted : ((i : ImplDecl) → In i W.impls → IsOfAnAnsweredCrate vs i)
+      → ((v : View) → In v vs → (i j : ImplDecl) → IsPair v.world v.asker i j → Cleared W (renumbered_impl v.numbers i) (renumbered_impl v.numbers j))
       → (r : Reference) → is_closed r.args ≡ true → (n k : ℕ) → HasProofByImpl W [] r n → HasProofByImpl W [] r k → n ≡ k
   no-two-of-accepted answered clear = no-two W vs rank l.joined (visited-cleared answered clear)

@@ -7,7 +7,7 @@ use Rattle.type_terms.specs.Codes.{same}
 use Rattle.type_terms.specs.Worlds.{World, Reference, StructDecl, TraitDecl, ImplDecl, structs_named, traits_named, sees, view_of, all_with_args}
 use Rattle.type_terms.specs.Walks.{struct_is}
 use Rattle.type_terms.specs.Rules.{clause_rules, super_rules, by_clause, same_reference, strict_supertraits, strict_supertraits_within, sized_struct, auto_struct, unsize_struct, Rule, rules, impl_rules, built_in_rules, plain_rules, sized_rules, auto_rules, auto_rules_plain, unsize_rules, unsize_array_rules, unsize_to_dyn_rules, unsize_upcast_rules, unsize_struct_rules, upcasts_principal, upcasts_autos, some_unsizing, with_unsizing, last_unsizes, object_rules, principal_with, autos_with, is_declared, are_declared, are_dyn_compatible, is_dyn, is_auto, is_written, same_head, sized, unsize, row, last_asked, each_asked, fields_of, is_coinductive}
-use Rattle.type_terms.specs.Proofs.{Entry, In, Stands, Follows, HasProof}
+use Rattle.type_terms.specs.Proofs.{ProofEntry, In, Stands, Follows, HasProof}
 use Rattle.type_terms.specs.Renumbering.{View}
 use Rattle.type_terms.specs.LinkedSet.{JoinedSet, AutoAtHome}
 use Rattle.type_terms.proofs.Members.{true-or-false, in-nothing, in-filter, filter-in, some-member, member-some, in-append, in-left, in-right, in-flat, flat-in, not-both, so-false, same-number}
@@ -256,7 +256,7 @@ coinductive-up W c t h = by (or-cases (is_auto (view_of W c) t) (t == sized) h)
     by (inl e) = or-left (is_auto W t) _ (auto-up W c t e)
     by (inr e) = or-right (is_auto W t) (t == sized) e
 
-follows-up : (W : World) (vs : List View) (rank : ℕ → ℕ) → JoinedSet W vs rank → (c : ℕ) (E : List Reference) (all earlier rest : List Entry) → all ≡ earlier ++ rest
+follows-up : (W : World) (vs : List View) (rank : ℕ → ℕ) → JoinedSet W vs rank → (c : ℕ) (E : List Reference) (all earlier rest : List ProofEntry) → all ≡ earlier ++ rest
     → Follows (view_of W c) E all earlier rest → Follows W E all earlier rest
 follows-up W vs rank l c E all earlier [] q f = tt
 follows-up W vs rank l c E all earlier (e ∷ rest) q f = (

@@ -3,7 +3,7 @@ use Rattle.std.proofs.Common.{◌≡◌, ℕ, suc, Bool, true, false, List, [], 
 use Rattle.type_terms.specs.Trees.{Trees}
 use Rattle.type_terms.specs.Worlds.{World, Reference}
 use Rattle.type_terms.specs.Rules.{rules, is_coinductive, strict_supertraits}
-use Rattle.type_terms.specs.Proofs.{Entry, In, Every, Stands, Follows, IsProof, HasProof}
+use Rattle.type_terms.specs.Proofs.{ProofEntry, In, Every, Stands, Follows, IsProof, HasProof}
 use Rattle.type_terms.specs.Elaborated.{HasElaboratedProof}
 use Rattle.type_terms.specs.Wider.{AsksNoMore, IsBelow, HasRulesOf, IsVoid, KeepsTest, SupersKeepTest}
 use Rattle.type_terms.proofs.Members.{here, in-cases, in-nothing, not-both}
@@ -13,13 +13,13 @@ use Rattle.type_terms.proofs.NoHolds.{every-member}
 use Rattle.type_terms.proofs.OtherImpls.{supers-same}
 use Rattle.type_terms.proofs.WiderRules.{rules-above, as-changed}
 
-stands-here : (e : Entry) (es : List Entry) → Stands e.of (e ∷ es)
+stands-here : (e : ProofEntry) (es : List ProofEntry) → Stands e.of (e ∷ es)
 stands-here e es = here e.of _
 
-stands-cases : (p : Reference) (e : Entry) (es : List Entry) → Stands p (e ∷ es) → (e.of ≡ p) ⊎ Stands p es
+stands-cases : (p : Reference) (e : ProofEntry) (es : List ProofEntry) → Stands p (e ∷ es) → (e.of ≡ p) ⊎ Stands p es
 stands-cases p e es h = in-cases p e.of _ h
 
-stands-later : (p : Reference) (e : Entry) (es : List Entry) → Stands p es → Stands p (e ∷ es)
+stands-later : (p : Reference) (e : ProofEntry) (es : List ProofEntry) → Stands p es → Stands p (e ∷ es)
 stands-later p e es h = (suc h.0, h.1)
 
 pub every-in : {A : Type 0} (P : A → Type 0) (xs : List A) → ((x : A) → In x xs → P x) → Every P xs
@@ -27,7 +27,7 @@ every-in P [] f = tt
 every-in P (x ∷ xs) f = (f x (here x xs), every-in P xs (λ y g. f y (suc g.0, g.1)))
 
 -- at the end of a list
-stands-last : (e : Entry) (es : List Entry) → Stands e.of (es ++ e ∷ [])
+stands-last : (e : ProofEntry) (es : List ProofEntry) → Stands e.of (es ++ e ∷ [])
 stands-last e [] = stands-here e []
 stands-last e (x ∷ es) = stands-later e.of x (es ++ e ∷ []) (stands-last e es)
 
@@ -45,21 +45,21 @@ module _ (t : Trees → Bool) (V U : World) (b : IsBelow t V U) where
 module _ (t : Trees → Bool) (V U : World) (E : List Reference) (b : HasRulesOf t V U E) where
   module _ (keep : KeepsTest t V E) where
     -- p, which passes the test, stands in the second list where it stands in the first
-    abbrev More : List Entry → List Entry → Type 0
+    abbrev More : List ProofEntry → List ProofEntry → Type 0
     More xs ys = (p : Reference) → t p.args ≡ true → Stands p xs → Stands p ys
 
     -- the entries of a proof that pass the test, by the rules above
-    record Raised (all earlier left : List Entry) : Type 0 where
-      entries : List Entry
+    record Raised (all earlier left : List ProofEntry) : Type 0 where
+      entries : List ProofEntry
       there : More left entries
-      passed : Every (λ e. (t e.of.args ≡ true) × ((x : Entry) × In x left × (x.of ≡ e.of))) entries
-      follow : (all' earlier' : List Entry) → More all all' → More earlier earlier' → Follows U E all' earlier' entries
+      passed : Every (λ e. (t e.of.args ≡ true) × ((x : ProofEntry) × In x left × (x.of ≡ e.of))) entries
+      follow : (all' earlier' : List ProofEntry) → More all all' → More earlier earlier' → Follows U E all' earlier' entries
 
-    raised : (all : List Entry) → IsProof V E all → (earlier left : List Entry) → all ≡ earlier ++ left → Follows V E all earlier left → Raised all earlier left
+    raised : (all : List ProofEntry) → IsProof V E all → (earlier left : List ProofEntry) → all ≡ earlier ++ left → Follows V E all earlier left → Raised all earlier left
     raised all whole earlier [] is f = record { entries = []; there = λ p a k. k; passed = tt; follow = λ all' earlier' g h. tt }
     raised all whole earlier (e ∷ left) is f = by (t e.of.args) refl (raised all whole (earlier ++ e ∷ []) left (is ∙ sym (append_assoc earlier (e ∷ []) left)) f.2)
       where
-        later : (e' : Entry) → (t e'.of.args ≡ true) × ((x : Entry) × In x left × (x.of ≡ e'.of)) → (t e'.of.args ≡ true) × ((x : Entry) × In x (e ∷ left) × (x.of ≡ e'.of))
+        later : (e' : ProofEntry) → (t e'.of.args ≡ true) × ((x : ProofEntry) × In x left × (x.of ≡ e'.of)) → (t e'.of.args ≡ true) × ((x : ProofEntry) × In x (e ∷ left) × (x.of ≡ e'.of))
         later e' k = (k.0, (k.1.0, (suc k.1.1.0, k.1.1.1), k.1.2))
 
         by : (x : Bool) → t e.of.args ≡ x → Raised all (earlier ++ e ∷ []) left → Raised all earlier (e ∷ left)
@@ -93,21 +93,21 @@ module _ (t : Trees → Bool) (V U : World) (E : List Reference) (b : HasRulesOf
                       in-all (is_coinductive V e.of.trait) x.0 (every-member (λ q. Stands q (if is_coinductive V e.of.trait then all else earlier)) e.rule.premises x.0 f.1 x.1),
                     ))
 
-            d : Entry
+            d : ProofEntry
             d = record { of = e.of; rule = w.0 }
 
             put : (p : Reference) → t p.args ≡ true → (e.of ≡ p) ⊎ Stands p left → Stands p (d ∷ m.entries)
             put p c (inl q) = subst (λ z. Stands z (d ∷ m.entries)) q (stands-here d m.entries)
             put p c (inr k) = stands-later p d m.entries (m.there p c k)
 
-            at : (all' earlier' : List Entry) → More all all' → More earlier earlier' → (p : Reference) → t p.args ≡ true → (x y : Bool) → x ≡ y
+            at : (all' earlier' : List ProofEntry) → More all all' → More earlier earlier' → (p : Reference) → t p.args ≡ true → (x y : Bool) → x ≡ y
                 → Stands p (if x then all else earlier) → Stands p (if y then all' else earlier')
             at all' earlier' g h p c true true q k = g p c k
             at all' earlier' g h p c true false q k = absurd (not-both true refl q)
             at all' earlier' g h p c false true q k = absurd (not-both true refl (sym q))
             at all' earlier' g h p c false false q k = h p c k
 
-            more : (earlier' : List Entry) → More earlier earlier' → (p : Reference) → t p.args ≡ true → Stands p earlier ⊎ Stands p (e ∷ []) → Stands p (earlier' ++ d ∷ [])
+            more : (earlier' : List ProofEntry) → More earlier earlier' → (p : Reference) → t p.args ≡ true → Stands p earlier ⊎ Stands p (e ∷ []) → Stands p (earlier' ++ d ∷ [])
             more earlier' h p c (inl k) = stands-more p earlier' (d ∷ []) (h p c k)
             more earlier' h p c (inr k) = one (stands-cases p e [] k)
               where
@@ -128,7 +128,7 @@ module _ (t : Trees → Bool) (V U : World) (E : List Reference) (b : HasRulesOf
             put p c (inl q) = absurd (other p c q)
             put p c (inr k) = m.there p c k
 
-            more : (earlier' : List Entry) → More earlier earlier' → (p : Reference) → t p.args ≡ true → Stands p earlier ⊎ Stands p (e ∷ []) → Stands p earlier'
+            more : (earlier' : List ProofEntry) → More earlier earlier' → (p : Reference) → t p.args ≡ true → Stands p earlier ⊎ Stands p (e ∷ []) → Stands p earlier'
             more earlier' h p c (inl k) = h p c k
             more earlier' h p c (inr k) = one (stands-cases p e [] k)
               where
@@ -148,11 +148,11 @@ module _ (t : Trees → Bool) (V U : World) (E : List Reference) (b : HasRulesOf
         m : Raised h.0 [] h.0
         m = raised h.0 h.1.0 [] h.0 refl h.1.0
 
-        each : (e : Entry) → (t e.of.args ≡ true) × ((x : Entry) × In x h.0 × (x.of ≡ e.of)) → Every (λ s. Stands s m.entries) (strict_supertraits U e.of)
+        each : (e : ProofEntry) → (t e.of.args ≡ true) × ((x : ProofEntry) × In x h.0 × (x.of ≡ e.of)) → Every (λ s. Stands s m.entries) (strict_supertraits U e.of)
         each e k =
             subst (Every (λ s. Stands s m.entries)) (b.supers e.of)
             (every-in (λ s. Stands s m.entries) (strict_supertraits V e.of)
             (λ s g. m.there s (supers e.of k.0 s g)
             (every-member (λ s. Stands s h.0) (strict_supertraits V e.of) s
             (subst (λ z. Every (λ s. Stands s h.0) (strict_supertraits V z)) k.1.2
-            (every-member (λ (x : Entry). Every (λ s. Stands s h.0) (strict_supertraits V x.of)) h.0 k.1.0 h.1.1 k.1.1)) g)))
+            (every-member (λ (x : ProofEntry). Every (λ s. Stands s h.0) (strict_supertraits V x.of)) h.0 k.1.0 h.1.1 k.1.1)) g)))

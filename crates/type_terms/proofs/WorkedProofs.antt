@@ -6,8 +6,8 @@ use Rattle.type_terms.specs.Codes.{same}
 use Rattle.type_terms.specs.Trees.{Trees, none, tree, leaf, erase}
 use Rattle.type_terms.specs.Worlds.{World, ImplDecl, Reference, view_of, with_args}
 use Rattle.type_terms.specs.Rules.{rules, Rule, by_impl, by_clause, built_in, auto_struct, auto_leaf, copy_tuple, object_principal, asked, clone, copy}
-use Rattle.type_terms.specs.Proofs.{Entry, In, Every, HasProof}
-use Rattle.type_terms.specs.Answers.{is_possible, CommonInstance, OverlapIsReal, FixedLeft, FixedRight, AtMostOne, IsDeterminate}
+use Rattle.type_terms.specs.Proofs.{ProofEntry, In, Every, HasProof}
+use Rattle.type_terms.specs.Answers.{is_possible, CommonInstance, IsRealOverlap, IsFixedClause, AtMostOne, IsDeterminate}
 use Rattle.type_terms.specs.Core.{core_world, box, type_param}
 use Rattle.type_terms.specs.Worked.{AnImpossibleClause, AClauseThatMayHoldSomeDay, OnlyLifetimesDiffer, OverlapWithCore, NestedImpls, WhereClauses, CoinductiveCycle, AnImplInPlaceOfTheAutoRule, CopiesInCore, Upcast, TextsAreErased, TwoWaysUpToLifetimes, to, base, first, beside_core, struct, trait_of, auto_trait_of, impl_of, u8, T, applied, shared, dyn_of, fn_of_any, fn_of_static, show_world, HeaderOutOfScope}
 use Rattle.type_terms.proofs.Members.{in-cases, in-nothing}
@@ -17,7 +17,7 @@ use Rattle.type_terms.proofs.ProofEntries.{map-in, entry-proved}
 -- what has a proof has a rule whose premises have proofs
 pub needs-rule : (W : World) (E : List Reference) (r : Reference) → HasProof W E r → (u : Rule) × In u (rules W E r) × Every (HasProof W E) u.premises
 needs-rule W E r p =
-    let m = map-in (λ (e : Entry). e.of) p.0 r p.2 in
+    let m = map-in (λ (e : ProofEntry). e.of) p.0 r p.2 in
     let a = entry-proved W E p.0 p.1 m.0 m.1 in
     (m.0.rule, subst (λ q. In m.0.rule (rules W E q)) m.2 a.0, a.1)
 
@@ -63,15 +63,15 @@ day-common : CommonInstance day-impl day-blanket
 unfolding day-impl day-blanket
 day-common = record { left = none; right = u8; left_closed = refl; right_closed = refl; left_fits = (tt, tt); right_fits = ((refl, refl), refl, tt); equal = refl }
 
-day-real : OverlapIsReal 8 day-world first day-impl day-blanket
+day-real : IsRealOverlap 8 (view_of day-world first) first day-impl day-blanket
 unfolding day-impl day-blanket day-world day-common
-day-real = record { common = day-common; no_impossible = λ k r f b. clause k r f }
+day-real = record { common = day-common; no_impossible = λ r f b. clause r f }
   where
-    clause : (k r : Reference) → FixedLeft day-impl day-blanket k r ⊎ FixedRight day-impl day-blanket k r → IsTrue (is_possible 8 (view_of day-world first) first r)
-    clause k r (inl f) = absurd (none-at f.0.0 k f.0.1)
-    clause k r (inr f) =
-        let is : asked 20 T ≡ k = only (asked 20 T) k f.0.0 f.0.1 in
-        let at : asked 20 u8 ≡ r = ap (with_args u8) is ∙ f.1 day-common in
+    clause : (r : Reference) → IsFixedClause day-impl day-blanket r → IsTrue (is_possible 8 (view_of day-world first) first r)
+    clause r (inl x) = absurd (none-at x.1.0.0 x.0 x.1.0.1)
+    clause r (inr x) =
+        let is : asked 20 T ≡ x.0 = only (asked 20 T) x.0 x.1.0.0 x.1.0.1 in
+        let at : asked 20 u8 ≡ r = ap (with_args u8) is ∙ x.1.1 day-common in
         subst (λ (q : Reference). IsTrue (is_possible 8 (view_of day-world first) first q)) at refl
 
 pub some-day : AClauseThatMayHoldSomeDay
@@ -106,13 +106,17 @@ with-core = (
           right_fits = fits-sound (tree static none (leaf (adt 10))) (tree (ref false) (tree static none (type_param 1)) none) refl;
           equal = refl;
         };
-    no_impossible = λ k r f b. no k r f;
+    no_impossible = λ r f b. no r f;
   },
 )
   where
-    no : {P : Type 0} {i j : ImplDecl} (k r : Reference) → (In k [] × ((m : CommonInstance i j) → with_args m.left k ≡ r)) ⊎ (In k [] × ((m : CommonInstance i j) → with_args m.right k ≡ r)) → P
-    no k r (inl f) = absurd (in-nothing k f.0)
-    no k r (inr f) = absurd (in-nothing k f.0)
+    no :
+        {P : Type 0} {i j : ImplDecl} (r : Reference)
+        → ((k : Reference) × (In k [] × ((m : CommonInstance i j) → with_args m.left k ≡ r)))
+        ⊎ ((k : Reference) × (In k [] × ((m : CommonInstance i j) → with_args m.right k ≡ r)))
+        → P
+    no r (inl f) = absurd (in-nothing f.0 f.1.0)
+    no r (inr f) = absurd (in-nothing f.0 f.1.0)
 
 -- Proofs
 one-way : (W : World) (E : List Reference) (u : Rule) → AtMostOne W E (u ∷ [])

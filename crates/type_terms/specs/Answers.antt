@@ -74,12 +74,12 @@ SingleWay zero W E r = ⊥
 SingleWay (suc n) W E r = AtMostOne W E (rules W E r) × Every (λ u. Every (λ p. SingleWay n W E p) u.premises) (rules W E r)
 
 -- r holds no variable, its chains of premises are short, and there is one way at most at each step.
-abbrev pub IsDecided : ℕ → World → List Reference → Reference → Type 0
-IsDecided limit W E r = IsTrue (not (some_node is_variable r.args)) × SingleWay limit W E r
+abbrev pub IsUnambiguous : ℕ → World → List Reference → Reference → Type 0
+IsUnambiguous limit W E r = IsTrue (not (some_node is_variable r.args)) × SingleWay limit W E r
 
--- Decided, with a proof: `prove` has to find it.
+-- Unambiguous, with a proof: `prove` has to find it.
 abbrev pub IsDeterminate : ℕ → World → List Reference → Reference → Type 0
-IsDeterminate limit W E r = IsDecided limit W E r × HasProof W E r
+IsDeterminate limit W E r = IsUnambiguous limit W E r × HasProof W E r
 
 -- A common instance: closed terms for the parameters of two impls that make their headers one reference.
 -- `impl<T> Show for V<T>` and `impl Show for V<u8>` have `V<u8>: Show`.
@@ -109,7 +109,7 @@ FixedRight i j k r = In k j.clauses × ((m : CommonInstance i j) → with_args m
 abbrev pub IsFixedClause : ImplDecl → ImplDecl → Reference → Type 0
 IsFixedClause i j r = ((k : Reference) × FixedLeft i j k r) ⊎ ((k : Reference) × FixedRight i j k r)
 
--- What a refusal for overlap promises of the pair that it names: a common instance, and no bounded fixed clause that is impossible.
-pub record OverlapIsReal (limit : ℕ) (W : World) (c : ℕ) (i j : ImplDecl) : Type 0 where
+-- What a refusal for overlap promises of the pair that it names. The headers have a common instance, and no where-clause that is fixed there as a bounded reference is impossible.
+pub record IsRealOverlap (limit : ℕ) (V : World) (c : ℕ) (i j : ImplDecl) : Type 0 where
   pub common : CommonInstance i j
-  pub no_impossible : (k r : Reference) → FixedLeft i j k r ⊎ FixedRight i j k r → IsTrue (is_bounded limit (view_of W c) c r) → IsTrue (is_possible limit (view_of W c) c r)
+  pub no_impossible : (r : Reference) → IsFixedClause i j r → is_bounded limit V c r ≡ true → is_possible limit V c r ≡ true

@@ -9,7 +9,7 @@ use Rattle.type_terms.specs.Walks.{is_known, is_known_in, keeps_orphan_rule}
 use Rattle.type_terms.specs.Answers.{is_closed, is_bounded, is_possible, CommonInstance, IsFixedClause}
 use Rattle.type_terms.specs.Supers.{IsHeld, dyns_of_bounds}
 use Rattle.type_terms.specs.Core.{core_world}
-use Rattle.type_terms.specs.LinkedSet.{JoinedSet, LinkedSet, Unknown, Cleared, IsCheckedPair, all_written, autos_rise, dyns_rise}
+use Rattle.type_terms.specs.LinkedSet.{JoinedSet, LinkedSet, Unknown, Cleared, IsPair, all_written, autos_rise, dyns_rise}
 use Rattle.type_terms.specs.Renumbering.{Renumbering, SameMembers, View, HoldsView, asker_in_set, renumbered_reference, renumbered_impl, renumbered_rule}
 use Rattle.type_terms.specs.Versions.{in_scope, Added}
 use Rattle.type_terms.specs.Arranging.{Arrangement, turned_back, autos_in, children_in_order, arranged, arranged_reference, arranged_impl, arranged_world, IsArrangedRule}
@@ -112,7 +112,7 @@ abbrev pub NoTwoImplsInAnyOrder : Type 0
 NoTwoImplsInAnyOrder =
     (W : World) (rank : ℕ → ℕ) → LinkedSet W [] rank → (os : List Listed) → ((o : Listed) → In o os → HoldsInOrder W o.order o.view)
     → ((i : ImplDecl) → In i W.impls → IsAnsweredInOrder os i)
-    → ((o : Listed) → In o os → (i j : ImplDecl) → IsCheckedPair o.view i j → Cleared W (placed_impl o.order o.view i) (placed_impl o.order o.view j))
+    → ((o : Listed) → In o os → (i j : ImplDecl) → IsPair o.view.world o.view.asker i j → Cleared W (placed_impl o.order o.view i) (placed_impl o.order o.view j))
     → (r : Reference) → is_closed r.args ≡ true → (n k : ℕ) → HasProofByImpl W [] r n → HasProofByImpl W [] r k → n ≡ k
 
 -- A joined set in which each impl's crate was asked about its supertraits, each text in its own order, and all were held, is a linked set.

@@ -8,8 +8,8 @@ use Rattle.type_terms.specs.Proofs.{In}
 
 -- The tree is a term: it holds no lifetime but `'static`, and no binder that counts lifetimes. `for<'a> fn(&'a u8)` is none,
 -- and `fn(&'static u8)` is one.
-abbrev pub IsTerm : Trees → Type 0
-IsTerm t = erase t ≡ t
+abbrev pub IsErasedTerm : Trees → Type 0
+IsErasedTerm t = erase t ≡ t
 
 -- A reference without lifetimes. `&'a u8: Show` and `&'static u8: Show` are one.
 abbrev pub erased_reference : Reference → Reference

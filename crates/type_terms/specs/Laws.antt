@@ -4,7 +4,7 @@ use Rattle.std.specs.List.{list_all}
 use Rattle.type_terms.specs.Codes.{same}
 use Rattle.type_terms.specs.Trees.{Trees, Fits, outer_binder, erase}
 use Rattle.type_terms.specs.Worlds.{World, Reference, ImplDecl, core, sees, view_of, with_args, all_with_args}
-use Rattle.type_terms.specs.Erased.{IsTerm, IsTerms, IsCovered, erased_reference, erased_impl, erased_world}
+use Rattle.type_terms.specs.Erased.{IsErasedTerm, IsTerms, IsCovered, erased_reference, erased_impl, erased_world}
 use Rattle.type_terms.specs.Rules.{Rule, by_impl, rules, strict_supertraits}
 use Rattle.type_terms.specs.Proofs.{In, Every, HasProof, HasProofByImpl}
 use Rattle.type_terms.specs.Walks.{open_walk, keeps_orphan_rule, is_known, is_known_in}
@@ -13,7 +13,7 @@ use Rattle.type_terms.specs.Core.{core_world}
 use Rattle.type_terms.specs.Supers.{IsHeld}
 use Rattle.type_terms.specs.Renumbering.{Renumbering, View, HoldsView, asker_in_set, IsRenumbering, renumbered_reference, renumbered_rule, renumbered_impl}
 use Rattle.type_terms.specs.Versions.{in_scope, Added}
-use Rattle.type_terms.specs.LinkedSet.{JoinedSet, LinkedSet, Unknown, Cleared, IsAnswered, IsCheckedPair}
+use Rattle.type_terms.specs.LinkedSet.{JoinedSet, LinkedSet, Unknown, Cleared, IsOfAnAnsweredCrate, IsPair}
 
 -- P holds of each linked set with its answers.
 abbrev pub InEveryLinkedSet : (World → List View → Type 0) → Type 0
@@ -26,8 +26,8 @@ ErasedWorldsAreTerms = (W : World) → IsTerms (erased_world W) × ((c : ℕ) �
 -- Rules of a world of terms ask terms where the reference is one: to erase at the start is enough.
 abbrev pub RulesOfTermsAskTerms : Type 0
 RulesOfTermsAskTerms =
-    (W : World) → IsTerms W → (E : List Reference) (r : Reference) → IsTerm r.args → (u : Rule) → In u (rules W E r)
-    → Every (λ p. IsTerm p.args) u.premises
+    (W : World) → IsTerms W → (E : List Reference) (r : Reference) → IsErasedTerm r.args → (u : Rule) → In u (rules W E r)
+    → Every (λ p. IsErasedTerm p.args) u.premises
 
 -- An impl with arguments that may hold lifetimes gives a rule of the erased world, for each reference that its header is up to
 -- lifetimes. So candidates that are matched up to lifetimes are rules.
@@ -64,7 +64,7 @@ CoreIsLinked = LinkedSet core_world [] (λ n. n)
 -- `impl Sub for u8` is held where `u8: Sup` has a proof, and `impl<T> Sub for T where T: Sup` whatever T is.
 abbrev pub HeldSetsAreLinked : Type 0
 HeldSetsAreLinked =
-    (W : World) (vs : List View) (rank : ℕ → ℕ) → JoinedSet W vs rank → ((i : ImplDecl) → In i W.impls → IsAnswered vs i)
+    (W : World) (vs : List View) (rank : ℕ → ℕ) → JoinedSet W vs rank → ((i : ImplDecl) → In i W.impls → IsOfAnAnsweredCrate vs i)
     → ((v : View) → In v vs → IsHeld v.world v.asker) → LinkedSet W vs rank
 
 -- What has a proof, by an impl or by a built-in rule, has its strict supertraits proved. With `trait Sub: Sup`, where `u8: Sub`
@@ -111,8 +111,8 @@ ProofsByTheViewHold W vs = (v : View) → HoldsView W v → (r : Reference) → 
 -- by two impls.
 abbrev pub NoTwoImpls : World → List View → Type 0
 NoTwoImpls W vs =
-    ((i : ImplDecl) → In i W.impls → IsAnswered vs i)
-    → ((v : View) → In v vs → (i j : ImplDecl) → IsCheckedPair v i j → Cleared W (renumbered_impl v.numbers i) (renumbered_impl v.numbers j))
+    ((i : ImplDecl) → In i W.impls → IsOfAnAnsweredCrate vs i)
+    → ((v : View) → In v vs → (i j : ImplDecl) → IsPair v.world v.asker i j → Cleared W (renumbered_impl v.numbers i) (renumbered_impl v.numbers j))
     → (r : Reference) → IsTrue (is_closed r.args) → (n k : ℕ) → HasProofByImpl W [] r n → HasProofByImpl W [] r k → n ≡ k
 
 -- `no` holds: what is bounded and not possible by the view of an answer has no proof in any linked set in which the answer stands.

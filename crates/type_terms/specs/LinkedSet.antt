@@ -146,13 +146,13 @@ Cleared W i j = (m : CommonInstance i j) → Every (HasProof W []) (map (with_ar
 
 -- The impl is one that core has from the first, or of a crate that was accepted or asked. One of a crate that no answer speaks of
 -- is neither, nor is one that a later version of core has added where no answer speaks of that version.
-abbrev pub IsAnswered : List View → ImplDecl → Type 0
-IsAnswered vs i = In i core_world.impls ⊎ ((v : View) × In v vs × (asker_in_set v ≡ i.home))
+abbrev pub IsOfAnAnsweredCrate : List View → ImplDecl → Type 0
+IsOfAnAnsweredCrate vs i = In i core_world.impls ⊎ ((v : View) × In v vs × (asker_in_set v ≡ i.home))
 
--- The check of the asking crate looks at the pair, both by the numbers of its text: i is an own impl, j is one of its view,
--- and an earlier one if it is an own one too.
-pub record IsCheckedPair (v : View) (i j : ImplDecl) : Type 0 where
-  pub stands : In i v.world.impls
-  pub partner : In j v.world.impls
-  pub own : i.home ≡ v.asker
-  pub before : j.home ≡ v.asker → j.name < i.name
+-- Crate c brings the pair together, by the numbers of its text: i is an own impl, j is one that it sees, and an earlier one if it is an
+-- own one too.
+pub record IsPair (V : World) (c : ℕ) (i j : ImplDecl) : Type 0 where
+  pub stands : In i V.impls
+  pub partner : In j V.impls
+  pub own : i.home ≡ c
+  pub before : j.home ≡ c → j.name < i.name

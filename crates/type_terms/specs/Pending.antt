@@ -62,10 +62,10 @@ abbrev pub path_pieces : List Entry → Path → List Piece
 path_pieces es p = pieces_ahead es (inside p) (ahead p)
 
 -- without a break each visit of what comes after goes on to a visit of what came before, and a break is one
-abbrev pub Follows : {V B : Type 0} → (List ℕ → Trees → V → V → Seen B → Type 0) → List ℕ → List Piece → V → List Piece → V → Option B → Type 0
-Follows {V} {B} sees bs before v after w None = (x : V) (r : Option B) → VisitsEach sees bs after w x r → VisitsEach sees bs before v x r
-Follows sees bs before v after w (Some b) = VisitsEach sees bs before v w (Some b)
+abbrev pub VisitsFollow : {V B : Type 0} → (List ℕ → Trees → V → V → Seen B → Type 0) → List ℕ → List Piece → V → List Piece → V → Option B → Type 0
+VisitsFollow {V} {B} sees bs before v after w None = (x : V) (r : Option B) → VisitsEach sees bs after w x r → VisitsEach sees bs before v x r
+VisitsFollow sees bs before v after w (Some b) = VisitsEach sees bs before v w (Some b)
 
 -- the same of a visit that stands at the first path, with a piece before what is ahead there, and then at the second
 abbrev pub GoesOn : {V B : Type 0} → (List Entry → List ℕ → Trees → V → V → Seen B → Type 0) → List Entry → List ℕ → Piece → Path → V → Path → V → ControlFlow B (Unit {0}) → Type 0
-GoesOn sees es bs first p v q w r = Follows (sees es) bs (first ∷ path_pieces es p) v (path_pieces es q) w (break_value r)
+GoesOn sees es bs first p v q w r = VisitsFollow (sees es) bs (first ∷ path_pieces es p) v (path_pieces es q) w (break_value r)

@@ -5,7 +5,7 @@ use Rattle.type_terms.specs.Worlds.{World, Reference}
 use Rattle.type_terms.specs.Rules.{Rule, by_impl, rules, is_coinductive}
 
 -- A reference and one of its rules.
-pub record Entry : Type 0 where
+pub record ProofEntry : Type 0 where
   pub of : Reference
   pub rule : Rule
 
@@ -19,12 +19,12 @@ Every P [] = Unit {0}
 Every P (x ∷ xs) = P x × Every P xs
 
 -- r is the reference of some entry.
-abbrev pub Stands : Reference → List Entry → Type 0
+abbrev pub Stands : Reference → List ProofEntry → Type 0
 Stands r ps = In r (map (λ e. e.of) ps)
 
 -- The entries `left`, which stand after `earlier` in `all`: each has one of its reference's rules, and each premise of the
 -- rule is the reference of some entry, and of an earlier one unless the entry's trait is coinductive.
-abbrev pub Follows : World → List Reference → List Entry → List Entry → List Entry → Type 0
+abbrev pub Follows : World → List Reference → List ProofEntry → List ProofEntry → List ProofEntry → Type 0
 Follows W E all earlier [] = Unit {0}
 Follows W E all earlier (e ∷ left) =
     In e.rule (rules W E e.of)
@@ -33,13 +33,13 @@ Follows W E all earlier (e ∷ left) =
 
 -- A proof by the rules of W and the where-clauses E. For `V<u8>: Show`:
 -- [u8: Show by `impl Show for u8`, V<u8>: Show by `impl<T> Show for V<T> where T: Show`].
-abbrev pub IsProof : World → List Reference → List Entry → Type 0
+abbrev pub IsProof : World → List Reference → List ProofEntry → Type 0
 IsProof W E ps = Follows W E ps [] ps
 
 -- r has a proof.
 abbrev pub HasProof : World → List Reference → Reference → Type 0
-HasProof W E r = (ps : List Entry) × IsProof W E ps × Stands r ps
+HasProof W E r = (ps : List ProofEntry) × IsProof W E ps × Stands r ps
 
 -- r has a proof by impl i: some proof holds r with i's rule.
 abbrev pub HasProofByImpl : World → List Reference → Reference → ℕ → Type 0
-HasProofByImpl W E r i = (ps : List Entry) × (e : Entry) × IsProof W E ps × In e ps × (e.of ≡ r) × (e.rule.way ≡ by_impl i)
+HasProofByImpl W E r i = (ps : List ProofEntry) × (e : ProofEntry) × IsProof W E ps × In e ps × (e.of ≡ r) × (e.rule.way ≡ by_impl i)

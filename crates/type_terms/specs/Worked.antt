@@ -11,7 +11,7 @@ use Rattle.type_terms.specs.Rules.{tuple_of_tuple, fn_ptr_of_fn_ptr, fn_ptr_call
 use Rattle.type_terms.specs.Rules.{unsize_array, unsize_to_dyn, unsize_dyn, unsize_upcast, unsize_struct}
 use Rattle.type_terms.specs.Proofs.{Every, HasProof}
 use Rattle.type_terms.specs.Walks.{local, struct_leaf, dyn_leaf, entered, other_leaf, open_place, walk, open_walk, keeps_orphan_rule, is_known}
-use Rattle.type_terms.specs.Answers.{is_bounded, is_possible, IsDeterminate, Overlaps, OverlapIsReal, IsFixedClause}
+use Rattle.type_terms.specs.Answers.{is_bounded, is_possible, IsDeterminate, Overlaps, IsRealOverlap, IsFixedClause}
 use Rattle.type_terms.specs.Core.{core_world, box, type_param}
 use Rattle.type_terms.specs.Erased.{IsTerms, erased_world, erased_impl}
 use Rattle.type_terms.specs.Renumbering.{Renumbering}
@@ -163,7 +163,7 @@ AClauseThatMayHoldSomeDay =
     let W = beside_core [] (trait_of 20 base [] ∷ trait_of 21 first [] ∷ []) (j ∷ i ∷ []) in
     (is_bounded 8 (view_of W first) first (asked 20 u8) ≡ true)
     × (is_possible 8 (view_of W first) first (asked 20 u8) ≡ true)
-    × OverlapIsReal 8 W first i j
+    × IsRealOverlap 8 (view_of W first) first i j
 
 -- `for<'a> fn(&'a u8)`.
 abbrev pub fn_of_any : Trees
@@ -186,7 +186,7 @@ OverlapWithCore =
     let i = impl_of 100 first 0 (asked clone (shared (leaf (adt 10)))) [] in
     let j = impl_of 15 core 2 (asked clone (tree (ref false) (tree static none (type_param 1)) none)) [] in
     let W = beside_core (struct 10 first [] ∷ []) [] (i ∷ []) in
-    (keeps_orphan_rule W first i.header ≡ true) × OverlapIsReal 8 W first i j
+    (keeps_orphan_rule W first i.header ≡ true) × IsRealOverlap 8 (view_of W first) first i j
 
 -- Proofs
 -- `trait Show; struct V<T>; impl<T> Show for V<T> where T: Show; impl Show for u8`.

@@ -8,7 +8,7 @@ use Rattle.std.specs.Str.{bytes_eq}
 use Rattle.type_terms.specs.Label.{Label, Sort, of_type, param, bool, char, str, never, array, slice, tuple, dynamic, static, int, uint, adt, fn_ptr, ref, raw_pointer, auto_trait, value, principal, placeholder, infer, canonical, bound, predicate}
 use Rattle.type_terms.specs.Trees.{Trees, none, tree, ◌+++◌}
 use Rattle.text_definitions.specs.Words.{Keyword, for_word, primitives, primitive_named, keyword_named, Sign, sign_at, is_digit}
-use Rattle.text_definitions.specs.Tokens.{Token, keyword, primitive, name, lifetime, variable, number, sign, arrow, Piece, word, quoted, queried, pointing, byte, in_front, word_token, as_lifetime, as_variable, sign_token, name_token, number_from, tokens_from, tokens_of, pieces}
+use Rattle.text_definitions.specs.Tokens.{Token, keyword, primitive, name, lifetime, variable, number, sign, arrow, LinePiece, word, quoted, queried, pointing, byte, in_front, word_token, as_lifetime, as_variable, sign_token, name_token, number_from, tokens_from, tokens_of, pieces}
 use Rattle.text_definitions.specs.Syntax.{TypeTree, of_primitive, never_type, variable_type, named, reference_to, pointer_to, slice_of, array_of, tuple_of, fn_of, fn_to, dyn_of, Line, crate_line, struct_line, trait_line, impl_line, prove_line, refute_line, later_line, supers_line, Params, Clause, spelling, type_spelling, params_spelling, bound_spelling, where_spelling, clause_spelling}
 use Rattle.text_definitions.specs.Written.{IsWritten}
 use Rattle.text_definitions.specs.Declarations.{Declarations, NamedImpl, LaterImpl, Known, a_crate, a_struct, a_trait, known, nothing_declared}
@@ -18,7 +18,7 @@ use Rattle.text_definitions.specs.Lowering.{Meanings, type_tree, args_trees, str
 use Rattle.text_definitions.specs.Adding.{item_meanings, impl_of, with_impl, added}
 use Rattle.text_definitions.specs.Text.{LineGives, other_byte, blank, unwritten, faulty, adds, LinesGive, ends, fails, goes_on, TextGives, too_long, fits}
 use Rattle.declarations.specs.Heads.{begins_declared}
-use Rattle.workspace.specs.Numbered.{Each}
+use Rattle.workspace.specs.Numbered.{EachNumbered}
 use Rattle.view_lowering.specs.Seen.{BeginDeclared, LaterBeginDeclared}
 
 -- ---- primitive tokens are primitive types
@@ -100,7 +100,7 @@ sign-fine : (o : Option Sign) (x : Token) → option_map sign o ≡ Some x → F
 sign-fine None x e = absurd cc
 sign-fine (Some s) x e = subst Fine (same_Some (sign s) x e) tt
 
-pub tokens-fine : (ps : List Piece) (ts : List Token) → tokens_from ps ≡ Some ts → AllFine ts
+pub tokens-fine : (ps : List LinePiece) (ts : List Token) → tokens_from ps ≡ Some ts → AllFine ts
 tokens-fine [] ts e = subst AllFine (same_Some [] ts e) tt
 tokens-fine (word w ∷ ps) ts e = in-front (word_token w) (tokens_from ps) ts e (λ x g. word-fine w x g) (λ rest g. tokens-fine ps rest g)
 tokens-fine (quoted w ∷ ps) ts e = in-front (as_lifetime (word_token w)) (tokens_from ps) ts e (λ x g. lifetime-fine (word_token w) x g) (λ rest g. tokens-fine ps rest g)
@@ -233,14 +233,14 @@ header-begins d line ps h ks w f =
     type-begins (item_meanings d (impl_line ps h ks) 0) h.subject _ refl (written-subject line ps h ks w) (λ n is. no-variable d ps h ks n (no-stray d (impl_line ps h ks) f) is)
 
 -- ---- texts
-one-more : (xs : List NamedImpl) (x : NamedImpl) → Each (λ k i. begins_declared i.item.header.args ≡ true) xs → begins_declared x.item.header.args ≡ true → Each (λ k i. begins_declared i.item.header.args ≡ true) (xs ++ x ∷ [])
+one-more : (xs : List NamedImpl) (x : NamedImpl) → EachNumbered (λ k i. begins_declared i.item.header.args ≡ true) xs → begins_declared x.item.header.args ≡ true → EachNumbered (λ k i. begins_declared i.item.header.args ≡ true) (xs ++ x ∷ [])
 one-more [] x h g zero y e = ap (λ z. begins_declared z.item.header.args) (sym (same_Some x y e)) ∙ g
 one-more [] x h g (suc k) y e = absurd cc
 one-more (z ∷ xs) x h g zero y e = h zero y e
 one-more (z ∷ xs) x h g (suc k) y e = one-more xs x (λ j w q. h (suc j) w q) g k y e
 
-one-more-later : (xs : List LaterImpl) (x : LaterImpl) → Each (λ k i. begins_declared i.added.item.header.args ≡ true) xs → begins_declared x.added.item.header.args ≡ true
-    → Each (λ k i. begins_declared i.added.item.header.args ≡ true) (xs ++ x ∷ [])
+one-more-later : (xs : List LaterImpl) (x : LaterImpl) → EachNumbered (λ k i. begins_declared i.added.item.header.args ≡ true) xs → begins_declared x.added.item.header.args ≡ true
+    → EachNumbered (λ k i. begins_declared i.added.item.header.args ≡ true) (xs ++ x ∷ [])
 one-more-later [] x h g zero y e = ap (λ z. begins_declared z.added.item.header.args) (sym (same_Some x y e)) ∙ g
 one-more-later [] x h g (suc k) y e = absurd cc
 one-more-later (z ∷ xs) x h g zero y e = h zero y e
@@ -288,7 +288,7 @@ abbrev AllBegin : List NamedImpl → Type 0
 AllBegin [] = Unit {0}
 AllBegin (i ∷ is) = (begins_declared i.item.header.args ≡ true) × AllBegin is
 
-each-begins : (is : List NamedImpl) → AllBegin is → Each (λ k i. begins_declared i.item.header.args ≡ true) is
+each-begins : (is : List NamedImpl) → AllBegin is → EachNumbered (λ k i. begins_declared i.item.header.args ≡ true) is
 each-begins [] h k x e = absurd cc
 each-begins (i ∷ is) h zero x e = ap (λ z. begins_declared z.item.header.args) (sym (same_Some i x e)) ∙ h.0
 each-begins (i ∷ is) h (suc k) x e = each-begins is h.1 k x e

@@ -48,11 +48,11 @@ module _ (old new : List Entry) (k : Keeps old new) where
 
 -- ---- lists
 -- what holds of each holds of those that are kept
-pub each-kept : {A : Type 0} (Q : A → Type 0) (p : A → Bool) (xs : List A) → AtEach.Each (λ k. Q) xs → AtEach.Each (λ k. Q) (filter p xs)
+pub each-kept : {A : Type 0} (Q : A → Type 0) (p : A → Bool) (xs : List A) → AtEach.EachNumbered (λ k. Q) xs → AtEach.EachNumbered (λ k. Q) (filter p xs)
 each-kept Q p [] h = h
 each-kept {A = A} Q p (x ∷ xs) h = by (p x) (each-kept Q p xs (λ k y e. h (suc k) y e))
   where
-    by : (b : Bool) → AtEach.Each (λ k. Q) (filter p xs) → AtEach.Each (λ k. Q) (cond b (x ∷ filter p xs) (filter p xs))
+    by : (b : Bool) → AtEach.EachNumbered (λ k. Q) (filter p xs) → AtEach.EachNumbered (λ k. Q) (cond b (x ∷ filter p xs) (filter p xs))
     by true r zero y e = subst Q (same_Some x y e) (h 0 x refl)
     by true r (suc k) y e = r k y e
     by false r k y e = r k y e

@@ -13,7 +13,7 @@ use Rattle.type_terms.specs.declared.kinds.ConstKind.{ConstKind}
 use Rattle.type_terms.specs.declared.kinds.ConstKind.TheVariants as consts
 use Rattle.type_terms.specs.declared.number.BoundVarIndexKind.TheVariants as binder
 use Rattle.workspace.specs.TermCells.{TermCell as Cell, node_cell, reference_cell, gathered, below, behind_cell, behind_cells, trees_of, joined}
-use Rattle.workspace.specs.Made.{Part, type_part, const_part, lifetime_part, principal_part, auto_part, is_type, is_const, is_lifetime as is_lifetime_part, is_principal, is_arg, is_below, off, off_autos, off_principal, putting, parts_behind, parts_of, AreMade}
+use Rattle.workspace.specs.Made.{StackPart, type_part, const_part, lifetime_part, principal_part, auto_part, is_type, is_const, is_lifetime as is_lifetime_part, is_principal, is_arg, is_below, off, off_autos, off_principal, putting, parts_behind, parts_of, AreMade}
 use Rattle.workspace.specs.Views.{cell_of, cells_of}
 use Rattle.workspace.specs.declared.cell.TermCell.{TermCell}
 use Rattle.workspace.specs.declared.cell.TermCell.TheVariants as cells
@@ -21,7 +21,7 @@ use Rattle.view_lowering.specs.Plain.{is_lifetime, stands_in}
 use Rattle.view_lowering.specs.PlainCells.{names, named_in}
 
 -- ---- as many trees as parts stand on the stack
-off-length : (p : Part → Bool) (n : ℕ) (P R : List Part) (S : List Trees) → length S ≡ length P → off p n P ≡ Some R → length (below n S) ≡ length R
+off-length : (p : StackPart → Bool) (n : ℕ) (P R : List StackPart) (S : List Trees) → length S ≡ length P → off p n P ≡ Some R → length (below n S) ≡ length R
 off-length p zero P R S e h = e ∙ ap length (same_Some P R h)
 off-length p (suc n) [] R S e h = absurd cc
 off-length p (suc n) (x ∷ P) R [] e h = absurd (omega (arith, e))
@@ -31,7 +31,7 @@ off-length p (suc n) (x ∷ P) R (t ∷ S) e h = by (p x) h (off-length p n P R 
     by true g r = r g
     by false g r = absurd cc
 
-autos-length : (n : ℕ) (u : Option ℕ) (P R : List Part) (S : List Trees) → length S ≡ length P → off_autos n u P ≡ Some R → length (below n S) ≡ length R
+autos-length : (n : ℕ) (u : Option ℕ) (P R : List StackPart) (S : List Trees) → length S ≡ length P → off_autos n u P ≡ Some R → length (below n S) ≡ length R
 autos-length zero u P R S e h = e ∙ ap length (same_Some P R h)
 autos-length (suc n) u [] R S e h = absurd cc
 autos-length (suc n) u (type_part ∷ P) R S e h = absurd cc
@@ -50,18 +50,18 @@ below-more zero S = refl
 below-more (suc n) [] = refl
 below-more (suc n) (t ∷ S) = below-more n S
 
-put-length : (x : Part) (o : Option (List Part)) (R : List Part) (n : ℕ) → putting x o ≡ Some R → ((Q : List Part) → o ≡ Some Q → n ≡ length Q) → suc n ≡ length R
+put-length : (x : StackPart) (o : Option (List StackPart)) (R : List StackPart) (n : ℕ) → putting x o ≡ Some R → ((Q : List StackPart) → o ≡ Some Q → n ≡ length Q) → suc n ≡ length R
 put-length x None R n h f = absurd cc
 put-length x (Some Q) R n h f = ap suc (f Q refl) ∙ ap length (same_Some (x ∷ Q) R h)
 
-then-some : (f : List Part → Option (List Part)) (o : Option (List Part)) (R : List Part) → option_and_then f o ≡ Some R → (Q : List Part) × (o ≡ Some Q) × (f Q ≡ Some R)
+then-some : (f : List StackPart → Option (List StackPart)) (o : Option (List StackPart)) (R : List StackPart) → option_and_then f o ≡ Some R → (Q : List StackPart) × (o ≡ Some Q) × (f Q ≡ Some R)
 then-some f None R h = absurd cc
 then-some f (Some Q) R h = (Q, refl, h)
 
-pushed-length : (x : Part) (P R : List Part) (S : List Trees) → length S ≡ length P → Some (x ∷ P) ≡ Some R → suc (length S) ≡ length R
+pushed-length : (x : StackPart) (P R : List StackPart) (S : List Trees) → length S ≡ length P → Some (x ∷ P) ≡ Some R → suc (length S) ≡ length R
 pushed-length x P R S e h = ap suc e ∙ ap length (same_Some (x ∷ P) R h)
 
-dyn-length : (p : Bool) (n : ℕ) (P R : List Part) (S : List Trees) → length S ≡ length P → option_and_then (off_principal p) (option_and_then (off_autos n None) (off is_lifetime_part 1 P)) ≡ Some R
+dyn-length : (p : Bool) (n : ℕ) (P R : List StackPart) (S : List Trees) → length S ≡ length P → option_and_then (off_principal p) (option_and_then (off_autos n None) (off is_lifetime_part 1 P)) ≡ Some R
     → length (below (if p then suc (suc n) else suc n) S) ≡ length R
 dyn-length p n P R S e h =
     let a = then-some (off_principal p) (option_and_then (off_autos n None) (off is_lifetime_part 1 P)) R h in
@@ -78,11 +78,11 @@ dyn-length p n P R S e h =
         empty (suc m) = refl
     below-all (t ∷ T) q = q
 
-    by : (b : Bool) (Q : List Part) → off_principal b Q ≡ Some R → length (below (suc n) S) ≡ length Q → length (below (if b then suc (suc n) else suc n) S) ≡ length R
+    by : (b : Bool) (Q : List StackPart) → off_principal b Q ≡ Some R → length (below (suc n) S) ≡ length Q → length (below (if b then suc (suc n) else suc n) S) ≡ length R
     by false Q g q = q ∙ ap length (same_Some Q R g)
     by true Q g q = ap length (sym (below-more (suc n) S)) ∙ off-length is_principal 1 Q R (below (suc n) S) q g
 
-cell-length : (c : TermCell) (P R : List Part) (S : List Trees) → length S ≡ length P → parts_behind c P ≡ Some R → length (behind_cell (cell_of c) S) ≡ length R
+cell-length : (c : TermCell) (P R : List StackPart) (S : List Trees) → length S ≡ length P → parts_behind c P ≡ Some R → length (behind_cell (cell_of c) S) ≡ length R
 cell-length (cells.Const k) P R S e h = pushed-length const_part P R S e h
 cell-length (cells.Lifetime r) P R S e h = pushed-length lifetime_part P R S e h
 cell-length (cells.Adt s n) P R S e h = put-length type_part (off is_arg n P) R (length (below n S)) h (λ Q g. off-length is_arg n P Q S e g)
@@ -178,7 +178,7 @@ module _ (i : ℕ) where
   IsFed (reference_cell r m) [] = ⊥
   IsFed c S = Unit {0}
 
-  fed : (c : TermCell) (P R : List Part) (S : List Trees) → length S ≡ length P → parts_behind c P ≡ Some R → IsFed (cell_of c) S
+  fed : (c : TermCell) (P R : List StackPart) (S : List Trees) → length S ≡ length P → parts_behind c P ≡ Some R → IsFed (cell_of c) S
   fed (cells.Ref r m) [] R [] e h = absurd cc
   fed (cells.Ref r m) (x ∷ P) R [] e h = absurd (omega (arith, e))
   fed (cells.Ref r m) P R (t ∷ S) e h = tt
@@ -191,10 +191,10 @@ module _ (i : ℕ) where
   one-stands (reference_cell r m) [] f = absurd f
   one-stands (reference_cell r m) (t ∷ S) f = reference-stands r m t S
 
-  cell-stands : (c : TermCell) (P R : List Part) (S : List Trees) → length S ≡ length P → parts_behind c P ≡ Some R → some (behind_cell (cell_of c) S) ≡ (names i c || some S)
+  cell-stands : (c : TermCell) (P R : List StackPart) (S : List Trees) → length S ≡ length P → parts_behind c P ≡ Some R → some (behind_cell (cell_of c) S) ≡ (names i c || some S)
   cell-stands c P R S e h = one-stands (cell_of c) S (fed c P R S e h) ∙ ap (λ b. b || some S) (names-named c)
 
-  cells-stand : (cs : List TermCell) (P Q : List Part) (S : List Trees) → length S ≡ length P → parts_of cs P ≡ Some Q → some (behind_cells (cells_of cs) S) ≡ (named_in cs i || some S)
+  cells-stand : (cs : List TermCell) (P Q : List StackPart) (S : List Trees) → length S ≡ length P → parts_of cs P ≡ Some Q → some (behind_cells (cells_of cs) S) ≡ (named_in cs i || some S)
   cells-stand [] P Q S e h = refl
   cells-stand (c ∷ cs) P Q S e h =
       let a = then-some (parts_of cs) (parts_behind c P) Q h in
@@ -220,11 +220,11 @@ module _ (i : ℕ) where
   joined-stands [] = refl
   joined-stands (t ∷ S) = append-stands t (joined S) ∙ ap (λ b. stands t || b) (joined-stands S)
 
-all-some : (p : Part → Bool) (o : Option (List Part)) → option_map (list_all p) o ≡ Some true → (Q : List Part) × (o ≡ Some Q)
+all-some : (p : StackPart → Bool) (o : Option (List StackPart)) → option_map (list_all p) o ≡ Some true → (Q : List StackPart) × (o ≡ Some Q)
 all-some p None h = absurd cc
 all-some p (Some Q) h = (Q, refl)
 
-pub named-stands : (p : Part → Bool) (cs : List TermCell) → AreMade p cs → (i : ℕ) → named_in cs i ≡ stands_in (joined (trees_of (cells_of cs))) i
+pub named-stands : (p : StackPart → Bool) (cs : List TermCell) → AreMade p cs → (i : ℕ) → named_in cs i ≡ stands_in (joined (trees_of (cells_of cs))) i
 named-stands p cs m i =
     let q = all-some p (parts_of cs []) m.parts in
     sym (joined-stands i (trees_of (cells_of cs)) ∙ reverse-some i (behind_cells (cells_of cs) []) ∙ cells-stand i cs [] q.0 [] refl q.1 ∙ or-false (named_in cs i))

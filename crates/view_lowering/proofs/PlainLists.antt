@@ -5,7 +5,7 @@ use Rattle.std.proofs.lemmas.Option.{slice_get_within, get_or_from_slice_get, sa
 use Rattle.std.specs.Prelude.{slice_get}
 use Rattle.std.specs.List.{list_all}
 use Rattle.std.specs.Option.{option_map, option_and_then}
-use Rattle.workspace.specs.Made.{Part, parts_behind, parts_of, CellHeld, CellsHeld, AreMade, ReferenceMade, ReferencesMade}
+use Rattle.workspace.specs.Made.{StackPart, parts_behind, parts_of, CellHeld, CellsHeld, AreMade, ReferenceMade, ReferencesMade}
 use Rattle.workspace.specs.Views.{cell_of, cells_of, reference_of}
 use Rattle.workspace.specs.declared.declared.ReferenceCells.{ReferenceCells}
 use Rattle.view_lowering.specs.Plain.{plain_reference}
@@ -15,17 +15,17 @@ use Rattle.view_lowering.specs.PlainCells.{plain_cell}
 -- these cells are those, made plain
 pub record ArePlain (k : ℕ → Bool) (cs out : List TermCell) : Type 0 where
   pub are : cells_of out ≡ map (plain_cell k) (cells_of cs)
-  pub parts : (S : List Part) → parts_of out S ≡ parts_of cs S
+  pub parts : (S : List StackPart) → parts_of out S ≡ parts_of cs S
   pub held : CellsHeld cs → CellsHeld out
 
 pub none-plain : (k : ℕ → Bool) → ArePlain k [] []
 none-plain k = record { are = refl; parts = λ S. refl; held = λ h. h }
 
-parts-append : (xs ys : List TermCell) (S : List Part) → parts_of (xs ++ ys) S ≡ option_and_then (parts_of ys) (parts_of xs S)
+parts-append : (xs ys : List TermCell) (S : List StackPart) → parts_of (xs ++ ys) S ≡ option_and_then (parts_of ys) (parts_of xs S)
 parts-append [] ys S = refl
 parts-append (x ∷ xs) ys S = by (parts_behind x S) (parts-append xs ys)
   where
-    by : (o : Option (List Part)) → ((P : List Part) → parts_of (xs ++ ys) P ≡ option_and_then (parts_of ys) (parts_of xs P)) → option_and_then (parts_of (xs ++ ys)) o ≡ option_and_then (parts_of ys) (option_and_then (parts_of xs) o)
+    by : (o : Option (List StackPart)) → ((P : List StackPart) → parts_of (xs ++ ys) P ≡ option_and_then (parts_of ys) (parts_of xs P)) → option_and_then (parts_of (xs ++ ys)) o ≡ option_and_then (parts_of ys) (option_and_then (parts_of xs) o)
     by None r = refl
     by (Some P) r = r P
 
@@ -37,7 +37,7 @@ first-held : (xs : List TermCell) (y : TermCell) → CellsHeld (xs ++ y ∷ []) 
 first-held [] y h = (tt, h.0)
 first-held (x ∷ xs) y h = ((h.0, (first-held xs y h.1).0), (first-held xs y h.1).1)
 
-push-plain : (k : ℕ → Bool) (cs out : List TermCell) (c x : TermCell) → ArePlain k cs out → cell_of x ≡ plain_cell k (cell_of c) → ((S : List Part) → parts_behind x S ≡ parts_behind c S) → (CellHeld c → CellHeld x)
+push-plain : (k : ℕ → Bool) (cs out : List TermCell) (c x : TermCell) → ArePlain k cs out → cell_of x ≡ plain_cell k (cell_of c) → ((S : List StackPart) → parts_behind x S ≡ parts_behind c S) → (CellHeld c → CellHeld x)
     → ArePlain k (cs ++ c ∷ []) (out ++ x ∷ [])
 push-plain k cs out c x a is parts held =
     record {
@@ -48,18 +48,18 @@ push-plain k cs out c x a is parts held =
       held = λ h. held-append out x (a.held (first-held cs c h).0) (held (first-held cs c h).1);
     }
   where
-    one : (o : Option (List Part)) → option_and_then (parts_of (x ∷ [])) o ≡ option_and_then (parts_of (c ∷ [])) o
+    one : (o : Option (List StackPart)) → option_and_then (parts_of (x ∷ [])) o ≡ option_and_then (parts_of (c ∷ [])) o
     one None = refl
     one (Some P) = ap (option_and_then (parts_of [])) (parts P)
 
 pub one-more-plain : (k : ℕ → Bool) (all out : List TermCell) (i : ℕ) (c x : TermCell) → slice_get all i ≡ Some c → ArePlain k (take i all) out → cell_of x ≡ plain_cell k (cell_of c)
-    → ((S : List Part) → parts_behind x S ≡ parts_behind c S) → (CellHeld c → CellHeld x) → ArePlain k (take (i + 1) all) (out ++ x ∷ [])
+    → ((S : List StackPart) → parts_behind x S ≡ parts_behind c S) → (CellHeld c → CellHeld x) → ArePlain k (take (i + 1) all) (out ++ x ∷ [])
 one-more-plain k all out i c x there a is parts held =
     subst (λ l. ArePlain k l (out ++ x ∷ [])) (sym (take_more all i c (slice_get_within all i c there) ∙ ap (λ y. take i all ++ y ∷ []) (get_or_from_slice_get all i c c there)))
     (push-plain k (take i all) out c x a is parts held)
 
 -- what was made stays made
-pub plain-made : (k : ℕ → Bool) (cs out : List TermCell) → ArePlain k cs out → (p : Part → Bool) → AreMade p cs → AreMade p out
+pub plain-made : (k : ℕ → Bool) (cs out : List TermCell) → ArePlain k cs out → (p : StackPart → Bool) → AreMade p cs → AreMade p out
 plain-made k cs out a p m = record { held = a.held m.held; parts = ap (option_map (list_all p)) (a.parts []) ∙ m.parts }
 
 -- ---- references

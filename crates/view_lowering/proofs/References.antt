@@ -5,7 +5,7 @@ use Rattle.std.proofs.lemmas.Option.{slice_get_within, get_or_from_slice_get}
 use Rattle.std.specs.Prelude.{slice_get}
 use Rattle.type_terms.specs.Terms.{Entry, Keeps}
 use Rattle.term_folds.specs.declared.predicate.TraitRef.{TraitRef}
-use Rattle.declarations.specs.Applied.{references_in, AllHeld}
+use Rattle.declarations.specs.Applied.{references_in, TraitRefsHeld}
 use Rattle.declarations.specs.Items.{reference_in}
 use Rattle.declarations.proofs.Bounded.{all-same}
 use Rattle.workspace.specs.declared.declared.ReferenceCells.{ReferenceCells}
@@ -16,7 +16,7 @@ pub one-more-read : {A B : Type 0} (f : A → B) (xs : List A) (i : ℕ) (x : A)
 one-more-read f xs i x e =
     ap (map f) (take_more xs i x (slice_get_within xs i x e) ∙ ap (λ y. take i xs ++ y ∷ []) (get_or_from_slice_get xs i x x e)) ∙ map_push f (take i xs) x
 
-pub one-more-lowered : (old new : List Entry) → Keeps old new → (rs : List TraitRef) (r : TraitRef) (cells : List ReferenceCells) (i : ℕ) (x : ReferenceCells) → AllHeld old rs
+pub one-more-lowered : (old new : List Entry) → Keeps old new → (rs : List TraitRef) (r : TraitRef) (cells : List ReferenceCells) (i : ℕ) (x : ReferenceCells) → TraitRefsHeld old rs
     → slice_get cells i ≡ Some x → references_in old rs ≡ map reference_of (take i cells) → reference_in new r ≡ reference_of x
     → references_in new (rs ++ r ∷ []) ≡ map reference_of (take (i + 1) cells)
 one-more-lowered old new k rs r cells i x h e are is =

@@ -5,7 +5,7 @@ use Rattle.text_definitions.specs.Names.{own_from, own_unknowns}
 use Rattle.type_terms.specs.Kinds.{arg_trees, ArgsHeld}
 use Rattle.type_terms.specs.Terms.{Entry}
 use Rattle.type_terms.specs.declared.kinds.GenericArgKind.{GenericArgKind}
-use Rattle.declarations.specs.Applied.{references_in, AllHeld}
+use Rattle.declarations.specs.Applied.{references_in, TraitRefsHeld}
 use Rattle.declarations.specs.Held.{ReferenceHeld}
 use Rattle.declarations.specs.Items.{reference_in}
 use Rattle.workspace.specs.Views.{sort_of_kind}
@@ -26,7 +26,7 @@ pub record IsLowered (es : List Entry) (q : Question) (l : LoweredQuestion) : Ty
   pub clauses : references_in es l.clauses.items ≡ unbound_references q.clauses
   pub unknowns : map (arg_trees es) l.unknowns.items ≡ own_unknowns q
   pub asked_held : ReferenceHeld es l.asked
-  pub clauses_held : AllHeld es l.clauses.items
+  pub clauses_held : TraitRefsHeld es l.clauses.items
   pub unknowns_held : ArgsHeld es l.unknowns.items
 
 -- the unknown of the first of variables, of this kind, behind as many of each kind as were counted

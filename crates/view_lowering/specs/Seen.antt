@@ -12,7 +12,7 @@ use Rattle.declarations.specs.declared.items.TraitDef.{TraitDef}
 use Rattle.declarations.specs.Applied.{sort_of_param}
 use Rattle.declarations.specs.Heads.{begins_declared}
 use Rattle.declarations.specs.Items.{HeldImpl}
-use Rattle.workspace.specs.Numbered.{Each}
+use Rattle.workspace.specs.Numbered.{EachNumbered}
 
 -- what crate c sees: the items of all crates that it sees. The crates themselves are left out, for rules don't read them
 abbrev pub seen_from : text.Declarations → ℕ → World
@@ -47,8 +47,8 @@ impl_sorts_seen d c = map param_sorts (filter (λ i. sees (world_of d) c i.item.
 
 -- the self type of each impl is a parameter, or no variable or placeholder
 abbrev pub BeginDeclared : text.Declarations → Type 0
-BeginDeclared d = Each (λ k i. begins_declared i.item.header.args ≡ true) d.impls
+BeginDeclared d = EachNumbered (λ k i. begins_declared i.item.header.args ≡ true) d.impls
 
 -- so it is of the impls that later versions add
 abbrev pub LaterBeginDeclared : text.Declarations → Type 0
-LaterBeginDeclared d = Each (λ k i. begins_declared i.added.item.header.args ≡ true) d.later_impls
+LaterBeginDeclared d = EachNumbered (λ k i. begins_declared i.added.item.header.args ≡ true) d.later_impls

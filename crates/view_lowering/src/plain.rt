@@ -1,7 +1,7 @@
 //! Cells without binders, and with the lifetimes that are kept.
 ghost use Rattle.std.specs.Prelude.{◌≡◌, List, Bool, map, IfOk};
 ghost use Rattle.type_terms.specs.Kinds.{region_label, RegionHeld};
-ghost use Rattle.workspace.specs.Made.{Part, AreMade, ReferenceMade, ReferencesMade, CellHeld, parts_behind};
+ghost use Rattle.workspace.specs.Made.{StackPart, AreMade, ReferenceMade, ReferencesMade, CellHeld, parts_behind};
 ghost use Rattle.workspace.specs.Views.{cell_of, cells_of, reference_of};
 ghost use Rattle.view_lowering.specs.Plain.{plain_label, is_lifetime, plain_reference};
 ghost use Rattle.view_lowering.specs.PlainCells.{names, named_in, is_kept, plain_cell};
@@ -86,7 +86,7 @@ fn plain_region(region: Region, kept: Kept<'_>) -> Region
 /// The cell with the lifetimes that are kept, and without a binder.
 fn plain_cell(cell: TermCell, kept: Kept<'_>) -> TermCell
     ensures is { cell_of result ≡ plain_cell (is_kept kept.entry) (cell_of cell) }
-    ensures parts { (S : List Part) → parts_behind result S ≡ parts_behind cell S }
+    ensures parts { (S : List StackPart) → parts_behind result S ≡ parts_behind cell S }
     ensures held { CellHeld cell → CellHeld result }
 {
     match cell {
@@ -115,7 +115,7 @@ pub(crate) fn plain_cells(
     kept: Kept<'_>,
 ) -> Result<Vec<TermCell>, AllocError>
     ensures are { IfOk result (λ plain. cells_of plain.items ≡ map (plain_cell (is_kept kept.entry)) (cells_of cells.now)) }
-    ensures made { (p : Part → Bool) → AreMade p cells.now → IfOk result (λ plain. AreMade p plain.items) }
+    ensures made { (p : StackPart → Bool) → AreMade p cells.now → IfOk result (λ plain. AreMade p plain.items) }
 {
     let mut plain = Vec::new(alloc);
     for cell in cells {

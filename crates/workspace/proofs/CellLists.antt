@@ -12,7 +12,7 @@ use Rattle.type_terms.specs.declared.kinds.Ty.{Ty}
 use Rattle.type_terms.specs.declared.kinds.GenericArgKind.{GenericArgKind}
 use Rattle.workspace.specs.declared.cell.TermCell.{TermCell}
 use Rattle.workspace.specs.TermCells.{behind_cells, trees_of, joined}
-use Rattle.workspace.specs.Made.{Part, is_type, is_arg, parts_of, parts_behind, AreMade, CellHeld, CellsHeld}
+use Rattle.workspace.specs.Made.{StackPart, is_type, is_arg, parts_of, parts_behind, AreMade, CellHeld, CellsHeld}
 use Rattle.workspace.specs.Views.{cells_of}
 use Rattle.workspace.specs.declared.stack.Lowered.{Lowered}
 use Rattle.workspace.specs.declared.stack.Lowered.TheVariants as lowered
@@ -40,7 +40,7 @@ cell-held (d ∷ cs) zero c h e held = subst CellHeld (sym e) held.0
 cell-held (d ∷ cs) (suc i) c h e held = cell-held cs i c (omega (arith, h)) e held.1
 
 -- what is next is made
-pub next-made : (c : TermCell) (cs all : List TermCell) (P : List Part) → parts_of (c ∷ cs) P ≡ parts_of all [] → IsSome (parts_of all []) → IsSome (parts_behind c P)
+pub next-made : (c : TermCell) (cs all : List TermCell) (P : List StackPart) → parts_of (c ∷ cs) P ≡ parts_of all [] → IsSome (parts_of all []) → IsSome (parts_behind c P)
 next-made c cs all P e some = first-made (parts_of cs) (parts_behind c P) (subst IsSome (sym e) some)
 
 pub parts-further : (c : TermCell) (cs : List TermCell) (old new : List Entry) (S R : List Lowered) (x : Lowered) → Lowers c old new S x R → parts_of cs (map part_of (x ∷ R)) ≡ parts_of (c ∷ cs) (map part_of S)
@@ -84,7 +84,7 @@ and-both : (a b : Bool) → (a && b) ≡ true → (a ≡ true) × (b ≡ true)
 and-both true b e = (refl, e)
 and-both false b e = absurd cc
 
-all-pushed : (p : Part → Bool) (xs S : List Lowered) → list_all p (map part_of (pushed xs S)) ≡ true → AllParts p xs × (list_all p (map part_of S) ≡ true)
+all-pushed : (p : StackPart → Bool) (xs S : List Lowered) → list_all p (map part_of (pushed xs S)) ≡ true → AllParts p xs × (list_all p (map part_of S) ≡ true)
 all-pushed p [] S e = (tt, e)
 all-pushed p (x ∷ xs) S e =
     let r = all-pushed p xs (x ∷ S) e in
@@ -95,7 +95,7 @@ pub made-some : {A B : Type 0} (f : A → B) (o : Option A) (y : B) → option_m
 made-some f None y e = absurd cc
 made-some f (Some x) y e = refl
 
-pub all-parts : (p : Part → Bool) (cs : List TermCell) (xs : List Lowered) → AreMade p cs → parts_of cs [] ≡ Some (parts_in xs) → AllParts p xs
+pub all-parts : (p : StackPart → Bool) (cs : List TermCell) (xs : List Lowered) → AreMade p cs → parts_of cs [] ≡ Some (parts_in xs) → AllParts p xs
 all-parts p cs xs made e =
     let some : Some (list_all p (parts_in xs)) ≡ Some true = sym (ap (option_map (list_all p)) e) ∙ made.parts in
     let yes : list_all p (parts_in xs) ≡ true = same_Some (list_all p (parts_in xs)) true some in
@@ -105,7 +105,7 @@ pub stack-held : (es : List Entry) (xs : List Lowered) → StackHeld es (stack_o
 stack-held es xs h = (held-pushed es xs [] h).0
 
 -- ---- what stands at a place
-pub part-there : (p : Part → Bool) (xs : List Lowered) (i : ℕ) (x : Lowered) → i < length xs → x ≡ get_or xs i x → AllParts p xs → p (part_of x) ≡ true
+pub part-there : (p : StackPart → Bool) (xs : List Lowered) (i : ℕ) (x : Lowered) → i < length xs → x ≡ get_or xs i x → AllParts p xs → p (part_of x) ≡ true
 part-there p [] i x h e all = absurd (omega (arith, h))
 part-there p (y ∷ xs) zero x h e all = subst (λ z. p (part_of z) ≡ true) (sym e) all.0
 part-there p (y ∷ xs) (suc i) x h e all = part-there p xs i x (omega (arith, h)) e all.1

@@ -18,7 +18,7 @@ use Rattle.type_terms.specs.Worlds.{World, core, sees}
 use Rattle.text_definitions.specs.Declarations.{Declarations, NamedCrate, NamedStruct, NamedTrait, NamedImpl, Check, of_later, of_supers, Question, known, world_of, last_crate, last_later}
 use Rattle.text_definitions.specs.Faults.{last_items}
 use Rattle.type_terms.specs.declared.CrateId.{CrateId}
-use Rattle.workspace.specs.Numbered.{Each, IsNumbered, IsCheckIn}
+use Rattle.workspace.specs.Numbered.{EachNumbered, IsNumbered, IsCheckIn}
 use Rattle.workspace.specs.Made.{AreMade, ReferenceMade, ReferencesMade, is_type}
 use Rattle.workspace.specs.declared.tables.Tables.{Tables}
 use Rattle.workspace.specs.declared.declared.CrateEntry.{CrateEntry}
@@ -31,7 +31,7 @@ use Rattle.workspace.specs.declared.declared.Named.{Named}
 use Rattle.workspace.specs.Views.{crate_of, struct_of, trait_of, impl_of, question_of, asker_of, later_of, check_of, numbers_of, sorts_of, cells_of, reference_of, sort_of_kind, sorted_params}
 use Rattle.workspace.specs.TermCells.{trees_of}
 use Rattle.workspace.specs.Parts.{new_struct, new_trait, new_impl}
-use Rattle.workspace.specs.Tables.{IsConsistent, declared, impls_of, will_see, with_crate, with_struct, with_trait, with_impl, with_question, Item, crate_item, struct_item, trait_item, item_of, item_named, core_alone}
+use Rattle.workspace.specs.Tables.{IsConsistent, declared, impls_of, will_see, with_crate, with_struct, with_trait, with_impl, with_question, NamedItem, crate_item, struct_item, trait_item, item_of, item_named, core_alone}
 use Rattle.workspace.proofs.Each.{Each-weaken, Each-push, Each-of_map, Each-from_map, Every-from_Each, count_by-push, count_by-none, self-number, take-push, take-pushed, list_any-map, slice_get-there, within_list, at_end, past_end, place_of}
 use Rattle.workspace.proofs.Names.{Names, names-crate, names-struct, names-trait, bytes-updated, no-item}
 use Rattle.workspace.proofs.Crates.{IsOrdered, sees-same, old-sees, new-sees, later-unseen, seen_by}
@@ -104,7 +104,7 @@ items-crate d c i =
     )
 
 -- ---- the table of names
-cond-map : (f : Named → Item) (b : Bool) (v : Named) (o : Option Named) → option_map f (cond b (Some v) o) ≡ cond b (Some (f v)) (option_map f o)
+cond-map : (f : Named → NamedItem) (b : Bool) (v : Named) (o : Option Named) → option_map f (cond b (Some v) o) ≡ cond b (Some (f v)) (option_map f o)
 cond-map f true v o = refl
 cond-map f false v o = refl
 
@@ -114,7 +114,7 @@ NameTable = HashMap (Vec ℕ Global) Named (BuildHasherDefault FoldHasher)
 abbrev standing : NameTable → List ℕ → Option Named
 standing names n = get_by (λ k. bytes_eq n k.items) names
 
-names-kept : (old new : NameTable) (d e : Declarations) (key n : List ℕ) (v : Named) (k : Item) → key ≡ n → item_of v ≡ k
+names-kept : (old new : NameTable) (d e : Declarations) (key n : List ℕ) (v : Named) (k : NamedItem) → key ≡ n → item_of v ≡ k
     → UpdatesBy (λ x y. bytes_eq x.items y.items) (λ x. bytes_eq key x.items) old new (Some v)
     → ((m : List ℕ) → option_map item_of (standing old m) ≡ item_named d m) → Names (item_named d) (item_named e) n k → (m : List ℕ) → option_map item_of (standing new m) ≡ item_named e m
 names-kept old new d e key n v k same value updated before names m =
@@ -123,7 +123,7 @@ names-kept old new d e key n v k same value updated before names m =
 
 -- ---- rows, where no crate comes
 pub rows-kept : (t : Tables) (d : Declarations) → IsConsistent t → (world_of d).crates ≡ (world_of (declared t)).crates
-    → Each (λ c entry. (e : ℕ) → unwrap_or (slice_get entry.sees.items e) false ≡ sees (world_of d) c e) t.crates.items
+    → EachNumbered (λ c entry. (e : ℕ) → unwrap_or (slice_get entry.sees.items e) false ≡ sees (world_of d) c e) t.crates.items
 rows-kept t d i s = Each-weaken t.crates.items (λ c x p e. p e ∙ sym (sees-same (world_of d) (world_of (declared t)) c e s)) i.rows
 
 -- ---- a struct
@@ -146,7 +146,7 @@ struct-consistent t structs names items s key n v i good behind text number home
       last_items = more ∙ ap (λ k. k + 1) i.last_items ∙ sym (items-struct d (struct_of s) home) ∙ ap last_items (sym e);
       last_later = i.last_later;
       sections_rise = i.sections_rise;
-      made = record { fields = subst (Each (λ k x. AreMade is_type x.fields.items)) (sym behind) (Each-push t.structs.items s i.made.fields good); bounds = i.made.bounds; headers = i.made.headers; clauses = i.made.clauses; asked = i.made.asked; given = i.made.given; later_headers = i.made.later_headers; later_clauses = i.made.later_clauses };
+      made = record { fields = subst (EachNumbered (λ k x. AreMade is_type x.fields.items)) (sym behind) (Each-push t.structs.items s i.made.fields good); bounds = i.made.bounds; headers = i.made.headers; clauses = i.made.clauses; asked = i.made.asked; given = i.made.given; later_headers = i.made.later_headers; later_clauses = i.made.later_clauses };
     }
 
 pub struct-declared : (t : Tables) (structs : List StructEntry) (s : StructEntry) (n : List ℕ)
@@ -180,7 +180,7 @@ trait-consistent t traits names items s key n v i good behind text number home m
       last_items = more ∙ ap (λ k. k + 1) i.last_items ∙ sym (items-trait d (trait_of s) home) ∙ ap last_items (sym e);
       last_later = i.last_later;
       sections_rise = i.sections_rise;
-      made = record { fields = i.made.fields; bounds = subst (Each (λ k x. ReferencesMade x.bounds.items)) (sym behind) (Each-push t.traits.items s i.made.bounds good); headers = i.made.headers; clauses = i.made.clauses; asked = i.made.asked; given = i.made.given; later_headers = i.made.later_headers; later_clauses = i.made.later_clauses };
+      made = record { fields = i.made.fields; bounds = subst (EachNumbered (λ k x. ReferencesMade x.bounds.items)) (sym behind) (Each-push t.traits.items s i.made.bounds good); headers = i.made.headers; clauses = i.made.clauses; asked = i.made.asked; given = i.made.given; later_headers = i.made.later_headers; later_clauses = i.made.later_clauses };
     }
 
 pub trait-declared : (t : Tables) (traits : List TraitEntry) (s : TraitEntry) (n : List ℕ)
@@ -219,7 +219,7 @@ question-consistent t questions asked q i good goods behind also there =
       last_items = i.last_items;
       last_later = i.last_later;
       sections_rise = i.sections_rise;
-      made = record { fields = i.made.fields; bounds = i.made.bounds; headers = i.made.headers; clauses = i.made.clauses; asked = subst (Each (λ k x. ReferenceMade x.asked)) (sym behind) (Each-push t.questions.items q i.made.asked good); given = subst (Each (λ k x. ReferencesMade x.clauses.items)) (sym behind) (Each-push t.questions.items q i.made.given goods); later_headers = i.made.later_headers; later_clauses = i.made.later_clauses };
+      made = record { fields = i.made.fields; bounds = i.made.bounds; headers = i.made.headers; clauses = i.made.clauses; asked = subst (EachNumbered (λ k x. ReferenceMade x.asked)) (sym behind) (Each-push t.questions.items q i.made.asked good); given = subst (EachNumbered (λ k x. ReferencesMade x.clauses.items)) (sym behind) (Each-push t.questions.items q i.made.given goods); later_headers = i.made.later_headers; later_clauses = i.made.later_clauses };
     }
 
 -- ---- an impl
@@ -232,7 +232,7 @@ impl-consistent t impls last items m i good goods behind number home place now m
     let e : declared u ≡ with_impl d (impl_of m) = ap (λ ms. record d { impls = ms }) (ap (map impl_of) behind ∙ map_push impl_of t.impls.items m) in
     let count : (c : ℕ) → m.owner.index ≡ c → impls_of c (t.impls.items ++ m ∷ []) ≡ impls_of c t.impls.items + 1 = λ c h. count_by-push (λ x. x.owner.index == c) t.impls.items m ∙ ap (λ n. impls_of c t.impls.items + n) (counted m.owner.index c h) in
     let last-number : m.number_in_crate ≡ impls_of (last_crate d) (t.impls.items ++ m ∷ []) = place ∙ ap (λ n. n + 1) i.last_impls ∙ sym (count (last_crate d) home) in
-    let numbers : Each (λ k x. x.number_in_crate ≡ impls_of x.owner.index (take (suc k) (t.impls.items ++ m ∷ []))) (t.impls.items ++ m ∷ []) =
+    let numbers : EachNumbered (λ k x. x.number_in_crate ≡ impls_of x.owner.index (take (suc k) (t.impls.items ++ m ∷ []))) (t.impls.items ++ m ∷ []) =
     Each-push t.impls.items m
     (λ k x g. i.numbers k x g ∙ ap (impls_of x.owner.index) (sym (take-push t.impls.items m (suc k) (omega (arith, slice_get_within t.impls.items k x g)))))
     (last-number ∙ ap (λ c. impls_of c (t.impls.items ++ m ∷ [])) (sym home) ∙ ap (impls_of m.owner.index) (sym (take-pushed t.impls.items m))) in
@@ -247,7 +247,7 @@ impl-consistent t impls last items m i good goods behind number home place now m
       last_items = more ∙ ap (λ k. k + 1) i.last_items ∙ sym (items-impl d (impl_of m) home) ∙ ap last_items (sym e);
       last_later = i.last_later;
       sections_rise = i.sections_rise;
-      made = record { fields = i.made.fields; bounds = i.made.bounds; headers = subst (Each (λ k x. ReferenceMade x.header)) (sym behind) (Each-push t.impls.items m i.made.headers good); clauses = subst (Each (λ k x. ReferencesMade x.clauses.items)) (sym behind) (Each-push t.impls.items m i.made.clauses goods); asked = i.made.asked; given = i.made.given; later_headers = i.made.later_headers; later_clauses = i.made.later_clauses };
+      made = record { fields = i.made.fields; bounds = i.made.bounds; headers = subst (EachNumbered (λ k x. ReferenceMade x.header)) (sym behind) (Each-push t.impls.items m i.made.headers good); clauses = subst (EachNumbered (λ k x. ReferencesMade x.clauses.items)) (sym behind) (Each-push t.impls.items m i.made.clauses goods); asked = i.made.asked; given = i.made.given; later_headers = i.made.later_headers; later_clauses = i.made.later_clauses };
     }
 
 pub impl-declared : (t : Tables) (impls : List ImplEntry) (m : ImplEntry)
@@ -262,10 +262,10 @@ impl-declared t impls m behind number home =
     ∙ ap (λ k. with_impl d (record { params = sorted_params m.params.items; item = record (impl_of m).item { name = length d.impls; home = last_crate d; params = k } })) (sym (length-map m.params.items (λ p. (p.name.items, sort_of_kind p.kind))))
 
 -- ---- crates and their numbers
-pub ids-at : (t : Tables) → IsConsistent t → Each (λ k x. x.index ≡ k) t.ids.items
+pub ids-at : (t : Tables) → IsConsistent t → EachNumbered (λ k x. x.index ≡ k) t.ids.items
 ids-at t i =
-    let named : Each (λ k c. c.id.index ≡ k) t.crates.items = Each-weaken t.crates.items (λ k c p. p.0) (Each-from_map (λ k c. (c.item.name ≡ k) × All (λ u. u < k) c.item.uses) crate_of t.crates.items i.numbered.crates) in
-    Each-from_map (λ k n. n ≡ k) (λ x. x.index) t.ids.items (subst (Each (λ k n. n ≡ k)) (sym i.ids) (Each-of_map (λ k n. n ≡ k) (λ c. c.id.index) t.crates.items named))
+    let named : EachNumbered (λ k c. c.id.index ≡ k) t.crates.items = Each-weaken t.crates.items (λ k c p. p.0) (Each-from_map (λ k c. (c.item.name ≡ k) × All (λ u. u < k) c.item.uses) crate_of t.crates.items i.numbered.crates) in
+    Each-from_map (λ k n. n ≡ k) (λ x. x.index) t.ids.items (subst (EachNumbered (λ k n. n ≡ k)) (sym i.ids) (Each-of_map (λ k n. n ≡ k) (λ c. c.id.index) t.crates.items named))
 
 pub ids-length : (t : Tables) → IsConsistent t → length t.ids.items ≡ length t.crates.items
 ids-length t i = sym (length-map t.ids.items (λ x. x.index)) ∙ ap length i.ids ∙ length-map t.crates.items (λ c. c.id.index)
@@ -289,15 +289,15 @@ crate-consistent t crates ids names x y key n v i behind also same-number text n
     ap (λ a. record { text = a; item = record { name = x.id.index; uses = numbers_of x.uses.items } }) text ∙ ap (λ k. record { text = n; item = record { name = k; uses = numbers_of x.uses.items } }) number in
     let grown : (world_of (declared u)).crates ≡ (world_of d).crates ++ (crate_of x).item ∷ [] = ap (λ w. (world_of w).crates) e ∙ map_push (λ c. c.item) d.crates (crate_of x) in
     let Row : ℕ → CrateEntry → Type 0 = λ c w. (m : ℕ) → unwrap_or (slice_get w.sees.items m) false ≡ sees (world_of (declared u)) c m in
-    let old : Each Row t.crates.items =
+    let old : EachNumbered Row t.crates.items =
     λ c y g m. i.rows c y g m ∙ sym (old-sees (world_of d) (world_of (declared u)) (crate_of x).item (ordered d i.numbered) grown (number ∙ sym (world-length t)) c m (omega (arith, world-length t, slice_get_within t.crates.items c y g))) in
     let last : last_crate (declared u) ≡ length d.crates = ap last_crate e ∙ last-new d (crate_of x) in
-    let homes : Each (λ k m. (m.id.index ≡ k) × (m.owner.index < length d.crates)) t.impls.items = Each-from_map (λ k m. (m.item.name ≡ k) × (m.item.home < length d.crates)) impl_of t.impls.items i.numbered.impls in
+    let homes : EachNumbered (λ k m. (m.id.index ≡ k) × (m.owner.index < length d.crates)) t.impls.items = Each-from_map (λ k m. (m.item.name ≡ k) × (m.item.home < length d.crates)) impl_of t.impls.items i.numbered.impls in
     record {
       numbered = subst IsNumbered (sym e) (numbered-crate d (crate_of x) i.numbered (number ∙ sym long) uses);
       ids = ap numbers_of also ∙ map_push (λ z. z.index) t.ids.items y ∙ ap (λ xs. xs ++ y.index ∷ []) i.ids ∙ ap (λ k. map (λ c. c.id.index) t.crates.items ++ k ∷ []) same-number ∙ sym (ap (map (λ c. c.id.index)) behind ∙ map_push (λ c. c.id.index) t.crates.items x);
       asked = i.asked;
-      rows = subst (Each Row) (sym behind) (Each-push t.crates.items x old (λ m. row m ∙ sym (ap (λ w. sees (world_of w) (length t.crates.items) m) (e ∙ ap (with_crate d) written))));
+      rows = subst (EachNumbered Row) (sym behind) (Each-push t.crates.items x old (λ m. row m ∙ sym (ap (λ w. sees (world_of w) (length t.crates.items) m) (e ∙ ap (with_crate d) written))));
       names = names-kept t.names names d (declared u) key n v (crate_item x.id.index) same value updated i.names (subst (λ w. Names (item_named d) (item_named w) n (crate_item x.id.index)) (sym e) (subst (λ m. Names (item_named d) (item_named (with_crate d (crate_of x))) m (crate_item x.id.index)) text (names-crate d (crate_of x) (ap (item_named d) text ∙ no-item d n new))));
       numbers = i.numbers;
       last_impls = sym (count_by-none (λ m. m.owner.index == last_crate (declared u)) t.impls.items (Every-from_Each t.impls.items (λ k m p. ne_eqb m.owner.index (last_crate (declared u)) (λ q. absurd (omega (arith, p.1, q, last)))) homes));
@@ -357,7 +357,7 @@ row-of-new t row uses c i earlier number used is e =
     ap (λ r. unwrap_or (slice_get r e) false) is ∙ row-at t i uses earlier e ∙ sym wanted
 
 -- ---- `core` alone
-pub Each-nothing : {A : Type 0} (P : ℕ → A → Type 0) → Each P []
+pub Each-nothing : {A : Type 0} (P : ℕ → A → Type 0) → EachNumbered P []
 Each-nothing P = λ k x e. absurd (omega (arith, slice_get_within [] k x e))
 
 numbered-core : IsNumbered core_alone
@@ -432,22 +432,22 @@ core-consistent t old zs x y key v behind ids updated none number name uses stru
       numbered = subst IsNumbered (sym e) numbered-core;
       ids = ap numbers_of ids ∙ ap (λ k. k ∷ []) (number-too ∙ sym number) ∙ sym (ap (map (λ c. c.id.index)) crates);
       asked = asked ∙ sym (ap (map (λ q. q.asked_how)) questions);
-      rows = subst (Each Row) (sym crates) (Each-push [] x (Each-nothing Row) (λ m. ap (λ r. unwrap_or (slice_get r m) false) marked ∙ core-row m ∙ sym (ap (λ d. sees (world_of d) 0 m) e)));
+      rows = subst (EachNumbered Row) (sym crates) (Each-push [] x (Each-nothing Row) (λ m. ap (λ r. unwrap_or (slice_get r m) false) marked ∙ core-row m ∙ sym (ap (λ d. sees (world_of d) 0 m) e)));
       names = names-kept old t.names nobody (declared t) key (codes "core") v (crate_item 0) same value updated (λ m. ap (λ es. option_map item_of (lookup (λ k. bytes_eq m k.items) es)) empty)
           (subst (λ d. Names (item_named nobody) (item_named d) (codes "core") (crate_item 0)) (sym e) (names-crate nobody (record { text = codes "core"; item = record { name = core; uses = [] } }) refl));
-      numbers = subst (λ is. Each (λ k i. i.number_in_crate ≡ impls_of i.owner.index (take (suc k) is)) is) (sym impls) (Each-nothing (λ k i. i.number_in_crate ≡ impls_of i.owner.index (take (suc k) [])));
+      numbers = subst (λ is. EachNumbered (λ k i. i.number_in_crate ≡ impls_of i.owner.index (take (suc k) is)) is) (sym impls) (Each-nothing (λ k i. i.number_in_crate ≡ impls_of i.owner.index (take (suc k) [])));
       last_impls = no-impls ∙ sym (ap (impls_of (last_crate (declared t))) impls);
       last_items = no-items ∙ sym (ap last_items e);
       last_later = bare.none ∙ sym (ap last_later e);
       sections_rise = subst (IsNonDecreasingBy (λ x. x.section)) (sym bare.later) (IsNonDecreasingBy-short (λ x. x.section) [] (omega arith));
       made = record {
-        fields = subst (Each (λ k x. AreMade is_type x.fields.items)) (sym structs) (Each-nothing (λ k x. AreMade is_type x.fields.items));
-        bounds = subst (Each (λ k x. ReferencesMade x.bounds.items)) (sym traits) (Each-nothing (λ k x. ReferencesMade x.bounds.items));
-        headers = subst (Each (λ k x. ReferenceMade x.header)) (sym impls) (Each-nothing (λ k x. ReferenceMade x.header));
-        clauses = subst (Each (λ k x. ReferencesMade x.clauses.items)) (sym impls) (Each-nothing (λ k x. ReferencesMade x.clauses.items));
-        asked = subst (Each (λ k x. ReferenceMade x.asked)) (sym questions) (Each-nothing (λ k x. ReferenceMade x.asked));
-        given = subst (Each (λ k x. ReferencesMade x.clauses.items)) (sym questions) (Each-nothing (λ k x. ReferencesMade x.clauses.items));
-        later_headers = subst (Each (λ k x. ReferenceMade x.entry.header)) (sym bare.later) (Each-nothing (λ k x. ReferenceMade x.entry.header));
-        later_clauses = subst (Each (λ k x. ReferencesMade x.entry.clauses.items)) (sym bare.later) (Each-nothing (λ k x. ReferencesMade x.entry.clauses.items));
+        fields = subst (EachNumbered (λ k x. AreMade is_type x.fields.items)) (sym structs) (Each-nothing (λ k x. AreMade is_type x.fields.items));
+        bounds = subst (EachNumbered (λ k x. ReferencesMade x.bounds.items)) (sym traits) (Each-nothing (λ k x. ReferencesMade x.bounds.items));
+        headers = subst (EachNumbered (λ k x. ReferenceMade x.header)) (sym impls) (Each-nothing (λ k x. ReferenceMade x.header));
+        clauses = subst (EachNumbered (λ k x. ReferencesMade x.clauses.items)) (sym impls) (Each-nothing (λ k x. ReferencesMade x.clauses.items));
+        asked = subst (EachNumbered (λ k x. ReferenceMade x.asked)) (sym questions) (Each-nothing (λ k x. ReferenceMade x.asked));
+        given = subst (EachNumbered (λ k x. ReferencesMade x.clauses.items)) (sym questions) (Each-nothing (λ k x. ReferencesMade x.clauses.items));
+        later_headers = subst (EachNumbered (λ k x. ReferenceMade x.entry.header)) (sym bare.later) (Each-nothing (λ k x. ReferenceMade x.entry.header));
+        later_clauses = subst (EachNumbered (λ k x. ReferencesMade x.entry.clauses.items)) (sym bare.later) (Each-nothing (λ k x. ReferencesMade x.entry.clauses.items));
       };
     }

@@ -6,12 +6,12 @@ use Rattle.std.proofs.lemmas.List.Elements.{All-head, All-tail, filter-append}
 use Rattle.std.specs.Prelude.{◌==◌, filter, All}
 use Rattle.std.specs.List.{list_any}
 use Rattle.type_terms.specs.Worlds.{World, CrateDecl, core, crates_named, sees_within, sees}
-use Rattle.workspace.specs.Numbered.{Each}
+use Rattle.workspace.specs.Numbered.{EachNumbered}
 use Rattle.workspace.proofs.Each.{Every, Every-from_Each, filter-none, filter-push, self-number}
 
 -- a crate's number is its place, and it uses earlier crates
 abbrev pub IsOrdered : List CrateDecl → Type 0
-IsOrdered cs = Each (λ k c. (c.name ≡ k) × All (λ u. u < k) c.uses) cs
+IsOrdered cs = EachNumbered (λ k c. (c.name ≡ k) × All (λ u. u < k) c.uses) cs
 
 -- ---- one crate's uses
 abbrev HasEarlier : ℕ → CrateDecl → Type 0

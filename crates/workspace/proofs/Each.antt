@@ -8,9 +8,9 @@ use Rattle.std.proofs.lemmas.List.Elements.{filter-append}
 use Rattle.std.specs.Prelude.{◌==◌, slice_get, count_by, find, filter, map}
 use Rattle.std.specs.Option.{option_map}
 use Rattle.std.specs.List.{list_any}
-use Rattle.workspace.specs.Numbered.{Each}
+use Rattle.workspace.specs.Numbered.{EachNumbered}
 
-pub Each-weaken : {A : Type 0} {P Q : ℕ → A → Type 0} (xs : List A) → ((k : ℕ) (x : A) → P k x → Q k x) → Each P xs → Each Q xs
+pub Each-weaken : {A : Type 0} {P Q : ℕ → A → Type 0} (xs : List A) → ((k : ℕ) (x : A) → P k x → Q k x) → EachNumbered P xs → EachNumbered Q xs
 Each-weaken xs f h = λ k x e. f k x (h k x e)
 
 -- what stands in a list that has one more
@@ -23,30 +23,30 @@ slice_get-push [] x (suc k) y e = absurd cc
 slice_get-push (z ∷ xs) x zero y e = inl e
 slice_get-push (z ∷ xs) x (suc k) y e = elim (slice_get-push xs x k y e) [ inl h ↦ inl h | inr h ↦ inr (ap suc h.0, h.1) ]
 
-pub Each-push : {A : Type 0} {P : ℕ → A → Type 0} (xs : List A) (x : A) → Each P xs → P (length xs) x → Each P (xs ++ x ∷ [])
+pub Each-push : {A : Type 0} {P : ℕ → A → Type 0} (xs : List A) (x : A) → EachNumbered P xs → P (length xs) x → EachNumbered P (xs ++ x ∷ [])
 Each-push {P = P} xs x h p = λ k y e. elim (slice_get-push xs x k y e) [ inl g ↦ h k y g | inr g ↦ rw (g.0, ← g.1) p ]
 
 pub mapped_some : {A B : Type 0} (f : A → B) (o : Option A) (y : B) → option_map f o ≡ Some y → (x : A) × (o ≡ Some x) × (f x ≡ y)
 mapped_some f None y e = absurd cc
 mapped_some f (Some x) y e = (x, refl, same_Some (f x) y e)
 
-pub Each-of_map : {A B : Type 0} (P : ℕ → B → Type 0) (f : A → B) (xs : List A) → Each (λ k x. P k (f x)) xs → Each P (map f xs)
+pub Each-of_map : {A B : Type 0} (P : ℕ → B → Type 0) (f : A → B) (xs : List A) → EachNumbered (λ k x. P k (f x)) xs → EachNumbered P (map f xs)
 Each-of_map P f xs h = λ k y e. let m = mapped_some f (slice_get xs k) y (sym (slice_get-map f xs k) ∙ e) in rw (← m.2) (h k m.0 m.1)
 
-pub Each-from_map : {A B : Type 0} (P : ℕ → B → Type 0) (f : A → B) (xs : List A) → Each P (map f xs) → Each (λ k x. P k (f x)) xs
+pub Each-from_map : {A B : Type 0} (P : ℕ → B → Type 0) (f : A → B) (xs : List A) → EachNumbered P (map f xs) → EachNumbered (λ k x. P k (f x)) xs
 Each-from_map P f xs h = λ k x e. h k (f x) (slice_get-map f xs k ∙ ap (option_map f) e)
 
-pub below-at : {A : Type 0} (f : A → ℕ) (n : ℕ) (xs : List A) → Each (λ k x. f x < n) xs → (k : ℕ) (d : A) → k < length xs → f (get_or xs k d) < n
+pub below-at : {A : Type 0} (f : A → ℕ) (n : ℕ) (xs : List A) → EachNumbered (λ k x. f x < n) xs → (k : ℕ) (d : A) → k < length xs → f (get_or xs k d) < n
 below-at f n [] h k d l = absurd (omega (arith, l))
 below-at f n (x ∷ xs) h zero d l = h 0 x refl
 below-at f n (x ∷ xs) h (suc k) d l = below-at f n xs (λ j y e. h (suc j) y e) k d (omega (arith, l))
 
 -- what holds of each holds of those that are kept
-pub Each-filter : {A : Type 0} (Q : A → Type 0) (p : A → Bool) (xs : List A) → Each (λ k. Q) xs → Each (λ k. Q) (filter p xs)
+pub Each-filter : {A : Type 0} (Q : A → Type 0) (p : A → Bool) (xs : List A) → EachNumbered (λ k. Q) xs → EachNumbered (λ k. Q) (filter p xs)
 Each-filter Q p [] h = h
 Each-filter {A = A} Q p (x ∷ xs) h = by (p x) (Each-filter Q p xs (λ k y e. h (suc k) y e))
   where
-    by : (b : Bool) → Each (λ k. Q) (filter p xs) → Each (λ k. Q) (cond b (x ∷ filter p xs) (filter p xs))
+    by : (b : Bool) → EachNumbered (λ k. Q) (filter p xs) → EachNumbered (λ k. Q) (cond b (x ∷ filter p xs) (filter p xs))
     by true r zero y e = subst Q (same_Some x y e) (h 0 x refl)
     by true r (suc k) y e = r k y e
     by false r k y e = r k y e
@@ -56,7 +56,7 @@ abbrev pub Every : {A : Type 0} → (A → Type 0) → List A → Type 0
 Every Q [] = Unit {0}
 Every Q (x ∷ xs) = Q x × Every Q xs
 
-pub Every-from_Each : {A : Type 0} {P : ℕ → A → Type 0} {Q : A → Type 0} (xs : List A) → ((k : ℕ) (x : A) → P k x → Q x) → Each P xs → Every Q xs
+pub Every-from_Each : {A : Type 0} {P : ℕ → A → Type 0} {Q : A → Type 0} (xs : List A) → ((k : ℕ) (x : A) → P k x → Q x) → EachNumbered P xs → Every Q xs
 Every-from_Each [] f h = tt
 Every-from_Each (x ∷ xs) f h = (f 0 x (h 0 x refl), Every-from_Each xs (λ k y. f (suc k) y) (λ k y e. h (suc k) y e))
 
@@ -107,7 +107,7 @@ pub self-number : (n : ℕ) → (n == n) ≡ true
 self-number n = grind (arith, nat_tests)
 
 -- in a numbered list one element has the number
-pub filter-numbered : {A : Type 0} (f : A → ℕ) (n : ℕ) (xs : List A) → Each (λ k x. f x ≡ k + n) xs → (k : ℕ) (x : A) → slice_get xs k ≡ Some x → filter (λ y. f y == k + n) xs ≡ x ∷ []
+pub filter-numbered : {A : Type 0} (f : A → ℕ) (n : ℕ) (xs : List A) → EachNumbered (λ k x. f x ≡ k + n) xs → (k : ℕ) (x : A) → slice_get xs k ≡ Some x → filter (λ y. f y == k + n) xs ≡ x ∷ []
 filter-numbered f n [] h k x e = absurd cc
 filter-numbered {A = A} f n (y ∷ ys) h zero x e =
     let same : y ≡ x = same_Some y x e in
@@ -122,7 +122,7 @@ filter-numbered {A = A} f n (y ∷ ys) h (suc k) x e =
     let rest : filter (λ z. f z == k + suc n) ys ≡ x ∷ [] = filter-numbered f (suc n) ys (λ j z g. h (suc j) z g ∙ omega arith) k x e in
     ap (λ t. cond t (y ∷ filter (λ z. f z == suc k + n) ys) (filter (λ z. f z == suc k + n) ys)) no ∙ ap (λ m. filter (λ z. f z == m) ys) shift ∙ rest
 
-pub filter-unnumbered : {A : Type 0} (f : A → ℕ) (n m : ℕ) (xs : List A) → Each (λ k x. f x ≡ k + n) xs → ((k : ℕ) → k < length xs → k + n ≡ m → ⊥) → filter (λ y. f y == m) xs ≡ []
+pub filter-unnumbered : {A : Type 0} (f : A → ℕ) (n m : ℕ) (xs : List A) → EachNumbered (λ k x. f x ≡ k + n) xs → ((k : ℕ) → k < length xs → k + n ≡ m → ⊥) → filter (λ y. f y == m) xs ≡ []
 filter-unnumbered {A = A} f n m xs h g =
     filter-none (λ y. f y == m) xs (Every-from_Each {P = λ k x. (f x ≡ k + n) × (k < length xs)} xs (λ k x p. ne_eqb (f x) m (λ q. absurd (g k p.1 (sym p.0 ∙ q)))) (λ k x e. (h k x e, slice_get_within xs k x e)))
 

@@ -10,7 +10,7 @@ use Rattle.text_definitions.specs.Declarations.{Declarations, NamedImpl, Questio
 use Rattle.text_definitions.specs.Adding.{added, item_meanings}
 use Rattle.text_definitions.specs.Lowering.{clause_reference}
 use Rattle.workspace.specs.Tables.{with_struct, with_trait, with_impl, with_later, with_question}
-use Rattle.workspace.specs.Parts.{IsStructLine, IsTraitLine, IsImplLine, IsQuestionLine, new_struct, new_trait, new_impl, new_later}
+use Rattle.workspace.specs.Parts.{IsStructLine, IsTraitLine, IsImplLine, IsWrittenQuestion, new_struct, new_trait, new_impl, new_later}
 
 pub struct-added : (d : Declarations) (n : List ℕ) (f : Bool) (kinds : List Sort) (fields : List Trees) (l : Line) → IsStructLine d n f kinds fields l → with_struct d (new_struct d n f kinds fields) ≡ added d l
 struct-added d n f kinds fields (struct_line g m ps fs) h =
@@ -104,7 +104,7 @@ later-added d params header clauses (impl_line ps h ks) inside e =
     ∙ line-adds d ps h ks true inside
 later-added d params header clauses _ inside e = absurd e
 
-pub question-added : (d : Declarations) (q : Question) (l : Line) → IsQuestionLine d q l → with_question d q ≡ added d l
+pub question-added : (d : Declarations) (q : Question) (l : Line) → IsWrittenQuestion d q l → with_question d q ≡ added d l
 question-added d q (prove_line c ps a ks) h = ap (with_question d) h
 question-added d q (refute_line c ps a) h = ap (with_question d) h
 question-added d q _ h = absurd h

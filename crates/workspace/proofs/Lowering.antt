@@ -22,7 +22,7 @@ use Rattle.workspace.specs.declared.cell.TermCell.{TermCell}
 use Rattle.workspace.specs.declared.cell.TermCell.TheVariants as cells
 use Rattle.workspace.specs.TermCells as cell
 use Rattle.workspace.specs.TermCells.{gathered, below, behind_cell}
-use Rattle.workspace.specs.Made.{Part, type_part, const_part, lifetime_part, principal_part, auto_part, off, off_autos, off_principal, is_below, is_type, is_lifetime, is_arg, parts_behind}
+use Rattle.workspace.specs.Made.{StackPart, type_part, const_part, lifetime_part, principal_part, auto_part, off, off_autos, off_principal, is_below, is_type, is_lifetime, is_arg, parts_behind}
 use Rattle.workspace.specs.Views.{cell_of}
 use Rattle.workspace.specs.declared.stack.Lowered.{Lowered}
 use Rattle.workspace.specs.declared.stack.Lowered.TheVariants as lowered
@@ -169,7 +169,7 @@ node-lowers c l n xs old new S R x node is long parts held keeps there made =
       keeps = keeps;
     }
 
-leaf-facts : (c : TermCell) (k : TyKind) → IsLeafOf c k → (l : Label) × (cell_of c ≡ cell.node_cell l 0) × ((es : List Entry) → kind_trees es k ≡ leaf l) × ((S : List Part) → parts_behind c S ≡ Some (type_part ∷ S)) × ((es : List Entry) → KindHeld es k)
+leaf-facts : (c : TermCell) (k : TyKind) → IsLeafOf c k → (l : Label) × (cell_of c ≡ cell.node_cell l 0) × ((es : List Entry) → kind_trees es k ≡ leaf l) × ((S : List StackPart) → parts_behind c S ≡ Some (type_part ∷ S)) × ((es : List Entry) → KindHeld es k)
 leaf-facts cells.Bool k e = (bool, refl, λ es. ap (kind_trees es) e, λ S. refl, λ es. subst (KindHeld es) (sym e) tt)
 leaf-facts cells.Char k e = (char, refl, λ es. ap (kind_trees es) e, λ S. refl, λ es. subst (KindHeld es) (sym e) tt)
 leaf-facts cells.Str k e = (str, refl, λ es. ap (kind_trees es) e, λ S. refl, λ es. subst (KindHeld es) (sym e) tt)
@@ -209,7 +209,7 @@ tuple-lowers n ts old mid new S R k h is long held list first made second =
 
 -- a type over one type
 pub over-lowers : (c : TermCell) (l : Label) (t : Ty) (old new : List Entry) (S R : List Lowered) (h : Ty) → cell_of c ≡ cell.node_cell l 1
-    → ((T : List Part) → parts_behind c (type_part ∷ T) ≡ Some (type_part ∷ T)) → S ≡ lowered.Type t ∷ R → StackHeld old S → Is new types h.0 (tree l (trees_at old t.0) none) → Keeps old new
+    → ((T : List StackPart) → parts_behind c (type_part ∷ T) ≡ Some (type_part ∷ T)) → S ≡ lowered.Type t ∷ R → StackHeld old S → Is new types h.0 (tree l (trees_at old t.0) none) → Keeps old new
     → Lowers c old new S (lowered.Type h) R
 over-lowers c l t old new S R h node parts is held made keeps =
     node-lowers c l 1 (lowered.Type t ∷ []) old new S R (lowered.Type h) node is refl (ap (λ T. parts_behind c (map part_of T)) is ∙ parts (map part_of R)) held keeps (_, made)
@@ -251,13 +251,13 @@ one-tree none o h = absurd h
 one-tree (tree l c p) o h = refl
 
 -- a `fn` has an output
-pub fn-output : (b n : ℕ) (ts : List Ty) (es : List Entry) (P : List Part) → Lawful es → IsSome (parts_behind (cells.FnPtr b n) P) → length ts ≡ n → TysHeld es ts → is_no_tree (tys_trees es ts) ≡ false
+pub fn-output : (b n : ℕ) (ts : List Ty) (es : List Entry) (P : List StackPart) → Lawful es → IsSome (parts_behind (cells.FnPtr b n) P) → length ts ≡ n → TysHeld es ts → is_no_tree (tys_trees es ts) ≡ false
 fn-output b zero ts es P lawful some long held = absurd cc
 fn-output b (suc n) [] es P lawful some long held = absurd (omega (arith, long))
 fn-output b (suc n) (t ∷ ts) es P lawful some long ((T, is), held) =
     ap (λ x. is_no_tree (x +++ tys_trees es ts)) (is-tree es types t.0 T is) ∙ one-tree T (tys_trees es ts) ((lawful.sorted t.0 _ is).as_type refl)
 
-pub fn-made : (b n : ℕ) (P : List Part) → IsSome (parts_behind (cells.FnPtr b n) P) → IsSome (off is_type n P)
+pub fn-made : (b n : ℕ) (P : List StackPart) → IsSome (parts_behind (cells.FnPtr b n) P) → IsSome (off is_type n P)
 fn-made b zero P some = absurd cc
 fn-made b (suc n) P some = inside-made (λ T. type_part ∷ T) (off is_type (suc n) P) some
 
@@ -270,7 +270,7 @@ principal-lowers b t n xs p old new S R vars def is long held list keeps =
     ∙ ap (λ a. tree (principal b t.index) a none) (is-tree new args_lists p.args.0 _ list ∙ sym (args-joined old xs)))
 
 -- ---- a `dyn`
-autos-left : (n : ℕ) (u : Option ℕ) (P : List Part) → IsSome (off_autos n u P) → off_autos n u P ≡ Some (drop n P)
+autos-left : (n : ℕ) (u : Option ℕ) (P : List StackPart) → IsSome (off_autos n u P) → off_autos n u P ≡ Some (drop n P)
 autos-left zero u P some = refl
 autos-left (suc n) u [] some = absurd cc
 autos-left (suc n) u (auto_part t ∷ P) some =
@@ -310,7 +310,7 @@ bounds-joined es ts r = joined-append es (map lowered_auto ts) (lowered.Lifetime
 below-lifetime : (ts : List TraitId) (r : Region) (S T R : List Lowered) → S ≡ lowered.Lifetime r ∷ T → T ≡ pushed (map lowered_auto ts) R → S ≡ pushed (map lowered_auto ts ++ lowered.Lifetime r ∷ []) R
 below-lifetime ts r S T R top next = top ∙ ap (λ U. lowered.Lifetime r ∷ U) next ∙ sym (pushed-push (map lowered_auto ts) (lowered.Lifetime r) R)
 
-pub lifetime-made : (p : Bool) (n : ℕ) (P : List Part) → IsSome (parts_behind (cells.Dynamic p n) P) → IsSome (off is_lifetime 1 P)
+pub lifetime-made : (p : Bool) (n : ℕ) (P : List StackPart) → IsSome (parts_behind (cells.Dynamic p n) P) → IsSome (off is_lifetime 1 P)
 lifetime-made p n P some =
     first-made (off_autos n None) (off is_lifetime 1 P)
     (first-made (off_principal p) (option_and_then (off_autos n None) (off is_lifetime 1 P)) (inside-made (λ T. type_part ∷ T) (option_and_then (off_principal p) (option_and_then (off_autos n None) (off is_lifetime 1 P))) some))

@@ -12,7 +12,7 @@ use Rattle.std.specs.Map.{update, lookup, IsKeyTest, AreApart, KeepsOthers}
 use Rattle.std.specs.declared.vec.Vec.{Vec}
 use Rattle.text_definitions.specs.Declarations.{Declarations, NamedCrate, NamedStruct, NamedTrait, a_crate, a_struct, a_trait, known}
 use Rattle.workspace.specs.Numbered.{IsNumbered}
-use Rattle.workspace.specs.Tables.{Item, crate_item, struct_item, trait_item, crate_named, struct_named, trait_named, item_named, with_crate, with_struct, with_trait}
+use Rattle.workspace.specs.Tables.{NamedItem, crate_item, struct_item, trait_item, crate_named, struct_named, trait_named, item_named, with_crate, with_struct, with_trait}
 use Rattle.workspace.proofs.Each.{find-some}
 
 -- ---- the definitions
@@ -25,7 +25,7 @@ or-none None = refl
 or-none (Some x) = refl
 
 -- the name stands for k, and other names for what they stood for
-abbrev pub Names : (List ℕ → Option Item) → (List ℕ → Option Item) → List ℕ → Item → Type 0
+abbrev pub Names : (List ℕ → Option NamedItem) → (List ℕ → Option NamedItem) → List ℕ → NamedItem → Type 0
 Names old new name k = (n : List ℕ) → new n ≡ cond (bytes_eq name n) (Some k) (old n)
 
 map-cond : {A B : Type 0} (f : A → B) (b : Bool) (x : A) → option_map f (cond b (Some x) None) ≡ cond b (Some (f x)) None

@@ -10,7 +10,7 @@ use Rattle.type_terms.specs.Worlds.{core}
 use Rattle.text_definitions.specs.Declarations.{Declarations, LaterImpl, Check, of_later, of_supers, last_changed, last_later}
 use Rattle.text_definitions.specs.Adding.{with_section, with_supers}
 use Rattle.type_terms.specs.declared.CrateId.{CrateId}
-use Rattle.workspace.specs.Numbered.{Each, IsNumbered, IsCheckIn}
+use Rattle.workspace.specs.Numbered.{EachNumbered, IsNumbered, IsCheckIn}
 use Rattle.workspace.specs.Made.{ReferenceMade, ReferencesMade}
 use Rattle.workspace.specs.declared.tables.Tables.{Tables}
 use Rattle.workspace.specs.declared.declared.LaterEntry.{LaterEntry}
@@ -200,8 +200,8 @@ later-consistent t later last m i inside good goods behind section home more =
         clauses = i.made.clauses;
         asked = i.made.asked;
         given = i.made.given;
-        later_headers = subst (Each (λ k x. ReferenceMade x.entry.header)) (sym behind) (Each-push t.later_impls.items m i.made.later_headers good);
-        later_clauses = subst (Each (λ k x. ReferencesMade x.entry.clauses.items)) (sym behind) (Each-push t.later_impls.items m i.made.later_clauses goods);
+        later_headers = subst (EachNumbered (λ k x. ReferenceMade x.entry.header)) (sym behind) (Each-push t.later_impls.items m i.made.later_headers good);
+        later_clauses = subst (EachNumbered (λ k x. ReferencesMade x.entry.clauses.items)) (sym behind) (Each-push t.later_impls.items m i.made.later_clauses goods);
       };
     }
   where

@@ -7,7 +7,7 @@ use Rattle.std.specs.Prelude.{MatchOption, reverse, slice_index, nat_lt}
 use Rattle.std.specs.List.Sorted.{IsStrictlyIncreasing}
 use Rattle.std.specs.Option.{option_to_list}
 use Rattle.type_terms.specs.declared.TraitId.{TraitId}
-use Rattle.workspace.specs.Made.{Part, type_part, const_part, lifetime_part, principal_part, auto_part, off, off_autos, is_below}
+use Rattle.workspace.specs.Made.{StackPart, type_part, const_part, lifetime_part, principal_part, auto_part, off, off_autos, is_below}
 use Rattle.workspace.specs.declared.stack.Lowered.{Lowered}
 use Rattle.workspace.specs.Stack.{pushed, stack_of}
 
@@ -34,7 +34,7 @@ first_number (n ∷ ns) = Some n
 abbrev pub lowest : List TraitId → Option ℕ
 lowest ts = first_number (map (λ t. t.index) (reverse ts))
 
-pub off-one : (p : Part → Bool) (n : ℕ) (S : List Part) → 0 < n → IsSome (off p n S) → IsSome (off p 1 S)
+pub off-one : (p : StackPart → Bool) (n : ℕ) (S : List StackPart) → 0 < n → IsSome (off p n S) → IsSome (off p 1 S)
 off-one p zero S some h = absurd (omega (arith, some))
 off-one p (suc n) [] some h = absurd cc
 off-one p (suc n) (x ∷ S) some h =
@@ -43,7 +43,7 @@ off-one p (suc n) (x ∷ S) some h =
       | inr y ↦ let wrong = rw y at h in absurd cc
     ]
 
-pub off-more : (p : Part → Bool) (n : ℕ) (S T : List Part) (x : Part) → 0 < n → IsSome (off p n S) → S ≡ x ∷ T → IsSome (off p (n - 1) T)
+pub off-more : (p : StackPart → Bool) (n : ℕ) (S T : List StackPart) (x : StackPart) → 0 < n → IsSome (off p n S) → S ≡ x ∷ T → IsSome (off p (n - 1) T)
 off-more p zero S T x some h e = absurd (omega (arith, some))
 off-more p (suc n) S T x some h e =
     let back : suc n - 1 ≡ n = omega arith in
@@ -53,7 +53,7 @@ off-more p (suc n) S T x some h e =
       | inr y ↦ let wrong = rw y at g in absurd cc
     ]
 
-pub autos-one : (n : ℕ) (u : Option ℕ) (S : List Part) → 0 < n → IsSome (off_autos n u S) → IsSome (off_autos 1 None S)
+pub autos-one : (n : ℕ) (u : Option ℕ) (S : List StackPart) → 0 < n → IsSome (off_autos n u S) → IsSome (off_autos 1 None S)
 autos-one zero u S some h = absurd (omega (arith, some))
 autos-one (suc n) u [] some h = absurd cc
 autos-one (suc n) u (auto_part t ∷ S) some h = refl
@@ -62,7 +62,7 @@ autos-one (suc n) u (const_part ∷ S) some h = absurd cc
 autos-one (suc n) u (lifetime_part ∷ S) some h = absurd cc
 autos-one (suc n) u (principal_part ∷ S) some h = absurd cc
 
-pub autos-more : (n : ℕ) (u : Option ℕ) (S T : List Part) (t : ℕ) → 0 < n → IsSome (off_autos n u S) → S ≡ auto_part t ∷ T → IsSome (off_autos (n - 1) (Some t) T) × (is_below t u ≡ true)
+pub autos-more : (n : ℕ) (u : Option ℕ) (S T : List StackPart) (t : ℕ) → 0 < n → IsSome (off_autos n u S) → S ≡ auto_part t ∷ T → IsSome (off_autos (n - 1) (Some t) T) × (is_below t u ≡ true)
 autos-more zero u S T t some h e = absurd (omega (arith, some))
 autos-more (suc n) u S T t some h e =
     let back : suc n - 1 ≡ n = omega arith in

@@ -12,7 +12,7 @@ use Rattle.workspace.specs.declared.stack.Lowered.{Lowered}
 use Rattle.workspace.specs.Stack.{stack_of, parts_in, part_of, tree_of, trees_of_stack, LoweredHeld, StackHeld}
 
 -- the cell finds on the stack what has to stand inside it, and the stack is the interner's
-pub record IsReady (cell : TermCell) (es : List Entry) (stack : List Lowered) : Type 0 where
+pub record CellIsReady (cell : TermCell) (es : List Entry) (stack : List Lowered) : Type 0 where
   pub made : IsSome (parts_behind cell (parts_in stack))
   pub held : StackHeld es (stack_of stack)
   pub range : CellHeld cell

@@ -3,41 +3,41 @@ use Rattle.std.specs.Prelude.{◌≡◌, ℕ, zero, suc, Bool, true, false, List
 use Rattle.std.specs.Option.{option_map, option_and_then}
 use Rattle.std.specs.List.{list_all}
 use Rattle.type_terms.specs.Kinds.{RegionHeld, ConstHeld}
-use Rattle.workspace.specs.Numbered.{Each}
+use Rattle.workspace.specs.Numbered.{EachNumbered}
 use Rattle.workspace.specs.declared.declared.ReferenceCells.{ReferenceCells}
 use Rattle.workspace.specs.declared.cell.TermCell.{TermCell}
 use Rattle.workspace.specs.declared.cell.TermCell.TheVariants as cells
 
 -- what stands on the stack
-pub data Part : Type 0 where
-  type_part const_part lifetime_part principal_part : Part
-  auto_part : (trait : ℕ) → Part
+pub data StackPart : Type 0 where
+  type_part const_part lifetime_part principal_part : StackPart
+  auto_part : (trait : ℕ) → StackPart
 
-abbrev pub is_type : Part → Bool
+abbrev pub is_type : StackPart → Bool
 is_type type_part = true
 is_type _ = false
 
-abbrev pub is_const : Part → Bool
+abbrev pub is_const : StackPart → Bool
 is_const const_part = true
 is_const _ = false
 
-abbrev pub is_lifetime : Part → Bool
+abbrev pub is_lifetime : StackPart → Bool
 is_lifetime lifetime_part = true
 is_lifetime _ = false
 
-abbrev pub is_principal : Part → Bool
+abbrev pub is_principal : StackPart → Bool
 is_principal principal_part = true
 is_principal _ = false
 
 -- a generic argument
-abbrev pub is_arg : Part → Bool
+abbrev pub is_arg : StackPart → Bool
 is_arg type_part = true
 is_arg const_part = true
 is_arg lifetime_part = true
 is_arg _ = false
 
 -- the stack without the n topmost, if they are such
-abbrev pub off : (Part → Bool) → ℕ → List Part → Option (List Part)
+abbrev pub off : (StackPart → Bool) → ℕ → List StackPart → Option (List StackPart)
 off p zero S = Some S
 off p (suc n) [] = None
 off p (suc n) (x ∷ S) = if p x then off p n S else None
@@ -47,21 +47,21 @@ is_below t None = true
 is_below t (Some u) = nat_lt t u
 
 -- the stack without n auto traits, which rise towards the top
-abbrev pub off_autos : ℕ → Option ℕ → List Part → Option (List Part)
+abbrev pub off_autos : ℕ → Option ℕ → List StackPart → Option (List StackPart)
 off_autos zero u S = Some S
 off_autos (suc n) u (auto_part t ∷ S) = if is_below t u then off_autos n (Some t) S else None
 off_autos (suc n) u _ = None
 
-abbrev pub off_principal : Bool → List Part → Option (List Part)
+abbrev pub off_principal : Bool → List StackPart → Option (List StackPart)
 off_principal false S = Some S
 off_principal true S = off is_principal 1 S
 
 -- put on what is left
-abbrev pub putting : Part → Option (List Part) → Option (List Part)
+abbrev pub putting : StackPart → Option (List StackPart) → Option (List StackPart)
 putting x o = option_map (λ S. x ∷ S) o
 
 -- the stack behind a cell
-abbrev pub parts_behind : TermCell → List Part → Option (List Part)
+abbrev pub parts_behind : TermCell → List StackPart → Option (List StackPart)
 parts_behind (cells.Const k) S = Some (const_part ∷ S)
 parts_behind (cells.Lifetime r) S = Some (lifetime_part ∷ S)
 parts_behind (cells.Adt s n) S = putting type_part (off is_arg n S)
@@ -78,7 +78,7 @@ parts_behind (cells.Dynamic p n) S = putting type_part (option_and_then (off_pri
 parts_behind _ S = Some (type_part ∷ S)
 
 -- the stack behind all cells
-abbrev pub parts_of : List TermCell → List Part → Option (List Part)
+abbrev pub parts_of : List TermCell → List StackPart → Option (List StackPart)
 parts_of [] S = Some S
 parts_of (c ∷ cs) S = option_and_then (parts_of cs) (parts_behind c S)
 
@@ -94,7 +94,7 @@ CellsHeld [] = Unit {0}
 CellsHeld (c ∷ cs) = CellHeld c × CellsHeld cs
 
 -- the cells are made as types are, or as arguments are
-pub record AreMade (p : Part → Bool) (cs : List TermCell) : Type 0 where
+pub record AreMade (p : StackPart → Bool) (cs : List TermCell) : Type 0 where
   pub held : CellsHeld cs
   pub parts : option_map (list_all p) (parts_of cs []) ≡ Some true
 
@@ -103,4 +103,4 @@ abbrev pub ReferenceMade : ReferenceCells → Type 0
 ReferenceMade r = AreMade is_arg r.args.items
 
 abbrev pub ReferencesMade : List ReferenceCells → Type 0
-ReferencesMade rs = Each (λ k r. ReferenceMade r) rs
+ReferencesMade rs = EachNumbered (λ k r. ReferenceMade r) rs

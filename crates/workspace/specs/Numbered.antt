@@ -3,8 +3,8 @@ use Rattle.std.specs.Prelude.{◌≡◌, ℕ, ◌<◌, true, List, length, Some,
 use Rattle.text_definitions.specs.Declarations.{Declarations, Check, of_later, of_supers}
 
 -- P holds of each element with its place
-abbrev pub Each : {A : Type 0} → (ℕ → A → Type 0) → List A → Type 0
-Each {A} P xs = (k : ℕ) (x : A) → slice_get xs k ≡ Some x → P k x
+abbrev pub EachNumbered : {A : Type 0} → (ℕ → A → Type 0) → List A → Type 0
+EachNumbered {A} P xs = (k : ℕ) (x : A) → slice_get xs k ≡ Some x → P k x
 
 -- A check is of a crate that is there, or of a section and its crate.
 abbrev pub IsCheckIn : Declarations → Check → Type 0
@@ -15,14 +15,14 @@ IsCheckIn d (of_supers c) = c < length d.crates
 -- a crate that is there, and each question asks in one. Each section is of a crate that is there, and its impls are of that crate.
 pub record IsNumbered (d : Declarations) : Type 0 where
   pub has_core : 0 < length d.crates
-  pub crates : Each (λ k c. (c.item.name ≡ k) × All (λ u. u < k) c.item.uses) d.crates
-  pub structs : Each (λ k s. (s.item.name ≡ k) × (s.item.home < length d.crates)) d.structs
-  pub traits : Each (λ k t. (t.item.name ≡ k) × (t.item.home < length d.crates)) d.traits
-  pub impls : Each (λ k i. (i.item.name ≡ k) × (i.item.home < length d.crates)) d.impls
-  pub questions : Each (λ k q. q.asker < length d.crates) d.questions
-  pub sections : Each (λ k c. c < length d.crates) d.sections
-  pub later_impls : Each (λ k i. slice_get d.sections i.section ≡ Some i.added.item.home) d.later_impls
-  pub checks : Each (λ k c. IsCheckIn d c) d.checks
+  pub crates : EachNumbered (λ k c. (c.item.name ≡ k) × All (λ u. u < k) c.item.uses) d.crates
+  pub structs : EachNumbered (λ k s. (s.item.name ≡ k) × (s.item.home < length d.crates)) d.structs
+  pub traits : EachNumbered (λ k t. (t.item.name ≡ k) × (t.item.home < length d.crates)) d.traits
+  pub impls : EachNumbered (λ k i. (i.item.name ≡ k) × (i.item.home < length d.crates)) d.impls
+  pub questions : EachNumbered (λ k q. q.asker < length d.crates) d.questions
+  pub sections : EachNumbered (λ k c. c < length d.crates) d.sections
+  pub later_impls : EachNumbered (λ k i. slice_get d.sections i.section ≡ Some i.added.item.home) d.later_impls
+  pub checks : EachNumbered (λ k c. IsCheckIn d c) d.checks
   pub has_section : d.in_section ≡ true → 0 < length d.sections
 
 -- fewer than k of each

@@ -34,10 +34,10 @@ IsImplLine d params header clauses (impl_line ps h ks) =
 IsImplLine d params header clauses _ = ⊥
 
 -- `prove in C<..> a where ..`, `refute in C<..> a`
-abbrev pub IsQuestionLine : Declarations → Question → Line → Type 0
-IsQuestionLine d q (prove_line c ps a ks) = q ≡ question_of d (question_meanings d (prove_line c ps a ks)) false c ps a ks
-IsQuestionLine d q (refute_line c ps a) = q ≡ question_of d (question_meanings d (refute_line c ps a)) true c ps a []
-IsQuestionLine d q _ = ⊥
+abbrev pub IsWrittenQuestion : Declarations → Question → Line → Type 0
+IsWrittenQuestion d q (prove_line c ps a ks) = q ≡ question_of d (question_meanings d (prove_line c ps a ks)) false c ps a ks
+IsWrittenQuestion d q (refute_line c ps a) = q ≡ question_of d (question_meanings d (refute_line c ps a)) true c ps a []
+IsWrittenQuestion d q _ = ⊥
 
 -- ---- what the parts declare
 abbrev pub new_struct : Declarations → List ℕ → Bool → List Sort → List Trees → NamedStruct
@@ -79,4 +79,4 @@ abbrev pub AddsImplLine : (d e : Declarations) → List Param → ReferenceCells
 AddsImplLine d e params header clauses = (l : Line) → IsImplLine d (sorted_params params) (reference_of header) (map reference_of clauses) l → e ≡ added d l
 
 abbrev pub AddsQuestionLine : (d e : Declarations) → Question → Type 0
-AddsQuestionLine d e q = (l : Line) → IsQuestionLine d q l → e ≡ added d l
+AddsQuestionLine d e q = (l : Line) → IsWrittenQuestion d q l → e ≡ added d l

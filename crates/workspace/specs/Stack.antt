@@ -9,7 +9,7 @@ use Rattle.type_terms.specs.declared.kinds.Ty.{Ty}
 use Rattle.type_terms.specs.declared.kinds.Principal.{Principal}
 use Rattle.type_terms.specs.declared.kinds.GenericArgKind.{GenericArgKind}
 use Rattle.type_terms.specs.declared.kinds.GenericArgKind.TheVariants as args
-use Rattle.workspace.specs.Made.{Part, type_part, const_part, lifetime_part, principal_part, auto_part}
+use Rattle.workspace.specs.Made.{StackPart, type_part, const_part, lifetime_part, principal_part, auto_part}
 use Rattle.workspace.specs.declared.stack.Lowered.{Lowered}
 use Rattle.workspace.specs.declared.stack.Lowered.TheVariants as lowered
 
@@ -22,14 +22,14 @@ pushed (x ∷ xs) S = pushed xs (x ∷ S)
 abbrev pub stack_of : List Lowered → List Lowered
 stack_of xs = pushed xs []
 
-abbrev pub part_of : Lowered → Part
+abbrev pub part_of : Lowered → StackPart
 part_of (lowered.Type t) = type_part
 part_of (lowered.Const c) = const_part
 part_of (lowered.Lifetime r) = lifetime_part
 part_of (lowered.Principal p) = principal_part
 part_of (lowered.Auto t) = auto_part t.index
 
-abbrev pub parts_in : List Lowered → List Part
+abbrev pub parts_in : List Lowered → List StackPart
 parts_in xs = map part_of (stack_of xs)
 
 abbrev pub lowered_arg : GenericArgKind → Lowered
@@ -73,6 +73,6 @@ StackHeld es [] = Unit {0}
 StackHeld es (x ∷ S) = LoweredHeld es x × StackHeld es S
 
 -- all of them are such
-abbrev pub AllParts : (Part → Bool) → List Lowered → Type 0
+abbrev pub AllParts : (StackPart → Bool) → List Lowered → Type 0
 AllParts p [] = Unit {0}
 AllParts p (x ∷ xs) = (p (part_of x) ≡ true) × AllParts p xs

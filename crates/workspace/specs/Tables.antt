@@ -13,7 +13,7 @@ use Rattle.workspace.specs.declared.tables.Tables.{Tables}
 use Rattle.workspace.specs.declared.declared.ImplEntry.{ImplEntry}
 use Rattle.workspace.specs.declared.declared.Named.{Named}
 use Rattle.workspace.specs.declared.declared.Named.TheVariants as named
-use Rattle.workspace.specs.Numbered.{Each, IsNumbered}
+use Rattle.workspace.specs.Numbered.{EachNumbered, IsNumbered}
 use Rattle.workspace.specs.Made.{AreMade, ReferenceMade, ReferencesMade, is_type}
 use Rattle.workspace.specs.Views.{crate_of, struct_of, trait_of, impl_of, question_of, numbers_of, later_of, check_of}
 
@@ -59,24 +59,24 @@ abbrev pub new_crate : ℕ → List ℕ → List CrateId → NamedCrate
 new_crate c n us = record { text = n; item = record { name = c; uses = numbers_of us } }
 
 -- ---- the item of a name, by its number
-pub data Item : Type 0 where
-  crate_item struct_item trait_item : (number : ℕ) → Item
+pub data NamedItem : Type 0 where
+  crate_item struct_item trait_item : (number : ℕ) → NamedItem
 
-abbrev pub item_of : Named → Item
+abbrev pub item_of : Named → NamedItem
 item_of (named.Crate k) = crate_item k.index
 item_of (named.Struct k) = struct_item k.index
 item_of (named.Trait k) = trait_item k.index
 
-abbrev pub crate_named : List NamedCrate → List ℕ → Option Item
+abbrev pub crate_named : List NamedCrate → List ℕ → Option NamedItem
 crate_named cs n = option_map (λ c. crate_item c.item.name) (find (λ c. bytes_eq c.text n) cs)
 
-abbrev pub struct_named : List NamedStruct → List ℕ → Option Item
+abbrev pub struct_named : List NamedStruct → List ℕ → Option NamedItem
 struct_named ss n = option_map (λ s. struct_item s.item.name) (find (λ s. bytes_eq s.text n) ss)
 
-abbrev pub trait_named : List NamedTrait → List ℕ → Option Item
+abbrev pub trait_named : List NamedTrait → List ℕ → Option NamedItem
 trait_named ts n = option_map (λ t. trait_item t.item.name) (find (λ t. bytes_eq t.text n) ts)
 
-abbrev pub item_named : Declarations → List ℕ → Option Item
+abbrev pub item_named : Declarations → List ℕ → Option NamedItem
 item_named d n = option_or (crate_named d.crates n) (option_or (struct_named d.structs n) (trait_named d.traits n))
 
 abbrev pub number_of_crate : Known → Option ℕ
@@ -97,26 +97,26 @@ abbrev pub impls_of : ℕ → List ImplEntry → ℕ
 impls_of c is = count_by (λ i. i.owner.index == c) is
 
 -- all cells are made as types or as arguments are
-pub record AllMade (t : Tables) : Type 0 where
-  pub fields : Each (λ k s. AreMade is_type s.fields.items) t.structs.items
-  pub bounds : Each (λ k x. ReferencesMade x.bounds.items) t.traits.items
-  pub headers : Each (λ k i. ReferenceMade i.header) t.impls.items
-  pub clauses : Each (λ k i. ReferencesMade i.clauses.items) t.impls.items
-  pub asked : Each (λ k q. ReferenceMade q.asked) t.questions.items
-  pub given : Each (λ k q. ReferencesMade q.clauses.items) t.questions.items
-  pub later_headers : Each (λ k i. ReferenceMade i.entry.header) t.later_impls.items
-  pub later_clauses : Each (λ k i. ReferencesMade i.entry.clauses.items) t.later_impls.items
+pub record AllCellsMade (t : Tables) : Type 0 where
+  pub fields : EachNumbered (λ k s. AreMade is_type s.fields.items) t.structs.items
+  pub bounds : EachNumbered (λ k x. ReferencesMade x.bounds.items) t.traits.items
+  pub headers : EachNumbered (λ k i. ReferenceMade i.header) t.impls.items
+  pub clauses : EachNumbered (λ k i. ReferencesMade i.clauses.items) t.impls.items
+  pub asked : EachNumbered (λ k q. ReferenceMade q.asked) t.questions.items
+  pub given : EachNumbered (λ k q. ReferencesMade q.clauses.items) t.questions.items
+  pub later_headers : EachNumbered (λ k i. ReferenceMade i.entry.header) t.later_impls.items
+  pub later_clauses : EachNumbered (λ k i. ReferencesMade i.entry.clauses.items) t.later_impls.items
 
 -- the tables agree with what they declare
 pub record IsConsistent (t : Tables) : Type 0 where
   pub numbered : IsNumbered (declared t)
   pub ids : numbers_of t.ids.items ≡ map (λ c. c.id.index) t.crates.items
   pub asked : t.asked.items ≡ map (λ q. q.asked_how) t.questions.items
-  pub rows : Each (λ c entry. MarksSeen (world_of (declared t)) c entry.sees.items) t.crates.items
+  pub rows : EachNumbered (λ c entry. MarksSeen (world_of (declared t)) c entry.sees.items) t.crates.items
   pub names : (n : List ℕ) → option_map item_of (get_by (λ k. bytes_eq n k.items) t.names) ≡ item_named (declared t) n
-  pub numbers : Each (λ k i. i.number_in_crate ≡ impls_of i.owner.index (take (suc k) t.impls.items)) t.impls.items
+  pub numbers : EachNumbered (λ k i. i.number_in_crate ≡ impls_of i.owner.index (take (suc k) t.impls.items)) t.impls.items
   pub last_impls : t.last_impls ≡ impls_of (last_crate (declared t)) t.impls.items
   pub last_items : t.last_items ≡ last_items (declared t)
   pub last_later : t.last_later ≡ last_later (declared t)
   pub sections_rise : IsNonDecreasingBy (λ i. i.section) t.later_impls.items
-  pub made : AllMade t
+  pub made : AllCellsMade t

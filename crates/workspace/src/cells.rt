@@ -3,7 +3,7 @@ ghost use Rattle.std.specs.Prelude.{◌≡◌, Err, IfOk};
 ghost use Rattle.type_terms.specs.Terms.{Keeps};
 ghost use Rattle.type_terms.specs.Failures.{SomeKindIsFull};
 ghost use Rattle.workspace.specs.Stack.{stack_of};
-ghost use Rattle.workspace.specs.Lowers.{IsReady, Lowers, IsLeafOf};
+ghost use Rattle.workspace.specs.Lowers.{CellIsReady, Lowers, IsLeafOf};
 
 use crate::cell::TermCell;
 use crate::stack::{
@@ -22,7 +22,7 @@ fn lower_leaf(
     kind: TyKind,
 ) -> Result<Lowered, Fault>
     requires leaf { IsLeafOf cell kind }
-    requires ready { IsReady cell cx.old.entries stack.now.items }
+    requires ready { CellIsReady cell cx.old.entries stack.now.items }
     ensures lowers { IfOk result (λ x. Lowers cell cx.old.entries cx.new.entries (stack_of stack.now.items) x (stack_of stack.now.items)) }
     ensures keeps { Keeps cx.old.entries cx.new.entries }
     ensures limit { cx.new.limit ≡ cx.old.limit }
@@ -35,7 +35,7 @@ fn lower_leaf(
 }
 
 fn lower_const(cx: &mut Interner, stack: &Vec<Lowered>, kind: ConstKind) -> Result<Lowered, Fault>
-    requires { IsReady (TermCell.Const kind) cx.old.entries stack.now.items }
+    requires { CellIsReady (TermCell.Const kind) cx.old.entries stack.now.items }
     ensures lowers { IfOk result (λ x. Lowers (TermCell.Const kind) cx.old.entries cx.new.entries (stack_of stack.now.items) x (stack_of stack.now.items)) }
     ensures keeps { Keeps cx.old.entries cx.new.entries }
     ensures limit { cx.new.limit ≡ cx.old.limit }
@@ -53,7 +53,7 @@ fn lower_adt(
     id: AdtId,
     args: u32,
 ) -> Result<Lowered, Fault>
-    requires { IsReady (TermCell.Adt id args) cx.old.entries stack.old.items }
+    requires { CellIsReady (TermCell.Adt id args) cx.old.entries stack.old.items }
     ensures lowers { IfOk result (λ x. Lowers (TermCell.Adt id args) cx.old.entries cx.new.entries (stack_of stack.old.items) x (stack_of stack.new.items)) }
     ensures keeps { Keeps cx.old.entries cx.new.entries }
     ensures limit { cx.new.limit ≡ cx.old.limit }
@@ -71,7 +71,7 @@ fn lower_ref(
     region: Region,
     mutability: Mutability,
 ) -> Result<Lowered, Fault>
-    requires { IsReady (TermCell.Ref region mutability) cx.old.entries stack.old.items }
+    requires { CellIsReady (TermCell.Ref region mutability) cx.old.entries stack.old.items }
     ensures lowers { IfOk result (λ x. Lowers (TermCell.Ref region mutability) cx.old.entries cx.new.entries (stack_of stack.old.items) x (stack_of stack.new.items)) }
     ensures keeps { Keeps cx.old.entries cx.new.entries }
     ensures limit { cx.new.limit ≡ cx.old.limit }
@@ -87,7 +87,7 @@ fn lower_raw_ptr(
     stack: &mut Vec<Lowered>,
     mutability: Mutability,
 ) -> Result<Lowered, Fault>
-    requires { IsReady (TermCell.RawPtr mutability) cx.old.entries stack.old.items }
+    requires { CellIsReady (TermCell.RawPtr mutability) cx.old.entries stack.old.items }
     ensures lowers { IfOk result (λ x. Lowers (TermCell.RawPtr mutability) cx.old.entries cx.new.entries (stack_of stack.old.items) x (stack_of stack.new.items)) }
     ensures keeps { Keeps cx.old.entries cx.new.entries }
     ensures limit { cx.new.limit ≡ cx.old.limit }
@@ -99,7 +99,7 @@ fn lower_raw_ptr(
 }
 
 fn lower_slice(cx: &mut Interner, stack: &mut Vec<Lowered>) -> Result<Lowered, Fault>
-    requires { IsReady TermCell.Slice cx.old.entries stack.old.items }
+    requires { CellIsReady TermCell.Slice cx.old.entries stack.old.items }
     ensures lowers { IfOk result (λ x. Lowers TermCell.Slice cx.old.entries cx.new.entries (stack_of stack.old.items) x (stack_of stack.new.items)) }
     ensures keeps { Keeps cx.old.entries cx.new.entries }
     ensures limit { cx.new.limit ≡ cx.old.limit }
@@ -111,7 +111,7 @@ fn lower_slice(cx: &mut Interner, stack: &mut Vec<Lowered>) -> Result<Lowered, F
 }
 
 fn lower_array(cx: &mut Interner, stack: &mut Vec<Lowered>) -> Result<Lowered, Fault>
-    requires { IsReady TermCell.Array cx.old.entries stack.old.items }
+    requires { CellIsReady TermCell.Array cx.old.entries stack.old.items }
     ensures lowers { IfOk result (λ x. Lowers TermCell.Array cx.old.entries cx.new.entries (stack_of stack.old.items) x (stack_of stack.new.items)) }
     ensures keeps { Keeps cx.old.entries cx.new.entries }
     ensures limit { cx.new.limit ≡ cx.old.limit }
@@ -129,7 +129,7 @@ fn lower_tuple(
     stack: &mut Vec<Lowered>,
     items: u32,
 ) -> Result<Lowered, Fault>
-    requires { IsReady (TermCell.Tuple items) cx.old.entries stack.old.items }
+    requires { CellIsReady (TermCell.Tuple items) cx.old.entries stack.old.items }
     ensures lowers { IfOk result (λ x. Lowers (TermCell.Tuple items) cx.old.entries cx.new.entries (stack_of stack.old.items) x (stack_of stack.new.items)) }
     ensures keeps { Keeps cx.old.entries cx.new.entries }
     ensures limit { cx.new.limit ≡ cx.old.limit }
@@ -148,7 +148,7 @@ fn lower_fn_ptr(
     bound_vars: u32,
     types: u32,
 ) -> Result<Lowered, Fault>
-    requires { IsReady (TermCell.FnPtr bound_vars types) cx.old.entries stack.old.items }
+    requires { CellIsReady (TermCell.FnPtr bound_vars types) cx.old.entries stack.old.items }
     ensures lowers { IfOk result (λ x. Lowers (TermCell.FnPtr bound_vars types) cx.old.entries cx.new.entries (stack_of stack.old.items) x (stack_of stack.new.items)) }
     ensures keeps { Keeps cx.old.entries cx.new.entries }
     ensures limit { cx.new.limit ≡ cx.old.limit }
@@ -169,7 +169,7 @@ fn lower_principal(
     def_id: TraitId,
     args: u32,
 ) -> Result<Lowered, Fault>
-    requires { IsReady (TermCell.Principal bound_vars def_id args) cx.old.entries stack.old.items }
+    requires { CellIsReady (TermCell.Principal bound_vars def_id args) cx.old.entries stack.old.items }
     ensures lowers { IfOk result (λ x. Lowers (TermCell.Principal bound_vars def_id args) cx.old.entries cx.new.entries (stack_of stack.old.items) x (stack_of stack.new.items)) }
     ensures keeps { Keeps cx.old.entries cx.new.entries }
     ensures limit { cx.new.limit ≡ cx.old.limit }
@@ -191,7 +191,7 @@ fn lower_dynamic(
     has_principal: bool,
     autos: u32,
 ) -> Result<Lowered, Fault>
-    requires { IsReady (TermCell.Dynamic has_principal autos) cx.old.entries stack.old.items }
+    requires { CellIsReady (TermCell.Dynamic has_principal autos) cx.old.entries stack.old.items }
     ensures lowers { IfOk result (λ x. Lowers (TermCell.Dynamic has_principal autos) cx.old.entries cx.new.entries (stack_of stack.old.items) x (stack_of stack.new.items)) }
     ensures keeps { Keeps cx.old.entries cx.new.entries }
     ensures limit { cx.new.limit ≡ cx.old.limit }
@@ -212,7 +212,7 @@ pub(crate) fn lower_cell(
     stack: &mut Vec<Lowered>,
     cell: TermCell,
 ) -> Result<Lowered, Fault>
-    requires { IsReady cell cx.old.entries stack.old.items }
+    requires { CellIsReady cell cx.old.entries stack.old.items }
     ensures lowers { IfOk result (λ x. Lowers cell cx.old.entries cx.new.entries (stack_of stack.old.items) x (stack_of stack.new.items)) }
     ensures keeps { Keeps cx.old.entries cx.new.entries }
     ensures limit { cx.new.limit ≡ cx.old.limit }

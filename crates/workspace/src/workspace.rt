@@ -4,7 +4,7 @@ ghost use Rattle.std.specs.List.Sorted.{IsNonDecreasingBy};
 ghost use Rattle.std.specs.Option.{option_map};
 ghost use Rattle.type_terms.specs.Worlds.{sees, view_of};
 ghost use Rattle.text_definitions.specs.Declarations.{known, world_of};
-ghost use Rattle.workspace.specs.Numbered.{Each, IsNumbered, IsFew};
+ghost use Rattle.workspace.specs.Numbered.{EachNumbered, IsNumbered, IsFew};
 ghost use Rattle.workspace.specs.Made.{AreMade, ReferenceMade, ReferencesMade, is_type};
 ghost use Rattle.workspace.specs.Views.{known_of, struct_of, trait_of, impl_of, question_of, numbers_of, asked_of, later_of, check_of};
 
@@ -124,7 +124,7 @@ impl Workspace {
     /// The structs in the order of the text.
     pub fn structs(&self) -> &[StructEntry]
         ensures items { map struct_of result.now ≡ self.now.structs }
-        ensures made { Each (λ k s. AreMade is_type s.fields.items) result.now }
+        ensures made { EachNumbered (λ k s. AreMade is_type s.fields.items) result.now }
     {
         &self.tables.structs
     }
@@ -132,7 +132,7 @@ impl Workspace {
     /// The traits in the order of the text.
     pub fn traits(&self) -> &[TraitEntry]
         ensures items { map trait_of result.now ≡ self.now.traits }
-        ensures made { Each (λ k t. ReferencesMade t.bounds.items) result.now }
+        ensures made { EachNumbered (λ k t. ReferencesMade t.bounds.items) result.now }
     {
         &self.tables.traits
     }
@@ -140,8 +140,8 @@ impl Workspace {
     /// The impls in the order of the text.
     pub fn impls(&self) -> &[ImplEntry]
         ensures items { map impl_of result.now ≡ self.now.impls }
-        ensures headers { Each (λ k i. ReferenceMade i.header) result.now }
-        ensures clauses { Each (λ k i. ReferencesMade i.clauses.items) result.now }
+        ensures headers { EachNumbered (λ k i. ReferenceMade i.header) result.now }
+        ensures clauses { EachNumbered (λ k i. ReferencesMade i.clauses.items) result.now }
     {
         &self.tables.impls
     }
@@ -156,8 +156,8 @@ impl Workspace {
     /// The impls of a section, by its number from 0, in the order of the text. A section of a higher number than the text has holds none.
     pub fn later_impls_of(&self, section: u32) -> &[LaterEntry]
         ensures items { map later_of result.now ≡ filter (λ i. i.section == section) self.now.later_impls }
-        ensures headers { Each (λ k i. ReferenceMade i.entry.header) result.now }
-        ensures clauses { Each (λ k i. ReferencesMade i.entry.clauses.items) result.now }
+        ensures headers { EachNumbered (λ k i. ReferenceMade i.entry.header) result.now }
+        ensures clauses { EachNumbered (λ k i. ReferencesMade i.entry.clauses.items) result.now }
     {
         impls_of_section(&self.tables.later_impls, section)
     }
@@ -165,8 +165,8 @@ impl Workspace {
     /// The questions in the order of the text.
     pub fn question_entries(&self) -> &[QuestionEntry]
         ensures items { map question_of result.now ≡ self.now.questions }
-        ensures asked { Each (λ k q. ReferenceMade q.asked) result.now }
-        ensures clauses { Each (λ k q. ReferencesMade q.clauses.items) result.now }
+        ensures asked { EachNumbered (λ k q. ReferenceMade q.asked) result.now }
+        ensures clauses { EachNumbered (λ k q. ReferencesMade q.clauses.items) result.now }
     {
         &self.tables.questions
     }

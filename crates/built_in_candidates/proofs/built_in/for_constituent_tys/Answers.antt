@@ -4,7 +4,7 @@ use Rattle.evaluation.specs.Readings.{EquationHeld}
 use Rattle.evaluation.specs.StepReadings.{equation_read}
 use Rattle.infer_table.proofs.Numbers.{goal-held-later}
 use Rattle.infer_table.proofs.FullFacts.{handed-on}
-use Rattle.declarations.specs.Applied.{references_in, AllHeld}
+use Rattle.declarations.specs.Applied.{references_in, TraitRefsHeld}
 use Rattle.assembly_laws.specs.Candidates.{by_rule}
 use Rattle.built_in_candidates.specs.Goals.{asked_of}
 use Rattle.built_in_candidates.specs.Constituents.{AreConstituents, types_asked}
@@ -19,7 +19,7 @@ returns-in_ok-candidate-in-Some-clause-held c =
     let old = c.args.cx.now.entries in
     let new = c.types_asked.new.cx.entries in
     c.in_ok-candidate-in-Some.ensures.held new (goal-held-later old new c.types_asked.ensures.keeps c.args.goal.now.goal c.requires.goal)
-    (subst (Every (EquationHeld new)) (sym c.new.ensures.items) tt) (subst (AllHeld new) (sym c.deref-in-Some.ensures.value) c.in_ok-premises-in-Some.ensures.held)
+    (subst (Every (EquationHeld new)) (sym c.new.ensures.items) tt) (subst (TraitRefsHeld new) (sym c.deref-in-Some.ensures.value) c.in_ok-premises-in-Some.ensures.held)
 
 pub returns-in_ok-candidate-in-Some-clause-is : goal.returns-in_ok-candidate-in-Some-clause-is
 returns-in_ok-candidate-in-Some-clause-is c = λ V us h.

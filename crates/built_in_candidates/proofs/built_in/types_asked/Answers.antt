@@ -3,7 +3,7 @@ use Rattle.type_terms.specs.Rules.{asked}
 use Rattle.type_terms.specs.Terms.{types, trees_at}
 use Rattle.type_terms.specs.Kept.{trees-later}
 use Rattle.infer_table.proofs.FullFacts.{handed-on}
-use Rattle.declarations.specs.Applied.{references_in, AllHeld}
+use Rattle.declarations.specs.Applied.{references_in, TraitRefsHeld}
 use Rattle.declarations.proofs.Bounded.{held-more, one-more}
 use Rattle.built_in_candidates.specs.Constituents.{types_asked, TypesHeld}
 use Rattle.built_in_candidates.proofs.built_in.types_asked.Goals as goal
@@ -34,6 +34,6 @@ tys-preserved c =
       keeps = λ j e h. k j e (inv.keeps j e h);
       limit = c.type_asked.ensures.limit ∙ inv.limit;
       left_held = held.1;
-      found_held = subst (AllHeld next) (sym put) (held-more now next k found r inv.found_held c.in_ok-trait_ref.ensures.held);
+      found_held = subst (TraitRefsHeld next) (sym put) (held-more now next k found r inv.found_held c.in_ok-trait_ref.ensures.held);
       are = subst (λ l. references_in next l ++ ys ≡ all) (sym put) (one-more now next k found r (asked t (trees_at es x.0)) ys all inv.found_held is before);
     }

@@ -1,6 +1,6 @@
 use Rattle.std.proofs.Common.{◌≡◌, ◌++◌, length}
 use Rattle.type_terms.specs.Terms.{Keeps}
-use Rattle.declarations.specs.Applied.{references_in, AllHeld}
+use Rattle.declarations.specs.Applied.{references_in, TraitRefsHeld}
 use Rattle.built_in_candidates.specs.Constituents.{types_asked, TypesHeld}
 use Rattle.built_in_candidates.proofs.built_in.types_asked.Given as goal
 
@@ -9,7 +9,7 @@ invariant-tys l = record {
   keeps : Keeps l.fn.cx.entries l.cx.entries;
   limit : l.cx.limit ≡ l.fn.cx.limit;
   left_held : TypesHeld l.fn.cx.entries l.left;
-  found_held : AllHeld l.cx.entries l.found.items;
+  found_held : TraitRefsHeld l.cx.entries l.found.items;
   are : references_in l.cx.entries l.found.items ++ types_asked l.fn.cx.entries l.fn.def_id.index l.left ≡ types_asked l.fn.cx.entries l.fn.def_id.index l.fn.tys;
 }
 

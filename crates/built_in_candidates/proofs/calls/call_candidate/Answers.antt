@@ -11,7 +11,7 @@ use Rattle.infer_table.proofs.FullFacts.{handed-on}
 use Rattle.evaluation.specs.Lists.{Every}
 use Rattle.evaluation.specs.Readings.{EquationHeld}
 use Rattle.evaluation.specs.StepReadings.{equation_read}
-use Rattle.declarations.specs.Applied.{references_in, AllHeld}
+use Rattle.declarations.specs.Applied.{references_in, TraitRefsHeld}
 use Rattle.assembly_laws.specs.Candidates.{by_rule, misc, all_equal}
 use Rattle.evaluation.proofs.Handed.{if-ok}
 use Rattle.built_in_candidates.specs.Goals.{asked_of}
@@ -42,7 +42,7 @@ returns-clause-held c =
     h new (goal-held-later old new k c.args.goal.now.goal c.requires.goal)
     (subst (Every (EquationHeld new)) (sym c.in_ok-equations.ensures.items)
     ((has-later mid new c.output_is_sized.ensures.keeps types c.in_ok-inputs.inputs.0 c.in_ok-inputs.ensures.held, arg-held-later old new k c.args.arguments c.requires.arguments), tt))
-    (subst (AllHeld new) (sym c.deref.ensures.value) c.in_ok-premises.ensures.held))
+    (subst (TraitRefsHeld new) (sym c.deref.ensures.value) c.in_ok-premises.ensures.held))
     c.by_rule.ensures.held
 
 pub returns-clause-is : goal.returns-clause-is

@@ -7,7 +7,7 @@ use Rattle.infer_table.proofs.StepFacts.{keeps-trans}
 use Rattle.evaluation.specs.declared.candidate.CandidateSource.TheVariants.{BuiltinImpl}
 use Rattle.evaluation.specs.StepReadings.{equation_read}
 use Rattle.declarations.specs.Items.{written}
-use Rattle.declarations.specs.Applied.{references_in, AllHeld}
+use Rattle.declarations.specs.Applied.{references_in, TraitRefsHeld}
 use Rattle.assembly_laws.specs.Candidates.{by_rule, all_equal}
 use Rattle.evaluation.proofs.Handed.{if-ok}
 use Rattle.built_in_candidates.specs.Goals.{asked_of}
@@ -33,7 +33,7 @@ returns-clause-held c =
     if-ok _ _ c.by_rule.result
     (λ s h.
     h new (goal-held-later old new kept c.args.goal.now.goal c.requires.goal) c.in_ok-equations.ensures.held
-    (subst (AllHeld new) (sym c.deref.ensures.value) (references-kept mid new c.relate_args.ensures.keeps c.in_ok-supertraits.supertraits.items c.in_ok-supertraits.ensures.held)))
+    (subst (TraitRefsHeld new) (sym c.deref.ensures.value) (references-kept mid new c.relate_args.ensures.keeps c.in_ok-supertraits.supertraits.items c.in_ok-supertraits.ensures.held)))
     c.by_rule.ensures.held
 
 pub returns-clause-is : goal.returns-clause-is

@@ -8,7 +8,7 @@ use Rattle.type_terms.specs.Terms.{trees_at}
 use Rattle.infer_table.proofs.FullFacts.{handed-on}
 use Rattle.evaluation.specs.declared.candidate.BuiltinImplSource.TheVariants.{Misc, Object}
 use Rattle.declarations.specs.Applied.{references_in}
-use Rattle.built_in_candidates.specs.Objects.{Bound, bounds_to}
+use Rattle.built_in_candidates.specs.Objects.{BoundRule, bounds_to}
 use Rattle.built_in_candidates.proofs.Objects.{bound-at, numbered-held, differ, auto-found, sized-left-out, level-found}
 use Rattle.built_in_candidates.proofs.object.bound_of_trait.Goals as goal
 
@@ -19,7 +19,7 @@ pub returns-then-place-autos-clause-is : goal.returns-then-place-autos-clause-is
 returns-then-place-autos-clause-is c = λ l h.
     let es = c.args.cx.now.entries in
     let S = trees_at es c.args.self_ty.0 in
-    ap (λ (r : Reference). let b : Bound = record { source = Misc; reference = r } in Some b) c.in_ok-bound.ensures.is
+    ap (λ (r : Reference). let b : BoundRule = record { source = Misc; reference = r } in Some b) c.in_ok-bound.ensures.is
     ∙ auto-found c.args.def_id.index S (trees_at es c.args.bounds.0 +++ leaf l) (references_in es c.args.elaborated.now) c.args.place
     (subst (λ m. c.args.place < m) (c.count_autos-autos.ensures S l h) c.if-place-autos.true) (differ c.args.def_id.index sized c.if-def_id-eq-SIZED.false)
 

@@ -4,10 +4,10 @@ use Rattle.infer_table.specs.declared.goal.Goal.{Goal}
 use Rattle.evaluation.specs.declared.goal.GoalSource.{GoalSource}
 use Rattle.evaluation.specs.Readings.{is_coinductive_step}
 use Rattle.evaluation.specs.StepReadings.{nested_read}
-use Rattle.declarations.specs.Applied.{references_in, AllHeld}
+use Rattle.declarations.specs.Applied.{references_in, TraitRefsHeld}
 use Rattle.assembly_laws.specs.Candidates.{premise}
 use Rattle.evaluation.proofs.Contexts.{every-more}
-use Rattle.built_in_candidates.specs.Goals.{asked_of, nested_of, NestedHeld}
+use Rattle.built_in_candidates.specs.Goals.{asked_of, nested_of, NestedGoalsHeld}
 use Rattle.built_in_candidates.proofs.Lists.{map-push}
 use Rattle.built_in_candidates.proofs.parts.nested_goals.Goals as goal
 
@@ -27,8 +27,8 @@ references-preserved c =
           ∙ subst (λ l. nested_of es kind ns ++ map ask (references_in es l) ≡ map ask (references_in es c.args.references.now)) back (inv.are es kind);
       held = λ es h r.
           let before = inv.held es h r in
-          let left = subst (AllHeld es) back before.0 in
-          (left.1, subst (NestedHeld es) (sym put) (every-more (λ (n : GoalSource × Goal). GoalHeld es n.1) ns g before.1 (c.in_ok-goal.ensures.held es h left.0)));
+          let left = subst (TraitRefsHeld es) back before.0 in
+          (left.1, subst (NestedGoalsHeld es) (sym put) (every-more (λ (n : GoalSource × Goal). GoalHeld es n.1) ns g before.1 (c.in_ok-goal.ensures.held es h left.0)));
     }
 
 pub returns-clause-held : goal.returns-clause-held

@@ -2,16 +2,16 @@ use Rattle.std.proofs.Common.{◌≡◌, ◌++◌, Bool, List, length, map}
 use Rattle.type_terms.specs.Terms.{Entry}
 use Rattle.infer_table.specs.Goals.{GoalHeld}
 use Rattle.evaluation.specs.Readings.{is_coinductive_step}
-use Rattle.declarations.specs.Applied.{references_in, AllHeld}
+use Rattle.declarations.specs.Applied.{references_in, TraitRefsHeld}
 use Rattle.assembly_laws.specs.Candidates.{premise}
-use Rattle.built_in_candidates.specs.Goals.{asked_of, nested_of, NestedHeld}
+use Rattle.built_in_candidates.specs.Goals.{asked_of, nested_of, NestedGoalsHeld}
 use Rattle.built_in_candidates.proofs.parts.nested_goals.Given as goal
 
 abbrev pub invariant-references : goal.invariant-references
 invariant-references l = record {
   are : (es : List Entry) (kind : Bool) → nested_of es kind l.nested.items ++ map (premise (asked_of es l.fn.goal) (is_coinductive_step kind l.fn.source)) (references_in es l.left)
       ≡ map (premise (asked_of es l.fn.goal) (is_coinductive_step kind l.fn.source)) (references_in es l.fn.references);
-  held : (es : List Entry) → GoalHeld es l.fn.goal.goal → AllHeld es l.fn.references → AllHeld es l.left × NestedHeld es l.nested.items;
+  held : (es : List Entry) → GoalHeld es l.fn.goal.goal → TraitRefsHeld es l.fn.references → TraitRefsHeld es l.left × NestedGoalsHeld es l.nested.items;
 }
 
 abbrev pub decreases-references : goal.decreases-references

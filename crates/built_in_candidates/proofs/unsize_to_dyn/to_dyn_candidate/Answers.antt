@@ -9,7 +9,7 @@ use Rattle.evaluation.specs.Merge.{if_there}
 use Rattle.evaluation.specs.Readings.{EquationHeld}
 use Rattle.evaluation.specs.StepReadings.{equation_read}
 use Rattle.declarations.specs.Items.{written}
-use Rattle.declarations.specs.Applied.{references_in, AllHeld}
+use Rattle.declarations.specs.Applied.{references_in, TraitRefsHeld}
 use Rattle.declarations.specs.Elaboration.{elaborate}
 use Rattle.assembly_laws.specs.Candidates.{by_rule, misc}
 use Rattle.type_terms.specs.Trees.{◌+++◌, leaf}
@@ -39,7 +39,7 @@ returns-then-is_dyn_compatible-clause-held c =
     let new = c.unsizing_obligations.new.cx.entries in
     let k : Keeps old new = λ i e h. c.unsizing_obligations.ensures.keeps i e (c.elaborated_principal.ensures.keeps i e h) in
     c.in_ok-candidate.ensures.held new (goal-held-later old new k c.args.goal.now.goal c.requires.goal)
-    (subst (Every (EquationHeld new)) (sym c.new.ensures.items) tt) (subst (AllHeld new) (sym c.deref-then-is_dyn_compatible.ensures.value) c.in_ok-premises.ensures.held)
+    (subst (Every (EquationHeld new)) (sym c.new.ensures.items) tt) (subst (TraitRefsHeld new) (sym c.deref-then-is_dyn_compatible.ensures.value) c.in_ok-premises.ensures.held)
 
 pub returns-then-is_dyn_compatible-clause-is : goal.returns-then-is_dyn_compatible-clause-is
 returns-then-is_dyn_compatible-clause-is c = λ l lifetime.

@@ -6,7 +6,7 @@ use Rattle.type_terms.specs.Kept.{trees-is, has-later, trees-later}
 use Rattle.infer_table.proofs.FullFacts.{handed-on}
 use Rattle.evaluation.specs.Merge.{if_there}
 use Rattle.declarations.specs.Items.{reference_in}
-use Rattle.declarations.specs.Applied.{references_in, AllHeld}
+use Rattle.declarations.specs.Applied.{references_in, TraitRefsHeld}
 use Rattle.declarations.proofs.Bounded.{held-more, all-same}
 use Rattle.built_in_candidates.specs.Unsizing.{traits_asked}
 use Rattle.built_in_candidates.proofs.ToDyn.{bounds-asked, append-more, pushed-last}
@@ -29,7 +29,7 @@ pub returns-clause-held : goal.returns-clause-held
 returns-clause-held c =
     let mid = c.with_traits_asked.new.cx.entries in
     let new = c.type_asked.new.cx.entries in
-    subst (AllHeld new) (sym c.in_ok-push.ensures.items)
+    subst (TraitRefsHeld new) (sym c.in_ok-push.ensures.items)
     (held-more mid new c.type_asked.ensures.keeps c.in_ok-premises.premises.items c.in_ok-is_sized.is_sized c.in_ok-premises.ensures.held c.in_ok-is_sized.ensures.held)
 
 pub returns-clause-are : goal.returns-clause-are

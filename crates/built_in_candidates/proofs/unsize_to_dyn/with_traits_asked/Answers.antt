@@ -4,7 +4,7 @@ use Rattle.type_terms.specs.Terms.{types, trees_at}
 use Rattle.type_terms.specs.Kept.{trees-later}
 use Rattle.infer_table.proofs.FullFacts.{handed-on}
 use Rattle.evaluation.specs.Merge.{if_there}
-use Rattle.declarations.specs.Applied.{references_in, AllHeld}
+use Rattle.declarations.specs.Applied.{references_in, TraitRefsHeld}
 use Rattle.declarations.proofs.Bounded.{held-more, one-more}
 use Rattle.built_in_candidates.specs.Unsizing.{traits_asked}
 use Rattle.built_in_candidates.proofs.unsize_to_dyn.with_traits_asked.Goals as goal
@@ -35,6 +35,6 @@ traits-preserved c =
     record {
       keeps = λ j e h. k j e (inv.keeps j e h);
       limit = c.type_asked.ensures.limit ∙ inv.limit;
-      found_held = subst (AllHeld next) (sym put) (held-more now next k found r inv.found_held c.in_ok-trait_ref.ensures.held);
+      found_held = subst (TraitRefsHeld next) (sym put) (held-more now next k found r inv.found_held c.in_ok-trait_ref.ensures.held);
       are = subst (λ l. references_in next l ++ ys ≡ all) (sym put) (one-more now next k found r (asked x.index S) ys all inv.found_held is before);
     }

@@ -1,7 +1,7 @@
 use Rattle.std.proofs.Common.{◌≡◌, ◌++◌, length}
 use Rattle.type_terms.specs.Terms.{Keeps, trees_at}
 use Rattle.evaluation.specs.Merge.{if_there}
-use Rattle.declarations.specs.Applied.{references_in, AllHeld}
+use Rattle.declarations.specs.Applied.{references_in, TraitRefsHeld}
 use Rattle.built_in_candidates.specs.Unsizing.{traits_asked}
 use Rattle.built_in_candidates.proofs.unsize_to_dyn.with_traits_asked.Given as goal
 
@@ -9,7 +9,7 @@ abbrev pub invariant-traits : goal.invariant-traits
 invariant-traits l = record {
   keeps : Keeps l.fn.cx.entries l.cx.entries;
   limit : l.cx.limit ≡ l.fn.cx.limit;
-  found_held : AllHeld l.cx.entries l.found.items;
+  found_held : TraitRefsHeld l.cx.entries l.found.items;
   are : references_in l.cx.entries l.found.items ++ traits_asked l.left (trees_at l.fn.cx.entries l.fn.ty.0) ≡ references_in l.fn.cx.entries (if_there l.fn.first) ++ traits_asked l.fn.def_ids (trees_at l.fn.cx.entries l.fn.ty.0);
 }
 

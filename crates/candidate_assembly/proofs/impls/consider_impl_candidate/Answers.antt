@@ -17,8 +17,8 @@ use Rattle.evaluation.specs.declared.candidate.CandidateSource.{CandidateSource}
 use Rattle.evaluation.specs.declared.candidate.CandidateSource.TheVariants.{Impl}
 use Rattle.evaluation.specs.FrameTables.{Nested, Equation}
 use Rattle.declarations.specs.Items.{reference_in}
-use Rattle.declarations.specs.Applied.{references_in, AllHeld}
-use Rattle.assembly_laws.specs.Candidates.{Candidate, all_equal, behind, premise}
+use Rattle.declarations.specs.Applied.{references_in, TraitRefsHeld}
+use Rattle.assembly_laws.specs.Candidates.{Candidate, all_equal, rules_behind, premise}
 use Rattle.built_in_candidates.specs.Goals.{asked_of}
 use Rattle.built_in_candidates.proofs.Asking.{asked-later}
 use Rattle.declarations.proofs.Bounded.{all-same}
@@ -50,7 +50,7 @@ returns-clause-held c =
       equations = c.in_ok-equations.ensures.held;
       constraints = subst (AllConstraintsHeld new) (sym c.new.ensures.items) tt;
       nested = c.in_ok-nested_goals.ensures.held new (goal-held-later old new kept c.args.goal.now.goal c.requires.goal)
-          (subst (λ (rs : List TraitRef). AllHeld new rs) (sym c.deref.ensures.value) later);
+          (subst (λ (rs : List TraitRef). TraitRefsHeld new rs) (sym c.deref.ensures.value) later);
     }
 
 same : (r s : CandidateSource) (ks js : List CanonicalVarKind) (ds es : List Equation) (regions : Trees) (ns ms : List Nested) → r ≡ s → ks ≡ js → ds ≡ es → regions ≡ none → ns ≡ ms
@@ -73,8 +73,8 @@ returns-clause-is c = λ V.
     let kept : Keeps old new = keeps-trans old mid new made.keeps further in
     let count : c.len.result ≡ length g.variables.items = let e = c.len.ensures in omega (arith, e) in
     let asked = trees-later old mid made.keeps args_lists g.goal.predicate.trait_ref.args.0 c.requires.goal.predicate in
-    let header = made.header ∙ ap (λ m. behind m (reference_in old def.header)) count in
-    let clauses = all-same mid new further instance.clauses.items made.clauses_held ∙ made.clauses ∙ ap (λ m. map (behind m) (references_in old def.clauses.items)) count in
+    let header = made.header ∙ ap (λ m. rules_behind m (reference_in old def.header)) count in
+    let clauses = all-same mid new further instance.clauses.items made.clauses_held ∙ made.clauses ∙ ap (λ m. map (rules_behind m) (references_in old def.clauses.items)) count in
     same _ _ _ _ _ _ _ _ _ (ap Impl (sym (same-impl c.args.id))) (made.variables ∙ c.requires.params)
     (c.in_ok-equations.ensures.are ∙ ap (λ z. all_equal z (trees_at mid instance.header.args.0)) asked ∙ ap (λ (r : Reference). all_equal a.reference.args r.args) header)
     (ap (constraints_trees new) c.new.ensures.items)

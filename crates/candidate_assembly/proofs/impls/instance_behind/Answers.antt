@@ -11,7 +11,7 @@ use Rattle.infer_table.specs.Values.{values_of}
 use Rattle.infer_table.specs.declared.canonical.CanonicalVarKind.{CanonicalVarKind}
 use Rattle.infer_table.proofs.FullFacts.{handed-on}
 use Rattle.infer_table.proofs.StepFacts.{keeps-trans}
-use Rattle.declarations.specs.Applied.{references_in, AllHeld, sort_of_param}
+use Rattle.declarations.specs.Applied.{references_in, TraitRefsHeld, sort_of_param}
 use Rattle.declarations.specs.Items.{reference_in}
 use Rattle.declarations.specs.Merges.{Each}
 use Rattle.declarations.proofs.Bounded.{all-same}
@@ -85,7 +85,7 @@ all_with_arguments-requires-clause-held c =
     let still : trees_at gs c.in_ok-args.args.0 ≡ variables n (map var_kind ps) = trees-later fs gs c.in_ok-header.ensures.keeps args_lists c.in_ok-args.args.0 (_, c.in_ok-args.ensures.is) ∙ args in
     let cs = c.args.def.now.clauses.items in
     let slice : c.deref-3.result.now ≡ cs = c.deref-3.ensures.value in
-    subst (λ (rs : List TraitRef). AllHeld gs rs) (sym slice) (references-kept es gs on cs c.requires.held.clauses)
+    subst (λ (rs : List TraitRef). TraitRefsHeld gs rs) (sym slice) (references-kept es gs on cs c.requires.held.clauses)
 
 pub all_with_arguments-requires-clause-closed : goal.all_with_arguments-requires-clause-closed
 all_with_arguments-requires-clause-closed c =

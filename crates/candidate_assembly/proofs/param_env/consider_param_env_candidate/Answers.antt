@@ -5,7 +5,7 @@ use Rattle.infer_table.proofs.Numbers.{goal-held-later}
 use Rattle.infer_table.proofs.FullFacts.{handed-on}
 use Rattle.evaluation.specs.declared.candidate.CandidateSource.TheVariants.{ParamEnv}
 use Rattle.evaluation.specs.StepReadings.{equation_read}
-use Rattle.declarations.specs.Applied.{AllHeld}
+use Rattle.declarations.specs.Applied.{TraitRefsHeld}
 use Rattle.assembly_laws.specs.Candidates.{by_rule, all_equal}
 use Rattle.type_terms.specs.Terms.{trees_at}
 use Rattle.built_in_candidates.specs.Goals.{asked_of}
@@ -19,14 +19,14 @@ clause_source-requires c =
     let es = c.args.cx.now.entries in
     let t = c.args.goal.now.goal.predicate.trait_ref.def_id.index in
     held-at es (references_to t c.deref.result.now) c.args.place c.in-Some.trait_ref
-    (subst (λ l. AllHeld es (references_to t l)) (sym c.deref.ensures.value) (references-held es t c.args.goal.now.goal.param_env.items c.requires.environment)) c.in-Some.ensures
+    (subst (λ l. TraitRefsHeld es (references_to t l)) (sym c.deref.ensures.value) (references-held es t c.args.goal.now.goal.param_env.items c.requires.environment)) c.in-Some.ensures
 
 pub relate_args-requires-clause-right : goal.relate_args-requires-clause-right
 relate_args-requires-clause-right c =
     let es = c.args.cx.now.entries in
     let t = c.args.goal.now.goal.predicate.trait_ref.def_id.index in
     held-at es (references_to t c.deref.result.now) c.args.place c.in-Some.trait_ref
-    (subst (λ l. AllHeld es (references_to t l)) (sym c.deref.ensures.value) (references-held es t c.args.goal.now.goal.param_env.items c.requires.environment)) c.in-Some.ensures
+    (subst (λ l. TraitRefsHeld es (references_to t l)) (sym c.deref.ensures.value) (references-held es t c.args.goal.now.goal.param_env.items c.requires.environment)) c.in-Some.ensures
 
 pub returns-in_err-equations-in-Some-clause-full : goal.returns-in_err-equations-in-Some-clause-full
 returns-in_err-equations-in-Some-clause-full c = λ q. handed-on c.from_residual.result c.from_residual.ensures.1 (λ p. c.in_err-equations-in-Some.ensures.full (ap Err p)) q

@@ -14,7 +14,7 @@ use Rattle.evaluation.specs.FrameTables.{Nested, Equation}
 use Rattle.evaluation.specs.StepReadings.{equation_read}
 use Rattle.type_terms.specs.Rules.{is_coinductive}
 use Rattle.declarations.specs.Items.{written}
-use Rattle.declarations.specs.Applied.{references_in, AllHeld}
+use Rattle.declarations.specs.Applied.{references_in, TraitRefsHeld}
 use Rattle.assembly_laws.specs.Candidates.{Candidate, premise}
 use Rattle.built_in_candidates.specs.Goals.{asked_of}
 use Rattle.built_in_candidates.proofs.Asking.{asked-later}
@@ -31,7 +31,7 @@ returns-clause-held c =
       equations = subst (Every (EquationHeld new)) (sym c.new-2.ensures.items) tt;
       constraints = subst (AllConstraintsHeld new) (sym c.new-3.ensures.items) tt;
       nested = c.in_ok-nested_goals.ensures.held new (goal-held-later old new c.supertraits.ensures.keeps c.args.goal.now.goal c.requires.goal)
-          (subst (AllHeld new) (sym c.deref.ensures.value) c.in_ok-supertraits.ensures.held);
+          (subst (TraitRefsHeld new) (sym c.deref.ensures.value) c.in_ok-supertraits.ensures.held);
     }
 
 same : (kinds : List CanonicalVarKind) (equations : List Equation) (regions : Trees) (ns ms : List Nested) → kinds ≡ [] → equations ≡ [] → regions ≡ none → ns ≡ ms

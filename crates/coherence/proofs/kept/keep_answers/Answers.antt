@@ -1,17 +1,17 @@
 use Rattle.std.proofs.Common.{◌+◌, length, subst, sym}
 use Rattle.std.proofs.lemmas.Result.{on_ok_weaker}
-use Rattle.coherence.specs.Groups.{IsCheckedIn, IsAskedIn, ArePlaces}
+use Rattle.coherence.specs.Groups.{IsCheckedIn, IsAskedIn, ArePlacesWhere}
 use Rattle.coherence.specs.Progress.{KeepsQuestions}
 use Rattle.coherence.proofs.kept.keep_answers.Goals as goal
 
 pub keep_checks-requires-clause-places : goal.keep_checks-requires-clause-places
-keep_checks-requires-clause-places c = subst (ArePlaces (length c.args.workspace.now.checks) (IsCheckedIn c.args.workspace.now c.args.session.now.of_crate)) (sym c.deref.ensures.value) c.requires.group.checks
+keep_checks-requires-clause-places c = subst (ArePlacesWhere (length c.args.workspace.now.checks) (IsCheckedIn c.args.workspace.now c.args.session.now.of_crate)) (sym c.deref.ensures.value) c.requires.group.checks
 
 pub keep_questions-requires-clause-places : goal.keep_questions-requires-clause-places
 keep_questions-requires-clause-places c =
     let d = c.args.workspace.now in
-    subst (λ k. ArePlaces (length d.questions) (IsAskedIn d k) c.deref-2.result.now) (sym c.in_ok-keep_checks.ensures.stays.of_crate)
-    (subst (ArePlaces (length d.questions) (IsAskedIn d c.args.session.now.of_crate)) (sym c.deref-2.ensures.value) c.requires.group.questions)
+    subst (λ k. ArePlacesWhere (length d.questions) (IsAskedIn d k) c.deref-2.result.now) (sym c.in_ok-keep_checks.ensures.stays.of_crate)
+    (subst (ArePlacesWhere (length d.questions) (IsAskedIn d c.args.session.now.of_crate)) (sym c.deref-2.ensures.value) c.requires.group.questions)
 
 pub keep_questions-requires-clause-kept : goal.keep_questions-requires-clause-kept
 keep_questions-requires-clause-kept c =

@@ -1,7 +1,7 @@
 use Rattle.std.proofs.Common.{◌≡◌, ◌++◌, map, drop}
 use Rattle.type_terms.specs.Terms.{Keeps}
 use Rattle.infer_table.specs.Values.{values_of}
-use Rattle.evaluation.specs.Context.{IsReady}
+use Rattle.evaluation.specs.Context.{IsReadyContext}
 use Rattle.evaluation.specs.Evaluating.{goals_trees}
 use Rattle.evaluation.specs.Frames.{nested_filled}
 use Rattle.evaluation.specs.Trial.{premises_trees}
@@ -11,7 +11,7 @@ abbrev pub invariant-loop-nested : goal.invariant-loop-nested
 invariant-loop-nested l = record {
   keeps : Keeps l.fn.cx.entries l.cx.entries;
   limit : l.cx.limit ≡ l.fn.cx.limit;
-  ready : IsReady l.cx.entries l.context;
+  ready : IsReadyContext l.cx.entries l.context;
   rest : l.context ≡ record l.fn.context { nested = l.context.nested };
   left : goals_trees l.cx.entries l.context.nested ++ map (nested_filled (values_of l.fn.cx.entries l.values)) (premises_trees l.fn.cx.entries (drop l.nested-index l.goals))
       ≡ goals_trees l.fn.cx.entries l.fn.context.nested ++ map (nested_filled (values_of l.fn.cx.entries l.values)) (premises_trees l.fn.cx.entries l.goals);

@@ -1,12 +1,12 @@
 use Rattle.solver_context.specs.Searching.{steps_left}
 use Rattle.goal_walk.specs.Frames.{IsWalked}
-use Rattle.goal_walk.specs.Walking.{IsAskable, HasAsked}
+use Rattle.goal_walk.specs.Walking.{WalkIsAskable, WalkHasAsked}
 use Rattle.goal_walk.proofs.candidates.run_candidate.Given as goal
 
 abbrev pub invariant-loop-input : goal.invariant-loop-input
 invariant-loop-input g l = record {
-  askable : IsAskable g.H.GoalHandler.meaning l.graph l.cache l.cx;
-  asked : HasAsked g.H.GoalHandler.meaning l.fn.graph l.fn.cx l.graph l.cx;
+  askable : WalkIsAskable g.H.GoalHandler.meaning l.graph l.cache l.cx;
+  asked : WalkHasAsked g.H.GoalHandler.meaning l.fn.graph l.fn.cx l.graph l.cx;
   walked : IsWalked g.H.GoalHandler.meaning l.cx l.walk;
 }
 

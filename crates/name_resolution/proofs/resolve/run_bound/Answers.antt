@@ -3,7 +3,7 @@ use Rattle.type_terms.specs.Label.{Sort}
 use Rattle.text_definitions.specs.Declarations.{known}
 use Rattle.text_definitions.specs.Uses.{trait_use, args_count, kinds_of_trait}
 use Rattle.name_resolution.specs.Back.{count_above}
-use Rattle.name_resolution.specs.Machine.{Frame, items, findings, noting, args_inside}
+use Rattle.name_resolution.specs.Machine.{WalkFrame, items, findings, noting, args_inside}
 use Rattle.workspace.specs.Views.{sorts_of}
 use Rattle.name_resolution.specs.WalkViews.{frames_in}
 use Rattle.name_resolution.proofs.Counting.{count-args}
@@ -20,7 +20,7 @@ returns-clause-found g c b r hn hs hr =
     c.count_above-count.ensures ∙ ap (λ i. count_above i w.rest) hs ∙ ap (count_above (length r)) hr ∙ count-args b.args r in
     let kinds : sorts_of c.trait_kinds-kinds.result.now ≡ ks =
     c.trait_kinds-kinds.ensures ∙ ap kinds_of_trait c.known-meaning.ensures ∙ ap (λ m. kinds_of_trait (known (items v) m)) hn in
-    let frame : ℕ → List Sort → ℕ → Frame = λ i ks j. record { start = i; inner = i; binds = false; holds = args_inside ks j; room = Some 64; is_kept = true } in
+    let frame : ℕ → List Sort → ℕ → WalkFrame = λ i ks j. record { start = i; inner = i; binds = false; holds = args_inside ks j; room = Some 64; is_kept = true } in
     let opened = frame c.args.start (sorts_of c.trait_kinds-kinds.result.now) k in
     let frames : opened ∷ frames_in w.frames.items ≡ frame (length r) ks (args_count b.args) ∷ [] =
     ap (λ fs. opened ∷ fs) c.requires.frames ∙ ap (λ i. frame i (sorts_of c.trait_kinds-kinds.result.now) k ∷ []) hs ∙ ap (λ z. frame (length r) z k ∷ []) kinds ∙ ap (λ j. frame (length r) ks j ∷ []) many in

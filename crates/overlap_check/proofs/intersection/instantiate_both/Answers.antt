@@ -6,7 +6,7 @@ use Rattle.term_folds.specs.Arguments.{first_misfit}
 use Rattle.type_terms.specs.Kept.{trees-later}
 use Rattle.term_folds.specs.declared.predicate.TraitRef.{TraitRef}
 use Rattle.infer_table.proofs.FullFacts.{handed-on}
-use Rattle.declarations.specs.Applied.{references_in, AllHeld}
+use Rattle.declarations.specs.Applied.{references_in, TraitRefsHeld}
 use Rattle.declarations.specs.Merges.{Each}
 use Rattle.declarations.proofs.Bounded.{all-same}
 use Rattle.declarations.proofs.Growth.{references-kept}
@@ -31,7 +31,7 @@ returns-in_err-left_clauses-clause-full c = λ q. handed-on c.from_residual.resu
 
 pub instantiate_clauses-requires-2-clause-held : goal.instantiate_clauses-requires-2-clause-held
 instantiate_clauses-requires-2-clause-held c =
-    subst (AllHeld c.instantiate_clauses.new.cx.entries) (sym c.deref-2.ensures.value)
+    subst (TraitRefsHeld c.instantiate_clauses.new.cx.entries) (sym c.deref-2.ensures.value)
     (references-kept c.args.cx.now.entries c.instantiate_clauses.new.cx.entries c.instantiate_clauses.ensures.keeps c.args.right.now.clauses.items c.requires.right_held.clauses)
 
 pub instantiate_clauses-requires-2-clause-closed : goal.instantiate_clauses-requires-2-clause-closed

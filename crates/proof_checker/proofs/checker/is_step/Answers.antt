@@ -6,7 +6,7 @@ use Rattle.type_terms.specs.Rules.{is_coinductive}
 use Rattle.type_terms.specs.Proofs.{In, Every}
 use Rattle.declarations.specs.Items.{declared}
 use Rattle.declarations.proofs.Bounded.{handed-on}
-use Rattle.proof_checker.specs.Checked.{IsRule}
+use Rattle.proof_checker.specs.Checked.{IsRuleByWay}
 use Rattle.proof_checker.specs.Steps.{term_of, terms_of, steps_say, at_places, assumed_in, IsWayOf, StepHeld}
 use Rattle.proof_checker.proofs.Results.{mapped, both}
 use Rattle.proof_checker.proofs.Places.{each-at}
@@ -50,12 +50,12 @@ returns-in-Some-clause-rule c =
     let ps = c.args.step.now.premises.items in
     let way = rule.by_impl c.in-Impl.id.index in
     let same = say-same es fs c.by_impl.ensures.keeps ss c.requires.steps in
-    let by = subst (λ o. IfSome o (λ v. (F : _) → IsRule W F r way (terms_of fs v.items))) c.in-Some.is c.in_ok-premises-in-Impl.ensures.rule in
+    let by = subst (λ o. IfSome o (λ v. (F : _) → IsRuleByWay W F r way (terms_of fs v.items))) c.in-Some.is c.in_ok-premises-in-Impl.ensures.rule in
     mapped _ _ c.premises_stand.result
     (λ b are q.
     let places : at_places rs ps ≡ terms_of fs c.in-Some.premises.items =
     ap (λ l. at_places l ps) (sym same) ∙ ap (at_places (steps_say fs ss)) (sym c.deref.ensures.value) ∙ are q ∙ ap (terms_of fs) c.deref-in-Some.ensures.value in
-    record { way = way; of_step = subst (λ w. IsWayOf w way) (sym c.in-Impl.is) refl; rule = subst (IsRule W E r way) (sym places) (by E) })
+    record { way = way; of_step = subst (λ w. IsWayOf w way) (sym c.in-Impl.is) refl; rule = subst (IsRuleByWay W E r way) (sym places) (by E) })
     c.premises_stand.ensures.are
 
 pub returns-in-Some-clause-stand : goal.returns-in-Some-clause-stand
@@ -94,7 +94,7 @@ returns-then-found-clause-rule c = λ q.
     record {
       way = way;
       of_step = subst (λ w. IsWayOf w way) (sym c.in-Clause.is) refl;
-      rule = subst (IsRule W (terms_of es c.args.clauses.now ++ assumed_in es ss) r way) (sym none)
+      rule = subst (IsRuleByWay W (terms_of es c.args.clauses.now ++ assumed_in es ss) r way) (sym none)
           (rule-more W (terms_of es c.args.clauses.now) (assumed_in es ss) r way [] (c.in_ok-found-in-Clause.ensures.rule c.if-found.true W));
     }
 
@@ -110,7 +110,7 @@ returns-then-found-2-clause-rule c = λ q.
     record {
       way = way;
       of_step = subst (λ w. IsWayOf w way) (sym c.in-Supertrait.is) (found.0, refl);
-      rule = subst (IsRule W (terms_of es c.args.clauses.now ++ assumed_in es ss) r way) (sym none)
+      rule = subst (IsRuleByWay W (terms_of es c.args.clauses.now ++ assumed_in es ss) r way) (sym none)
           (rule-more W (terms_of es c.args.clauses.now) (assumed_in es ss) r way [] found.1);
     }
 
@@ -127,5 +127,5 @@ returns-in-Assumed-clause-rule c = λ q.
     record {
       way = way;
       of_step = subst (λ w. IsWayOf w way) (sym c.in-Assumed.is) (found.0, refl);
-      rule = subst (IsRule W (terms_of es c.args.clauses.now ++ assumed_in es ss) r way) (sym none) found.1;
+      rule = subst (IsRuleByWay W (terms_of es c.args.clauses.now ++ assumed_in es ss) r way) (sym none) found.1;
     }

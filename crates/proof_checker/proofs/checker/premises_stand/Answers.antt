@@ -2,7 +2,7 @@ use Rattle.std.proofs.Common.{◌≡◌, true, ap, sym, ◌∙◌, subst, take, 
 use Rattle.type_terms.specs.Worlds.{Reference}
 use Rattle.type_terms.specs.Erased.{erased_reference}
 use Rattle.type_terms.specs.Proofs.{In, Every}
-use Rattle.declarations.specs.Applied.{AllHeld}
+use Rattle.declarations.specs.Applied.{TraitRefsHeld}
 use Rattle.declarations.specs.Items.{reference_in}
 use Rattle.declarations.proofs.Bounded.{handed-on}
 use Rattle.declarations.proofs.Growth.{reference-same}
@@ -20,7 +20,7 @@ premises-preserved c =
     let inv = c.premises.invariant in
     let back = c.in-Some.ensures.cases.0 in
     let back2 = c.in-Some-split_first.ensures.cases.0 in
-    let held = subst (AllHeld es) back inv.left_held in
+    let held = subst (TraitRefsHeld es) back inv.left_held in
     let steps = c.args.steps.now in
     let st = c.index-steps-place.result in
     let x = c.in-Some.premise.now in

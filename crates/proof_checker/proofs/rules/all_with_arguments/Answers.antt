@@ -8,7 +8,7 @@ use Rattle.type_terms.specs.Kept.{trees-later}
 use Rattle.declarations.specs.Items.{reference_in}
 use Rattle.declarations.specs.Held.{ReferenceHeld}
 use Rattle.declarations.specs.Merges.{Each}
-use Rattle.declarations.specs.Applied.{references_in, AllHeld}
+use Rattle.declarations.specs.Applied.{references_in, TraitRefsHeld}
 use Rattle.declarations.proofs.Growth.{reference-same}
 use Rattle.declarations.proofs.Bounded.{held-more, one-more, handed-on}
 use Rattle.proof_checker.proofs.rules.all_with_arguments.Goals as goal
@@ -26,7 +26,7 @@ references-preserved c =
     let back = c.in-Some.ensures.cases.0 in
     let x = c.in-Some.next.now in
     let rest = c.in-Some.others.now in
-    let held = subst (AllHeld es) back inv.left_held in
+    let held = subst (TraitRefsHeld es) back inv.left_held in
     let all = all_with_args A (references_in es c.args.references.now) in
     let ys = all_with_args A (references_in es rest) in
     let y = with_args A (reference_in es x) in
@@ -44,7 +44,7 @@ references-preserved c =
       limit = c.with_arguments.ensures.limit ∙ inv.limit;
       left_held = held.1;
       fits = λ h. inv.fits (subst (Each (λ (b : TraitRef). first_misfit A (trees_at es b.args.0) ≡ None)) (sym back) (fit, h));
-      found_held = subst (AllHeld next) (sym put) (held-more now next k found r inv.found_held made_held);
+      found_held = subst (TraitRefsHeld next) (sym put) (held-more now next k found r inv.found_held made_held);
       are = subst (λ l. references_in next l ++ ys ≡ all) (sym put) (one-more now next k found r y ys all inv.found_held is before);
     }
 

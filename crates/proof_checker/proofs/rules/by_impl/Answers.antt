@@ -11,7 +11,7 @@ use Rattle.term_folds.specs.declared.predicate.TraitRef.{TraitRef}
 use Rattle.declarations.specs.Items.{reference_in, impl_in, written}
 use Rattle.declarations.specs.Held.{ReferenceHeld}
 use Rattle.declarations.specs.Merges.{Each}
-use Rattle.declarations.specs.Applied.{references_in, AllHeld}
+use Rattle.declarations.specs.Applied.{references_in, TraitRefsHeld}
 use Rattle.declarations.proofs.Growth.{reference-same, reference-kept, each-kept}
 use Rattle.declarations.proofs.Bounded.{all-same, handed-on}
 use Rattle.proof_checker.proofs.Results.{both-some}
@@ -26,7 +26,7 @@ all_with_arguments-requires-clause-held c =
     let k1 = c.with_arguments.ensures.keeps in
     let k2 = c.are_one.ensures.keeps in
     let ih = c.in-Some.ensures.held es c.requires.declared in
-    subst (AllHeld es2) (sym c.deref.ensures.value)
+    subst (TraitRefsHeld es2) (sym c.deref.ensures.value)
     (each-kept (ReferenceHeld es) (ReferenceHeld es2) (λ r h. reference-kept es es2 (λ j e g. k2 j e (k1 j e g)) r h) c.in-Some.def.now.clauses.items ih.clauses)
 
 pub returns-in_err-made-clause-full : goal.returns-in_err-made-clause-full
@@ -58,7 +58,7 @@ returns-clause-rule c =
     let made = args-made es law c.args.args.0 c.requires.args in
     let cl = c.deref.result.now in
     let dv = c.deref.ensures.value in
-    let held_cl = subst (AllHeld es) (sym dv) ih.clauses in
+    let held_cl = subst (TraitRefsHeld es) (sym dv) ih.clauses in
     let now_then = trees-later es es2 (λ j e g. k2 j e (k1 j e g)) args_lists c.args.args.0 c.requires.args in
     let hd = subst (λ o. IfSome o (λ (x : TraitRef). reference_in es1 x ≡ with_args A (reference_in es def.header))) c.in-Some-made.is c.in_ok-made.ensures.is in
     let hf = subst (λ o. IfSome o (λ (x : TraitRef). first_misfit A (trees_at es def.header.args.0) ≡ None)) c.in-Some-made.is c.in_ok-made.ensures.fits in

@@ -4,14 +4,14 @@ use Rattle.type_terms.specs.Worlds.{all_with_args}
 use Rattle.type_terms.specs.Terms.{trees_at}
 use Rattle.term_folds.specs.Arguments.{first_misfit}
 use Rattle.term_folds.specs.declared.predicate.TraitRef.{TraitRef}
-use Rattle.declarations.specs.Applied.{references_in, AllHeld}
+use Rattle.declarations.specs.Applied.{references_in, TraitRefsHeld}
 use Rattle.declarations.specs.Merges.{Each}
 use Rattle.declarations.proofs.Bounded.{handed-on}
 use Rattle.proof_checker.proofs.Above.{supertraits-are}
 use Rattle.proof_checker.proofs.supertraits.written_supertraits.Goals as goal
 
 pub all_with_arguments-requires-clause-held : goal.all_with_arguments-requires-clause-held
-all_with_arguments-requires-clause-held c = subst (AllHeld c.args.cx.now.entries) (sym c.deref.ensures.value) (c.in-Some.ensures.held c.args.cx.now.entries c.requires.declared)
+all_with_arguments-requires-clause-held c = subst (TraitRefsHeld c.args.cx.now.entries) (sym c.deref.ensures.value) (c.in-Some.ensures.held c.args.cx.now.entries c.requires.declared)
 
 pub returns-in_err-supertraits-clause-full : goal.returns-in_err-supertraits-clause-full
 returns-in_err-supertraits-clause-full c = λ q. handed-on c.from_residual.result c.from_residual.ensures.1 (λ p. c.in_err-supertraits.ensures.full (ap Err p)) q

@@ -8,7 +8,7 @@ use Rattle.declarations.specs.Merges.{Each}
 use Rattle.declarations.proofs.Growth.{references-kept}
 use Rattle.search_graph.proofs.Graphs.{Keeps-trans}
 use Rattle.solver_context.specs.Searching.{solver_meaning}
-use Rattle.sessions.specs.Impossible.{IsImpossible, IsLeftOpen, GoalRunsOut}
+use Rattle.sessions.specs.Impossible.{IsImpossible, SearchLeavesOpen, GoalRunsOut}
 use Rattle.sessions.proofs.ImpossibleAlone.{open-before, runs-out-before, impossible-before}
 use Rattle.sessions.proofs.Lists.{each-then, in-list, of-first, of-second}
 use Rattle.sessions.proofs.obligations.has_impossible_obligation.Goals as goal
@@ -53,12 +53,12 @@ returns-clause-impossible g c =
 
 pub returns-clause-left_open : goal.returns-clause-left_open
 returns-clause-left_open g c =
-    let first = subst (Each (IsLeftOpen g.H.GoalHandler.meaning c.args.cx.now c.args.graph.now c.args.found.now.table)) c.deref.ensures.value (c.in_ok-some_is_impossible.ensures.left_open (search rules)) in
+    let first = subst (Each (SearchLeavesOpen g.H.GoalHandler.meaning c.args.cx.now c.args.graph.now c.args.found.now.table)) c.deref.ensures.value (c.in_ok-some_is_impossible.ensures.left_open (search rules)) in
     ok-then _ _ c.some_is_impossible-2.result (λ b f q. (
       first,
-      each-then (ReferenceHeld c.args.cx.now.interner.entries) (IsLeftOpen g.H.GoalHandler.meaning c.some_is_impossible.new.cx c.some_is_impossible.new.graph c.some_is_impossible.new.table)
-          (IsLeftOpen g.H.GoalHandler.meaning c.args.cx.now c.args.graph.now c.args.found.now.table) (λ r h x. open-before g.H.GoalHandler.meaning c.args.cx.now c.some_is_impossible.new.cx c.some_is_impossible.ensures.keeps c.args.graph.now c.some_is_impossible.new.graph c.some_is_impossible.ensures.depth c.args.found.now.table c.some_is_impossible.new.table c.some_is_impossible.ensures.same c.requires.table r h x) c.args.found.now.right.items c.requires.right
-          (subst (Each (IsLeftOpen g.H.GoalHandler.meaning c.some_is_impossible.new.cx c.some_is_impossible.new.graph c.some_is_impossible.new.table)) c.deref-2.ensures.value (f q)),
+      each-then (ReferenceHeld c.args.cx.now.interner.entries) (SearchLeavesOpen g.H.GoalHandler.meaning c.some_is_impossible.new.cx c.some_is_impossible.new.graph c.some_is_impossible.new.table)
+          (SearchLeavesOpen g.H.GoalHandler.meaning c.args.cx.now c.args.graph.now c.args.found.now.table) (λ r h x. open-before g.H.GoalHandler.meaning c.args.cx.now c.some_is_impossible.new.cx c.some_is_impossible.ensures.keeps c.args.graph.now c.some_is_impossible.new.graph c.some_is_impossible.ensures.depth c.args.found.now.table c.some_is_impossible.new.table c.some_is_impossible.ensures.same c.requires.table r h x) c.args.found.now.right.items c.requires.right
+          (subst (Each (SearchLeavesOpen g.H.GoalHandler.meaning c.some_is_impossible.new.cx c.some_is_impossible.new.graph c.some_is_impossible.new.table)) c.deref-2.ensures.value (f q)),
     ))
     c.some_is_impossible-2.ensures.left_open
 

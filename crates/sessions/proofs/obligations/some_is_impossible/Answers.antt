@@ -7,7 +7,7 @@ use Rattle.infer_table.proofs.FullFacts.{handed-on, or-then}
 use Rattle.declarations.specs.Held.{ReferenceHeld}
 use Rattle.search_graph.proofs.Graphs.{Keeps-trans}
 use Rattle.solver_context.specs.Searching.{solver_meaning}
-use Rattle.sessions.specs.Impossible.{IsLeftOpen}
+use Rattle.sessions.specs.Impossible.{SearchLeavesOpen}
 use Rattle.sessions.proofs.ImpossibleAlone.{open-before, runs-out-before, impossible-before}
 use Rattle.sessions.proofs.Lists.{each-here, in-here, each-more}
 use Rattle.sessions.proofs.obligations.some_is_impossible.Goals as goal
@@ -72,7 +72,7 @@ references-preserved g c =
       entries = λ i e h. c.is_impossible.ensures.entries i e (c.references.invariant.entries i e h);
       same = c.is_impossible.ensures.same ∙ c.references.invariant.same;
       left_open = each-more c.args.references.now c.references.trait_ref-index item c.trait_ref-item.is c.references-test.true
-          (IsLeftOpen g.H.GoalHandler.meaning c.args.cx.now c.args.graph.now c.args.table.now) c.references.invariant.left_open
+          (SearchLeavesOpen g.H.GoalHandler.meaning c.args.cx.now c.args.graph.now c.args.table.now) c.references.invariant.left_open
           (open-before g.H.GoalHandler.meaning c.args.cx.now c.references.cx c.references.invariant.keeps c.args.graph.now c.references.graph c.references.invariant.depth c.args.table.now c.references.table c.references.invariant.same c.requires.table item held
           (c.in_ok-is_impossible.ensures.left_open (search rules)));
     }

@@ -5,7 +5,7 @@ use Rattle.search_graph.specs.Cache.{AreJustified, AreConsistent, KeepsResults}
 use Rattle.search_graph.specs.Meaning as Search
 use Rattle.solver_context.specs.Contexts.{IsReady}
 use Rattle.solver_context.specs.Searching.{solver_meaning}
-use Rattle.sessions.specs.Impossible.{IsLeftOpen}
+use Rattle.sessions.specs.Impossible.{SearchLeavesOpen}
 use Rattle.sessions.proofs.obligations.some_is_impossible.Given as goal
 
 abbrev pub invariant-references : goal.invariant-references
@@ -19,5 +19,5 @@ invariant-references g l = record {
   keeps : Search.Keeps (solver_meaning g.H.GoalHandler.meaning) l.fn.cx l.cx;
   entries : Keeps l.fn.cx.interner.entries l.cx.interner.entries;
   same : l.table ≡ l.fn.table;
-  left_open : Each (IsLeftOpen g.H.GoalHandler.meaning l.fn.cx l.fn.graph l.fn.table) (take l.trait_ref-index l.references);
+  left_open : Each (SearchLeavesOpen g.H.GoalHandler.meaning l.fn.cx l.fn.graph l.fn.table) (take l.trait_ref-index l.references);
 }

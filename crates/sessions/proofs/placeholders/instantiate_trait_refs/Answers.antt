@@ -5,7 +5,7 @@ use Rattle.term_folds.specs.Arguments.{first_misfit}
 use Rattle.type_terms.specs.Kept.{trees-later}
 use Rattle.declarations.specs.Items.{reference_in}
 use Rattle.declarations.specs.Merges.{Each}
-use Rattle.declarations.specs.Applied.{references_in, AllHeld}
+use Rattle.declarations.specs.Applied.{references_in, TraitRefsHeld}
 use Rattle.declarations.proofs.Growth.{reference-same}
 use Rattle.declarations.proofs.Bounded.{held-more, one-more}
 use Rattle.infer_table.proofs.FullFacts.{handed-on}
@@ -24,7 +24,7 @@ references-preserved c =
     let back = c.in-Some.ensures.cases.0 in
     let x = c.in-Some.next.now in
     let rest = c.in-Some.others.now in
-    let held = subst (AllHeld es) back inv.left_held in
+    let held = subst (TraitRefsHeld es) back inv.left_held in
     let fit = subst (Each (λ b. first_misfit A (trees_at es b.args.0) ≡ None)) back inv.left_fit in
     let all = all_with_args A (references_in es c.args.references.now) in
     let ys = all_with_args A (references_in es rest) in
@@ -37,7 +37,7 @@ references-preserved c =
       keeps = λ j e h. k j e (inv.keeps j e h);
       left_held = held.1;
       left_fit = fit.1;
-      found_held = subst (AllHeld next) (sym put) (held-more now next k found r inv.found_held c.in_ok-instance.ensures.held);
+      found_held = subst (TraitRefsHeld next) (sym put) (held-more now next k found r inv.found_held c.in_ok-instance.ensures.held);
       are = subst (λ l. references_in next l ++ ys ≡ all) (sym put) (one-more now next k found r y ys all inv.found_held is before);
     }
 

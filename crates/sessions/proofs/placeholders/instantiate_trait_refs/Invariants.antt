@@ -3,15 +3,15 @@ use Rattle.type_terms.specs.Worlds.{all_with_args}
 use Rattle.type_terms.specs.Terms.{Keeps, trees_at}
 use Rattle.term_folds.specs.Arguments.{first_misfit}
 use Rattle.declarations.specs.Merges.{Each}
-use Rattle.declarations.specs.Applied.{references_in, AllHeld}
+use Rattle.declarations.specs.Applied.{references_in, TraitRefsHeld}
 use Rattle.sessions.proofs.placeholders.instantiate_trait_refs.Given as goal
 
 abbrev pub invariant-references : goal.invariant-references
 invariant-references l = record {
   keeps : Keeps l.fn.cx.entries l.cx.entries;
-  left_held : AllHeld l.fn.cx.entries l.left;
+  left_held : TraitRefsHeld l.fn.cx.entries l.left;
   left_fit : Each (λ k. first_misfit (trees_at l.fn.cx.entries l.fn.args.0) (trees_at l.fn.cx.entries k.args.0) ≡ None) l.left;
-  found_held : AllHeld l.cx.entries l.found.items;
+  found_held : TraitRefsHeld l.cx.entries l.found.items;
   are : references_in l.cx.entries l.found.items ++ all_with_args (trees_at l.fn.cx.entries l.fn.args.0) (references_in l.fn.cx.entries l.left)
       ≡ all_with_args (trees_at l.fn.cx.entries l.fn.args.0) (references_in l.fn.cx.entries l.fn.references);
 }

@@ -3,7 +3,7 @@ use Rattle.type_terms.specs.Trees.{outer_binder}
 use Rattle.type_terms.specs.Worlds.{with_args, all_with_args}
 use Rattle.type_terms.specs.Kept.{has-later, trees-later}
 use Rattle.type_terms.specs.Terms.{args_lists, trees_at}
-use Rattle.declarations.specs.Applied.{AllHeld, references_in, sort_of_param}
+use Rattle.declarations.specs.Applied.{TraitRefsHeld, references_in, sort_of_param}
 use Rattle.declarations.specs.Items.{reference_in}
 use Rattle.declarations.proofs.Bounded.{all-same}
 use Rattle.declarations.proofs.Growth.{reference-kept, references-kept, reference-same}
@@ -34,7 +34,7 @@ pub instantiate_trait_refs-requires-clause-held : goal.instantiate_trait_refs-re
 instantiate_trait_refs-requires-clause-held c =
     let old = c.args.cx.now.entries in
     let two = c.instantiate_trait_ref.new.cx.entries in
-    subst (AllHeld two) (sym c.deref-2.ensures.value)
+    subst (TraitRefsHeld two) (sym c.deref-2.ensures.value)
     (references-kept old two (λ i e h. c.instantiate_trait_ref.ensures.keeps i e (c.placeholders_for_item.ensures.keeps i e h)) c.args.def.now.clauses.items c.requires.held.clauses)
 
 pub instantiate_trait_refs-requires-clause-args : goal.instantiate_trait_refs-requires-clause-args

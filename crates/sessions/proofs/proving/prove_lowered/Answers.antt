@@ -2,7 +2,7 @@ use Rattle.std.proofs.Common.{rules, ◌≡◌, ◌∙◌, map, ap, sym, subst, 
 use Rattle.type_terms.specs.Kinds.{arg_trees, ArgsHeld}
 use Rattle.term_folds.specs.Arguments.{arg_sort}
 use Rattle.type_terms.specs.Kept.{args-held-later}
-use Rattle.declarations.specs.Applied.{AllHeld, AreApplied, references_in}
+use Rattle.declarations.specs.Applied.{TraitRefsHeld, AreApplied, references_in}
 use Rattle.declarations.specs.Elaboration.{elaborate}
 use Rattle.declarations.specs.Items.{reference_in, written}
 use Rattle.candidate_assembly.specs.Fitting.{solving_of}
@@ -24,7 +24,7 @@ elaborate_in-requires-clause-ready c = c.requires.rest.ready
 pub elaborate_in-requires-clause-held : goal.elaborate_in-requires-clause-held
 elaborate_in-requires-clause-held c =
     let us : c.deref.result.now ≡ c.args.lowered.now.clauses.items = search rules in
-    subst (AllHeld c.args.cx.now.interner.entries) (sym us) c.requires.lowered.1.clauses_held
+    subst (TraitRefsHeld c.args.cx.now.interner.entries) (sym us) c.requires.lowered.1.clauses_held
 
 pub elaborate_in-requires-clause-applied : goal.elaborate_in-requires-clause-applied
 elaborate_in-requires-clause-applied c =
@@ -46,7 +46,7 @@ prove_under-requires-clause-rest c = c.rest_laws.ensures.rest c.args.graph.now.r
 pub prove_under-requires-clause-clauses : goal.prove_under-requires-clause-clauses
 prove_under-requires-clause-clauses c =
     let cs : c.deref-2.result.now ≡ c.in_ok-clauses.clauses.items = search rules in
-    subst (AllHeld c.elaborate_in.new.cx.interner.entries) (sym cs) c.in_ok-clauses.ensures.held
+    subst (TraitRefsHeld c.elaborate_in.new.cx.interner.entries) (sym cs) c.in_ok-clauses.ensures.held
 
 pub prove_under-requires-clause-asked : goal.prove_under-requires-clause-asked
 prove_under-requires-clause-asked c =

@@ -4,7 +4,7 @@ use Rattle.infer_table.specs.Responses.{AnswerTrees}
 use Rattle.infer_table.specs.declared.goal.Goal.{Goal}
 use Rattle.search_graph.specs.Plain.{IsNotPlain}
 use Rattle.solver_context.specs.Contexts.{Asked}
-use Rattle.solver_context.specs.Evaluations.{IsFound}
+use Rattle.solver_context.specs.Evaluations.{IsFoundBySearch}
 use Rattle.solver_context.specs.Searching.{solver_meaning}
 use Rattle.sessions.specs.Asking.{goal_alone}
 use Rattle.sessions.specs.Frames.{frames_for}
@@ -32,7 +32,7 @@ returns-clause-open g c = λ q.
     let w = g.H.GoalHandler.meaning.world c.args.cx.now.handler es in
     let depth = c.args.graph.now.root_depth in
     asked-is es c.args.table.now asked (goal_alone (reference_in es c.args.asked)) c.requires.no_values (alone-is es asked c.args.asked c.new.ensures.items refl)
-    (λ (z : Asked). ((a : AnswerTrees) × IsFound m w depth z (Some a)) ⊎ IsNotPlain m w (depth + 1) z)
+    (λ (z : Asked). ((a : AnswerTrees) × IsFoundBySearch m w depth z (Some a)) ⊎ IsNotPlain m w (depth + 1) z)
     (left-open _ _ _ c.evaluate_root_goal-evaluated.result c.evaluate_root_goal-evaluated.ensures.says (λ e x. (x.answer.0, x.answer.1.found)) c.evaluate_root_goal-evaluated.ensures.faults.not_plain (c.answer_of.ensures.open q))
 
 pub returns-clause-frames : goal.returns-clause-frames

@@ -3,14 +3,14 @@ use Rattle.type_terms.specs.Erased.{erased_reference}
 use Rattle.type_terms.specs.Kept.{args-held-later}
 use Rattle.type_terms.specs.Kinds.{ArgsHeld}
 use Rattle.type_terms.specs.Terms.{Entry}
-use Rattle.declarations.specs.Applied.{AllHeld}
+use Rattle.declarations.specs.Applied.{TraitRefsHeld}
 use Rattle.declarations.specs.Items.{reference_in}
 use Rattle.proof_checker.specs.Steps.{terms_of}
 use Rattle.proof_checker.proofs.Impls.{terms-map}
 use Rattle.proof_checker.proofs.Later.{steps-kept}
 use Rattle.proof_checker.proofs.Results.{mapped}
 use Rattle.solver_context.proofs.Growing.{further}
-use Rattle.candidate_assembly.specs.Ready.{IsReady}
+use Rattle.candidate_assembly.specs.Ready.{AreReadyDeclarations}
 use Rattle.candidate_assembly.specs.declared.solver.Solver.{Solver}
 use Rattle.view_lowering.specs.Plain.{unbound_reference, unbound_references}
 use Rattle.sessions.specs.Checking.{rules_in}
@@ -18,7 +18,7 @@ use Rattle.sessions.proofs.ShownProofs.{rules-later, shown-before}
 use Rattle.sessions.proofs.shown.is_proof_of_question.Goals as goal
 
 abbrev ready : Solver → List Entry → Type 0
-ready h es = IsReady es h.declarations
+ready h es = AreReadyDeclarations es h.declarations
 
 pub lower_in-requires-clause-ready : goal.lower_in-requires-clause-ready
 lower_in-requires-clause-ready c = c.requires.ready
@@ -32,7 +32,7 @@ is_proof_under-requires-clause-ready c = c.lower_in.ensures.advances.ready
 pub is_proof_under-requires-clause-clauses : goal.is_proof_under-requires-clause-clauses
 is_proof_under-requires-clause-clauses c =
     let cs : c.deref.result.now ≡ c.in_ok-lowered.lowered.clauses.items = search rules in
-    subst (AllHeld c.lower_in.new.cx.interner.entries) (sym cs) (c.in_ok-lowered.ensures.lowered c.requires.question.0 c.requires.question.1).clauses_held
+    subst (TraitRefsHeld c.lower_in.new.cx.interner.entries) (sym cs) (c.in_ok-lowered.ensures.lowered c.requires.question.0 c.requires.question.1).clauses_held
 
 pub is_proof_under-requires-clause-asked : goal.is_proof_under-requires-clause-asked
 is_proof_under-requires-clause-asked c = (c.in_ok-lowered.ensures.lowered c.requires.question.0 c.requires.question.1).asked_held

@@ -7,14 +7,14 @@ use Rattle.proof_checker.specs.Steps.{term_of, terms_of}
 use Rattle.proof_checker.proofs.Later.{steps-kept, terms-same}
 use Rattle.proof_checker.proofs.Results.{mapped}
 use Rattle.solver_context.proofs.Growing.{further}
-use Rattle.candidate_assembly.specs.Ready.{IsReady}
+use Rattle.candidate_assembly.specs.Ready.{AreReadyDeclarations}
 use Rattle.candidate_assembly.specs.declared.solver.Solver.{Solver}
 use Rattle.sessions.specs.Checking.{rules_in}
 use Rattle.sessions.proofs.ShownProofs.{rules-later, shown-under}
 use Rattle.sessions.proofs.shown.is_proof_under.Goals as goal
 
 abbrev ready : Solver → List Entry → Type 0
-ready h es = IsReady es h.declarations
+ready h es = AreReadyDeclarations es h.declarations
 
 pub question_table_in-requires : goal.question_table_in-requires
 question_table_in-requires c = c.requires.ready

@@ -5,7 +5,7 @@ use Rattle.declarations.specs.Applied.{references_in}
 use Rattle.candidate_assembly.specs.Fitting.{solving_of}
 use Rattle.sessions.specs.Proving.{SolvesTheSame}
 use Rattle.sessions.specs.Sessions.{SolverRests}
-use Rattle.sessions.specs.Supertraits.{IsTold}
+use Rattle.sessions.specs.Supertraits.{SolverTells}
 use Rattle.sessions.specs.declared.settling.Outcome.TheVariants.{Proved}
 use Rattle.sessions.proofs.supertraits.first_unproved.Given as goal
 
@@ -15,6 +15,6 @@ invariant-loop-supertrait l = record {
   solving : SolvesTheSame l.fn.cx l.cx;
   keeps : Keeps l.fn.cx.interner.entries l.cx.interner.entries;
   place : l.place ≡ l.supertrait-index;
-  told : Every (λ r. IsTold (solving_of l.fn.cx.interner.entries l.fn.cx.handler.declarations) l.fn.graph.root_depth (references_in l.fn.cx.interner.entries l.fn.goals.clauses.items) r Proved)
+  told : Every (λ r. SolverTells (solving_of l.fn.cx.interner.entries l.fn.cx.handler.declarations) l.fn.graph.root_depth (references_in l.fn.cx.interner.entries l.fn.goals.clauses.items) r Proved)
       (take l.supertrait-index (references_in l.fn.cx.interner.entries l.supertrait-items));
 }

@@ -1,6 +1,6 @@
 use Rattle.std.proofs.Common.{◌∙◌, ap, sym, subst, Err, inl}
 use Rattle.type_terms.specs.Worlds.{World}
-use Rattle.declarations.specs.Applied.{AllHeld, AreApplied, references_in}
+use Rattle.declarations.specs.Applied.{TraitRefsHeld, AreApplied, references_in}
 use Rattle.declarations.specs.Elaboration.{elaborate, supertraits}
 use Rattle.declarations.specs.Items.{reference_in, written}
 use Rattle.declarations.proofs.Bounded.{all-same}
@@ -37,7 +37,7 @@ elaborate-requires-clause-bounds c =
 pub elaborate-requires-clause-references : goal.elaborate-requires-clause-references
 elaborate-requires-clause-references c =
     let two = c.supertraits.new.cx.entries in
-    subst (AllHeld two) (sym c.deref.ensures.value) (references-kept c.opaque_impl.new.cx.entries two c.supertraits.ensures.keeps c.in_ok-opaque.opaque.clauses.items c.in_ok-opaque.ensures.is.clauses_held)
+    subst (TraitRefsHeld two) (sym c.deref.ensures.value) (references-kept c.opaque_impl.new.cx.entries two c.supertraits.ensures.keeps c.in_ok-opaque.opaque.clauses.items c.in_ok-opaque.ensures.is.clauses_held)
 
 pub elaborate-requires-clause-applied : goal.elaborate-requires-clause-applied
 elaborate-requires-clause-applied c =

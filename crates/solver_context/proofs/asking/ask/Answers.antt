@@ -4,7 +4,7 @@ use Rattle.infer_table.specs.Goals.{GoalHeld, goal_trees}
 use Rattle.infer_table.proofs.FullFacts.{handed-on, or-then}
 use Rattle.infer_table.specs.Leaves.{labels}
 use Rattle.infer_table.proofs.Numbers.{goal-held-later, goal-trees-later}
-use Rattle.solver_context.specs.Shortages.{HasNoForm, interner, store}
+use Rattle.solver_context.specs.Shortages.{GoalHasNoForm, interner, store}
 use Rattle.solver_context.proofs.Growing.{later}
 use Rattle.solver_context.proofs.Shortages.{interner-first}
 use Rattle.solver_context.proofs.Later.{keeps-further, goal-in-later}
@@ -74,7 +74,7 @@ returns-in_err-input-clause-full g c = λ q.
     let handed = c.from_residual-in_err-input in
     interner-first _
     (or-then
-    (λ h. subst HasNoForm (goal-in-later c.args.cx.now.interner.entries c.resolve_goal-resolved.new.cx.entries c.resolve_goal-resolved.ensures.keeps c.args.table.now c.requires.table c.args.goal.now c.requires.goal) h)
+    (λ h. subst GoalHasNoForm (goal-in-later c.args.cx.now.interner.entries c.resolve_goal-resolved.new.cx.entries c.resolve_goal-resolved.ensures.keeps c.args.table.now c.requires.table c.args.goal.now c.requires.goal) h)
     (handed-on handed.result handed.ensures.1 (λ p. c.in_err-input.ensures.full (ap Err p)) q))
 
 pub returns-in_err-input-2-clause-full : goal.returns-in_err-input-2-clause-full

@@ -7,7 +7,7 @@ use Rattle.evaluation.specs.TableAnswers.{IsWellFormed}
 use Rattle.goal_frames.specs.HandlerPrograms.{silent}
 use Rattle.evaluation.specs.StepReadings.{result_read}
 use Rattle.evaluation.specs.TableAnswers.{without_values}
-use Rattle.solver_context.specs.Contexts.{goal_of, answer_of, IsResult}
+use Rattle.solver_context.specs.Contexts.{goal_of, answer_of, ResponseIsMade}
 use Rattle.solver_context.specs.declared.context.SolverCx.{SolverCx}
 use Rattle.solver_context.proofs.Checks.{raw-is}
 use Rattle.solver_context.proofs.Growing.{later}
@@ -45,7 +45,7 @@ returns-clause-is g c =
     let ready = g.H.GoalHandler.meaning.IsReady in
     let raw = raw-is es c.in_ok-response.response c.in_ok-variables.variables.items k (ap (λ v. v.items) x.variables) x.certainty x.values x.constraints in
     let kinds = c.in_ok-variables.ensures.items ∙ c.deref.ensures.value in
-    one-ok (λ r. IsResult ready new r × (answer_of new r ≡ result_read es (Some c.in_ok-response.response))) (λ r. IsResult ready new r × (answer_of new r ≡ silent (goal_of cx c.args.input).1 k)) c.keep_answer.result
+    one-ok (λ r. ResponseIsMade ready new r × (answer_of new r ≡ result_read es (Some c.in_ok-response.response))) (λ r. ResponseIsMade ready new r × (answer_of new r ≡ silent (goal_of cx c.args.input).1 k)) c.keep_answer.result
     (λ r y. (y.0, y.1 ∙ ap Some (raw ∙ ap (λ ks. without_values ks k) kinds) ∙ sym (silent-to cx c.args.input c.input.result.now c.input.ensures.is k)))
     c.keep_answer.ensures.is
 

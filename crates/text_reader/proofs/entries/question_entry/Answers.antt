@@ -4,7 +4,7 @@ use Rattle.line_reader.specs.Views.{params_in}
 use Rattle.name_resolution.specs.Views.{variable_in}
 use Rattle.workspace.specs.Tables.{declared}
 use Rattle.workspace.specs.Views.{is_refute}
-use Rattle.text_reader.specs.Entries.{Asks}
+use Rattle.text_reader.specs.Entries.{AsksQuestion}
 use Rattle.text_reader.specs.Kept.{MeansClauses}
 use Rattle.text_reader.specs.Sights.{sight_of}
 use Rattle.text_reader.specs.declared.numbering.Numbering.TheVariants.{Question}
@@ -19,7 +19,7 @@ unreachable-requires c =
     let v = sight_of c.in_ok-names.names in
     let known = line-known d c.args.read.now v c.args.found.now c.in_ok-names.ensures c.requires.faultless c.requires.short c.requires.found l r in
     let there = asked-there d c.args.read.now v l c.args.found.now (is_refute c.args.asked_how) c.requires.line.0 (params_in c.args.params.now) known
-    (subst (λ s. Asks s (is_refute c.args.asked_how) c.requires.line.0 (params_in c.args.params.now)) r.0 c.requires.line.1) in
+    (subst (λ s. AsksQuestion s (is_refute c.args.asked_how) c.requires.line.0 (params_in c.args.params.now)) r.0 c.requires.line.1) in
     absurd (omega (arith, c.in_default.len_below, there, ap length c.as_slice.ensures.value))
 
 pub clause_cells-requires : goal.clause_cells-requires

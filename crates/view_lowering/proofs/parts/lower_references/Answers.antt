@@ -1,6 +1,6 @@
 use Rattle.std.proofs.Common.{◌∙◌, ap, sym, subst, refl, Err}
 use Rattle.std.proofs.lemmas.Option.{slice_get_read}
-use Rattle.declarations.specs.Applied.{references_in, AllHeld}
+use Rattle.declarations.specs.Applied.{references_in, TraitRefsHeld}
 use Rattle.declarations.proofs.Bounded.{held-more}
 use Rattle.infer_table.proofs.FullFacts.{handed-on}
 use Rattle.view_lowering.proofs.References.{one-more-lowered}
@@ -27,7 +27,7 @@ loop-cells-preserved c =
       keeps = λ j y h. k j y (inv.keeps j y h);
       limit = c.lower_reference.ensures.limit ∙ inv.limit;
       are = ap (references_in new) put ∙ one-more-lowered old new k rs r c.args.list.now i x inv.held e inv.are c.in_ok-trait_ref.ensures.is;
-      held = subst (AllHeld new) (sym put) (held-more old new k rs r inv.held c.in_ok-trait_ref.ensures.held);
+      held = subst (TraitRefsHeld new) (sym put) (held-more old new k rs r inv.held c.in_ok-trait_ref.ensures.held);
     }
 
 pub returns-in_err-trait_ref-clause-full : goal.returns-in_err-trait_ref-clause-full

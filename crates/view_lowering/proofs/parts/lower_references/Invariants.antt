@@ -1,6 +1,6 @@
 use Rattle.std.proofs.Common.{◌≡◌, map, take}
 use Rattle.type_terms.specs.Terms.{Keeps}
-use Rattle.declarations.specs.Applied.{references_in, AllHeld}
+use Rattle.declarations.specs.Applied.{references_in, TraitRefsHeld}
 use Rattle.workspace.specs.Views.{reference_of}
 use Rattle.view_lowering.proofs.parts.lower_references.Given as goal
 
@@ -9,5 +9,5 @@ invariant-loop-cells l = record {
   keeps : Keeps l.fn.cx.entries l.cx.entries;
   limit : l.cx.limit ≡ l.fn.cx.limit;
   are : references_in l.cx.entries l.refs.items ≡ map reference_of (take l.cells-index l.list);
-  held : AllHeld l.cx.entries l.refs.items;
+  held : TraitRefsHeld l.cx.entries l.refs.items;
 }

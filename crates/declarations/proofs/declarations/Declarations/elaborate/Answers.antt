@@ -1,6 +1,6 @@
 use Rattle.std.proofs.Common.{refl, ap, sym, ◌∙◌, subst, Err}
 use Rattle.declarations.specs.declared.elaborate.Elaborator.{Elaborator}
-use Rattle.declarations.specs.Stacked.{Extends}
+use Rattle.declarations.specs.Stacked.{StacksUnseen}
 use Rattle.declarations.proofs.Growth.{all-held, references-kept}
 use Rattle.declarations.proofs.Bounded.{handed-on}
 use Rattle.declarations.proofs.Elaborating.{Elaborates, have-bounds-later, elaborates-first, elaborates-next, elaborates-falls, popped-held, popped-applied}
@@ -46,7 +46,7 @@ stack-smaller c =
     let d = c.args.self.now in
     let mid : Elaborator = record { stack = c.pop.new.self; visited = c.stack.elaborator.visited } in
     let ws = c.in_ok-supertraits.supertraits.items in
-    let x = subst (λ l. Extends es2 l mid c.extend_deduped-in-Some.new.self) c.deref.ensures.value c.in_ok-extend_deduped-2.ensures.extends in
+    let x = subst (λ l. StacksUnseen es2 l mid c.extend_deduped-in-Some.new.self) c.deref.ensures.value c.in_ok-extend_deduped-2.ensures.extends in
     elaborates-falls es0 d c.args.references.now c.requires.bounds c.requires.held es1 es2 c.stack.elaborator mid c.extend_deduped-in-Some.new.self c.in-Some.next c.stack.found.items ws c.stack.invariant.elaborates
     c.in-Some.ensures.items refl c.written_supertraits.ensures.keeps c.in_ok-supertraits.ensures.held c.in_ok-supertraits.ensures.applied c.in_ok-supertraits.ensures.are x
 
@@ -58,7 +58,7 @@ stack-preserved c =
     let d = c.args.self.now in
     let mid : Elaborator = record { stack = c.pop.new.self; visited = c.stack.elaborator.visited } in
     let ws = c.in_ok-supertraits.supertraits.items in
-    let x = subst (λ l. Extends es2 l mid c.extend_deduped-in-Some.new.self) c.deref.ensures.value c.in_ok-extend_deduped-2.ensures.extends in
+    let x = subst (λ l. StacksUnseen es2 l mid c.extend_deduped-in-Some.new.self) c.deref.ensures.value c.in_ok-extend_deduped-2.ensures.extends in
     record {
       limit = c.written_supertraits.ensures.limit ∙ c.stack.invariant.limit;
       elaborates = subst (Elaborates es0 d c.args.references.now es2 c.extend_deduped-in-Some.new.self) (sym c.in_ok-put.ensures.put)

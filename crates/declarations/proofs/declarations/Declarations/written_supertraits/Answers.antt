@@ -3,13 +3,13 @@ use Rattle.std.specs.Prelude.{Result, IfOk}
 use Rattle.type_terms.specs.Terms.{trees_at}
 use Rattle.term_folds.specs.Arguments.{first_misfit}
 use Rattle.type_terms.specs.Worlds.{all_with_args}
-use Rattle.declarations.specs.Applied.{references_in, AllHeld}
+use Rattle.declarations.specs.Applied.{references_in, TraitRefsHeld}
 use Rattle.declarations.specs.Merges.{Each}
 use Rattle.declarations.proofs.Elaborating.{bounds-fit, bounds-applied}
 use Rattle.declarations.proofs.declarations.Declarations.written_supertraits.Goals as goal
 
 pub instantiate_bounds-requires-clause-held : goal.instantiate_bounds-requires-clause-held
-instantiate_bounds-requires-clause-held c = subst (AllHeld c.args.cx.now.entries) (sym c.deref.ensures.value) (c.in-Some.ensures.held c.args.cx.now.entries c.requires.held)
+instantiate_bounds-requires-clause-held c = subst (TraitRefsHeld c.args.cx.now.entries) (sym c.deref.ensures.value) (c.in-Some.ensures.held c.args.cx.now.entries c.requires.held)
 
 pub instantiate_bounds-requires-clause-fits : goal.instantiate_bounds-requires-clause-fits
 instantiate_bounds-requires-clause-fits c =

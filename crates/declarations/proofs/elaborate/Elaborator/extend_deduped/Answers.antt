@@ -1,7 +1,7 @@
 use Rattle.std.proofs.Common.{◌≡◌, true, false, ap, sym, ◌∙◌, subst, rules}
 use Rattle.declarations.specs.Items.{reference_in}
 use Rattle.declarations.specs.Elaboration.{is_put}
-use Rattle.declarations.specs.Applied.{references_in, AllHeld}
+use Rattle.declarations.specs.Applied.{references_in, TraitRefsHeld}
 use Rattle.declarations.proofs.Extending.{Extending, among-put, extending-first, extending-known, extending-new}
 use Rattle.declarations.proofs.elaborate.Elaborator.extend_deduped.Goals as goal
 
@@ -13,7 +13,7 @@ references-preserved-in_ok-put-2 c =
     let es = c.args.cx.now.entries in
     let x = c.in-Some.next.now in
     let h = subst (λ l. Extending es c.args.references.now c.args.self.now l c.references.self) c.in-Some.ensures.cases.0 c.references.invariant in
-    let told = c.is_among.ensures ∙ among-put es c.lawful.ensures x h.left_held.0 c.deref.result.now (subst (AllHeld es) (sym c.deref.ensures.value) h.visited_held)
+    let told = c.is_among.ensures ∙ among-put es c.lawful.ensures x h.left_held.0 c.deref.result.now (subst (TraitRefsHeld es) (sym c.deref.ensures.value) h.visited_held)
     ∙ ap (λ l. is_put (reference_in es x) (references_in es l)) c.deref.ensures.value in
     let no : c.is_among.result ≡ false = search rules in
     extending-new es c.args.references.now c.args.self.now c.references.self _ x c.in-Some.others.now (sym told ∙ no) c.in_ok-put.ensures.put c.in_ok-put-2.ensures.put h
@@ -23,7 +23,7 @@ references-preserved c =
     let es = c.args.cx.now.entries in
     let x = c.in-Some.next.now in
     let h = subst (λ l. Extending es c.args.references.now c.args.self.now l c.references.self) c.in-Some.ensures.cases.0 c.references.invariant in
-    let told = c.is_among.ensures ∙ among-put es c.lawful.ensures x h.left_held.0 c.deref.result.now (subst (AllHeld es) (sym c.deref.ensures.value) h.visited_held)
+    let told = c.is_among.ensures ∙ among-put es c.lawful.ensures x h.left_held.0 c.deref.result.now (subst (TraitRefsHeld es) (sym c.deref.ensures.value) h.visited_held)
     ∙ ap (λ l. is_put (reference_in es x) (references_in es l)) c.deref.ensures.value in
     let yes : c.is_among.result ≡ true = search rules in
     extending-known es c.args.references.now c.args.self.now c.references.self x c.in-Some.others.now (sym told ∙ yes) h

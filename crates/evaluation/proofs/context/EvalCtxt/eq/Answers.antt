@@ -6,7 +6,7 @@ use Rattle.type_terms.specs.Failures.{SomeKindIsFull}
 use Rattle.infer_table.specs.Numbers.{RunsOut}
 use Rattle.infer_table.specs.Solutions.{OlderStays}
 use Rattle.infer_table.specs.Unification.{table_trees}
-use Rattle.evaluation.specs.Context.{Context, IsReady}
+use Rattle.evaluation.specs.Context.{Context, IsReadyContext}
 use Rattle.evaluation.proofs.Contexts.{ready-with-table}
 use Rattle.evaluation.specs.declared.error.EvalError.{EvalError}
 use Rattle.evaluation.specs.declared.error.EvalError.TheVariants as Eval
@@ -20,7 +20,7 @@ eq-requires-clause-ready c = subst (λ (x : Context). Ready c.args.cx.now.entrie
 pub returns-clause-ready : goal.returns-clause-ready
 returns-clause-ready c =
     ready-with-table c.args.cx.now.entries c.eq.new.cx.entries _ c.eq.new.self c.eq.ensures.keeps
-    (subst (λ (x : Context). IsReady c.args.cx.now.entries x) (sym c.self.view_is) c.requires.ready)
+    (subst (λ (x : Context). IsReadyContext c.args.cx.now.entries x) (sym c.self.view_is) c.requires.ready)
     c.eq.ensures.ready
 
 pub returns-clause-older : goal.returns-clause-older

@@ -15,7 +15,7 @@ use Rattle.evaluation.specs.declared.TheConstants.{FIXPOINT_STEP_LIMIT}
 use Rattle.evaluation.specs.Evaluating.{evaluation, goals_trees, replies_trees}
 use Rattle.infer_table.specs.Values.{values_of, values-later}
 use Rattle.infer_table.specs.Responses.{answer_trees}
-use Rattle.evaluation.specs.OwnAnswers.{Says, answer_of}
+use Rattle.evaluation.specs.OwnAnswers.{OwnAnswerSays, answer_of}
 use Rattle.evaluation.specs.Steps.{RoundsEnd, RoundsHeld}
 use Rattle.evaluation.proofs.Contexts.{context-later, nested-later, ready-same}
 use Rattle.evaluation.proofs.CallEnds.{ready-settled, call-answered}
@@ -46,7 +46,7 @@ returns-in-Ok-clause-runs c =
     (table-kept es1 es2 keeps mid.table c.evaluate_nested_goals.ensures.ready.table) (goals-trees-later es1 es2 keeps left held)
     (values-later es1 es2 keeps mid.values c.evaluate_nested_goals.ensures.ready.values)
     c.args.certainty c.in-Ended.of_goals c.in-Ok.response r (c.in-Ok.ensures.certainty ∙ c.and.ensures)
-    (subst (λ k. Says es1 es2 mid c.in-Ok.response k) c.and.ensures c.in-Ok.ensures.says)
+    (subst (λ k. OwnAnswerSays es1 es2 mid c.in-Ok.response k) c.and.ensures c.in-Ok.ensures.says)
     (subst (λ k. answer_trees es2 c.in-Ok.response ≡ answer_of mid.variables (values_of es1 mid.values) (table_trees es1 mid.table) k) c.and.ensures c.in-Ok.ensures.is)
     (subst (λ v. RoundsEnd old.mode es1 mid.table r (Ok v)) c.in-Ended.is c.in_ok-evaluated.ensures.runs)
 

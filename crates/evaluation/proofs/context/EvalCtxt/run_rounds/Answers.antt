@@ -4,7 +4,7 @@ use Rattle.infer_table.specs.Unification.{table_trees}
 use Rattle.evaluation.specs.Replays.{run}
 use Rattle.evaluation.specs.Rounds.{rounds}
 use Rattle.evaluation.specs.declared.TheConstants.{FIXPOINT_STEP_LIMIT}
-use Rattle.evaluation.specs.Context.{Context, IsReady, NestedHeld, nested_goal}
+use Rattle.evaluation.specs.Context.{Context, IsReadyContext, NestedHeld, nested_goal}
 use Rattle.evaluation.specs.Evaluating.{evaluation, goals_trees, replies_trees}
 use Rattle.evaluation.specs.Steps.{RoundsEnd}
 use Rattle.evaluation.proofs.Contexts.{ready-with-table}
@@ -24,7 +24,7 @@ rounds-requires-clause-goals c =
 pub returns-clause-ready : goal.returns-clause-ready
 returns-clause-ready c =
     ready-with-table c.args.cx.now.entries c.rounds.new.cx.entries _ c.rounds.new.table c.rounds.ensures.keeps
-    (subst (λ (x : Context). IsReady c.args.cx.now.entries x) (sym c.self.view_is) c.requires.ready)
+    (subst (λ (x : Context). IsReadyContext c.args.cx.now.entries x) (sym c.self.view_is) c.requires.ready)
     c.rounds.ensures.ready
 
 pub returns-clause-runs : goal.returns-clause-runs

@@ -1,6 +1,6 @@
 use Rattle.std.proofs.Common.{◌≡◌, ◌∷◌, ◌-◌, [], List, length, IfOk, suc, sym, ◌∙◌, ap, subst, arith, rules}
 use Rattle.infer_table.proofs.FullFacts.{or-then}
-use Rattle.evaluation.specs.OpenCandidates.{rest_script, StandsAt, IsOver, most_questions, AsksAtMost}
+use Rattle.evaluation.specs.OpenCandidates.{rest_script, StandsAt, CandidateIsOver, most_questions, AsksAtMost}
 use Rattle.evaluation.specs.OpenShortages.{RestRunsOut, RunsOutOnly}
 use Rattle.infer_table.specs.declared.goal.Goal.{Goal}
 use Rattle.evaluation.specs.declared.goal.GoalSource.{GoalSource}
@@ -29,7 +29,7 @@ returns-in-Some-clause-later t c =
 pub returns-then-not-round-clause-most : goal.returns-then-not-round-clause-most
 returns-then-not-round-clause-most t c =
     let most = most_questions c.args.rounds_left (length c.args.round.left.items) (length c.args.goals.items) in
-    ok-more IsOver (AsksAtMost most) (over-most most) c.answer.result c.answer.ensures.over
+    ok-more CandidateIsOver (AsksAtMost most) (over-most most) c.answer.result c.answer.ensures.over
 
 pub returns-then-not-round-clause-full : goal.returns-then-not-round-clause-full
 returns-then-not-round-clause-full t c = λ q.
@@ -44,14 +44,14 @@ returns-then-not-round-clause-full t c = λ q.
 pub returns-then-not-round-clause-later : goal.returns-then-not-round-clause-later
 returns-then-not-round-clause-later t c =
     let P = RestRunsOut c.args.cx.now.entries c.args.self c.args.rounds_left c.args.round c.args.goals.items in
-    ok-more IsOver (RunsOutOnly P c.answer.new.cx.entries) (over-only P c.answer.new.cx.entries) c.answer.result c.answer.ensures.over
+    ok-more CandidateIsOver (RunsOutOnly P c.answer.new.cx.entries) (over-only P c.answer.new.cx.entries) c.answer.result c.answer.ensures.over
 
 -- ---- values came in the last of all rounds
 pub returns-then-rounds_left-eq0-clause-most : goal.returns-then-rounds_left-eq0-clause-most
 returns-then-rounds_left-eq0-clause-most t c =
     let most = most_questions c.args.rounds_left (length c.args.round.left.items) (length c.args.goals.items) in
     let call = c.answer-then-rounds_left-eq0 in
-    ok-more IsOver (AsksAtMost most) (over-most most) call.result call.ensures.over
+    ok-more CandidateIsOver (AsksAtMost most) (over-most most) call.result call.ensures.over
 
 pub returns-then-rounds_left-eq0-clause-full : goal.returns-then-rounds_left-eq0-clause-full
 returns-then-rounds_left-eq0-clause-full t c = λ q.
@@ -66,7 +66,7 @@ pub returns-then-rounds_left-eq0-clause-later : goal.returns-then-rounds_left-eq
 returns-then-rounds_left-eq0-clause-later t c =
     let P = RestRunsOut c.args.cx.now.entries c.args.self c.args.rounds_left c.args.round c.args.goals.items in
     let call = c.answer-then-rounds_left-eq0 in
-    ok-more IsOver (RunsOutOnly P call.new.cx.entries) (over-only P call.new.cx.entries) call.result call.ensures.over
+    ok-more CandidateIsOver (RunsOutOnly P call.new.cx.entries) (over-only P call.new.cx.entries) call.result call.ensures.over
 
 -- ---- the next round begins
 pub returns-clause-stands : goal.returns-clause-stands

@@ -2,7 +2,7 @@ use Rattle.std.proofs.Common.{◌⊎◌, map, ap, subst, sym, None, Err}
 use Rattle.type_terms.specs.Failures.{SomeKindIsFull}
 use Rattle.infer_table.specs.Inputs.{form_of}
 use Rattle.infer_table.proofs.FullFacts.{handed-on}
-use Rattle.evaluation.specs.Readings.{StepHeld}
+use Rattle.evaluation.specs.Readings.{HandlerStepHeld}
 use Rattle.evaluation.specs.StepReadings.{shown_by}
 use Rattle.goal_frames.specs.Fitting.{StepFits}
 use Rattle.goal_frames.specs.Places.{IsIgnoring}
@@ -15,7 +15,7 @@ use Rattle.goal_frames.proofs.frame.GoalFrame.go_on.Goals as goal
 pub returns-in-Consider-clause-held : goal.returns-in-Consider-clause-held
 returns-in-Consider-clause-held g c =
     let f = c.args.self.now in
-    let held = subst (StepHeld c.step.new.cx.entries) c.in-Consider.is c.in_ok-spec.ensures.held in
+    let held = subst (HandlerStepHeld c.step.new.cx.entries) c.in-Consider.is c.in_ok-spec.ensures.held in
     let fits = subst (StepFits f.goal.variables.items c.step.new.cx.entries) c.in-Consider.is c.in_ok-spec.ensures.fits in
     (frame-at c.args.cx.now.entries c.step.new.cx.entries c.step.ensures.keeps f c.requires.held (Entering c.in-Consider.spec) (held, fits), tt)
 
@@ -34,7 +34,7 @@ returns-in-Answer-clause-held g c =
     let f = c.args.self.now in
     let old = c.args.cx.now.entries in
     let new = c.step.new.cx.entries in
-    c.ignore_from.ensures.held new (frame-later old new c.step.ensures.keeps f c.requires.held) (subst (StepHeld new) c.in-Answer.is c.in_ok-spec.ensures.held)
+    c.ignore_from.ensures.held new (frame-later old new c.step.ensures.keeps f c.requires.held) (subst (HandlerStepHeld new) c.in-Answer.is c.in_ok-spec.ensures.held)
     (subst (StepFits f.goal.variables.items new) c.in-Answer.is c.in_ok-spec.ensures.fits)
 
 pub returns-in-Answer-clause-asks : goal.returns-in-Answer-clause-asks

@@ -6,8 +6,8 @@ use Rattle.evaluation.specs.Promises.{frame_of_goal, Anything}
 use Rattle.evaluation.specs.declared.candidate.Considered.{Considered}
 use Rattle.evaluation.specs.Tables.{frame_tables}
 use Rattle.evaluation.specs.StepReadings.{shown_by, result_read}
-use Rattle.goal_frames.specs.Places.{Standing, Stands, IsBetween, IsIgnoring}
-use Rattle.goal_frames.specs.Frames.{History, FrameHeld, HasHeard, PlaceHeld, RequestHeld, IsReply, IsRequest, IsDue, Steps, reply_read}
+use Rattle.goal_frames.specs.Places.{FrameStanding, PositionStands, IsBetween, IsIgnoring}
+use Rattle.goal_frames.specs.Frames.{FrameHistory, FrameHeld, HasHeard, PlaceHeld, RequestHeld, ReplyIsMade, IsRequestOf, ReplyIsDue, FrameSteps, reply_read}
 use Rattle.goal_frames.specs.Steps.{AsksFewer}
 use Rattle.goal_frames.specs.declared.frame.Place.{Place}
 use Rattle.search_graph.specs.declared.delegate.Reply.TheVariants as Replied
@@ -75,10 +75,10 @@ returns-in-Begun-Begin-clause-steps g c =
     let f = c.args.self.now in
     let after = c.go_on.new.self in
     let h = g.H.GoalHandler.meaning.goals.handled (g.H.GoalHandler.meaning.world c.args.handler.now es) f.goal.mode (form_of es f.goal) in
-    both-ok (λ q. FrameHeld new after × RequestHeld new q) (λ q. (p : Standing) → IsBetween h (map (shown_by es) f.considered.items) p → IsRequest f.goal.mode new q (request p) × Stands h new after.goal (map (shown_by new) after.considered.items) after.place p)
-    (Steps es h f (reply_read es c.args.reply) new after) c.go_on.result
+    both-ok (λ q. FrameHeld new after × RequestHeld new q) (λ q. (p : FrameStanding) → IsBetween h (map (shown_by es) f.considered.items) p → IsRequestOf f.goal.mode new q (request p) × PositionStands h new after.goal (map (shown_by new) after.considered.items) after.place p)
+    (FrameSteps es h f (reply_read es c.args.reply) new after) c.go_on.result
     (λ q held asks.
-    subst (λ r. Steps es h f (reply_read es r) new after q) (sym c.in-Begun-Begin.is-1)
+    subst (λ r. FrameSteps es h f (reply_read es r) new after q) (sym c.in-Begun-Begin.is-1)
     (steps-to h es new f after begin q (λ heard b o. asks (position (frame_of_goal frame_tables h) (begin ∷ heard)) (begun-there h es f heard b (sym c.replace.ensures.value ∙ c.in-Begun-Begin.is-0))) held.0))
     c.go_on.ensures.held c.go_on.ensures.asks
 
@@ -96,7 +96,7 @@ resume-step-requires g c =
     let x = c.in-Inside-Result in
     record {
       held = subst (PlaceHeld f.goal es) (sym c.replace.ensures.value ∙ x.is-0) c.requires.due.1.held.place;
-      reply = (subst (IsReply es) x.is-1 c.requires.reply).0;
+      reply = (subst (ReplyIsMade es) x.is-1 c.requires.reply).0;
     }
 
 pub returns-in-Entering-Entered-clause-held : goal.returns-in-Entering-Entered-clause-held
@@ -112,8 +112,8 @@ returns-in-Entering-Entered-clause-held g c =
     let is = sym c.replace.ensures.value ∙ x.is-0 in
     let held = c.requires.due.1.held in
     let moving : FrameHeld es (record f { place = c.replace.new.dest }) = record { goal = held.goal; considered = held.considered; fits = held.fits; place = subst (PlaceHeld f.goal es) (sym c.replace.ensures.after) tt } in
-    let due = subst (λ r. IsDue es h f (reply_read es r)) x.is-1 c.requires.due in
-    let came = λ (heard : History) (b : HasHeard es h f heard) (o : CameInOrder (Anything frame_tables h) (frame_of_goal frame_tables h) (entered ∷ heard)).
+    let due = subst (λ r. ReplyIsDue es h f (reply_read es r)) x.is-1 c.requires.due in
+    let came = λ (heard : FrameHistory) (b : HasHeard es h f heard) (o : CameInOrder (Anything frame_tables h) (frame_of_goal frame_tables h) (entered ∷ heard)).
     begun-comes h f.goal (map (shown_by es) f.considered.items) new step.result es x.spec (subst (PlaceHeld f.goal es) is held.place).1 step.ensures.stands step.ensures.later
     (position (frame_of_goal frame_tables h) (entered ∷ heard)) (inside-there h es f heard b x.spec is) in
     open-held h es new step.ensures.keeps f c.replace.new.dest after x.spec.source step.result entered due came moving step.ensures.held c.go_on_with.result (goes-at _ es new c.go_on_with.result c.go_on_with.ensures.goes_on)
@@ -131,11 +131,11 @@ returns-in-Entering-Entered-clause-steps g c =
     let is = sym c.replace.ensures.value ∙ x.is-0 in
     let held = c.requires.due.1.held in
     let moving : FrameHeld es (record f { place = c.replace.new.dest }) = record { goal = held.goal; considered = held.considered; fits = held.fits; place = subst (PlaceHeld f.goal es) (sym c.replace.ensures.after) tt } in
-    let due = subst (λ r. IsDue es h f (reply_read es r)) x.is-1 c.requires.due in
-    let came = λ (heard : History) (b : HasHeard es h f heard) (o : CameInOrder (Anything frame_tables h) (frame_of_goal frame_tables h) (entered ∷ heard)).
+    let due = subst (λ r. ReplyIsDue es h f (reply_read es r)) x.is-1 c.requires.due in
+    let came = λ (heard : FrameHistory) (b : HasHeard es h f heard) (o : CameInOrder (Anything frame_tables h) (frame_of_goal frame_tables h) (entered ∷ heard)).
     begun-comes h f.goal (map (shown_by es) f.considered.items) new step.result es x.spec (subst (PlaceHeld f.goal es) is held.place).1 step.ensures.stands step.ensures.later
     (position (frame_of_goal frame_tables h) (entered ∷ heard)) (inside-there h es f heard b x.spec is) in
-    subst (λ r. IfOk c.go_on_with.result (Steps es h f (reply_read es r) new after)) (sym x.is-1)
+    subst (λ r. IfOk c.go_on_with.result (FrameSteps es h f (reply_read es r) new after)) (sym x.is-1)
     (open-steps h es new step.ensures.keeps f c.replace.new.dest after x.spec.source step.result entered due came moving step.ensures.held c.go_on_with.result (goes-at _ es new c.go_on_with.result c.go_on_with.ensures.goes_on))
 
 pub returns-in-Entering-Entered-clause-fewer : goal.returns-in-Entering-Entered-clause-fewer
@@ -158,11 +158,11 @@ returns-in-Inside-Result-clause-held g c =
     let is = sym c.replace.ensures.value ∙ x.is-0 in
     let held = c.requires.due.1.held in
     let moving : FrameHeld es (record f { place = c.replace.new.dest }) = record { goal = held.goal; considered = held.considered; fits = held.fits; place = subst (PlaceHeld f.goal es) (sym c.replace.ensures.after) tt } in
-    let due = subst (λ r. IsDue es h f (reply_read es r)) x.is-1 c.requires.due in
-    let came = λ (heard : History) (b : HasHeard es h f heard) (o : CameInOrder (Anything frame_tables h) (frame_of_goal frame_tables h) (evaluated (result_read es x.answer) ∷ heard)).
+    let due = subst (λ r. ReplyIsDue es h f (reply_read es r)) x.is-1 c.requires.due in
+    let came = λ (heard : FrameHistory) (b : HasHeard es h f heard) (o : CameInOrder (Anything frame_tables h) (frame_of_goal frame_tables h) (evaluated (result_read es x.answer) ∷ heard)).
     let there = hears-there h es f heard b x.source x.waiting (result_read es x.answer) is o in
     resumed-comes h f.goal (map (shown_by es) f.considered.items) new step.result es x.source x.waiting (result_read es x.answer) (position (frame_of_goal frame_tables h) heard) there.0
-    (result-fits es x.answer (subst (IsReply es) x.is-1 c.requires.reply).1) step.ensures.stands step.ensures.later
+    (result-fits es x.answer (subst (ReplyIsMade es) x.is-1 c.requires.reply).1) step.ensures.stands step.ensures.later
     (position (frame_of_goal frame_tables h) (evaluated (result_read es x.answer) ∷ heard)) there.1 in
     open-held h es new step.ensures.keeps f c.replace.new.dest after x.source step.result (evaluated (result_read es x.answer)) due came moving step.ensures.held c.go_on_with-in-Inside-Result.result (goes-at _ es new c.go_on_with-in-Inside-Result.result c.go_on_with-in-Inside-Result.ensures.goes_on)
 
@@ -179,13 +179,13 @@ returns-in-Inside-Result-clause-steps g c =
     let is = sym c.replace.ensures.value ∙ x.is-0 in
     let held = c.requires.due.1.held in
     let moving : FrameHeld es (record f { place = c.replace.new.dest }) = record { goal = held.goal; considered = held.considered; fits = held.fits; place = subst (PlaceHeld f.goal es) (sym c.replace.ensures.after) tt } in
-    let due = subst (λ r. IsDue es h f (reply_read es r)) x.is-1 c.requires.due in
-    let came = λ (heard : History) (b : HasHeard es h f heard) (o : CameInOrder (Anything frame_tables h) (frame_of_goal frame_tables h) (evaluated (result_read es x.answer) ∷ heard)).
+    let due = subst (λ r. ReplyIsDue es h f (reply_read es r)) x.is-1 c.requires.due in
+    let came = λ (heard : FrameHistory) (b : HasHeard es h f heard) (o : CameInOrder (Anything frame_tables h) (frame_of_goal frame_tables h) (evaluated (result_read es x.answer) ∷ heard)).
     let there = hears-there h es f heard b x.source x.waiting (result_read es x.answer) is o in
     resumed-comes h f.goal (map (shown_by es) f.considered.items) new step.result es x.source x.waiting (result_read es x.answer) (position (frame_of_goal frame_tables h) heard) there.0
-    (result-fits es x.answer (subst (IsReply es) x.is-1 c.requires.reply).1) step.ensures.stands step.ensures.later
+    (result-fits es x.answer (subst (ReplyIsMade es) x.is-1 c.requires.reply).1) step.ensures.stands step.ensures.later
     (position (frame_of_goal frame_tables h) (evaluated (result_read es x.answer) ∷ heard)) there.1 in
-    subst (λ r. IfOk c.go_on_with-in-Inside-Result.result (Steps es h f (reply_read es r) new after)) (sym x.is-1)
+    subst (λ r. IfOk c.go_on_with-in-Inside-Result.result (FrameSteps es h f (reply_read es r) new after)) (sym x.is-1)
     (open-steps h es new step.ensures.keeps f c.replace.new.dest after x.source step.result (evaluated (result_read es x.answer)) due came moving step.ensures.held c.go_on_with-in-Inside-Result.result (goes-at _ es new c.go_on_with-in-Inside-Result.result c.go_on_with-in-Inside-Result.ensures.goes_on))
 
 pub returns-in-Inside-Result-clause-fewer : goal.returns-in-Inside-Result-clause-fewer
@@ -206,10 +206,10 @@ returns-in_ok-push-in-Finishing-Finished-clause-steps g c =
     let x = c.in-Finishing-Finished in
     let d : Considered = record { source = x.source; result = x.outcome; head_usages = x.head_usages } in
     both-ok (λ q. FrameHeld new after × RequestHeld new q)
-    (λ q. (p : Standing) → IsBetween h (map (shown_by es) c.push.new.self.items) p → IsRequest f.goal.mode new q (request p) × Stands h new after.goal (map (shown_by new) after.considered.items) after.place p)
-    (Steps es h f (reply_read es c.args.reply) new after) c.go_on-in-Finishing-Finished.result
+    (λ q. (p : FrameStanding) → IsBetween h (map (shown_by es) c.push.new.self.items) p → IsRequestOf f.goal.mode new q (request p) × PositionStands h new after.goal (map (shown_by new) after.considered.items) after.place p)
+    (FrameSteps es h f (reply_read es c.args.reply) new after) c.go_on-in-Finishing-Finished.result
     (λ q held asks.
-    subst (λ r. Steps es h f (reply_read es r) new after q) (sym x.is-1)
+    subst (λ r. FrameSteps es h f (reply_read es r) new after q) (sym x.is-1)
     (steps-to h es new f after (finished x.head_usages) q
     (λ heard b o.
     let p = position (frame_of_goal frame_tables h) (finished x.head_usages ∷ heard) in
@@ -235,7 +235,7 @@ returns-in-Ignoring-Ignored-clause-steps g c =
     let x = c.in-Ignoring-Ignored in
     let held = c.requires.due.1.held in
     let place = subst (PlaceHeld f.goal es) (sym c.replace.ensures.value ∙ x.is-0) held.place in
-    subst (λ r. Steps es h f (reply_read es r) es after c.ignore_from.result) (sym x.is-1)
+    subst (λ r. FrameSteps es h f (reply_read es r) es after c.ignore_from.result) (sym x.is-1)
     (steps-to h es es f after ignored c.ignore_from.result
     (λ heard b o.
     let p = position (frame_of_goal frame_tables h) (ignored ∷ heard) in

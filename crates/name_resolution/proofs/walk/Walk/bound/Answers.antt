@@ -9,7 +9,7 @@ use Rattle.text_definitions.specs.Lowering.{trait_number}
 use Rattle.text_definitions.specs.Uses.{trait_use, binder_uses, kinds_of_trait}
 use Rattle.name_resolution.specs.Resolved as resolved
 use Rattle.name_resolution.specs.Back.{count_above}
-use Rattle.name_resolution.specs.Machine.{Frame, Found, State, items, findings, going, keeping, using, noting, args_inside}
+use Rattle.name_resolution.specs.Machine.{WalkFrame, Found, WalkState, items, findings, going, keeping, using, noting, args_inside}
 use Rattle.name_resolution.specs.WalkViews.{frame_of, frames_in}
 use Rattle.name_resolution.proofs.Walking.{noted, bound-variables, together, going-same}
 use Rattle.name_resolution.proofs.walk.Walk.bound.Goals as goal
@@ -24,14 +24,14 @@ returns g c =
     let names = map text_of c.in_ok-bound.bound.items in
     let l = c.len.result in
     let o = known (items v) n in
-    let frame : List Sort → ℕ → Bool → Frame = λ ks k b. record { start = c.args.start; inner = c.args.inner; binds = true; holds = args_inside ks k; room = c.args.outer.room; is_kept = b } in
+    let frame : List Sort → ℕ → Bool → WalkFrame = λ ks k b. record { start = c.args.start; inner = c.args.inner; binds = true; holds = args_inside ks k; room = c.args.outer.room; is_kept = b } in
     let outer = frame_of c.args.outer ∷ frames_in w.frames.items in
     let kept = c.args.outer.is_kept && not (is_auto_name (items v) n) in
     let held = c.is_kept_but-is_kept.result in
     let is-held : held ≡ kept = c.is_kept_but-is_kept.ensures ∙ ap (λ b. c.args.outer.is_kept && not b) c.is_auto.ensures in
     let number : c.trait_number.result ≡ trait_number o = c.trait_number.ensures ∙ ap trait_number c.known-meaning.ensures in
     let us = binder_uses s names ++ trait_use n k ∷ [] in
-    let at : List (List ℕ) → ℕ → ℕ → ℕ → Bool → State =
+    let at : List (List ℕ) → ℕ → ℕ → ℕ → Bool → WalkState =
     λ b l k j h. going (frame (kinds_of_trait o) k h ∷ outer) (b ∷ s) w.rest (using v (binder_uses s b ++ trait_use n k ∷ []) (keeping h (λ cs. resolved.node_cell (principal l j) k ∷ cs) w.found)) in
     let x : Found = keeping held (λ cs. resolved.node_cell (principal l c.trait_number.result) k ∷ cs) w.found in
     let many : length names ≡ l = length-map c.in_ok-bound.bound.items text_of ∙ sym (c.len.ensures ∙ c.in_ok-bound.bound.ok.0) in

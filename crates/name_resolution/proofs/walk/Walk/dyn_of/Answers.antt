@@ -2,7 +2,7 @@ use Rattle.std.proofs.Common.{◌≡◌, ℕ, ◌+◌, ◌<◌, List, ◌∷◌,
 use Rattle.text_definitions.specs.Uses.{dyn_use}
 use Rattle.name_resolution.specs.Back.{parts_above, shape_of}
 use Rattle.name_resolution.specs.Resolved.{Region}
-use Rattle.name_resolution.specs.Machine.{Frame, Found, items, params, going, using, noting, keeping, deepening, deeper, sort_misfits, items_inside, shape_autos, shape_principals, last_item_region}
+use Rattle.name_resolution.specs.Machine.{WalkFrame, Found, items, params, going, using, noting, keeping, deepening, deeper, sort_misfits, items_inside, shape_autos, shape_principals, last_item_region}
 use Rattle.name_resolution.specs.Shapes.{dyn_cells, summary}
 use Rattle.workspace.specs.Views.{sort_of_kind}
 use Rattle.name_resolution.specs.Views.{region_in}
@@ -48,7 +48,7 @@ returns g c =
     let a = c.keep_dyn.new.self in
     let e : using v us (deepening room a) ≡ c.note.new.self =
     noted v us c.either-faults.result (deepening room a) c.note.new.self (no-variables-with p (dyn_use is ∷ []) refl) both (c.note.ensures ∙ ap (noting c.either-faults.result) c.deepen.ensures) in
-    let frame : Option ℕ → Frame = λ r. record { start = c.args.start; inner = c.args.start; binds = false; holds = items_inside; room = r; is_kept = b } in
+    let frame : Option ℕ → WalkFrame = λ r. record { start = c.args.start; inner = c.args.start; binds = false; holds = items_inside; room = r; is_kept = b } in
     let f = frame (deeper room) in
     let h : frames_in c.push.new.self.frames.items ≡ f ∷ fs = c.in_ok-push.ensures.frames ∙ ap (λ z. frame z ∷ fs) c.deeper.ensures in
     ap (λ z. going (f ∷ fs) s w.rest (using v us (deepening room z))) kept ∙ ap (going (f ∷ fs) s w.rest) e

@@ -6,7 +6,7 @@ use Rattle.text_definitions.specs.Uses.{items_use, binder_uses}
 use Rattle.workspace.specs.Views.{sort_of_kind}
 use Rattle.name_resolution.specs.Resolved as resolved
 use Rattle.name_resolution.specs.Back.{count_above}
-use Rattle.name_resolution.specs.Machine.{Found, State, findings, going, keeping, deepening, using, sort_misfits, fn_frame}
+use Rattle.name_resolution.specs.Machine.{Found, WalkState, findings, going, keeping, deepening, using, sort_misfits, fn_frame}
 use Rattle.name_resolution.specs.WalkViews.{place_of, frames_in}
 use Rattle.name_resolution.proofs.Walking.{count-within, kept-twice, noted, fn-variables, together, going-same}
 use Rattle.name_resolution.proofs.walk.Walk.fn_to_unit.Goals as goal
@@ -26,7 +26,7 @@ returns g c =
     let fs = f ∷ frames_in w.frames.items in
     let us = sort_misfits p ++ (binder_uses s names ++ items_use k ∷ []) in
     let x : Found = deepening room (keeping kept (λ cs. resolved.node_cell tuple 0 ∷ cs) c.keep.new.self) in
-    let at : List (List ℕ) → ℕ → ℕ → State =
+    let at : List (List ℕ) → ℕ → ℕ → WalkState =
     λ b l k. going fs (b ∷ s) w.rest (using v (sort_misfits p ++ (binder_uses s b ++ items_use k ∷ [])) (deepening room (keeping kept (λ cs. resolved.node_cell tuple 0 ∷ resolved.node_cell (fn_ptr l) (suc k) ∷ cs) w.found))) in
     let next : suc k ≡ k + 1 = omega arith in
     let one : ℕ → Found = λ j. keeping kept (λ cs. resolved.node_cell tuple 0 ∷ resolved.node_cell (fn_ptr l) j ∷ cs) w.found in

@@ -5,7 +5,7 @@ use Rattle.text_definitions.specs.Declarations.{known}
 use Rattle.text_definitions.specs.Uses.{name_use, kinds_of_struct}
 use Rattle.workspace.specs.Views.{sort_of_kind}
 use Rattle.name_resolution.specs.Views.{resolved_in}
-use Rattle.name_resolution.specs.Machine.{Frame, Found, items, going, keeping, deepening, deeper, using, name_misfits, name_cells, is_const_place, args_inside}
+use Rattle.name_resolution.specs.Machine.{WalkFrame, Found, items, going, keeping, deepening, deeper, using, name_misfits, name_cells, is_const_place, args_inside}
 use Rattle.name_resolution.specs.WalkViews.{frames_in}
 use Rattle.name_resolution.proofs.Walking.{noted, name-variables, kept-same, together, going-same}
 use Rattle.name_resolution.proofs.walk.Walk.named.Goals as goal
@@ -22,7 +22,7 @@ returns g c =
     let fs = frames_in w.frames.items in
     let us = name_misfits p ++ name_use p n k ∷ [] in
     let ks = kinds_of_struct (known (items v) n) in
-    let frame : List Sort → ℕ → Option ℕ → Bool → Frame = λ ks k r b. record { start = c.args.start; inner = c.args.start; binds = false; holds = args_inside ks k; room = r; is_kept = b } in
+    let frame : List Sort → ℕ → Option ℕ → Bool → WalkFrame = λ ks k r b. record { start = c.args.start; inner = c.args.start; binds = false; holds = args_inside ks k; room = r; is_kept = b } in
     let own = b && not (is_const_place p) in
     let cell = resolved_in c.named_cell-cell.result in
     let x : Found = deepening room (keeping b (λ cs. cell ∷ cs) w.found) in

@@ -1,11 +1,11 @@
-use Rattle.name_resolution.specs.Machine.{State, Reaches}
+use Rattle.name_resolution.specs.Machine.{WalkState, WalkReaches}
 use Rattle.name_resolution.specs.WalkViews.{state_in}
 use Rattle.name_resolution.proofs.Weights.{weight}
 use Rattle.name_resolution.proofs.walk.Walk.run.Given as goal
 
 abbrev pub invariant-loop-alloc : goal.invariant-loop-alloc
 invariant-loop-alloc g l = record {
-  so_far : (y : State) → Reaches (g.N.Names.sight l.names) (state_in l.next l.self) y → Reaches (g.N.Names.sight l.names) (state_in l.fn.first l.fn.self) y;
+  so_far : (y : WalkState) → WalkReaches (g.N.Names.sight l.names) (state_in l.next l.self) y → WalkReaches (g.N.Names.sight l.names) (state_in l.fn.first l.fn.self) y;
 }
 
 abbrev pub decreases-loop-alloc : goal.decreases-loop-alloc

@@ -3,7 +3,7 @@ use Rattle.type_terms.specs.Label.{tuple}
 use Rattle.text_definitions.specs.Uses.{items_use}
 use Rattle.workspace.specs.Views.{sort_of_kind}
 use Rattle.name_resolution.specs.Resolved as resolved
-use Rattle.name_resolution.specs.Machine.{Frame, Found, going, using, keeping, deepening, deeper, sort_misfits, types_inside, tuple_step}
+use Rattle.name_resolution.specs.Machine.{WalkFrame, Found, going, using, keeping, deepening, deeper, sort_misfits, types_inside, tuple_step}
 use Rattle.name_resolution.specs.WalkViews.{place_of, frames_in}
 use Rattle.name_resolution.proofs.Walking.{noted, no-variables-with, together, going-same}
 use Rattle.name_resolution.proofs.walk.Walk.tuple.Goals as goal
@@ -17,7 +17,7 @@ returns c v =
     let x : Found = deepening c.args.place.room (keeping c.args.place.is_kept (λ cs. resolved.node_cell tuple k ∷ cs) w.found) in
     let both = together v (sort_misfits p) (items_use k ∷ []) c.misfits.result c.items.result c.either.result (c.misfits.ensures v) (c.items.ensures v) c.either.ensures in
     let e : using v us x ≡ c.add.new.self = noted v us c.either.result x c.add.new.self (no-variables-with p (items_use k ∷ []) refl) both c.in_ok-add.ensures in
-    let f : Frame = record { start = c.args.start; inner = c.args.start; binds = false; holds = types_inside; room = deeper c.args.place.room; is_kept = c.args.place.is_kept } in
+    let f : WalkFrame = record { start = c.args.start; inner = c.args.start; binds = false; holds = types_inside; room = deeper c.args.place.room; is_kept = c.args.place.is_kept } in
     let at : tuple_step v (place_of c.args.place) (frames_in w.frames.items) w.binders c.args.start w.rest w.found ≡ going (f ∷ frames_in w.frames.items) w.binders w.rest (using v us x) =
     ap (λ j. going (f ∷ frames_in w.frames.items) w.binders w.rest (using v (sort_misfits p ++ items_use j ∷ []) (deepening c.args.place.room (keeping c.args.place.is_kept (λ cs. resolved.node_cell tuple j ∷ cs) w.found)))) (sym c.count_above-count.ensures) in
     let g : frames_in c.push.new.self.frames.items ≡ f ∷ frames_in w.frames.items =

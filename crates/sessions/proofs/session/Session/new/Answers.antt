@@ -1,6 +1,6 @@
 use Rattle.std.proofs.Common.{◌∙◌, ap, subst, sym}
 use Rattle.type_terms.specs.Terms.{Terms}
-use Rattle.candidate_assembly.specs.Ready.{IsReady}
+use Rattle.candidate_assembly.specs.Ready.{AreReadyDeclarations}
 use Rattle.candidate_assembly.specs.declared.solver.Solver.{Solver}
 use Rattle.sessions.proofs.Keeping.{solves-view, solves-seen, solver-rests-first}
 use Rattle.sessions.proofs.session.Session.new.Goals as goal
@@ -20,7 +20,7 @@ invariant_of-result c =
           (ap (λ (h : Solver). h.declarations) c.new-cx.ensures.handler ∙ c.new-solver.ensures)
           (record { written = view.written; structs = view.struct_sorts; traits = view.trait_sorts; impls = view.impl_sorts }) view.local;
       rest = solver-rests-first c.args.limits.depth cx c.in_ok-graph.graph c.in_ok-cache.cache c.in_ok-graph.ensures c.in_ok-cache.ensures
-          (c.new-cx.ensures.ready (subst (IsReady es) (sym c.new-solver.ensures) view.ready));
+          (c.new-cx.ensures.ready (subst (AreReadyDeclarations es) (sym c.new-solver.ensures) view.ready));
     }
 
 pub returns-clause-term_limit : goal.returns-clause-term_limit

@@ -3,7 +3,7 @@ use Rattle.infer_table.specs.declared.certainty.Certainty.TheVariants.{Maybe}
 use Rattle.search_graph.specs.Meaning.{IsFair}
 use Rattle.goal_frames.specs.HandlerPrograms.{silent}
 use Rattle.goal_frames.proofs.HandlerPrograms.{handlers-are-programs}
-use Rattle.solver_context.specs.Contexts.{goal_of, answer_of, IsResult}
+use Rattle.solver_context.specs.Contexts.{goal_of, answer_of, ResponseIsMade}
 use Rattle.solver_context.specs.Searching.{solver_meaning}
 use Rattle.solver_context.proofs.Fairness.{silent-fair}
 use Rattle.solver_context.proofs.Silences.{one-ok}
@@ -24,7 +24,7 @@ returns-clause-fair g c =
     let w = h.meaning.world cx.handler cx.interner.entries in
     let laws = handlers-are-programs h.meaning.goals lawful in
     let cause = c.args.ambiguity_info in
-    one-ok (λ r. IsResult h.meaning.IsReady c.silent_answer.new.cx r × (answer_of c.silent_answer.new.cx r ≡ silent asked.1 (Maybe cause)))
+    one-ok (λ r. ResponseIsMade h.meaning.IsReady c.silent_answer.new.cx r × (answer_of c.silent_answer.new.cx r ≡ silent asked.1 (Maybe cause)))
     (λ r. IsFair (solver_meaning h.meaning) w asked (answer_of c.silent_answer.new.cx r)) c.silent_answer.result
     (λ r x. subst (IsFair (solver_meaning h.meaning) w asked) (sym x.1) (silent-fair h.meaning lawful laws w asked (Maybe cause)))
     c.silent_answer.ensures.is

@@ -3,7 +3,7 @@ use Rattle.search_graph.specs.Meaning as Search
 use Rattle.goal_frames.proofs.Stepping.{both-ok}
 use Rattle.solver_context.specs.declared.context.SolverCx.{SolverCx}
 use Rattle.solver_context.specs.Answers.{request_read}
-use Rattle.solver_context.specs.Searching.{HasHeard, solver_meaning, steps_left}
+use Rattle.solver_context.specs.Searching.{FrameHasHeard, solver_meaning, steps_left}
 use Rattle.solver_context.proofs.Growing.{later, further, keeps, same-world}
 use Rattle.solver_context.proofs.Silences.{always-ok}
 use Rattle.infer_table.proofs.FullFacts.{handed-on}
@@ -72,7 +72,7 @@ returns-clause-steps g c =
           hears-more h.meaning m.lawful.world_kept cx before reply goal heard has mid first after asked c.in_ok-reply.ensures.held told c.in_ok-asked.ensures.fewer c.step-asked.ensures.goal c.in_ok-asked.ensures.steps here
           in
           let on = (keeps h.meaning m.lawful.world_kept mid new first.ready c.keep_request.ensures.advances).frames goal _ after there in (
-            subst (λ y. HasHeard h.meaning new goal (y ∷ heard) after) same on,
+            subst (λ y. FrameHasHeard h.meaning new goal (y ∷ heard) after) same on,
             is
                 ∙ subst (λ y. request_read c.step-asked.new.cx.entries asked ≡ meaning.asks world goal (y ∷ heard)) same
                 (requests h.meaning m.lawful.world_kept cx before reply goal heard has mid first after asked c.in_ok-reply.ensures.held told c.in_ok-asked.ensures.fewer c.step-asked.ensures.goal c.in_ok-asked.ensures.steps here),

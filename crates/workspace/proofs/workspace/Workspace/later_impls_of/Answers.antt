@@ -2,7 +2,7 @@ use Rattle.std.proofs.Common.{map, subst, sym, ap, ◌∙◌}
 use Rattle.std.specs.Prelude.{◌==◌, filter}
 use Rattle.text_definitions.specs.Declarations.{LaterImpl}
 use Rattle.workspace.specs.declared.declared.LaterEntry.{LaterEntry}
-use Rattle.workspace.specs.Numbered.{Each}
+use Rattle.workspace.specs.Numbered.{EachNumbered}
 use Rattle.workspace.specs.Made.{ReferenceMade, ReferencesMade}
 use Rattle.workspace.specs.Views.{later_of}
 use Rattle.workspace.proofs.Each.{Each-filter, filter-map}
@@ -18,12 +18,12 @@ returns-clause-items c =
 -- all are made well, so those of the section are
 pub returns-clause-headers : goal.returns-clause-headers
 returns-clause-headers c =
-    subst (Each (λ k (x : LaterEntry). ReferenceMade x.entry.header)) (sym c.impls_of_section.ensures)
+    subst (EachNumbered (λ k (x : LaterEntry). ReferenceMade x.entry.header)) (sym c.impls_of_section.ensures)
     (Each-filter (λ (x : LaterEntry). ReferenceMade x.entry.header) (λ (x : LaterEntry). x.section == c.args.section) c.deref.result.now
-    (subst (Each (λ k (x : LaterEntry). ReferenceMade x.entry.header)) (sym c.deref.ensures.value) c.self.invariant.0.made.later_headers))
+    (subst (EachNumbered (λ k (x : LaterEntry). ReferenceMade x.entry.header)) (sym c.deref.ensures.value) c.self.invariant.0.made.later_headers))
 
 pub returns-clause-clauses : goal.returns-clause-clauses
 returns-clause-clauses c =
-    subst (Each (λ k (x : LaterEntry). ReferencesMade x.entry.clauses.items)) (sym c.impls_of_section.ensures)
+    subst (EachNumbered (λ k (x : LaterEntry). ReferencesMade x.entry.clauses.items)) (sym c.impls_of_section.ensures)
     (Each-filter (λ (x : LaterEntry). ReferencesMade x.entry.clauses.items) (λ (x : LaterEntry). x.section == c.args.section) c.deref.result.now
-    (subst (Each (λ k (x : LaterEntry). ReferencesMade x.entry.clauses.items)) (sym c.deref.ensures.value) c.self.invariant.0.made.later_clauses))
+    (subst (EachNumbered (λ k (x : LaterEntry). ReferencesMade x.entry.clauses.items)) (sym c.deref.ensures.value) c.self.invariant.0.made.later_clauses))
