@@ -10,7 +10,7 @@ use Rattle.type_terms.proofs.ProofEntries.{map-in, entry-proved}
 use Rattle.type_terms.specs.Core.{core_world}
 use Rattle.type_terms.specs.Renumbering.{Renumbering, View, HoldsView, renumbered_struct}
 use Rattle.type_terms.specs.LinkedSet.{IsOfAnAnsweredCrate, LinkedSet}
-use Rattle.type_terms.specs.Worked.{first, second, u8, to, struct, impl_of, show_world, applied, text_of_a_user, set_of_two_users}
+use Rattle.type_terms.specs.Worked.{beside_core, trait_of, base, first, second, u8, to, struct, impl_of, show_world, applied, text_of_a_user, set_of_two_users}
 use Rattle.type_terms.proofs.Members.{in-nothing, in-append, in-cases, in-filter, filter-in, same-number, self-number}
 use Rattle.type_terms.proofs.NoHolds.{member-each}
 use Rattle.type_terms.proofs.TwoTexts.{two-texts}
@@ -116,15 +116,22 @@ one-rule W E r v e p = by (in-cases u.0 v [] (subst (λ us. In u.0 us) e u.1))
     by (inl q) = subst (λ (w : Rule). Every (HasProof W E) w.premises) (sym q) u.2
     by (inr q) = absurd (in-nothing u.0 q)
 
+abbrev both_kinds : World
+both_kinds = beside_core [] (trait_of 20 base [] ∷ []) (impl_of 100 base 0 (to 20 u8 (tree bool none (leaf (value 4)))) [] ∷ [])
+
 pub values-of-both-kinds : ValuesOfBothKinds
 values-of-both-kinds = (
   ((refl, refl), ((refl, refl), tt)),
-  (
-    record { of = to 20 u8 (tree bool none (leaf (value 4))); rule = record { way = by_impl 100; premises = [] } } ∷ [],
-    ((0, refl), tt, tt),
-    (0, refl),
-  ),
+  both-proved,
+  λ _. record { values = leaf bool ∷ leaf (value 4) ∷ []; fitting = ((refl, refl), ((refl, refl), tt)); closed = (refl, (refl, tt)); proved = both-proved },
 )
+  where
+    both-proved : HasProof both_kinds [] (to 20 u8 (tree bool none (leaf (value 4))))
+    both-proved = (
+      record { of = to 20 u8 (tree bool none (leaf (value 4))); rule = record { way = by_impl 100; premises = [] } } ∷ [],
+      ((0, refl), tt, tt),
+      (0, refl),
+    )
 
 abbrev P : Trees
 P = leaf (placeholder of_type 0)
@@ -146,18 +153,18 @@ proved-u8 = (
   (1, refl),
 )
 
+by-clause : HasProof show_world (asked 20 P ∷ []) (asked 20 (applied 10 P))
+by-clause = (
+  record { of = asked 20 P; rule = record { way = by_clause 0; premises = [] } }
+      ∷ record { of = asked 20 (applied 10 P); rule = record { way = by_impl 100; premises = asked 20 P ∷ [] } }
+      ∷ [],
+  ((0, refl), tt, ((0, refl), ((0, refl), tt), tt)),
+  (1, refl),
+)
+
 pub parameters-stand : ParametersStandForThemselves
 parameters-stand = (
-  (
-    tt,
-    (
-      record { of = asked 20 P; rule = record { way = by_clause 0; premises = [] } }
-          ∷ record { of = asked 20 (applied 10 P); rule = record { way = by_impl 100; premises = asked 20 P ∷ [] } }
-          ∷ [],
-      ((0, refl), tt, ((0, refl), ((0, refl), tt), tt)),
-      (1, refl),
-    ),
-  ),
+  (tt, by-clause, λ _. record { values = []; fitting = tt; closed = tt; proved = by-clause }),
   (λ d p. no-rule show_world [] (asked 20 P) refl (one-rule show_world [] (asked 20 (applied 10 P)) (record { way = by_impl 100; premises = asked 20 P ∷ [] }) refl p).0),
   (λ m. m decided),
   (λ u. u decided proved-u8),

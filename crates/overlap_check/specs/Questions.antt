@@ -1,12 +1,12 @@
 -- What an answer promises. V is the view of the asking crate c; unknowns of one kind count from 0; all is without lifetimes.
-use Rattle.std.specs.Prelude.{◌≡◌, ℕ, true, false, IsTrue, List, [], ◌∷◌, unwrap_or, if◌then◌else◌}
+use Rattle.std.specs.Prelude.{◌≡◌, ℕ, Bool, true, false, IsTrue, List, [], ◌∷◌, unwrap_or, if◌then◌else◌}
 use Rattle.std.specs.List.{slice_get}
-use Rattle.type_terms.specs.Label.{Sort, infer}
-use Rattle.type_terms.specs.Trees.{Trees, none, tree, leaf, ◌+++◌, IsA, is_sort}
+use Rattle.type_terms.specs.Label.{Label, Sort, infer}
+use Rattle.type_terms.specs.Trees.{Trees, none, tree, leaf, ◌+++◌, IsA, is_sort, some_node}
 use Rattle.type_terms.specs.Worlds.{World, Reference}
 use Rattle.type_terms.specs.Proofs.{Every, HasProof}
 use Rattle.type_terms.specs.Elaborated.{HasElaboratedProof}
-use Rattle.type_terms.specs.Answers.{is_closed, is_bounded, is_possible, IsUnambiguous}
+use Rattle.type_terms.specs.Answers.{is_open, is_closed, is_bounded, is_possible, IsUnambiguous}
 use Rattle.type_terms.specs.Renumbering.{renumbered_reference}
 use Rattle.overlap_check.specs.Verdicts.{InEverySetWith}
 
@@ -36,10 +36,28 @@ pub data ProveAnswer : Type 0 where
   unproved : ProveAnswer
   maybe : ProveAnswer
 
+-- Closed terms for the unknowns with which H holds of the reference.
+pub record SolutionBy (H : Reference → Type 0) (ks : List Sort) (r : Reference) : Type 0 where
+  pub values : List Trees
+  pub fitting : FitKinds ks values
+  pub closed : Every (λ t. IsTrue (is_closed t)) values
+  pub proved : H (filled_reference ks values r)
+
+-- An open place that is no unknown: a parameter or what stands for one, or what a binder binds.
+abbrev pub is_bound_place : Label → Bool
+is_bound_place (infer s i) = false
+is_bound_place l = is_open l
+
+-- No value holds such a place: where no parameter is printed.
+abbrev pub HoldUnknownsAlone : List Trees → Type 0
+HoldUnknownsAlone ts = Every (λ t. some_node is_bound_place t ≡ false) ts
+
 -- `yes` has a proof by the rules of the view and the where-clauses, with the values put in; unknowns that are left, and parameters,
--- stand for themselves. Of a decided reference `unproved` says that it has no proof, and `maybe` is never said.
+-- stand for themselves. Where the values hold unknowns alone, there is a solution: closed terms with which it has a proof. Of an
+-- unambiguous reference `unproved` says that it has no proof, and `maybe` is never said.
 abbrev pub IsProveAnswer : ℕ → World → List Sort → List Reference → Reference → ProveAnswer → Type 0
-IsProveAnswer limit V ks E r (yes ts) = FitKinds ks ts × HasProof V E (filled_reference ks ts r)
+IsProveAnswer limit V ks E r (yes ts) =
+    FitKinds ks ts × HasProof V E (filled_reference ks ts r) × (HoldUnknownsAlone ts → SolutionBy (HasProof V E) ks r)
 IsProveAnswer limit V ks E r unproved = IsUnambiguous limit V E r → HasProof V E r → ⊥
 IsProveAnswer limit V ks E r maybe = IsUnambiguous limit V E r → ⊥
 
@@ -47,13 +65,6 @@ IsProveAnswer limit V ks E r maybe = IsUnambiguous limit V E r → ⊥
 pub data RefuteAnswer : Type 0 where
   no : RefuteAnswer
   unrefuted : RefuteAnswer
-
--- Closed terms for the unknowns with which H holds of the reference.
-pub record SolutionBy (H : Reference → Type 0) (ks : List Sort) (r : Reference) : Type 0 where
-  pub values : List Trees
-  pub fitting : FitKinds ks values
-  pub closed : Every (λ t. IsTrue (is_closed t)) values
-  pub proved : H (filled_reference ks values r)
 
 -- A solution in W: with them the reference has a proof in W.
 abbrev pub Solution : World → List Sort → Reference → Type 0

@@ -102,6 +102,7 @@ module _ {Handler : Type 0} (handler : HandlerMeaning Handler) (ks : List Sort) 
       are = h.0 ∙ given-first us us_held;
       unbound = bound-there false h.1;
       proved = has-proof;
+      solved = proved clean-table;
     }
     read-goal depth fs Maybe h = inr (inr (entries_of d, u, ready, bound-there true h))
     read-goal depth fs Unproved h = absurd h

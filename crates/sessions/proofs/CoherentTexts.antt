@@ -2,7 +2,9 @@
 use Rattle.std.proofs.Common.{◌≡◌, ◌<◌, ◌⊎◌, inl, inr, ℕ, zero, suc, List, [], ◌∷◌, ◌++◌, map, length, pred, None, Some, refl, sym, ap, subst, arith}
 use Rattle.std.proofs.lemmas.List.{map-append}
 use Rattle.std.proofs.lemmas.Option.{same_Some}
-use Rattle.type_terms.specs.Worlds.{World, ImplDecl, core}
+use Rattle.type_terms.specs.Label.{Sort}
+use Rattle.type_terms.specs.Trees.{Trees}
+use Rattle.type_terms.specs.Worlds.{World, ImplDecl, Reference, core}
 use Rattle.type_terms.specs.Proofs.{In, HasProof}
 use Rattle.type_terms.specs.Supers.{IsHeld}
 use Rattle.type_terms.specs.Renumbering.{View, view_at}
@@ -12,9 +14,10 @@ use Rattle.type_terms.proofs.SameNumbers.{reference-same}
 use Rattle.type_terms.proofs.HeldSets.{held-linked}
 use Rattle.overlap_check.specs.Verdicts.{IsAccepted}
 use Rattle.overlap_check.specs.SessionLaws.{Headline, HeadlineHolds}
-use Rattle.overlap_check.specs.Questions.{filled_reference, Solution}
+use Rattle.overlap_check.specs.Questions.{filled_reference, SolutionBy, Solution, yes, IsProveAnswer, no, IsRefuteAnswer}
 use Rattle.text_definitions.specs.Declarations.{Declarations}
 use Rattle.sessions.specs.JoinedTexts.{text_world}
+use Rattle.sessions.specs.Promises.{view_in}
 use Rattle.sessions.specs.CoherentTexts.{CratesAreAccepted, CratesAreHeld, TextIsCoherent, AcceptedTextsAreCoherent, HeldTextsAreCoherent}
 use Rattle.sessions.proofs.KeptTexts.{AllKept, texts-are-kept}
 use Rattle.sessions.proofs.JoinedTexts.{joined, home-below, of-core, core-or-later, map-at}
@@ -97,11 +100,28 @@ module _ (d : Declarations) (a : AllKept d) (accepted : CratesAreAccepted d) whe
         headline limit W own (map (view_at W) asked) (λ n. n) (subst (λ vs. LinkedSet W vs (λ n. n)) (map-append (view_at W) cs asked) (with-asked (cs ++ asked))) answered
         (of-own (λ v. IsAccepted v.world v.asker) accepted)
 
+    no-holds : (limit c : ℕ) (ks : List Sort) (r : Reference) → IsRefuteAnswer limit (view_in d c) c ks r no → Solution W ks r → ⊥
+    no-holds limit c ks r h s = (head limit (c ∷ [])).no_holds (view_at W c) (here (view_at W c) []) ks r h (subst (Solution W ks) (sym (reference-same r)) s)
+
+    yes-holds : (limit c : ℕ) (ks : List Sort) (ts : List Trees) (r : Reference) → IsProveAnswer limit (view_in d c) ks [] r (yes ts) → HasProof W [] (filled_reference ks ts r)
+    yes-holds limit c ks ts r h =
+        subst (HasProof W []) (reference-same (filled_reference ks ts r)) ((head limit (c ∷ [])).yes_holds (view_at W c) (here (view_at W c) []) ks ts r h)
+
+    -- a solution by what a crate sees is one of the text
+    solved-there : (limit e : ℕ) (ks : List Sort) (r : Reference) → SolutionBy (HasProof (view_in d e) []) ks r → Solution W ks r
+    solved-there limit e ks r s = record {
+      values = s.values;
+      fitting = s.fitting;
+      closed = s.closed;
+      proved = yes-holds limit e ks s.values r (s.fitting, s.proved, λ _. s);
+    }
+
     pub coherent : (limit : ℕ) → TextIsCoherent limit d
     coherent limit = record {
       one_impl = (head limit []).one_impl;
-      no_holds = λ c ks r h s. (head limit (c ∷ [])).no_holds (view_at W c) (here (view_at W c) []) ks r h (subst (Solution W ks) (sym (reference-same r)) s);
-      yes_holds = λ c ks ts r h. subst (HasProof W []) (reference-same (filled_reference ks ts r)) ((head limit (c ∷ [])).yes_holds (view_at W c) (here (view_at W c) []) ks ts r h);
+      no_holds = no-holds limit;
+      yes_holds = yes-holds limit;
+      no_or_yes = λ c e ks ts r h y a. no-holds limit c ks r h (solved-there limit e ks r (y.2 a));
     }
 
 pub accepted-texts-are-coherent : HeadlineHolds → AcceptedTextsAreCoherent

@@ -11,7 +11,7 @@ itself-sorted : IsSorted itself
 itself-sorted k v = refl
 
 module _ (es : List Entry) (t : Table) (ready : Ready es t) where
-  tidied : IsTidy (content es t.values)
+  pub tidied : IsTidy (content es t.values)
   tidied =
       let s = sound es t ready in
       record { valued = s.valued; acyclic = s.acyclic; sorted = older-sorted (variables_of t) (content es t.values) s.older; proper = s.proper }

@@ -1,4 +1,5 @@
 pub mod Settled
+mod ClosedValues
 pub mod ShortCalls
 mod FramesStarted
 mod ErasedWidths

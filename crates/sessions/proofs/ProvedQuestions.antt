@@ -29,6 +29,7 @@ use Rattle.declarations.specs.Items.{Items, written}
 use Rattle.assembly_laws.specs.Facts.{is_unerased, trees_of_clauses, clauses_of, children_of, reference_in, FollowsByView, is_coinductive_fact}
 use Rattle.assembly_laws.proofs.Facts.{references-come-back, proofs-of-facts}
 use Rattle.assembly_laws.proofs.Stack.{elaborated-only}
+use Rattle.solver_context.specs.Roots.{fact_under}
 use Rattle.candidate_assembly.specs.Fitting.{solving_of}
 use Rattle.candidate_assembly.specs.Solving.{Solving}
 use Rattle.solver_exactness.specs.FormedFacts.{Sorts, IsFormedView}
@@ -44,7 +45,7 @@ use Rattle.text_definitions.specs.Names.{own_from}
 use Rattle.view_lowering.specs.Plain.{unbound_reference, unbound_references}
 use Rattle.view_lowering.specs.QuestionVariables.{number_of, variable_kinds}
 use Rattle.view_lowering.specs.Ready.{AreSeen}
-use Rattle.overlap_check.specs.Questions.{FitKinds, IsProveAnswer, filled, filled_reference}
+use Rattle.overlap_check.specs.Questions.{FitKinds, HoldUnknownsAlone, SolutionBy, IsProveAnswer, filled, filled_reference}
 use Rattle.sessions.specs.Clauses.{AddSupertraits}
 use Rattle.sessions.specs.Fitting.{sorts_in}
 use Rattle.sessions.specs.Goals.{goal_of, is_fixed, are_fixed}
@@ -57,7 +58,7 @@ use Rattle.sessions.specs.Proving.{is_bound_term, IsAnsweredBySolver, IsGoalAnsw
 use Rattle.sessions.specs.Questions.{AreFixedReferences}
 use Rattle.sessions.specs.Subjects.{IsOfText}
 use Rattle.sessions.specs.Tables.{count_of}
-use Rattle.sessions.specs.Values.{unknowns_from, values_in}
+use Rattle.sessions.specs.Values.{unknowns_from, unknowns_of, values_in}
 use Rattle.sessions.specs.declared.answers.ProveAnswer.TheVariants.{Yes}
 use Rattle.sessions.proofs.Clauses.{supertraits-prove-no-more}
 use Rattle.sessions.proofs.ElaboratedClauses.{IsFormedClause, all-are-fixed, elaborated-formed, levels-erased}
@@ -66,6 +67,7 @@ use Rattle.sessions.proofs.PlainProofs.{plain-proof}
 use Rattle.sessions.proofs.SeenPlainly.{rules-are, seen-begin, seen-erased}
 use Rattle.sessions.proofs.WithoutLifetimes.{FieldsAreErased, erased-is}
 use Rattle.sessions.proofs.Itself.{themselves, themselves-read}
+use Rattle.sessions.proofs.ClosedValues.{label-plain, plain-ground, closed-each, closing, closing-solves, closing-reads, closed_value, closed-fit, closed-fill}
 use Rattle.sessions.proofs.QuestionTerms.{is_own, so-below}
 use Rattle.sessions.proofs.Refusals.{plain-erased}
 use Rattle.sessions.proofs.FormedViews.{texts-views-are-formed}
@@ -128,26 +130,6 @@ known ks (tree (infer s i) c o) h = (subst (λ n. i < n) (same-count s ks) (so-b
 known ks (tree l c o) h = (known ks c h.1, known ks o h.2)
 
 -- where no type and no constant is bound, terms are written up to lifetimes once these are erased
-label-plain : (l : Label) → is_bound_term l ≡ false → is_unerased (erase_label l) ≡ false
-label-plain (fn_ptr n) h = refl
-label-plain (principal n t) h = refl
-label-plain (param of_lifetime i) h = refl
-label-plain (param of_type i) h = refl
-label-plain (param of_const i) h = refl
-label-plain (placeholder of_lifetime i) h = refl
-label-plain (placeholder of_type i) h = refl
-label-plain (placeholder of_const i) h = refl
-label-plain (infer of_lifetime i) h = refl
-label-plain (infer of_type i) h = refl
-label-plain (infer of_const i) h = refl
-label-plain (canonical of_lifetime i) h = refl
-label-plain (canonical of_type i) h = absurd (false-true (sym h))
-label-plain (canonical of_const i) h = absurd (false-true (sym h))
-label-plain (bound of_lifetime j i) h = refl
-label-plain (bound of_type j i) h = absurd (false-true (sym h))
-label-plain (bound of_const j i) h = absurd (false-true (sym h))
-label-plain l h = refl
-
 all-plain : (t : Trees) → some_node is_bound_term t ≡ false → some_node is_unerased (erase t) ≡ false
 all-plain none h = refl
 all-plain (tree l c o) h =
@@ -166,7 +148,7 @@ clean-fixed none h = tt
 clean-fixed (tree (canonical k i) c o) h = absurd (false-true h.0)
 clean-fixed (tree l c o) h = (clean-fixed c h.1, clean-fixed o h.2)
 
-fixed-instance : (s : Assignment) (t : Trees) → AllGood is_fixed t → instance s t ≡ erase t
+pub fixed-instance : (s : Assignment) (t : Trees) → AllGood is_fixed t → instance s t ≡ erase t
 fixed-instance s none h = refl
 fixed-instance s (tree (infer of_type v) c o) h = absurd (false-true h.0)
 fixed-instance s (tree (infer of_const v) c o) h = absurd (false-true h.0)
@@ -194,6 +176,9 @@ filled-fixed ks us (tree (bound of_type j i) c o) h = inner (filled-fixed ks us 
 filled-fixed ks us (tree (bound of_const j i) c o) h = inner (filled-fixed ks us c h.1) (filled-fixed ks us o h.2)
 filled-fixed ks us (tree (bound of_lifetime j i) c o) h = inner (filled-fixed ks us c h.1) (filled-fixed ks us o h.2)
 filled-fixed ks us (tree l c o) h = inner (filled-fixed ks us c h.1) (filled-fixed ks us o h.2)
+
+pub fixed-proper : (t : Trees) → are_fixed t ≡ true → IsProper t
+fixed-proper t h = proper t (made-leaves is_fixed terms t h)
 
 pub args-fixed : (t : Trees) → are_fixed t ≡ true → AllGood is_fixed t
 args-fixed t h = all-good is_fixed refl (λ n i. refl) (λ i. refl) terms t h
@@ -282,15 +267,26 @@ module _ (d : Declarations) (text : IsOfText d) (c : ℕ) (items : List Entry) (
   view-is : view_in d c ≡ without_lifetimes V cs
   view-is = ap (λ (W : World). record W { crates = cs }) (sym (rules-are items decls d c seen.written)) ∙ erased-is V declared cs
 
-  -- with these values it has a proof
+  abbrev Solved : Type 0
+  Solved = SolutionBy (HasProof (view_in d c) (map erased_reference E)) ks (erased_reference r)
+
+  -- with these values it has a proof, and there is a solution
   abbrev IsProvedWith : List Trees → Type 0
-  IsProvedWith ts = FitKinds ks ts × HasProof (view_in d c) (map erased_reference E) (filled_reference ks ts (erased_reference r))
+  IsProvedWith ts = FitKinds ks ts × HasProof (view_in d c) (map erased_reference E) (filled_reference ks ts (erased_reference r)) × (HoldUnknownsAlone ts → Solved)
 
   -- the reference with a table's values
   abbrev Asked : List Binding → Type 0
   Asked bs = reference_in (fact_with_values bs g) ≡ filled_reference ks (values_in bs ks) (erased_reference r)
 
-  module _ (clean : HasNoCanonical r.args) (asked : (fs : List Entry) (t : Table) → Ready fs t → Asked (content fs t.values)) where
+  -- the reference with closed terms for the unknowns without value
+  abbrev closed_values : (fs : List Entry) (t : Table) → Ready fs t → List Trees
+  closed_values fs t ready = map (closed_value fs t ready) (unknowns_of ks)
+
+  abbrev AskedClosed : (fs : List Entry) (t : Table) → Ready fs t → Type 0
+  AskedClosed fs t ready = reference_in (fact_under (closing fs t ready) g) ≡ filled_reference ks (closed_values fs t ready) (erased_reference r)
+
+  module _ (clean : HasNoCanonical r.args) (proper_args : IsProper r.args) (asked : (fs : List Entry) (t : Table) → Ready fs t → Asked (content fs t.values))
+      (asked_closed : (fs : List Entry) (t : Table) (ready : Ready fs t) → AskedClosed fs t ready) where
     without : IsWithoutCanonical g
     without = record { environment = clauses-clean all all-fixed; predicate = (clean, tt) }
 
@@ -317,14 +313,48 @@ module _ (d : Declarations) (text : IsOfText d) (c : ℕ) (items : List Entry) (
       plain-asked : some_node is_bound_term (resolved bs g.predicate) ≡ false → Plain x.args
       plain-asked unbound = subst (λ (y : Reference). Plain y.args) (asked fs t ready) (children-plain (erase (resolved bs g.predicate)) (all-plain (resolved bs g.predicate) unbound))
 
-      proved : some_node is_bound_term (resolved bs g.predicate) ≡ false → Lists.FactHasProof Fact (FollowsByView V) (is_coinductive_fact V) f → IsProvedWith ts
-      proved unbound p = (
+      -- ---- a solution
+      abbrev s : Assignment
+      s = closing fs t ready
+
+      abbrev closed : Fact
+      closed = fact_under s g
+
+      closed-clauses : clauses_of closed.goal.environment ≡ map erased_reference all
+      closed-clauses = ap clauses_of (clauses-instance s all all-fixed) ∙ references-come-back (map erased_reference all)
+
+      abbrev y : Reference
+      y = filled_reference ks (closed_values fs t ready) (erased_reference r)
+
+      closed-plain : some_node is_bound_term (resolved bs g.predicate) ≡ false → some_node is_unerased (instance s g.predicate) ≡ false
+      closed-plain unbound = ap (some_node is_unerased) (closing-reads fs t ready g.predicate (proper_args, tt)) ∙ plain-ground (resolved bs g.predicate) unbound
+
+      plain-there : some_node is_bound_term (resolved bs g.predicate) ≡ false → Plain y.args
+      plain-there unbound = subst (λ (z : Reference). Plain z.args) (asked_closed fs t ready) (children-plain (instance s g.predicate) (closed-plain unbound))
+
+      solution : some_node is_bound_term (resolved bs g.predicate) ≡ false → Lists.FactHasProof Fact (FollowsByView V) (is_coinductive_fact V) closed → HoldUnknownsAlone ts → Solved
+      solution unbound p alone = record {
+        values = closed_values fs t ready;
+        fitting = closed-fit fs t ready ks;
+        closed = closed-each bs (unknowns_of ks) alone;
+        proved =
+            subst (λ (W : World). HasProof W (map erased_reference E) y) (sym view-is)
+            (plain-proof V declared begin erased cs (map erased_reference E) y (plain-there unbound)
+            (fewer y
+            (subst (λ zs. HasProof V zs y) closed-clauses
+            (subst (λ z. HasProof V (clauses_of closed.goal.environment) z) (asked_closed fs t ready) (proofs-of-facts V closed refl (ap not (closed-plain unbound)) p)))));
+      }
+
+      proved : some_node is_bound_term (resolved bs g.predicate) ≡ false → Lists.FactHasProof Fact (FollowsByView V) (is_coinductive_fact V) f
+          → Lists.FactHasProof Fact (FollowsByView V) (is_coinductive_fact V) closed → IsProvedWith ts
+      proved unbound p q = (
         (values-fill fs t ready ks).0,
         subst (λ (W : World). HasProof W (map erased_reference E) x) (sym view-is)
             (plain-proof V declared begin erased cs (map erased_reference E) x (plain-asked unbound)
             (fewer x
             (subst (λ zs. HasProof V zs x) clauses
             (subst (λ y. HasProof V (clauses_of f.goal.environment) y) (asked fs t ready) (proofs-of-facts V f refl (ap not (all-plain (resolved bs g.predicate) unbound)) p))))),
+        solution unbound q,
       )
 
     values-are : (bs : List Binding) (xs : List Trees) → xs ≡ map (λ u. resolved bs u) (unknowns_from 0 0 ks) → map erase xs ≡ values_in bs ks
@@ -335,7 +365,8 @@ module _ (d : Declarations) (text : IsOfText d) (c : ℕ) (items : List Entry) (
         → IsProveAnswer limit (view_in d c) ks (map erased_reference E) (erased_reference r) (answer_in es (Yes values))
     yes-proves limit depth es values h =
         subst IsProvedWith (sym (sym (over (arg_trees es) erase values.items) ∙ values-are (content h.entries h.table.values) (map (arg_trees es) values.items) h.are))
-        (proved h.entries h.table h.ready h.unbound (h.proved without))
+        (proved h.entries h.table h.ready h.unbound (h.proved without)
+        (h.solved without (closing h.entries h.table h.ready) (closing-solves h.entries h.table h.ready)))
 
 -- ---- of unknowns of these kinds
 module _ (ks : List Sort) (E : List Reference) (r : Reference) (own : is_made (is_own ks) terms r.args ≡ true) where
@@ -355,6 +386,10 @@ module _ (ks : List Sort) (E : List Reference) (r : Reference) (own : is_made (i
       ap (λ z. reference r.trait (children_of z)) (sym (themselves-read fs t ready (goal_of F r).predicate (proper-args, tt)))
       ∙ ap (reference r.trait) (themselves-read fs t ready r.args proper-args)
       ∙ ap (reference r.trait) (sym (filled-args fs t ready))
+
+  asked-closed : (F : List Reference) (fs : List Entry) (t : Table) (ready : Ready fs t)
+      → reference_in (fact_under (closing fs t ready) (goal_of F r)) ≡ filled_reference ks (map (closed_value fs t ready) (unknowns_of ks)) (erased_reference r)
+  asked-closed F fs t ready = ap (reference r.trait) (sym (closed-fill fs t ready ks r.args proper-args (known ks r.args good)))
 
 -- ---- questions
 module _ (d : Declarations) (text : IsOfText d) (n : ℕ) (q : Question) (is : IsQuestion d n q) (s : Solving) (of : IsSolvingOf d q.asker s) where
@@ -380,7 +415,8 @@ module _ (d : Declarations) (text : IsOfText d) (n : ℕ) (q : Question) (is : I
   yes limit depth es values h =
       subst (λ F. IsProveAnswer limit (view_in d q.asker) kinds F (erased_reference q.asked) (answer_in es (Yes values))) (clauses-erased q.clauses)
       (subst (λ x. IsProveAnswer limit (view_in d q.asker) kinds (map erased_reference E) x (answer_in es (Yes values))) (ap (reference q.asked.trait) (plain-erased q.asked.args))
-      (yes-proves d text q.asker of.entries of.declarations of.seen kinds E asked each (clean-own kinds asked.args (good kinds E asked own)) (asked-with kinds E asked own (elaborate W E)) limit depth es values
+      (yes-proves d text q.asker of.entries of.declarations of.seen kinds E asked each (clean-own kinds asked.args (good kinds E asked own)) (proper-args kinds E asked own)
+      (asked-with kinds E asked own (elaborate W E)) (asked-closed kinds E asked own (elaborate W E)) limit depth es values
       (subst (λ us. IsGoalAnswered (solving_of of.entries of.declarations) depth kinds (goal_of (elaborate W E) asked) us es (Yes values)) (own-are 0 0 q.variables)
       (subst (λ (x : Solving). IsAnsweredBySolver x depth q es (Yes values)) of.is h))))
 

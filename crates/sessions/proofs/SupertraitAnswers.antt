@@ -26,6 +26,7 @@ use Rattle.text_definitions.specs.Declarations.{Declarations, world_of}
 use Rattle.assembly_laws.specs.DeclaredWell.{IsDeclaredWell}
 use Rattle.assembly_laws.specs.Facts.{children_of, reference_in}
 use Rattle.assembly_laws.proofs.ErasedCandidates.{without_lifetimes}
+use Rattle.solver_context.specs.Roots.{fact_under}
 use Rattle.candidate_assembly.specs.Fitting.{solving_of}
 use Rattle.candidate_assembly.specs.Solving.{Solving}
 use Rattle.view_lowering.specs.Plain.{plain_reference, plain_impl, unbound_reference, stands_in}
@@ -52,7 +53,8 @@ use Rattle.sessions.proofs.ElaboratedClauses.{within-erased}
 use Rattle.sessions.proofs.OpaqueImpls.{declared-well, formed-view, header-formed, clauses-formed, super-formed, super-as-written}
 use Rattle.sessions.proofs.OpaqueTerms.{plain-opaque, reference-opaque-erased}
 use Rattle.sessions.proofs.OtherAnswers.{never-unsettled, refused-unproved, resolved-stays}
-use Rattle.sessions.proofs.ProvedQuestions.{args-fixed, clean-fixed, filled-fixed, yes-proves}
+use Rattle.sessions.proofs.ClosedValues.{closing}
+use Rattle.sessions.proofs.ProvedQuestions.{args-fixed, clean-fixed, filled-fixed, fixed-instance, fixed-proper, yes-proves}
 use Rattle.sessions.proofs.SeenPlainly.{rules-are, seen-begin, seen-erased}
 use Rattle.sessions.proofs.StrictSupertraits.{strict-among}
 use Rattle.sessions.proofs.WithoutLifetimes.{FieldsAreErased, erased-is, supers-same}
@@ -159,6 +161,9 @@ module _ (d : Declarations) (text : IsOfText d) (c : ℕ) (items : List Entry) (
           (resolved-stays (content fs t.values) (valued fs t.values) (goal_of F r).predicate (λ o. absurd (false-true o), made-labels is_fixed terms r.args fixed, tt))
           ∙ sym (stays-so (values_in (content fs t.values) []))
 
+      asked-closed : (fs : List Entry) (t : Table) (ready : Ready fs t) → reference_in (fact_under (closing fs t ready) (goal_of F r)) ≡ filled_reference [] [] (erased_reference r)
+      asked-closed fs t ready = ap (refer r.trait) (fixed-instance (closing fs t ready) r.args (args-fixed r.args fixed)) ∙ sym (stays-so [])
+
       -- what it proves has a proof
       told-proved : SolverTells s depth F r Proved → HasProof U own (erased_reference r)
       told-proved t = by t.answer t.outcome t.answered
@@ -166,7 +171,7 @@ module _ (d : Declarations) (text : IsOfText d) (c : ℕ) (items : List Entry) (
           by : (a : ProveAnswer) → outcome_of a ≡ Proved → IsGoalAnswered s depth [] (goal_of F r) [] t.entries a → HasProof U own (erased_reference r)
           by (Yes values) e h =
               subst (λ x. HasProof U own x) (stays-so (map (λ v. erase (arg_trees t.entries v)) values.items))
-              (yes-proves d text c items decls seen [] E r (clauses-formed d text c items decls seen i stands) clean asked depth depth t.entries values h).1
+              (yes-proves d text c items decls seen [] E r (clauses-formed d text c items decls seen i stands) clean (fixed-proper r.args fixed) asked asked-closed depth depth t.entries values h).1
           by IsUnproved e h = absurd cc
           by IsMaybe e h = absurd cc
 

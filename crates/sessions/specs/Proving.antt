@@ -13,7 +13,7 @@ use Rattle.infer_table.specs.Canonical.{GoalTrees, canonical_form}
 use Rattle.infer_table.specs.Content.{Table, Ready, content}
 use Rattle.infer_table.specs.Inputs.{IsWithoutCanonical}
 use Rattle.infer_table.specs.Responses.{AnswerTrees}
-use Rattle.infer_table.specs.Solutions.{resolved}
+use Rattle.infer_table.specs.Solutions.{Assignment, Solves, resolved}
 use Rattle.infer_table.specs.Unification.{table_trees}
 use Rattle.infer_table.specs.declared.certainty.TypingMode.TheVariants.{PostAnalysis}
 use Rattle.search_graph.specs.Plain.{IsNotPlain}
@@ -23,7 +23,7 @@ use Rattle.evaluation.specs.Tables.{frame_tables}
 use Rattle.goal_frames.specs.Searches.{is_yes_answer}
 use Rattle.solver_context.specs.Contexts.{Asked, Advances, IsReady as IsReadyContext, entries_of}
 use Rattle.solver_context.specs.Evaluations.{IsFoundBySearch}
-use Rattle.solver_context.specs.Roots.{left_by}
+use Rattle.solver_context.specs.Roots.{left_by, fact_under}
 use Rattle.solver_context.specs.Searching.{solver_meaning}
 use Rattle.solver_context.specs.declared.context.SolverCx.{SolverCx}
 use Rattle.candidate_assembly.specs.declared.solver.Solver.{Solver}
@@ -71,7 +71,8 @@ goal_asking V q = goal_of (elaborate V (unbound_references q.clauses)) (unbound_
 
 -- ---- answers
 module _ {Handler : Type 0} (handler : HandlerMeaning Handler) where
-  -- Some table gives the unknowns these values; with them nothing bound stands in the goal's predicate, and the goal has a proof.
+  -- Some table gives the unknowns these values; with them nothing bound stands in the goal's predicate, and the goal has a proof, as has
+  -- its instance by each solution of the table.
   pub record HasAnswerValues (w : handler.goals.World) (g : GoalTrees) (us values : List Trees) : Type 0 where
     pub entries : List Entry
     pub table : Table
@@ -79,6 +80,7 @@ module _ {Handler : Type 0} (handler : HandlerMeaning Handler) where
     pub are : values ≡ map (λ u. resolved (content entries table.values) u) us
     pub unbound : some_node is_bound_term (resolved (content entries table.values) g.predicate) ≡ false
     pub proved : IsWithoutCanonical g → Lists.FactHasProof Fact (handler.goals.Rule w) (handler.goals.coinductive w) (fact_with_values (content entries table.values) g)
+    pub solved : IsWithoutCanonical g → (s : Assignment) → Solves s (content entries table.values) → Lists.FactHasProof Fact (handler.goals.Rule w) (handler.goals.coinductive w) (fact_under s g)
 
   -- The search refuses the goal, or gives an answer that the table of unknowns of these kinds refuses.
   abbrev pub IsRefusedGoal : handler.goals.World → ℕ → List Sort → GoalTrees → Type 0
