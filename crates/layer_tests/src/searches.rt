@@ -11,7 +11,7 @@ use std::alloc::{AllocError, Global};
 const CHAIN: usize = 21;
 
 /// The goals from 21 on: their steps, what their frames make of answers, and the result after the last step.
-const GOALS: [(&[Step], Rule, u8); 24] = [
+const GOALS: [(&[Step], Rule, u8); 38] = [
     // 21 to 23 ask themselves, each by a step of another kind.
     (&[Step::Ask(21, PathKind::Coinductive)], Rule::All, YES),
     (&[Step::Ask(22, PathKind::Unknown)], Rule::All, YES),
@@ -102,16 +102,65 @@ const GOALS: [(&[Step], Rule, u8); 24] = [
         Rule::All,
         YES,
     ),
+    // 45 to 47: the result of 46 rests on 45, and is used for 47 while 45 runs.
+    (
+        &[
+            Step::Ask(46, PathKind::Coinductive),
+            Step::Ask(47, PathKind::Coinductive),
+        ],
+        Rule::All,
+        YES,
+    ),
+    (&[Step::Ask(45, PathKind::Coinductive)], Rule::All, YES),
+    (&[Step::Ask(46, PathKind::Coinductive)], Rule::All, YES),
+    // 48 to 51: 48 is refused, and runs again for the yes of 49 that rests on it.
+    (
+        &[
+            Step::Ask(49, PathKind::Coinductive),
+            Step::Ask(50, PathKind::Coinductive),
+        ],
+        Rule::All,
+        YES,
+    ),
+    (&[Step::Ask(48, PathKind::Coinductive)], Rule::All, YES),
+    (&[Step::Ask(51, PathKind::Unknown)], Rule::All, YES),
+    (&[], Rule::All, NO),
+    // 52 and 53: the result of 53 serves no question by a path of another kind.
+    (
+        &[
+            Step::Ask(53, PathKind::Unknown),
+            Step::Ask(53, PathKind::Coinductive),
+        ],
+        Rule::Any,
+        NO,
+    ),
+    (&[Step::Ask(52, PathKind::Unknown)], Rule::All, YES),
+    // 54 to 58: 55 is asked again two levels lower, where there may be less depth than it needs.
+    (
+        &[
+            Step::Ask(55, PathKind::Coinductive),
+            Step::Ask(57, PathKind::Coinductive),
+        ],
+        Rule::All,
+        YES,
+    ),
+    (&[Step::Ask(56, PathKind::Coinductive)], Rule::All, YES),
+    (&[Step::Ask(54, PathKind::Coinductive)], Rule::All, YES),
+    (&[Step::Ask(58, PathKind::Coinductive)], Rule::All, YES),
+    (&[Step::Ask(55, PathKind::Coinductive)], Rule::All, YES),
 ];
 
-/// Goals 45 to 52: each asks all others of them by coinductive steps, so that they would be computed again some 13,000 times.
+/// Goals 59 to 66: each asks all others of them by coinductive steps. With each goal more they take twice the frames.
 const CLIQUE: usize = 8;
+
+/// Goals 67 to 98: two in each of so many levels, which ask both of the next level, and the last ones the first goal of all.
+const LEVELS: usize = 16;
 
 /// What a search finds: the answer, how many frames it started, and whether it met a limit.
 type Found = (Result<u8, GraphFault>, u64, bool);
 
 /// A depth and a goal that are asked with a new cache, and what is found.
-const ALONE: [(usize, usize, Found); 17] = [
+const ALONE: [(usize, usize, Found); 28] = [
     (8, 7, (Ok(YES), 8, false)),
     (8, 9, (Ok(OVERFLOW), 9, true)),
     (8, 21, (Ok(YES), 1, false)),
@@ -128,12 +177,26 @@ const ALONE: [(usize, usize, Found); 17] = [
     (8, 33, (Err(GraphFault::Protocol), 1, false)),
     (8, 34, (Err(GraphFault::Protocol), 1, false)),
     (8, 35, (Ok(YES), 2, false)),
-    // It is given up at the 1,024th result that is not kept, while six goals are evaluated.
-    (16, 45, (Ok(OVERFLOW), 1030, true)),
+    (8, 45, (Ok(YES), 3, false)),
+    (8, 47, (Ok(YES), 3, false)),
+    // What rests on a goal that runs again is found again.
+    (8, 48, (Ok(NO), 6, false)),
+    (8, 49, (Ok(NO), 6, false)),
+    (8, 52, (Ok(YES), 5, false)),
+    (5, 54, (Ok(YES), 5, false)),
+    // 55 and 56 are evaluated anew, with less depth than they need, and all three again after that overflow.
+    (4, 54, (Ok(OVERFLOW), 10, true)),
+    (255, 59, (Ok(YES), 128, false)),
+    // With less depth fewer results serve again. It is given up at the 1,024th that is not kept, while five goals are evaluated.
+    (16, 59, (Ok(OVERFLOW), 1029, true)),
+    // Each goal takes one frame, where it would take as many as there are ways to it.
+    (16, 67, (Ok(YES), 31, false)),
+    (15, 67, (Ok(OVERFLOW), 16, true)),
+    (255, 67, (Ok(YES), 31, false)),
 ];
 
 /// The same with one cache, in this order.
-const TOGETHER: [(usize, usize, Found); 11] = [
+const TOGETHER: [(usize, usize, Found); 16] = [
     (8, 36, (Ok(NO), 12, true)),
     // The overflow comes from the cache, and divides the depth too.
     (8, 36, (Ok(NO), 0, false)),
@@ -146,9 +209,15 @@ const TOGETHER: [(usize, usize, Found); 11] = [
     (1, 44, (Ok(OVERFLOW), 2, true)),
     (1, 21, (Ok(YES), 1, false)),
     // A goal that was given up is kept for goals of its depth, and each call counts anew.
-    (16, 45, (Ok(OVERFLOW), 1030, true)),
-    (16, 45, (Ok(OVERFLOW), 0, false)),
-    (17, 45, (Ok(OVERFLOW), 1030, true)),
+    (16, 59, (Ok(OVERFLOW), 1029, true)),
+    (16, 59, (Ok(OVERFLOW), 0, false)),
+    (17, 59, (Ok(OVERFLOW), 1029, true)),
+    // What used a result that rests on a goal is not kept either: it is found again.
+    (8, 45, (Ok(YES), 3, false)),
+    (8, 47, (Ok(YES), 3, false)),
+    (8, 46, (Ok(YES), 3, false)),
+    (8, 48, (Ok(NO), 6, false)),
+    (8, 49, (Ok(NO), 4, false)),
 ];
 
 /// Adds a goal.
@@ -183,6 +252,23 @@ fn add_clique(alloc: Global, scripts: &mut Scripts) -> Result<(), AllocError> {
     Ok(())
 }
 
+/// Adds goals of levels, each of which asks the two of the next level, and the last ones the first goal.
+fn add_levels(alloc: Global, scripts: &mut Scripts) -> Result<(), AllocError> {
+    let first = CHAIN + GOALS.len() + CLIQUE;
+    for level in 0..LEVELS {
+        let next = first + 2 * level + 2;
+        let below = [
+            Step::Ask(next, PathKind::Coinductive),
+            Step::Ask(next + 1, PathKind::Coinductive),
+        ];
+        let back = [Step::Ask(first, PathKind::Coinductive)];
+        let steps: &[Step] = if level + 1 < LEVELS { &below } else { &back };
+        add(alloc, scripts, steps, Rule::All, YES)?;
+        add(alloc, scripts, steps, Rule::All, YES)?;
+    }
+    Ok(())
+}
+
 fn all_goals(alloc: Global) -> Result<Scripts, AllocError> {
     let mut scripts = Scripts {
         goals: Vec::new(alloc),
@@ -196,6 +282,7 @@ fn all_goals(alloc: Global) -> Result<Scripts, AllocError> {
         add(alloc, &mut scripts, steps, rule, otherwise)?;
     }
     add_clique(alloc, &mut scripts)?;
+    add_levels(alloc, &mut scripts)?;
     Ok(scripts)
 }
 

@@ -149,8 +149,8 @@ struct Twice(W<Twice>, Also<Twice>)",
         // The first run takes the cycle for true and is refused for the other field, so a second run is refused for the cycle.
         (b"Both: Safe", None, REFUSED, 6),
         (b"W<Both>: Safe", None, REFUSED, 6),
-        // What the first field has found rests on a goal that is still asked: it is not kept, and found once more for the second field.
-        (b"Twice: Safe", None, YES, 4),
+        // What the first field has found rests on a goal that is still asked, and serves the second field as long as that goal runs.
+        (b"Twice: Safe", None, YES, 3),
     ],
 };
 

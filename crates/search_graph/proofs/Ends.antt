@@ -6,9 +6,12 @@ use Rattle.search_graph.specs.declared.stack.StackEntry.{StackEntry}
 use Rattle.search_graph.specs.declared.cache.CacheEntry.{CacheEntry}
 use Rattle.search_graph.specs.declared.cache.Asked.{Asked}
 use Rattle.search_graph.specs.declared.dependencies.EvaluationResult.{EvaluationResult}
+use Rattle.std.specs.Global.{Vec}
+use Rattle.search_graph.specs.declared.provisional.ProvisionalEntry.{ProvisionalEntry}
 use Rattle.search_graph.specs.Meaning.{Meaning, Keeps}
 use Rattle.search_graph.specs.Cache.{HoldsResult, AddsEvaluation, SaysSame}
-use Rattle.search_graph.specs.Question.{IsReplyOver, IsFaithfulOver, StaysWithin, KeepsWithin}
+use Rattle.search_graph.specs.Stack.{IsWithin}
+use Rattle.search_graph.specs.Question.{IsReplyOver, IsFaithfulOver, AllStayWithin, KeepsWithin, EntriesStayWithin}
 use Rattle.search_graph.proofs.Ranges.{at_end}
 use Rattle.search_graph.proofs.Depths.{kept_within}
 
@@ -35,10 +38,12 @@ module _ {C I R F E : Type 0} (m : Meaning C I R F) (c d : C) (es : List (StackE
   faithful_after (Ok p) o reach faithful says = rw (says.result, says.heads, says.overflow) faithful
   faithful_after (Err e) o reach faithful says = tt
 
-  pub within_after : (r : Result (EvaluationResult R) E) (o : EvaluationResult R) (old mid new : List (CacheEntry I R)) (into : I) (met : Bool) → Keeps m c d → into ≡ input → m.IsInput c input
-      → StaysWithin m c es old input met d mid o.result → OnOk r (KeepsWithin m d mid into o.result new) → IfOk r (SaysSame o) → IfOk r (λ p. StaysWithin m c es old input met d new p.result)
-  within_after (Ok p) o old mid new into met keeps same known stays keep says = λ before no last cached.
+  pub within_after : (r : Result (EvaluationResult R) E) (o : EvaluationResult R) (old mid new : List (CacheEntry I R)) (lists between more : List (Vec (ProvisionalEntry I R))) (into : I) (met : Bool) → Keeps m c d → into ≡ input → m.IsInput c input
+      → AllStayWithin m c es old lists input met d mid between o.result → OnOk r (KeepsWithin m d mid into o.result new) → OnOk r (EntriesStayWithin m d between into o.result more) → IfOk r (SaysSame o) → IfOk r (λ p. AllStayWithin m c es old lists input met d new more p.result)
+  within_after (Ok p) o old mid new lists between more into met keeps same known stays keep left says = λ before no last cached.
       let told = stays before no last cached in
-      let kept = keep before (rw keeps.world told.0) (rw (keeps.world, same, (keeps.inputs input known).1) told.1) in
-      (rw keeps.world at kept, rw says.result told.1)
-  within_after (Err e) o old mid new into met keeps same known stays keep says = tt
+      let result : IsWithin m (m.world d) before (m.goal_of d into) (m.answer_of d o.result) = rw (keeps.world, same, (keeps.inputs input known).1) told.1 in
+      let kept = keep before (rw keeps.world told.0.0) result in
+      let entries = left before (rw keeps.world told.0.1) result in
+      ((rw keeps.world at kept, rw keeps.world at entries), rw says.result told.1)
+  within_after (Err e) o old mid new lists between more into met keeps same known stays keep left says = tt

@@ -3,6 +3,9 @@ use Rattle.std.proofs.Common.{◌≡◌, ℕ, ◌+◌, Bool, true, false, List, 
 use Rattle.search_graph.specs.declared.path_kind.PathKind.{PathKind}
 use Rattle.search_graph.specs.declared.stack.StackEntry.{StackEntry}
 use Rattle.search_graph.specs.declared.cache.CacheEntry.{CacheEntry}
+use Rattle.std.specs.Global.{Vec}
+use Rattle.search_graph.specs.declared.provisional.ProvisionalEntry.{ProvisionalEntry}
+use Rattle.search_graph.specs.Provisional.{AreKeptWithin}
 use Rattle.search_graph.specs.Meaning.{Meaning, Keeps}
 use Rattle.search_graph.specs.Proof.{IsAmong}
 use Rattle.search_graph.specs.Cache.{answers_in, known_results}
@@ -75,10 +78,10 @@ module _ {C I R F : Type 0} (m : Meaning C I R F) (w : m.World) (before : List (
 
 -- a run of a goal, in whose last result no limit had a part
 pub told_within : {C I R F : Type 0} (m : Meaning C I R F) (c b d : C) (es now : List (StackEntry I R)) (keeps : Keeps m c b) (same : now ≡ es) (stack : IsStack m (m.world c) [] c es) (before : List (m.Goal × m.Answer))
-    (x : I) (e : StackEntry I R) (r : R) → e.input ≡ x → m.IsInput c x → (old new : List (CacheEntry I R))
-    → (AreLastWithin m (m.world b) before b now → IsLastWithin m (m.world b) before b e → AreCachedWithin m (m.world b) before b old → AreCachedWithin m (m.world b) before d new × IsWithin m (m.world b) before (m.goal_of b e.input) (m.answer_of d r))
-    → AreLastWithin m (m.world c) before c es → AreCachedWithin m (m.world c) before b old × IsLastWithin m (m.world c) before b e
-    → AreCachedWithin m (m.world c) before d new × IsWithin m (m.world c) before (m.goal_of c x) (m.answer_of d r)
-told_within m c b d es now keeps same stack before x e r input known old new ran last had =
+    (x : I) (e : StackEntry I R) (r : R) → e.input ≡ x → m.IsInput c x → (old new : List (CacheEntry I R)) (lists more : List (Vec (ProvisionalEntry I R)))
+    → (AreLastWithin m (m.world b) before b now → IsLastWithin m (m.world b) before b e → AreKeptWithin m (m.world b) before b old lists → AreKeptWithin m (m.world b) before d new more × IsWithin m (m.world b) before (m.goal_of b e.input) (m.answer_of d r))
+    → AreLastWithin m (m.world c) before c es → AreKeptWithin m (m.world c) before b old lists × IsLastWithin m (m.world c) before b e
+    → AreKeptWithin m (m.world c) before d new more × IsWithin m (m.world c) before (m.goal_of c x) (m.answer_of d r)
+told_within m c b d es now keeps same stack before x e r input known old new lists more ran last had =
     let told = ran (rw keeps.world (AreLastWithin-now m (m.world c) before (m.world c) c b es now keeps same stack last)) (rw keeps.world had.1) (rw keeps.world had.0) in
     rw (keeps.world, input, (keeps.inputs x known).1) at told

@@ -9,7 +9,9 @@ pub mod Shown
 pub mod KeptPaths
 pub mod Rests
 pub mod Stack
+pub mod Provisional
 pub mod Question
+pub mod Unlimited
 pub mod Turn
 pub mod Plain
 pub mod Proof

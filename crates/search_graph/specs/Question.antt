@@ -7,6 +7,10 @@ use Rattle.search_graph.specs.declared.cache.CacheEntry.{CacheEntry}
 use Rattle.search_graph.specs.declared.dependencies.CycleHead.{CycleHead}
 use Rattle.search_graph.specs.declared.dependencies.Dependencies.{Dependencies}
 use Rattle.search_graph.specs.declared.dependencies.EvaluationResult.{EvaluationResult}
+use Rattle.std.specs.Global.{Vec}
+use Rattle.search_graph.specs.declared.cache.Asked.{Asked}
+use Rattle.search_graph.specs.declared.provisional.ProvisionalEntry.{ProvisionalEntry}
+use Rattle.search_graph.specs.Provisional.{AreProvisional, AreEntriesWithin, AreKeptWithin}
 use Rattle.search_graph.specs.Meaning.{Meaning}
 use Rattle.search_graph.specs.Cache.{KnownResult, answers_in}
 use Rattle.search_graph.specs.Plain.{IsNotPlain}
@@ -94,8 +98,45 @@ module _ {C I R F : Type 0} (m : Meaning C I R F) where
       (before : List (m.Goal × m.Answer)) → met ≡ false → AreLastWithin m (m.world c) before c es → AreCachedWithin m (m.world c) before c old
       → AreCachedWithin m (m.world c) before d new × IsWithin m (m.world c) before (m.goal_of c input) (m.answer_of d r)
 
+  -- none had if none had in what the cache and the entries hold
+  abbrev pub IsWithinAsKept : C → List (CacheEntry I R) → List (Vec (ProvisionalEntry I R)) → I → R → Type 0
+  IsWithinAsKept c es lists input r =
+      (before : List (m.Goal × m.Answer)) → AreKeptWithin m (m.world c) before c es lists → IsWithin m (m.world c) before (m.goal_of c input) (m.answer_of c r)
+
+  -- if none was met, none had a part in the result and in what the cache and the entries hold now, where none had in what they held,
+  -- nor in the last runs' results
+  abbrev pub AllStayWithin : C → List (StackEntry I R) → List (CacheEntry I R) → List (Vec (ProvisionalEntry I R)) → I → Bool
+      → C → List (CacheEntry I R) → List (Vec (ProvisionalEntry I R)) → R → Type 0
+  AllStayWithin c es old lists input met d new more r =
+      (before : List (m.Goal × m.Answer)) → met ≡ false → AreLastWithin m (m.world c) before c es → AreKeptWithin m (m.world c) before c old lists
+      → AreKeptWithin m (m.world c) before d new more × IsWithin m (m.world c) before (m.goal_of c input) (m.answer_of d r)
+
   -- the same of a run of the entry's goal
-  abbrev pub RunStaysWithin : C → List (StackEntry I R) → List (CacheEntry I R) → StackEntry I R → Bool → C → List (CacheEntry I R) → R → Type 0
-  RunStaysWithin c es old entry met d new r =
-      (before : List (m.Goal × m.Answer)) → met ≡ false → AreLastWithin m (m.world c) before c es → IsLastWithin m (m.world c) before c entry → AreCachedWithin m (m.world c) before c old
-      → AreCachedWithin m (m.world c) before d new × IsWithin m (m.world c) before (m.goal_of c entry.input) (m.answer_of d r)
+  abbrev pub RunStaysWithin : C → List (StackEntry I R) → List (CacheEntry I R) → List (Vec (ProvisionalEntry I R)) → StackEntry I R → Bool
+      → C → List (CacheEntry I R) → List (Vec (ProvisionalEntry I R)) → R → Type 0
+  RunStaysWithin c es old lists entry met d new more r =
+      (before : List (m.Goal × m.Answer)) → met ≡ false → AreLastWithin m (m.world c) before c es → IsLastWithin m (m.world c) before c entry → AreKeptWithin m (m.world c) before c old lists
+      → AreKeptWithin m (m.world c) before d new more × IsWithin m (m.world c) before (m.goal_of c entry.input) (m.answer_of d r)
+
+  -- the entries in these lists stand over the stack
+  abbrev pub AreEntriesOver : C → List (StackEntry I R) → List Asked → List (Vec (ProvisionalEntry I R)) → Type 0
+  AreEntriesOver c es asked lists = AreProvisional m (m.world c) c asked (steps_of m c es) lists
+
+  -- those that are there now stand over the stack as it was in the context c
+  abbrev pub AreEntriesStill : C → List (StackEntry I R) → C → List Asked → List (Vec (ProvisionalEntry I R)) → Type 0
+  AreEntriesStill c es d asked lists = AreProvisional m (m.world c) d asked (steps_of m c es) lists
+
+  -- no limit had a part in the result if none had in the entries
+  abbrev pub IsWithinAsEntries : C → List (Vec (ProvisionalEntry I R)) → I → R → Type 0
+  IsWithinAsEntries c lists input r =
+      (before : List (m.Goal × m.Answer)) → AreEntriesWithin m (m.world c) before c lists → IsWithin m (m.world c) before (m.goal_of c input) (m.answer_of c r)
+
+  -- none had in the new entries if none had in the old ones and in this result
+  abbrev pub EntriesStayWithin : C → List (Vec (ProvisionalEntry I R)) → I → R → List (Vec (ProvisionalEntry I R)) → Type 0
+  EntriesStayWithin c old input r new =
+      (before : List (m.Goal × m.Answer)) → AreEntriesWithin m (m.world c) before c old → IsWithin m (m.world c) before (m.goal_of c input) (m.answer_of c r)
+      → AreEntriesWithin m (m.world c) before c new
+
+  -- a result of the goal over the stack, which it left and by which it was asked by a step of this kind
+  abbrev pub IsResultOver : C → List (StackEntry I R) → I → PathKind → EvaluationResult R → Type 0
+  IsResultOver c es input k o = IsProvisional m (m.world c) (steps_of m c es) (m.goal_of c input, k) (indices o.dependencies.heads.items) c o.result

@@ -48,6 +48,10 @@ IfUsable {I} {R} es asked stack input depth P =
     (place : ℕ) (e : CacheEntry I R) → slice_get es place ≡ Some e → e.input ≡ input → IsWithinDepth e.encountered_overflow e.depth depth
     → ((n : ℕ) → IsAskedUnder asked e.asked n → IsOnStack stack n → ⊥) → P
 
+-- the same where nothing is evaluated
+abbrev pub IfUsableAlone : {I R : Type 0} → List (CacheEntry I R) → List Asked → List (StackEntry I R) → I → ℕ → Type 0 → Type 0
+IfUsableAlone es asked stack input depth P = stack ≡ [] → IfUsable es asked stack input depth P
+
 -- the goal's own result was not read in its run
 abbrev pub IsUnread : Option PathsToNested → Type 0
 IsUnread read = MatchOption read (Unit {0}) (λ paths. paths.0 ≡ 0)

@@ -332,6 +332,27 @@ impl<D: Delegate> CachedResults<D> {
         }
     }
 
+    /// Lists a goal, whose result is kept elsewhere, with what was asked under it, and answers the place of that.
+    pub(crate) fn list(
+        &mut self,
+        number: usize,
+        nested_goals: NestedGoals,
+    ) -> Result<usize, AllocError>
+        requires nested { AreInRange self.old.asked.items nested_goals }
+        ensures place { IfOk result (λ place. place ≡ length self.old.asked.items) }
+        ensures recorded { OnOk result (AddsAsked self.old.asked.items self.new.asked.items number nested_goals) }
+        ensures asked { KeepsResults self.old.asked.items self.new.asked.items }
+        ensures entries { self.new.entries ≡ self.old.entries }
+        ensures goals { self.new.goals ≡ self.old.goals }
+    {
+        let asked = self.asked.len();
+        self.asked.push(Asked {
+            number,
+            nested_goals,
+        })?;
+        Ok(asked)
+    }
+
     /// Keeps a result that rests on no goal of the stack, and answers the place of what was asked under it.
     pub(crate) fn insert(
         &mut self,

@@ -3,7 +3,7 @@
 ghost use Rattle.std.specs.Prelude.{◌≡◌, ◌≢◌, ◌==◌, ◌+◌, ◌-◌, ◌^◌, ◌++◌, ◌∷◌, ◌↔◌, [], ℕ, min, max, position, ◌||◌, All, IfOk, IfSome, IfNone, IsPermutation, OnOk, None, false};
 ghost use Rattle.std.specs.Int.RustNames.{bit_or};
 ghost use Rattle.search_graph.specs.Heads.{paths_to, RestsOn, IsFirstOf, AreHeadsOfBoth};
-ghost use Rattle.search_graph.specs.KeptPaths.{indices};
+ghost use Rattle.search_graph.specs.KeptPaths.{indices, AreBelow};
 ghost use Rattle.search_graph.specs.Nested.{no_goal, covered};
 
 use crate::nested_goals::NestedGoals;
@@ -119,6 +119,19 @@ pub(crate) fn places_of(alloc: Global, heads: &[CycleHead]) -> Result<Vec<usize>
         places.push(head.index)?;
     }
     Ok(places)
+}
+
+/// The place of the newest goal of the stack among the heads.
+pub(crate) fn nearest_head(heads: &[CycleHead]) -> Option<usize>
+    ensures head { IfSome result (RestsOn heads.now) }
+    ensures nearest { IfSome result (λ place. AreBelow (place + 1) (indices heads.now)) }
+    ensures none { IfNone result (heads.now ≡ []) }
+{
+    let mut nearest = heads.first()?.index;
+    for head in heads {
+        nearest = nearest.max(head.index);
+    }
+    Some(nearest)
 }
 
 /// Adds the heads of a goal that was asked.

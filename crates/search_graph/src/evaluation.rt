@@ -8,8 +8,9 @@ ghost use Rattle.search_graph.specs.Computed.{MakesMisstep};
 ghost use Rattle.search_graph.specs.Cache.{known_results, HasConflict, IsNumberOf, KeepsNumbers, KeepsResults, HoldsResult};
 ghost use Rattle.search_graph.specs.Bound.{frame_bound, question_bound};
 ghost use Rattle.search_graph.specs.KeptPaths.{AreBelow, indices};
-ghost use Rattle.search_graph.specs.Stack.{steps_of, span_of_newest, IsStack, IsEntry, AreCached, IfUsable};
-ghost use Rattle.search_graph.specs.Question.{IsReplyOver, IsRunOver, IsFaithfulOver, IsUntouchedOver, IsNotPlainOver, AreFramesWithin, StaysWithin, RunStaysWithin};
+ghost use Rattle.search_graph.specs.Stack.{steps_of, span_of_newest, IsStack, IsEntry, AreCached, IfUsable, IfUsableAlone};
+ghost use Rattle.search_graph.specs.Question.{AreEntriesOver, AreEntriesStill, IsReplyOver, IsRunOver, IsFaithfulOver, IsUntouchedOver, IsNotPlainOver, AreFramesWithin, StaysWithin};
+ghost use Rattle.search_graph.specs.Unlimited.{SearchStaysWithin, SearchRunsWithin};
 
 use crate::cache::CachedResults;
 use crate::candidates::{Candidates, Turn};
@@ -74,9 +75,11 @@ pub(crate) fn evaluate<D: Delegate>(
 ) -> Outcome<D>
     requires stack { IsStack D.meaning (D.meaning.world cx.old) [] cx.old search.old.stack.items }
     requires cache { AreCached D.meaning (D.meaning.world cx.old) cx.old cache.old.entries.items }
+    requires entries { AreEntriesOver D.meaning cx.old search.old.stack.items cache.old.asked.items search.old.entries.lists.items }
     requires input { D.meaning.IsInput cx.old input }
     ensures keeps { Keeps D.meaning cx.old cx.new }
     ensures stack { OnOk result (search.new.stack.items ≡ search.old.stack.items) }
+    ensures entries { OnOk result (AreEntriesStill D.meaning cx.old search.old.stack.items cx.new cache.new.asked.items search.new.entries.lists.items) }
     ensures cache { AreCached D.meaning (D.meaning.world cx.new) cx.new cache.new.entries.items }
     ensures goals { KeepsNumbers D.Cx.Input.eq cache.old.goals.keys cache.new.goals.keys }
     ensures results { KeepsResults cache.old.entries.items cache.new.entries.items }
@@ -94,10 +97,10 @@ pub(crate) fn evaluate<D: Delegate>(
     ensures full { result ≡ Err (Stop.Fault GraphFault.Full) → D.meaning.IsFull cx.new }
     ensures limits { search.old.limits_met ≡ true → search.new.limits_met ≡ true }
     ensures no_limit { search.old.limits_met ≡ false → search.new.limits_met ≡ true → IsNotPlainOver D.meaning cx.old search.old.stack.items input (depth + 1) }
-    ensures within { IfOk result (λ o. StaysWithin D.meaning cx.old search.old.stack.items cache.old.entries.items input search.new.limits_met cx.new cache.new.entries.items o.result) }
+    ensures within { IfOk result (λ o. SearchStaysWithin D.meaning cx.old search.old cache.old input cx.new search.new cache.new o.result) }
     ensures cached { IfUsable cache.old.entries.items cache.old.asked.items search.old.stack.items input depth (search.new.frames ≡ search.old.frames × cache.new.entries ≡ cache.old.entries) }
     ensures served { IfUsable cache.old.entries.items cache.old.asked.items search.old.stack.items input depth (result ≡ Err Stop.Exhausted → ⊥) }
-    ensures known { IfUsable cache.old.entries.items cache.old.asked.items search.old.stack.items input depth (IfOk result (λ o. HoldsResult cache.old.entries.items input depth o.result)) }
+    ensures known { IfUsableAlone cache.old.entries.items cache.old.asked.items search.old.stack.items input depth (IfOk result (λ o. HoldsResult cache.old.entries.items input depth o.result)) }
 {
     let (number, found) = look_up(search, cache, cx, &input, step_kind, depth)?;
     if let Some(reply) = found {
@@ -122,10 +125,12 @@ fn evaluate_new<D: Delegate>(
 ) -> Outcome<D>
     requires stack { IsStack D.meaning (D.meaning.world cx.old) [] cx.old search.old.stack.items }
     requires cache { AreCached D.meaning (D.meaning.world cx.old) cx.old cache.old.entries.items }
+    requires entries { AreEntriesOver D.meaning cx.old search.old.stack.items cache.old.asked.items search.old.entries.lists.items }
     requires input { D.meaning.IsInput cx.old input }
     requires number { IsNumberOf D.Cx.Input.eq cache.old.goals.keys input number }
     ensures keeps { Keeps D.meaning cx.old cx.new }
     ensures stack { OnOk result (search.new.stack.items ≡ search.old.stack.items) }
+    ensures entries { OnOk result (AreEntriesStill D.meaning cx.old search.old.stack.items cx.new cache.new.asked.items search.new.entries.lists.items) }
     ensures cache { AreCached D.meaning (D.meaning.world cx.new) cx.new cache.new.entries.items }
     ensures goals { KeepsNumbers D.Cx.Input.eq cache.old.goals.keys cache.new.goals.keys }
     ensures results { KeepsResults cache.old.entries.items cache.new.entries.items }
@@ -143,14 +148,14 @@ fn evaluate_new<D: Delegate>(
     ensures full { result ≡ Err (Stop.Fault GraphFault.Full) → D.meaning.IsFull cx.new }
     ensures limits { search.old.limits_met ≡ true → search.new.limits_met ≡ true }
     ensures no_limit { search.old.limits_met ≡ false → search.new.limits_met ≡ true → IsNotPlainOver D.meaning cx.old search.old.stack.items input (depth + 1) }
-    ensures within { IfOk result (λ o. StaysWithin D.meaning cx.old search.old.stack.items cache.old.entries.items input search.new.limits_met cx.new cache.new.entries.items o.result) }
+    ensures within { IfOk result (λ o. SearchStaysWithin D.meaning cx.old search.old cache.old input cx.new search.new cache.new o.result) }
 {
     let index = search.stack.len();
     let mut entry = search.new_entry(number, input, step_kind);
     let mut dependencies = Dependencies::new(search.alloc);
     let limit = run_limit::<D>();
     for _run in 0..limit {
-        // A run that ends while the goal runs again takes its provisional entries with it.
+        // The entries whose nearest head this is go with each run.
         let (back, outcome) = run_once(search, cache, cx, entry, dependencies, depth)?;
         let EvaluationResult {
             result: answer,
@@ -168,6 +173,7 @@ fn evaluate_new<D: Delegate>(
                 cx,
                 number,
                 back.into_input(),
+                step_kind,
                 evaluation,
                 depth,
             );
@@ -187,6 +193,7 @@ fn evaluate_new<D: Delegate>(
         cx,
         number,
         entry.into_input(),
+        step_kind,
         evaluation,
         depth,
     )
@@ -212,6 +219,7 @@ fn run_once<D: Delegate>(
 >
     requires stack { IsStack D.meaning (D.meaning.world cx.old) [] cx.old search.old.stack.items }
     requires cache { AreCached D.meaning (D.meaning.world cx.old) cx.old cache.old.entries.items }
+    requires entries { AreEntriesOver D.meaning cx.old search.old.stack.items cache.old.asked.items search.old.entries.lists.items }
     requires entry { IsEntry D.meaning (D.meaning.world cx.old) (steps_of D.meaning cx.old search.old.stack.items) cx.old entry }
     requires below { AreBelow (length search.old.stack.items) (indices earlier.heads.items) }
     requires span { entry.span ≡ covered (span_of_newest search.old.stack.items) (one_goal entry.number) }
@@ -220,6 +228,7 @@ fn run_once<D: Delegate>(
     requires earlier { IsUntouchedOver D.meaning cx.old search.old.stack.items entry.input (depth + 1) earlier }
     ensures keeps { Keeps D.meaning cx.old cx.new }
     ensures stack { OnOk result (search.new.stack.items ≡ search.old.stack.items) }
+    ensures entries { OnOk result (AreEntriesStill D.meaning cx.old search.old.stack.items cx.new cache.new.asked.items search.new.entries.lists.items) }
     ensures cache { AreCached D.meaning (D.meaning.world cx.new) cx.new cache.new.entries.items }
     ensures goals { KeepsNumbers D.Cx.Input.eq cache.old.goals.keys cache.new.goals.keys }
     ensures results { KeepsResults cache.old.entries.items cache.new.entries.items }
@@ -237,7 +246,7 @@ fn run_once<D: Delegate>(
     ensures full { result ≡ Err (Stop.Fault GraphFault.Full) → D.meaning.IsFull cx.new }
     ensures limits { search.old.limits_met ≡ true → search.new.limits_met ≡ true }
     ensures no_limit { search.old.limits_met ≡ false → search.new.limits_met ≡ true → IsNotPlainOver D.meaning cx.old search.old.stack.items entry.input (depth + 1) }
-    ensures within { IfOk result (λ p. RunStaysWithin D.meaning cx.old search.old.stack.items cache.old.entries.items entry search.new.limits_met cx.new cache.new.entries.items p.1.result) }
+    ensures within { IfOk result (λ p. SearchRunsWithin D.meaning cx.old search.old cache.old entry cx.new search.new cache.new p.1.result) }
 {
     let (mut frame, mut request) = start_run(search, cx, entry)?;
     let mut dependencies = earlier;
@@ -280,9 +289,11 @@ fn ask<D: Delegate>(
 ) -> Outcome<D>
     requires stack { IsStack D.meaning (D.meaning.world cx.old) [] cx.old search.old.stack.items }
     requires cache { AreCached D.meaning (D.meaning.world cx.old) cx.old cache.old.entries.items }
+    requires entries { AreEntriesOver D.meaning cx.old search.old.stack.items cache.old.asked.items search.old.entries.lists.items }
     requires input { D.meaning.IsInput cx.old input }
     ensures keeps { Keeps D.meaning cx.old cx.new }
     ensures stack { OnOk result (search.new.stack.items ≡ search.old.stack.items) }
+    ensures entries { OnOk result (AreEntriesStill D.meaning cx.old search.old.stack.items cx.new cache.new.asked.items search.new.entries.lists.items) }
     ensures cache { AreCached D.meaning (D.meaning.world cx.new) cx.new cache.new.entries.items }
     ensures goals { KeepsNumbers D.Cx.Input.eq cache.old.goals.keys cache.new.goals.keys }
     ensures results { KeepsResults cache.old.entries.items cache.new.entries.items }
@@ -299,7 +310,7 @@ fn ask<D: Delegate>(
     ensures full { result ≡ Err (Stop.Fault GraphFault.Full) → D.meaning.IsFull cx.new }
     ensures limits { search.old.limits_met ≡ true → search.new.limits_met ≡ true }
     ensures no_limit { search.old.limits_met ≡ false → search.new.limits_met ≡ true → IsNotPlainOver D.meaning cx.old search.old.stack.items input (cond overflowed 0 depth) }
-    ensures within { IfOk result (λ o. StaysWithin D.meaning cx.old search.old.stack.items cache.old.entries.items input search.new.limits_met cx.new cache.new.entries.items o.result) }
+    ensures within { IfOk result (λ o. SearchStaysWithin D.meaning cx.old search.old cache.old input cx.new search.new cache.new o.result) }
 {
     if depth == 0 {
         return reply_with_overflow(search, cache, cx, input, step_kind);

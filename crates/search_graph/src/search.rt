@@ -7,11 +7,14 @@ ghost use Rattle.indexmap.specs.IndexMap.{get};
 ghost use Rattle.search_graph.specs.Nested.{covered, one_goal, AsksAlone, UsesAlone, AlsoAsks};
 ghost use Rattle.search_graph.specs.Chain.{AreInRange, AreInRanges, IsUsableAt, NoneIsUsable};
 ghost use Rattle.search_graph.specs.Meaning.{Keeps};
+ghost use Rattle.search_graph.specs.Heads.{RestsOn};
+ghost use Rattle.search_graph.specs.KeptPaths.{indices, AreBelow};
 ghost use Rattle.search_graph.specs.Bound.{open_ends_limit};
 ghost use Rattle.search_graph.specs.Cache.{known_results, HasConflict, IsNumberOf, KeepsResults, IsReplyOf, AddsEvaluation, SaysSame};
 ghost use Rattle.search_graph.specs.Plain.{IsNotPlain};
 ghost use Rattle.search_graph.specs.Stack.{place_of, oldest_of, span_of_newest, IsStack, IsProvisional, IsUnread, IsSettled, AreCached, IsOnStack, IsClosedBy};
-ghost use Rattle.search_graph.specs.Question.{IsReplyOver, IsReadOver, IsInitial, IsFaithfulOver, IsKeptResult, IsNotPlainUnder, IsWithinAsCached, IsWithinAsStack, KeepsWithin};
+ghost use Rattle.search_graph.specs.Provisional.{IsServingAt, IsEntryAt, NoneServes, AddsEntry};
+ghost use Rattle.search_graph.specs.Question.{AreEntriesOver, IsWithinAsEntries, EntriesStayWithin, IsResultOver, IsReplyOver, IsReadOver, IsInitial, IsFaithfulOver, IsKeptResult, IsNotPlainUnder, IsWithinAsCached, IsWithinAsStack, KeepsWithin};
 
 use crate::cache::{Cached, CachedResults};
 use crate::delegate::{Cx, Delegate, InputOf, ResultOf};
@@ -19,7 +22,8 @@ use crate::dependencies::{Dependencies, EvaluationResult};
 use crate::fault::{GraphFault, Stop};
 use crate::nested_goals::{NestedGoals, Span};
 use crate::path_kind::{PathKind, PathsToNested};
-use crate::stack::{Cycle, StackEntry, add_place, find_cycle, remove_place};
+use crate::provisional::{ProvisionalEntries, ProvisionalEntry};
+use crate::stack::{Cycle, StackEntry, add_place, find_cycle, kind_of_path, remove_place};
 use bitflags::Flags;
 use indexmap::IndexMap;
 use std::alloc::{AllocError, Global};
@@ -51,6 +55,9 @@ pub struct Search<D: Delegate> {
     positions: IndexMap<usize, usize>,
     ghost placed: { (number : ℕ) → get nat_eq positions number ≡ place_of stack.items number } by { Prim.hlevel props },
     ghost ranges: { AreInRanges stack.items } by { Prim.hlevel props },
+    /// The results that rest on goals of the stack: for each of these a list of those whose nearest head it is.
+    pub entries: ProvisionalEntries<D>,
+    pub ghost listed: { length entries.lists.items ≡ length stack.items } by { Prim.hlevel props },
     /// Whether a limit of the depth or of the runs gave a result, or a call was given up.
     pub limits_met: bool,
     /// How many frames were started, or the greatest `u64` if there were more.
@@ -66,6 +73,7 @@ impl<D: Delegate> Drop for Search<D> {
             alloc: _,
             stack: _,
             positions: _,
+            entries: _,
             limits_met: _,
             frames: _,
             open_ends: _,
@@ -77,6 +85,7 @@ impl<D: Delegate> Search<D> {
     /// A search that has evaluated nothing.
     pub fn new(alloc: Global) -> Self
         ensures empty { result.stack.items ≡ [] }
+        ensures unlisted { result.entries.lists.items ≡ [] }
         ensures frames { result.frames ≡ 0 }
         ensures limits { result.limits_met ≡ false }
     {
@@ -84,6 +93,7 @@ impl<D: Delegate> Search<D> {
             alloc,
             stack: Vec::new(alloc),
             positions: IndexMap::new(alloc),
+            entries: ProvisionalEntries::new(alloc),
             limits_met: false,
             frames: 0,
             open_ends: 0,
@@ -93,17 +103,20 @@ impl<D: Delegate> Search<D> {
     /// Gives up what is being evaluated.
     pub fn clear(&mut self)
         ensures empty { self.new.stack.items ≡ [] }
+        ensures unlisted { self.new.entries.lists.items ≡ [] }
         ensures frames { self.new.frames ≡ self.old.frames }
         ensures limits { self.new.limits_met ≡ self.old.limits_met }
     {
         self.stack.clear();
         self.positions.clear();
+        self.entries.clear();
     }
 
     /// Begins a call from outside, in which no goal has ended.
     pub(crate) fn count_anew(&mut self)
         ensures count { self.new.open_ends ≡ 0 }
         ensures stack { self.new.stack.items ≡ self.old.stack.items }
+        ensures entries { self.new.entries ≡ self.old.entries }
         ensures frames { self.new.frames ≡ self.old.frames }
         ensures limits { self.new.limits_met ≡ self.old.limits_met }
     {
@@ -116,6 +129,7 @@ impl<D: Delegate> Search<D> {
         ensures limit { result ≡ true → self.new.open_ends < open_ends_limit }
         ensures count { result ≡ true → self.new.open_ends ≡ self.old.open_ends + 1 + cost }
         ensures stack { self.new.stack.items ≡ self.old.stack.items }
+        ensures entries { self.new.entries ≡ self.old.entries }
         ensures frames { self.new.frames ≡ self.old.frames }
         ensures limits { self.new.limits_met ≡ self.old.limits_met }
     {
@@ -157,30 +171,38 @@ impl<D: Delegate> Search<D> {
         }
     }
 
-    /// Puts a goal on the stack, of which a frame was started. It is refused where memory is; the frame is counted then too.
+    /// Puts a goal on the stack, of which a frame was started: no entry rests on it. It is refused where memory is; the frame is
+    /// counted then too.
     pub fn begin(&mut self, entry: StackEntry<InputOf<D>, ResultOf<D>>) -> Result<(), AllocError>
         requires { entry.span ≡ covered (span_of_newest self.old.stack.items) (one_goal entry.number) }
         ensures stack { OnOk result (self.new.stack.items ≡ self.old.stack.items ++ entry ∷ []) }
+        ensures none { OnOk result ((list : _) × (self.new.entries.lists.items ≡ self.old.entries.lists.items ++ list ∷ []) × (list.items ≡ [])) }
         ensures err { OnErr result (self.new.stack.items ≡ self.old.stack.items) }
         ensures frames { self.new.frames ≡ min (self.old.frames + 1) (2 ^ 64 - 1) }
         ensures limits { self.new.limits_met ≡ self.old.limits_met }
     {
         self.frames = self.frames.saturating_add(1);
         self.stack.reserve(1)?;
-        add_place(&mut self.positions, entry.number, self.stack.len())?;
+        self.entries.begin()?;
+        if let Err(refused) = add_place(&mut self.positions, entry.number, self.stack.len()) {
+            let _ = self.entries.end();
+            return Err(refused);
+        }
         self.stack.push(entry)?;
         Ok(())
     }
 
-    /// Takes the newest goal off the stack.
+    /// Takes the newest goal off the stack, and with it the entries that rest on it.
     pub fn pop(&mut self) -> Option<StackEntry<InputOf<D>, ResultOf<D>>>
         ensures stack { self.old.stack.items ≡ self.new.stack.items ++ option_to_list result }
         ensures some { IsSome result ↔ (0 < length self.old.stack.items) }
+        ensures ended { IfSome result (λ _. (list : _) × (self.old.entries.lists.items ≡ self.new.entries.lists.items ++ list ∷ [])) }
         ensures frames { self.new.frames ≡ self.old.frames }
         ensures limits { self.new.limits_met ≡ self.old.limits_met }
     {
         let entry = self.stack.pop()?;
         remove_place(&mut self.positions, entry.number, self.stack.len());
+        let _ = self.entries.end();
         Some(entry)
     }
 
@@ -197,6 +219,137 @@ impl<D: Delegate> Search<D> {
         ensures none { IfOk result (λ found. IfNone found (NoneIsUsable cache.now.entries.items cache.now.asked.items (IsOnStack self.now.stack.items) number input.now depth)) }
     {
         cache.find(&self.positions, self.span(), number, input, depth)
+    }
+
+    /// Where an entry stands that answers a question on the goal now: the place of its nearest head, and its place in the list
+    /// of that. None is found only where there is none.
+    pub fn find_entry(
+        &self,
+        number: usize,
+        input: &InputOf<D>,
+        step_kind: PathKind,
+        depth: usize,
+    ) -> Option<(usize, usize)>
+        ensures found { IfSome result (λ at. IsServingAt self.now.entries.lists.items self.now.stack.items number input.now step_kind depth at.0 at.1) }
+        ensures none { IfNone result (NoneServes self.now.entries.lists.items self.now.stack.items number input.now step_kind depth) }
+    {
+        self.entries
+            .find(&self.stack, number, input, step_kind, depth)
+    }
+
+    /// The entry at this place of the list of a goal of the stack, as the reply to a question. It is refused where memory is, or
+    /// as `copy_result` is.
+    pub fn use_entry(
+        &self,
+        cache: &CachedResults<D>,
+        cx: &D::Cx,
+        at: (usize, usize),
+        number: usize,
+        input: &InputOf<D>,
+        step_kind: PathKind,
+        depth: usize,
+    ) -> Evaluation<D>
+        requires entries { AreEntriesOver D.meaning cx.now self.now.stack.items cache.now.asked.items self.now.entries.lists.items }
+        requires place { IsServingAt self.now.entries.lists.items self.now.stack.items number input.now step_kind depth at.0 at.1 }
+        ensures success { IfOk result (λ o. o.dependencies.encountered_overflow ≡ false) }
+        ensures depth { IfOk result (λ o. o.dependencies.required_depth ≤ depth) }
+        ensures heads { IfOk result (λ o. (e : _) → IsEntryAt self.now.entries.lists.items at.0 at.1 e → o.dependencies.heads.items ≡ e.heads.items) }
+        ensures asked { IfOk result (λ o. (e : _) → IsEntryAt self.now.entries.lists.items at.0 at.1 e → UsesAlone e.asked o.dependencies.nested_goals) }
+        ensures range { IfOk result (λ o. AreInRange cache.now.asked.items o.dependencies.nested_goals) }
+        ensures answer { IfOk result (λ o. IsReplyOver D.meaning cx.now self.now.stack.items input.now step_kind o.dependencies.heads.items cx.now o.result) }
+        ensures faithful { IfOk result (λ o. (reach : ℕ) → IsFaithfulOver D.meaning cx.now self.now.stack.items input.now reach cx.now o) }
+        ensures within { IfOk result (λ o. IsWithinAsEntries D.meaning cx.now self.now.entries.lists.items input.now o.result) }
+        ensures no_conflict { result ≡ Err GraphFault.Conflict → ⊥ }
+        ensures in_order { result ≡ Err GraphFault.Protocol → ⊥ }
+        ensures room { result ≡ Err GraphFault.Full → ⊥ }
+    {
+        let (head, place) = at;
+        let entry = &self.entries.lists[head][place];
+        let answer = cx.copy_result(&entry.result)?;
+        let mut dependencies = Dependencies::new(self.alloc);
+        dependencies.required_depth = entry.required_depth;
+        dependencies.heads = Vec::from_slice(self.alloc, &entry.heads)?;
+        let asked = entry.asked;
+        dependencies
+            .nested_goals
+            .add_cached(asked, cache.span_of(asked))?;
+        Ok(EvaluationResult {
+            result: answer,
+            dependencies,
+        })
+    }
+
+    /// Leaves the result of a goal with its nearest head, which is at this place of the stack, and answers the same result with
+    /// what was asked for it. It is refused where memory is, or as `copy_result` is.
+    pub(crate) fn leave(
+        &mut self,
+        cache: &mut CachedResults<D>,
+        cx: &D::Cx,
+        nearest: usize,
+        number: usize,
+        input: InputOf<D>,
+        step_kind: PathKind,
+        evaluation: EvaluationResult<ResultOf<D>>,
+    ) -> Evaluation<D>
+        requires entries { AreEntriesOver D.meaning cx.now self.old.stack.items cache.old.asked.items self.old.entries.lists.items }
+        requires input { D.meaning.IsInput cx.now input }
+        requires nested { AreInRange cache.old.asked.items evaluation.dependencies.nested_goals }
+        requires result { IsResultOver D.meaning cx.now self.old.stack.items input step_kind evaluation }
+        requires success { evaluation.dependencies.encountered_overflow ≡ false }
+        requires faithful { IsFaithfulOver D.meaning cx.now self.old.stack.items input 0 cx.now evaluation }
+        requires place { nearest < length self.old.stack.items }
+        requires nearest { RestsOn evaluation.dependencies.heads.items nearest × AreBelow (nearest + 1) (indices evaluation.dependencies.heads.items) }
+        ensures left { OnOk result ((e : _) × (e.result ≡ evaluation.result) × AddsEntry self.old.entries.lists.items self.new.entries.lists.items nearest e) }
+        ensures entries { OnOk result (AreEntriesOver D.meaning cx.now self.old.stack.items cache.new.asked.items self.new.entries.lists.items) }
+        ensures within { OnOk result (EntriesStayWithin D.meaning cx.now self.old.entries.lists.items input evaluation.result self.new.entries.lists.items) }
+        ensures reply { IfOk result (SaysSame evaluation) }
+        ensures range { IfOk result (λ o. AreInRange cache.new.asked.items o.dependencies.nested_goals) }
+        ensures asked_before { KeepsResults cache.old.asked.items cache.new.asked.items }
+        ensures cached { cache.new.entries ≡ cache.old.entries }
+        ensures goals { cache.new.goals ≡ cache.old.goals }
+        ensures stack { self.new.stack.items ≡ self.old.stack.items }
+        ensures frames { self.new.frames ≡ self.old.frames }
+        ensures limits { self.new.limits_met ≡ self.old.limits_met }
+        ensures no_conflict { result ≡ Err GraphFault.Conflict → ⊥ }
+        ensures in_order { result ≡ Err GraphFault.Protocol → ⊥ }
+        ensures room { result ≡ Err GraphFault.Full → ⊥ }
+    {
+        let EvaluationResult {
+            result: answer,
+            dependencies,
+        } = evaluation;
+        let Dependencies {
+            heads,
+            encountered_overflow,
+            required_depth,
+            nested_goals,
+        } = dependencies;
+        let kind = kind_of_path(&self.stack, nearest, step_kind);
+        let result = cx.copy_result(&answer)?;
+        let rests_on = Vec::from_slice(self.alloc, &heads)?;
+        let asked = cache.list(number, nested_goals)?;
+        let entry = ProvisionalEntry {
+            input,
+            number,
+            result,
+            heads: rests_on,
+            kind,
+            required_depth,
+            asked,
+        };
+        self.entries.leave(nearest, entry)?;
+        let mut nested_goals = NestedGoals::new(self.alloc);
+        nested_goals.add_cached(asked, cache.span_of(asked))?;
+        let dependencies = Dependencies {
+            heads,
+            encountered_overflow,
+            required_depth,
+            nested_goals,
+        };
+        Ok(EvaluationResult {
+            result: answer,
+            dependencies,
+        })
     }
 
     /// The cycle that a question closes, if its goal is on the stack.
@@ -230,7 +383,7 @@ impl<D: Delegate> Search<D> {
         ensures full { result ≡ Err Fault.Full → D.meaning.IsFull cx.new }
         ensures last { IfOk result (λ r. (e : _) (last : _) → slice_get self.now.stack.items cycle.index ≡ Some e → e.provisional_result ≡ Some last → r ≡ last) }
         ensures first { IfOk result (λ r. (e : _) → slice_get self.now.stack.items cycle.index ≡ Some e → e.provisional_result ≡ None → IsInitial D.meaning cx.old input.now cycle cx.new r) }
-        ensures answer { IfOk result (λ r. (e : _) → slice_get self.now.stack.items cycle.index ≡ Some e → IsReadOver D.meaning cx.old self.now.stack.items input.now step_kind cycle.index e cx.new r) }
+        ensures reply { IfOk result (λ r. (e : _) → slice_get self.now.stack.items cycle.index ≡ Some e → IsReadOver D.meaning cx.old self.now.stack.items input.now step_kind cycle.index e cx.new r) }
         ensures not_plain { IfOk result (λ r. IsNotPlainUnder D.meaning cx.old self.now.stack.items input.now cycle.index) }
         ensures within { IfOk result (λ r. IsWithinAsStack D.meaning cx.old self.now.stack.items input.now cx.new r) }
     {
@@ -304,6 +457,7 @@ impl<D: Delegate> Search<D> {
         ensures frames { self.new.frames ≡ self.old.frames }
         ensures noted { self.new.limits_met ≡ true }
         ensures answer { IfOk result (λ o. IsReplyOver D.meaning cx.old self.old.stack.items input.now step_kind o.dependencies.heads.items cx.new o.result) }
+        ensures entries { self.new.entries ≡ self.old.entries }
         ensures overflow { IfOk result (λ o. D.meaning.answer_of cx.new o.result ≡ D.meaning.stack_overflow (D.meaning.world cx.old) (D.meaning.goal_of cx.old input.now)) }
         ensures told { IfOk result (λ o. o.dependencies.encountered_overflow ≡ true) }
         ensures unread { IfOk result (λ o. o.dependencies.heads.items ≡ []) }

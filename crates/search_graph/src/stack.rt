@@ -131,7 +131,11 @@ pub(crate) fn find_cycle<D: Delegate>(
 }
 
 /// The greatest kind of the steps above a place and a closing one.
-fn kind_of_path<I, R>(stack: &[StackEntry<I, R>], index: usize, step_kind: PathKind) -> PathKind
+pub(crate) fn kind_of_path<I, R>(
+    stack: &[StackEntry<I, R>],
+    index: usize,
+    step_kind: PathKind,
+) -> PathKind
     requires { index < length stack.now }
     ensures { result ≡ kind_after (drop (index + 1) stack.now) step_kind }
 {

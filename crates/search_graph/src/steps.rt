@@ -1,24 +1,26 @@
 //! The parts of an evaluation that ask no goal, each with what the evaluation says of it.
 
-ghost use Rattle.std.specs.Prelude.{◌≡◌, [], ◌∷◌, ◌++◌, ◌+◌, ◌-◌, ◌^◌, ◌<◌, ◌≤◌, ◌||◌, ◌⊎◌, ℕ, min, max, IfOk, OnOk, IfSome, IsSome, IsPermutation, true, false};
+ghost use Rattle.std.specs.Prelude.{◌≡◌, [], ◌∷◌, ◌++◌, ◌+◌, ◌-◌, ◌^◌, ◌<◌, ◌≤◌, ◌||◌, ◌⊎◌, ℕ, min, max, IfOk, OnOk, IfSome, IsSome, IsPermutation, true, false, length};
 ghost use Rattle.std.specs.Int.RustNames.{bit_or};
 ghost use Rattle.search_graph.specs.Heads.{paths_to, AreHeadsOfBoth};
+ghost use Rattle.search_graph.specs.KeptPaths.{AreBelow, indices};
 ghost use Rattle.search_graph.specs.Meaning.{Keeps, IsDue, IsReply, Steps};
 ghost use Rattle.search_graph.specs.Chain.{AreInRange};
 ghost use Rattle.search_graph.specs.Nested.{covered, one_goal, AsksAlone};
 ghost use Rattle.search_graph.specs.Cache.{known_results, HasConflict, HoldsResult, IsNumberOf, KeepsNumbers, KeepsResults, AddsEvaluation, SaysSame};
 ghost use Rattle.search_graph.specs.Stack.{span_of_newest, IsStack, IsProvisional, AreCached, IsClosedBy, IfUsable, HasBegun};
-ghost use Rattle.search_graph.specs.Question.{IsReplyOver, IsFaithfulOver, IsKeptResult, IsNotPlainUpTo, IsWithinAsCached, IsWithinAsStack, KeepsWithin};
+ghost use Rattle.search_graph.specs.Question.{AreEntriesOver, IsResultOver, EntriesStayWithin, IsWithinAsKept, IsReplyOver, IsFaithfulOver, IsKeptResult, IsNotPlainUpTo, IsWithinAsCached, IsWithinAsStack, KeepsWithin};
 
 use crate::cache::CachedResults;
 use crate::delegate::{Delegate, InputOf, Reply, Request, ResultOf};
-use crate::dependencies::{Dependencies, EvaluationResult};
+use crate::dependencies::{Dependencies, EvaluationResult, nearest_head};
 use crate::fault::{GraphFault, Stop};
 use crate::path_kind::{PathKind, PathsToNested};
 use crate::search::{Evaluation, Outcome, Search, finish};
 use crate::stack::{Cycle, StackEntry};
 
-/// The number of a goal, and a cached result as the reply to a question on it, if one of this depth may use it.
+/// The number of a goal, and a result that is kept as the reply to a question on it, if one of this depth may use it: a provisional
+/// entry, or else a cached result.
 pub(crate) fn look_up<D: Delegate>(
     search: &Search<D>,
     cache: &mut CachedResults<D>,
@@ -28,23 +30,27 @@ pub(crate) fn look_up<D: Delegate>(
     depth: usize,
 ) -> Result<(usize, Option<EvaluationResult<ResultOf<D>>>), GraphFault>
     requires cache { AreCached D.meaning (D.meaning.world cx.now) cx.now cache.old.entries.items }
+    requires entries { AreEntriesOver D.meaning cx.now search.now.stack.items cache.old.asked.items search.now.entries.lists.items }
     ensures goals { KeepsNumbers D.Cx.Input.eq cache.old.goals.keys cache.new.goals.keys }
     ensures entries { cache.new.entries ≡ cache.old.entries }
     ensures asked_before { cache.new.asked ≡ cache.old.asked }
     ensures number { IfOk result (λ r. IsNumberOf D.Cx.Input.eq cache.new.goals.keys input.now r.0) }
     ensures range { IfOk result (λ r. IfSome r.1 (λ o. AreInRange cache.old.asked.items o.dependencies.nested_goals)) }
     ensures depth { IfOk result (λ r. IfSome r.1 (λ o. o.dependencies.encountered_overflow ≡ false → o.dependencies.required_depth ≤ depth)) }
-    ensures kept { IfOk result (λ r. IfSome r.1 (λ o. HoldsResult cache.old.entries.items input.now depth o.result)) }
+    ensures kept { search.now.stack.items ≡ [] → IfOk result (λ r. IfSome r.1 (λ o. HoldsResult cache.old.entries.items input.now depth o.result)) }
     ensures answer { IfOk result (λ r. IfSome r.1 (λ o. IsReplyOver D.meaning cx.now search.now.stack.items input.now step_kind o.dependencies.heads.items cx.now o.result)) }
     ensures faithful { IfOk result (λ r. IfSome r.1 (IsFaithfulOver D.meaning cx.now search.now.stack.items input.now (depth + 1) cx.now)) }
-    ensures within { IfOk result (λ r. IfSome r.1 (λ o. IsWithinAsCached D.meaning cx.now cache.old.entries.items input.now o.result)) }
+    ensures within { IfOk result (λ r. IfSome r.1 (λ o. IsWithinAsKept D.meaning cx.now cache.old.entries.items search.now.entries.lists.items input.now o.result)) }
     ensures found { IfUsable cache.old.entries.items cache.old.asked.items search.now.stack.items input.now depth (IfOk result (λ r. IsSome r.1)) }
     ensures no_conflict { result ≡ Err GraphFault.Conflict → ⊥ }
     ensures in_order { result ≡ Err GraphFault.Protocol → ⊥ }
     ensures room { result ≡ Err GraphFault.Full → ⊥ }
 {
-    // A provisional entry, of a goal whose result rests on goals of the stack, would be looked up here.
     let number = cache.number_of(cx, input)?;
+    if let Some(at) = search.find_entry(number, input, step_kind, depth) {
+        let reply = search.use_entry(cache, cx, at, number, input, step_kind, depth)?;
+        return Ok((number, Some(reply)));
+    }
     match search.find_cached(cache, number, input, depth)? {
         Some(place) => {
             let cached = search.use_cached(cache, cx, place, input, step_kind, depth)?;
@@ -100,6 +106,7 @@ pub(crate) fn reply_with_overflow<D: Delegate>(
     requires input { D.meaning.IsInput cx.old input }
     ensures keeps { Keeps D.meaning cx.old cx.new }
     ensures stack { search.new.stack.items ≡ search.old.stack.items }
+    ensures provisional { search.new.entries ≡ search.old.entries }
     ensures cache { AreCached D.meaning (D.meaning.world cx.new) cx.new cache.new.entries.items }
     ensures goals { KeepsNumbers D.Cx.Input.eq cache.old.goals.keys cache.new.goals.keys }
     ensures entries { cache.new.entries ≡ cache.old.entries }
@@ -129,6 +136,7 @@ pub(crate) fn start_run<D: Delegate>(
     requires span { entry.span ≡ covered (span_of_newest search.old.stack.items) (one_goal entry.number) }
     ensures keeps { Keeps D.meaning cx.old cx.new }
     ensures stack { OnOk result (search.new.stack.items ≡ search.old.stack.items ++ entry ∷ []) }
+    ensures none { OnOk result ((list : _) × (search.new.entries.lists.items ≡ search.old.entries.lists.items ++ list ∷ []) × (list.items ≡ [])) }
     ensures begun { IfOk result (λ r. HasBegun D.meaning cx.old entry.input cx.new r.0 r.1) }
     ensures frames { search.new.frames ≤ search.old.frames + 1 }
     ensures limits { search.new.limits_met ≡ search.old.limits_met }
@@ -175,13 +183,15 @@ pub(crate) fn hear<D: Delegate>(
     Ok(request)
 }
 
-/// Counts the end of a goal, and keeps its result as `finish` does.
+/// Counts the end of a goal. Its result is left with its nearest head, if it rests on goals of the stack and no overflow by depth
+/// was met, and else kept as `finish` does.
 pub(crate) fn conclude<D: Delegate>(
     search: &mut Search<D>,
     cache: &mut CachedResults<D>,
     cx: &D::Cx,
     number: usize,
     input: InputOf<D>,
+    step_kind: PathKind,
     evaluation: EvaluationResult<ResultOf<D>>,
     depth: usize,
 ) -> Outcome<D>
@@ -191,6 +201,12 @@ pub(crate) fn conclude<D: Delegate>(
     requires number { IsNumberOf D.Cx.Input.eq cache.old.goals.keys input number }
     requires alone { evaluation.dependencies.heads.items ≡ [] → IsProvisional D.meaning (D.meaning.world cx.now) [] (D.meaning.goal_of cx.now input, PathKind.Inductive) [] cx.now evaluation.result }
     requires kept { evaluation.dependencies.heads.items ≡ [] → IsKeptResult D.meaning cx.now input evaluation.result depth evaluation.dependencies.encountered_overflow }
+    requires entries { AreEntriesOver D.meaning cx.now search.old.stack.items cache.old.asked.items search.old.entries.lists.items }
+    requires result { IsResultOver D.meaning cx.now search.old.stack.items input step_kind evaluation }
+    requires below { AreBelow (length search.old.stack.items) (indices evaluation.dependencies.heads.items) }
+    requires faithful { IsFaithfulOver D.meaning cx.now search.old.stack.items input (depth + 1) cx.now evaluation }
+    ensures entries { OnOk result (AreEntriesOver D.meaning cx.now search.old.stack.items cache.new.asked.items search.new.entries.lists.items) }
+    ensures entries_within { OnOk result (EntriesStayWithin D.meaning cx.now search.old.entries.lists.items input evaluation.result search.new.entries.lists.items) }
     ensures kept { OnOk result (evaluation.dependencies.heads.items ≡ [] → AddsEvaluation cache.old.entries.items cache.new.entries.items cache.old.asked.items input number depth evaluation) }
     ensures results { KeepsResults cache.old.entries.items cache.new.entries.items }
     ensures asked_before { KeepsResults cache.old.asked.items cache.new.asked.items }
@@ -214,6 +230,11 @@ pub(crate) fn conclude<D: Delegate>(
     let is_open = found.encountered_overflow || !found.heads.is_empty();
     if is_open && !search.count_open_end(D::cost_of(cx, &input)) {
         return Err(Stop::Exhausted);
+    }
+    if !found.encountered_overflow {
+        if let Some(nearest) = nearest_head(&found.heads) {
+            return Ok(search.leave(cache, cx, nearest, number, input, step_kind, evaluation)?);
+        }
     }
     let alloc = search.alloc;
     Ok(finish(alloc, cache, cx, number, input, evaluation, depth)?)

@@ -6,6 +6,7 @@ use Rattle.search_graph.specs.Meaning.{answer_count, request_of}
 use Rattle.search_graph.specs.Nested.{covered, one_goal}
 use Rattle.search_graph.proofs.Ranges.{in_range_none, in_range_one, in_range_gather, in_range_later}
 use Rattle.std.proofs.lemmas.Option.{none-some}
+use Rattle.std.proofs.lemmas.List.{length-append}
 use Rattle.search_graph.proofs.Depths.{depth_below, depth_gathered}
 use Rattle.search_graph.specs.KeptPaths.{AreBelow, indices}
 use Rattle.search_graph.specs.Heads.{AreHeadsBut}
@@ -14,7 +15,7 @@ use Rattle.search_graph.specs.Computed.{IsGivenWithin, nothing, also, below}
 use Rattle.search_graph.specs.Bound.{question_bound}
 use Rattle.search_graph.specs.Plain.{IsNotPlain}
 use Rattle.search_graph.specs.Cache.{HasConflict, known_results}
-use Rattle.search_graph.specs.Question.{IsFaithfulOver, IsNotPlainOver, IsWithinAsStack, StaysWithin}
+use Rattle.search_graph.specs.Question.{IsFaithfulOver, IsNotPlainOver, IsWithinAsStack, AllStayWithin}
 use Rattle.search_graph.specs.Faithful.{HeadsDescend}
 use Rattle.search_graph.proofs.Errors.{err_passed, fault_passed, fault_goes_on, stop_refused, ok_not_err, OnOk-always}
 use Rattle.search_graph.proofs.Refusals.{IfOk-err, OnOk-err}
@@ -26,6 +27,7 @@ use Rattle.search_graph.proofs.Limits.{unnoted, either_noted, not_both, told_wit
 use Rattle.search_graph.proofs.Bounds.{frame_bound_runs, nested_within, one_more_run, runs_within, done_within, asked_within, asked_more}
 use Rattle.search_graph.proofs.Ends.{depth_after, held_after, answer_after, faithful_after, within_after}
 use Rattle.search_graph.proofs.Turns.{asked_in_turn, ended_in_turn, in_order_in_turn, told_in_turn, plain_in_turn}
+use Rattle.search_graph.proofs.Entries.{runs_begin, runs_leave, entries_keep, entries_same, entries_within_keep, entries_within_begin, entries_within_leave}
 use Rattle.search_graph.proofs.evaluation.+search.Goals as goal
 
 pub ask-returns-then-depth-eq0 : goal.ask-returns-then-depth-eq0
@@ -39,6 +41,7 @@ ask-returns-then-depth-eq0 g t c =
       keeps = c.reply_with_overflow.ensures.keeps;
       stack = OnOk-always c.reply_with_overflow.result c.reply_with_overflow.ensures.stack;
       cache = c.reply_with_overflow.ensures.cache;
+      entries = OnOk-always c.reply_with_overflow.result (entries_same m w first c.reply_with_overflow.new.cx c.args.cache.now.asked.items c.reply_with_overflow.new.cache.asked.items (steps_of m first es) c.args.search.now.entries.lists.items c.reply_with_overflow.new.search.entries.lists.items c.reply_with_overflow.ensures.keeps (ap (λ v. v.items) c.reply_with_overflow.ensures.asked_before) (ap (λ e. e.lists.items) c.reply_with_overflow.ensures.provisional) c.requires.entries);
       goals = c.reply_with_overflow.ensures.goals;
       results = λ p x h. rw c.reply_with_overflow.ensures.entries h;
       asked_before = λ p x h. rw c.reply_with_overflow.ensures.asked_before h;
@@ -68,6 +71,7 @@ ask-returns g t c =
       keeps = c.evaluate.ensures.keeps;
       stack = c.evaluate.ensures.stack;
       cache = c.evaluate.ensures.cache;
+      entries = c.evaluate.ensures.entries;
       goals = c.evaluate.ensures.goals;
       results = c.evaluate.ensures.results;
       asked_before = c.evaluate.ensures.asked_before;
@@ -94,6 +98,7 @@ evaluate-returns-in_err-number g t c =
       keeps = Keeps-refl g.D.Delegate.meaning c.args.cx.now;
       stack = OnOk-always c.from_residual.result refl;
       cache = rw c.look_up.ensures.entries c.requires.cache;
+      entries = OnOk-err _ _ _ p.1;
       goals = c.look_up.ensures.goals;
       results = λ p x h. rw c.look_up.ensures.entries h;
       asked_before = λ p x h. rw c.look_up.ensures.asked_before h;
@@ -113,21 +118,25 @@ evaluate-returns-in_err-number g t c =
       within = IfOk-err _ _ _ p.1;
       cached = λ place e at same within clear. (refl, c.look_up.ensures.entries);
       served = λ place e at same within clear h. fault_goes_on _ _ _ p.1 p.2 h;
-      known = λ place e at same within clear. IfOk-err _ _ _ p.1;
+      known = λ empty place e at same within clear. IfOk-err _ _ _ p.1;
     }
 
 pub evaluate-returns-in-Some : goal.evaluate-returns-in-Some
 evaluate-returns-in-Some g t c =
+    let m = g.D.Delegate.meaning in
+    let first = c.args.cx.now in
+    let lists = c.args.search.now.entries.lists.items in
     record {
       keeps = Keeps-refl g.D.Delegate.meaning c.args.cx.now;
       stack = refl;
       cache = rw c.look_up.ensures.entries c.requires.cache;
+      entries = entries_same m (m.world first) first first c.args.cache.now.asked.items c.look_up.new.cache.asked.items (steps_of m first c.args.search.now.stack.items) lists lists (Keeps-refl m first) (ap (λ v. v.items) c.look_up.ensures.asked_before) refl c.requires.entries;
       goals = c.look_up.ensures.goals;
       results = λ p x h. rw c.look_up.ensures.entries h;
       asked_before = λ p x h. rw c.look_up.ensures.asked_before h;
       range = rw c.look_up.ensures.asked_before (rw c.in-Some.is at c.in_ok-number.ensures.range);
       depth = rw c.in-Some.is at c.in_ok-number.ensures.depth;
-      kept = λ empty. rw c.look_up.ensures.entries (rw c.in-Some.is at c.in_ok-number.ensures.kept);
+      kept = λ empty. rw c.look_up.ensures.entries (rw c.in-Some.is at c.in_ok-number.ensures.kept empty);
       answer = rw c.in-Some.is at c.in_ok-number.ensures.answer;
       faithful = rw c.in-Some.is at c.in_ok-number.ensures.faithful;
       no_conflict = λ h. absurd {A = IsNotPlainOver g.D.Delegate.meaning c.args.cx.now c.args.search.now.stack.items c.args.input (c.args.depth + 1)} (ok_not_err _ _ h);
@@ -141,7 +150,7 @@ evaluate-returns-in-Some g t c =
       within = λ before no last cached. (rw c.look_up.ensures.entries cached, (rw c.in-Some.is at c.in_ok-number.ensures.within) before cached);
       cached = λ place e at same within clear. (refl, c.look_up.ensures.entries);
       served = λ place e at same within clear h. ok_not_err _ _ h;
-      known = λ place e at same within clear. rw c.in-Some.is at c.in_ok-number.ensures.kept;
+      known = λ empty place e at same within clear. rw c.in-Some.is at c.in_ok-number.ensures.kept empty;
     }
 
 pub evaluate-reply_in_cycle-requires-clause-cycle : goal.evaluate-reply_in_cycle-requires-clause-cycle
@@ -157,6 +166,7 @@ evaluate-returns-in-Some-find_cycle g t c =
       keeps = c.reply_in_cycle.ensures.keeps;
       stack = OnOk-always c.reply_in_cycle.result refl;
       cache = rw c.look_up.ensures.entries (AreCached-later g.D.Delegate.meaning c.args.cx.now c.reply_in_cycle.new.cx c.args.cache.now.entries.items c.reply_in_cycle.ensures.keeps c.requires.cache);
+      entries = OnOk-always c.reply_in_cycle.result (entries_same m (m.world first) first c.reply_in_cycle.new.cx c.args.cache.now.asked.items c.look_up.new.cache.asked.items (steps_of m first es) c.args.search.now.entries.lists.items c.args.search.now.entries.lists.items c.reply_in_cycle.ensures.keeps (ap (λ v. v.items) c.look_up.ensures.asked_before) refl c.requires.entries);
       goals = c.look_up.ensures.goals;
       results = λ p x h. rw c.look_up.ensures.entries h;
       asked_before = λ p x h. rw c.look_up.ensures.asked_before h;
@@ -174,14 +184,17 @@ evaluate-returns-in-Some-find_cycle g t c =
       limits = λ h. h;
       no_limit = λ off on. not_both c.args.search.now.limits_met off on;
       within = IfOk-weaker c.reply_in_cycle.result (λ o. IsWithinAsStack m first es c.args.input c.reply_in_cycle.new.cx o.result)
-          (λ o. StaysWithin m first es c.args.cache.now.entries.items c.args.input c.args.search.now.limits_met c.reply_in_cycle.new.cx c.look_up.new.cache.entries.items o.result)
+          (λ o. AllStayWithin m first es c.args.cache.now.entries.items c.args.search.now.entries.lists.items c.args.input c.args.search.now.limits_met c.reply_in_cycle.new.cx c.look_up.new.cache.entries.items c.args.search.now.entries.lists.items o.result)
           (λ o f before no last cached. (
-            rw c.look_up.ensures.entries (AreCachedWithin-keeps m (m.world first) before (m.world first) first c.reply_in_cycle.new.cx c.args.cache.now.entries.items c.reply_in_cycle.ensures.keeps c.requires.cache cached),
+            rw c.look_up.ensures.entries (
+              AreCachedWithin-keeps m (m.world first) before (m.world first) first c.reply_in_cycle.new.cx c.args.cache.now.entries.items c.reply_in_cycle.ensures.keeps c.requires.cache cached.0,
+              entries_within_keep m (m.world first) (m.world first) before first c.reply_in_cycle.new.cx c.args.cache.now.asked.items (steps_of m first es) c.args.search.now.entries.lists.items c.reply_in_cycle.ensures.keeps c.requires.entries cached.1,
+            ),
             f before last,
           )) c.reply_in_cycle.ensures.within;
       cached = λ place e at same within clear. (refl, c.look_up.ensures.entries);
       served = λ place e at same within clear. c.reply_in_cycle.ensures.goes_on;
-      known = λ place e at same within clear. absurd (true_not_false (sym (rw c.in_default.is at (c.in_ok-number.ensures.found place e at same within clear))));
+      known = λ empty place e at same within clear. absurd (true_not_false (sym (rw c.in_default.is at (c.in_ok-number.ensures.found place e at same within clear))));
     }
 
 pub evaluate-returns-in-None : goal.evaluate-returns-in-None
@@ -190,6 +203,7 @@ evaluate-returns-in-None g t c =
       keeps = c.evaluate_new.ensures.keeps;
       stack = c.evaluate_new.ensures.stack;
       cache = c.evaluate_new.ensures.cache;
+      entries = c.evaluate_new.ensures.entries;
       goals = λ x n h. c.evaluate_new.ensures.goals x n (c.look_up.ensures.goals x n h);
       results = λ p x h. c.evaluate_new.ensures.results p x (rw c.look_up.ensures.entries h);
       asked_before = λ p x h. c.evaluate_new.ensures.asked_before p x (rw c.look_up.ensures.asked_before h);
@@ -209,8 +223,32 @@ evaluate-returns-in-None g t c =
       within = IfOk-weaker c.evaluate_new.result _ _ (λ o f before no last cached. f before no last (rw c.look_up.ensures.entries cached)) c.evaluate_new.ensures.within;
       cached = λ place e at same within clear. absurd (true_not_false (sym (rw c.in_default.is at (c.in_ok-number.ensures.found place e at same within clear))));
       served = λ place e at same within clear. absurd (true_not_false (sym (rw c.in_default.is at (c.in_ok-number.ensures.found place e at same within clear))));
-      known = λ place e at same within clear. absurd (true_not_false (sym (rw c.in_default.is at (c.in_ok-number.ensures.found place e at same within clear))));
+      known = λ empty place e at same within clear. absurd (true_not_false (sym (rw c.in_default.is at (c.in_ok-number.ensures.found place e at same within clear))));
     }
+
+pub evaluate-evaluate_new-requires : goal.evaluate-evaluate_new-requires
+evaluate-evaluate_new-requires g t c κs within = (
+  search rules,
+  (
+    within.0,
+    (
+      within.1.0,
+      (
+        within.1.1.0,
+        (
+          within.1.1.1.0,
+          (
+            within.1.1.1.1.0,
+            (
+              within.1.1.1.1.1,
+              (c.requires.stack, (rw c.look_up.ensures.entries c.requires.cache, (rw c.look_up.ensures.asked_before c.requires.entries, (c.requires.input, c.in_ok-number.ensures.number)))),
+            ),
+          ),
+        ),
+      ),
+    ),
+  ),
+)
 
 pub evaluate_new-loop-run-init : goal.evaluate_new-loop-run-init
 evaluate_new-loop-run-init g t c =
@@ -223,6 +261,7 @@ evaluate_new-loop-run-init g t c =
     record {
       keeps = Keeps-refl m first;
       cache = c.requires.cache;
+      entries = c.requires.entries;
       goals = λ x n h. h;
       results = λ p x h. h;
       asked_before = λ p x h. h;
@@ -272,6 +311,7 @@ evaluate_new-loop-run-preserved g t c =
     record {
       keeps = keeps;
       cache = c.run_once.ensures.cache;
+      entries = rw (inv.keeps.world, steps-now m first c.loop-run.cx es c.loop-run.search.stack.items inv.keeps inv.stack c.requires.stack) at c.in_ok-back.ensures.entries;
       goals = λ x n h. c.run_once.ensures.goals x n (inv.goals x n h);
       results = λ p x h. c.run_once.ensures.results p x (inv.results p x h);
       asked_before = λ p x h. c.run_once.ensures.asked_before p x (inv.asked_before p x h);
@@ -293,7 +333,7 @@ evaluate_new-loop-run-preserved g t c =
           (rw (inv.keeps.world, steps-now m first c.loop-run.cx es c.loop-run.search.stack.items inv.keeps inv.stack c.requires.stack, inv.input, goal_is) at c.run_once.ensures.no_limit);
       within = λ before no last cached.
           let told = told_within m first c.loop-run.cx c.run_once.new.cx es c.loop-run.search.stack.items inv.keeps inv.stack c.requires.stack before c.args.input c.loop-run.entry c.in_ok-back.outcome.result inv.input c.requires.input
-          c.loop-run.cache.entries.items c.run_once.new.cache.entries.items (c.in_ok-back.ensures.within before no) last
+          c.loop-run.cache.entries.items c.run_once.new.cache.entries.items c.loop-run.search.entries.lists.items c.run_once.new.search.entries.lists.items (c.in_ok-back.ensures.within before no) last
           (inv.within before (unnoted c.loop-run.search.limits_met c.run_once.new.search.limits_met c.run_once.ensures.limits no) last cached) in
           (told.0, rw (c.in_ok-entry.ensures.result, c.in_ok-entry.ensures.input, input, (keeps.inputs c.args.input c.requires.input).1) told.1);
       again = λ r. never;
@@ -321,7 +361,7 @@ evaluate_new-run_once-requires g t c κs within =
                 within.1.1.1.1.0,
                 (
                   within.1.1.1.1.1,
-                  (stack, (inv.cache, (entry, (rw inv.stack inv.below, (rw inv.stack inv.span, (inv.range, (inv.depth, rw (inv.keeps.world, steps-now m first c.loop-run.cx es c.loop-run.search.stack.items inv.keeps inv.stack c.requires.stack, inv.input, goal_is) inv.untouched))))))),
+                  (stack, (inv.cache, (rw (inv.keeps.world, steps-now m first c.loop-run.cx es c.loop-run.search.stack.items inv.keeps inv.stack c.requires.stack) inv.entries, (entry, (rw inv.stack inv.below, (rw inv.stack inv.span, (inv.range, (inv.depth, rw (inv.keeps.world, steps-now m first c.loop-run.cx es c.loop-run.search.stack.items inv.keeps inv.stack c.requires.stack, inv.input, goal_is) inv.untouched)))))))),
                 ),
               ),
             ),
@@ -386,6 +426,105 @@ evaluate_new-conclude-requires-clause-input g t c =
     let input : c.into_input.result ≡ c.args.input = c.into_input.ensures ∙ ap (λ e. e.input) c.in_ok-back.ensures.entry ∙ inv.input in
     rw input (keeps.inputs c.args.input c.requires.input).0
 
+pub evaluate_new-conclude-requires-clause-entries : goal.evaluate_new-conclude-requires-clause-entries
+evaluate_new-conclude-requires-clause-entries g t c =
+    let m = g.D.Delegate.meaning in
+    let inv = c.loop-run.invariant in
+    let first = c.args.cx.now in
+    let es = c.args.search.now.stack.items in
+    let keeps = Keeps-trans m first c.loop-run.cx c.run_once.new.cx inv.keeps c.run_once.ensures.keeps in
+    let now = rw (inv.keeps.world, steps-now m first c.loop-run.cx es c.loop-run.search.stack.items inv.keeps inv.stack c.requires.stack) at c.in_ok-back.ensures.entries in
+    rw (keeps.world, steps-now m first c.run_once.new.cx es c.run_once.new.search.stack.items keeps (c.in_ok-back.ensures.stack ∙ inv.stack) c.requires.stack) now
+
+pub evaluate_new-conclude-requires-clause-result : goal.evaluate_new-conclude-requires-clause-result
+evaluate_new-conclude-requires-clause-result g t c =
+    let m = g.D.Delegate.meaning in
+    let inv = c.loop-run.invariant in
+    let first = c.args.cx.now in
+    let es = c.args.search.now.stack.items in
+    let heads = c.in_ok-back.outcome.dependencies.heads.items in
+    let less = c.take_head-read.new.heads.items in
+    let ended = run_ended m first c.loop-run.cx es c.loop-run.search.stack.items inv.keeps inv.stack c.requires.stack c.loop-run.entry c.args.input c.args.step_kind c.len-index.result heads less c.run_once.new.cx c.in_ok-back.outcome.result
+    inv.place c.take_head-read.ensures.rests inv.input inv.kind c.requires.input c.in_ok-back.ensures.provisional in
+    let keeps = Keeps-trans m first c.loop-run.cx c.run_once.new.cx inv.keeps c.run_once.ensures.keeps in
+    let input : c.into_input.result ≡ c.args.input = c.into_input.ensures ∙ ap (λ e. e.input) c.in_ok-back.ensures.entry ∙ inv.input in
+    rw (keeps.world, steps-now m first c.run_once.new.cx es c.run_once.new.search.stack.items keeps (c.in_ok-back.ensures.stack ∙ inv.stack) c.requires.stack, input, (keeps.inputs c.args.input c.requires.input).1) ended.result
+
+pub evaluate_new-conclude-requires-clause-below : goal.evaluate_new-conclude-requires-clause-below
+evaluate_new-conclude-requires-clause-below g t c =
+    let m = g.D.Delegate.meaning in
+    let inv = c.loop-run.invariant in
+    let first = c.args.cx.now in
+    let es = c.args.search.now.stack.items in
+    let heads = c.in_ok-back.outcome.dependencies.heads.items in
+    let less = c.take_head-read.new.heads.items in
+    let ended = run_ended m first c.loop-run.cx es c.loop-run.search.stack.items inv.keeps inv.stack c.requires.stack c.loop-run.entry c.args.input c.args.step_kind c.len-index.result heads less c.run_once.new.cx c.in_ok-back.outcome.result
+    inv.place c.take_head-read.ensures.rests inv.input inv.kind c.requires.input c.in_ok-back.ensures.provisional in
+    rw (c.in_ok-back.ensures.stack ∙ inv.stack) ended.below
+
+pub evaluate_new-conclude-requires-clause-faithful : goal.evaluate_new-conclude-requires-clause-faithful
+evaluate_new-conclude-requires-clause-faithful g t c =
+    let m = g.D.Delegate.meaning in
+    let inv = c.loop-run.invariant in
+    let first = c.args.cx.now in
+    let es = c.args.search.now.stack.items in
+    let w = m.world first in
+    let x = m.goal_of first c.args.input in
+    let steps = steps_of m first es in
+    let goal_is = (inv.keeps.inputs c.args.input c.requires.input).1 in
+    let heads = c.in_ok-back.outcome.dependencies.heads.items in
+    let less = c.take_head-read.new.heads.items in
+    let ended = run_ended m first c.loop-run.cx es c.loop-run.search.stack.items inv.keeps inv.stack c.requires.stack c.loop-run.entry c.args.input c.args.step_kind c.len-index.result heads less c.run_once.new.cx c.in_ok-back.outcome.result
+    inv.place c.take_head-read.ensures.rests inv.input inv.kind c.requires.input c.in_ok-back.ensures.provisional in
+    let keeps = Keeps-trans m first c.loop-run.cx c.run_once.new.cx inv.keeps c.run_once.ensures.keeps in
+    let input : c.into_input.result ≡ c.args.input = c.into_input.ensures ∙ ap (λ e. e.input) c.in_ok-back.ensures.entry ∙ inv.input in
+    let faithful = rw (inv.keeps.world, steps-now m first c.loop-run.cx es c.loop-run.search.stack.items inv.keeps inv.stack c.requires.stack, inv.input, goal_is) at c.in_ok-back.ensures.faithful in
+    let faithful_less = faithful_taken m w (c.args.depth + 1) steps x (m.answer_of c.run_once.new.cx c.in_ok-back.outcome.result) c.in_ok-back.outcome.dependencies.encountered_overflow (indices heads) (indices less) (λ e. ap indices (c.take_head-read.ensures.unread (indices-none heads e)).1) ended.but faithful in
+    rw (keeps.world, steps-now m first c.run_once.new.cx es c.run_once.new.search.stack.items keeps (c.in_ok-back.ensures.stack ∙ inv.stack) c.requires.stack, input, (keeps.inputs c.args.input c.requires.input).1) faithful_less
+
+pub evaluate_new-conclude-requires-2-clause-entries : goal.evaluate_new-conclude-requires-2-clause-entries
+evaluate_new-conclude-requires-2-clause-entries g t c =
+    let m = g.D.Delegate.meaning in
+    let inv = c.loop-run.invariant in
+    let first = c.args.cx.now in
+    let es = c.args.search.now.stack.items in
+    let keeps = Keeps-trans m first c.loop-run.cx c.fixpoint_overflow_result.new.cx inv.keeps c.fixpoint_overflow_result.ensures.keeps in
+    rw (keeps.world, steps-now m first c.fixpoint_overflow_result.new.cx es c.loop-run.search.stack.items keeps inv.stack c.requires.stack)
+    (entries_same m (m.world first) c.loop-run.cx c.fixpoint_overflow_result.new.cx c.loop-run.cache.asked.items c.loop-run.cache.asked.items (steps_of m first es) c.loop-run.search.entries.lists.items c.loop-run.search.entries.lists.items c.fixpoint_overflow_result.ensures.keeps refl refl inv.entries)
+
+pub evaluate_new-conclude-requires-2-clause-result : goal.evaluate_new-conclude-requires-2-clause-result
+evaluate_new-conclude-requires-2-clause-result g t c =
+    let m = g.D.Delegate.meaning in
+    let law = g.met.D.Delegate.lawful in
+    let inv = c.loop-run.invariant in
+    let first = c.args.cx.now in
+    let es = c.args.search.now.stack.items in
+    let w = m.world first in
+    let x = m.goal_of first c.args.input in
+    let goal_is = (inv.keeps.inputs c.args.input c.requires.input).1 in
+    let keeps = Keeps-trans m first c.loop-run.cx c.fixpoint_overflow_result.new.cx inv.keeps c.fixpoint_overflow_result.ensures.keeps in
+    let is : m.answer_of c.fixpoint_overflow_result.new.cx c.in_ok-answer.answer ≡ m.fixpoint_overflow w x = rw (inv.keeps.world, inv.input, goal_is) at c.in_ok-answer.ensures.is.1 in
+    rw (keeps.world, steps-now m first c.fixpoint_overflow_result.new.cx es c.loop-run.search.stack.items keeps inv.stack c.requires.stack, c.into_input-2.ensures ∙ inv.input, (keeps.inputs c.args.input c.requires.input).1)
+    (overflow_stands m w (steps_of m first es) (x, c.args.step_kind) (indices c.loop-run.dependencies.heads.items) c.fixpoint_overflow_result.new.cx c.in_ok-answer.answer (m.fixpoint_overflow w x) c.in_ok-answer.ensures.is.0 is (law.fixpoint_overflow w x) (law.fixpoint_overflow_fair w x) (inr (inl refl)))
+
+pub evaluate_new-conclude-requires-2-clause-below : goal.evaluate_new-conclude-requires-2-clause-below
+evaluate_new-conclude-requires-2-clause-below g t c =
+    rw c.loop-run.invariant.stack c.loop-run.invariant.below
+
+pub evaluate_new-conclude-requires-2-clause-faithful : goal.evaluate_new-conclude-requires-2-clause-faithful
+evaluate_new-conclude-requires-2-clause-faithful g t c =
+    let ran : 0 < c.loop-run._run = omega arith in
+    let m = g.D.Delegate.meaning in
+    let inv = c.loop-run.invariant in
+    let first = c.args.cx.now in
+    let es = c.args.search.now.stack.items in
+    let w = m.world first in
+    let x = m.goal_of first c.args.input in
+    let steps = steps_of m first es in
+    let keeps = Keeps-trans m first c.loop-run.cx c.fixpoint_overflow_result.new.cx inv.keeps c.fixpoint_overflow_result.ensures.keeps in
+    let faithful = faithful_not_plain m w (c.args.depth + 1) steps x (m.answer_of c.fixpoint_overflow_result.new.cx c.in_ok-answer.answer) c.loop-run.dependencies.encountered_overflow (indices c.loop-run.dependencies.heads.items) (inv.again ran) in
+    rw (keeps.world, steps-now m first c.fixpoint_overflow_result.new.cx es c.loop-run.search.stack.items keeps inv.stack c.requires.stack, c.into_input-2.ensures ∙ inv.input, (keeps.inputs c.args.input c.requires.input).1) faithful
+
 pub evaluate_new-conclude-requires-clause-nested : goal.evaluate_new-conclude-requires-clause-nested
 evaluate_new-conclude-requires-clause-nested g t c =
     c.in_ok-back.ensures.range
@@ -416,6 +555,7 @@ evaluate_new-returns-then-is_last_run g t c =
       keeps = Keeps-trans g.D.Delegate.meaning c.args.cx.now c.loop-run.cx c.run_once.new.cx c.loop-run.invariant.keeps c.run_once.ensures.keeps;
       stack = OnOk-always c.conclude.result (c.conclude.ensures.stack ∙ c.in_ok-back.ensures.stack ∙ c.loop-run.invariant.stack);
       cache = c.conclude.ensures.cache;
+      entries = rw (keeps.world, steps-now m first c.run_once.new.cx es c.run_once.new.search.stack.items keeps (c.in_ok-back.ensures.stack ∙ inv.stack) c.requires.stack) at c.conclude.ensures.entries;
       goals = λ x n h. rw c.conclude.ensures.goals (c.run_once.ensures.goals x n (c.loop-run.invariant.goals x n h));
       results = λ p x h. c.conclude.ensures.results p x (c.run_once.ensures.results p x (c.loop-run.invariant.results p x h));
       asked_before = λ p x h. c.conclude.ensures.asked_before p x (c.run_once.ensures.asked_before p x (c.loop-run.invariant.asked_before p x h));
@@ -442,12 +582,12 @@ evaluate_new-returns-then-is_last_run g t c =
       limits = λ h. c.conclude.ensures.limits ∙ c.run_once.ensures.limits (inv.limits h);
       no_limit = λ off on. either_noted c.loop-run.search.limits_met c.run_once.new.search.limits_met (inv.noted off)
           (rw (inv.keeps.world, steps-now m first c.loop-run.cx es c.loop-run.search.stack.items inv.keeps inv.stack c.requires.stack, inv.input, goal_is) at c.run_once.ensures.no_limit) (sym c.conclude.ensures.limits ∙ on);
-      within = rw c.conclude.ensures.limits (within_after m first c.run_once.new.cx es c.args.input c.conclude.result _ c.args.cache.now.entries.items c.run_once.new.cache.entries.items c.conclude.new.cache.entries.items c.into_input.result c.run_once.new.search.limits_met keeps input c.requires.input
+      within = rw c.conclude.ensures.limits (within_after m first c.run_once.new.cx es c.args.input c.conclude.result _ c.args.cache.now.entries.items c.run_once.new.cache.entries.items c.conclude.new.cache.entries.items c.args.search.now.entries.lists.items c.run_once.new.search.entries.lists.items c.conclude.new.search.entries.lists.items c.into_input.result c.run_once.new.search.limits_met keeps input c.requires.input
           (λ before no last cached.
           told_within m first c.loop-run.cx c.run_once.new.cx es c.loop-run.search.stack.items inv.keeps inv.stack c.requires.stack before c.args.input c.loop-run.entry c.in_ok-back.outcome.result inv.input c.requires.input
-          c.loop-run.cache.entries.items c.run_once.new.cache.entries.items (c.in_ok-back.ensures.within before no) last
+          c.loop-run.cache.entries.items c.run_once.new.cache.entries.items c.loop-run.search.entries.lists.items c.run_once.new.search.entries.lists.items (c.in_ok-back.ensures.within before no) last
           (inv.within before (unnoted c.loop-run.search.limits_met c.run_once.new.search.limits_met c.run_once.ensures.limits no) last cached))
-          c.conclude.ensures.within c.conclude.ensures.reply);
+          c.conclude.ensures.within c.conclude.ensures.entries_within c.conclude.ensures.reply);
     }
 
 pub evaluate_new-returns-in_err-back : goal.evaluate_new-returns-in_err-back
@@ -465,6 +605,7 @@ evaluate_new-returns-in_err-back g t c =
       keeps = Keeps-trans g.D.Delegate.meaning c.args.cx.now c.loop-run.cx c.run_once.new.cx inv.keeps c.run_once.ensures.keeps;
       stack = OnOk-err _ _ _ p.1;
       cache = c.run_once.ensures.cache;
+      entries = OnOk-err _ _ _ p.1;
       goals = λ x n h. c.run_once.ensures.goals x n (c.loop-run.invariant.goals x n h);
       results = λ p x h. c.run_once.ensures.results p x (c.loop-run.invariant.results p x h);
       asked_before = λ p x h. c.run_once.ensures.asked_before p x (c.loop-run.invariant.asked_before p x h);
@@ -502,6 +643,7 @@ evaluate_new-returns-in_err-entry g t c =
       keeps = Keeps-trans g.D.Delegate.meaning c.args.cx.now c.loop-run.cx c.run_once.new.cx inv.keeps c.run_once.ensures.keeps;
       stack = OnOk-err _ _ _ p.1;
       cache = c.run_once.ensures.cache;
+      entries = OnOk-err _ _ _ p.1;
       goals = λ x n h. c.run_once.ensures.goals x n (inv.goals x n h);
       results = λ p x h. c.run_once.ensures.results p x (inv.results p x h);
       asked_before = λ p x h. c.run_once.ensures.asked_before p x (inv.asked_before p x h);
@@ -554,6 +696,7 @@ evaluate_new-returns g t c =
       keeps = Keeps-trans g.D.Delegate.meaning c.args.cx.now c.loop-run.cx c.fixpoint_overflow_result.new.cx c.loop-run.invariant.keeps c.fixpoint_overflow_result.ensures.keeps;
       stack = OnOk-always c.conclude-2.result (c.conclude-2.ensures.stack ∙ c.loop-run.invariant.stack);
       cache = c.conclude-2.ensures.cache;
+      entries = rw (keeps.world, steps-now m first c.fixpoint_overflow_result.new.cx es c.loop-run.search.stack.items keeps inv.stack c.requires.stack) at c.conclude-2.ensures.entries;
       goals = λ x n h. rw c.conclude-2.ensures.goals (c.loop-run.invariant.goals x n h);
       results = λ p x h. c.conclude-2.ensures.results p x (c.loop-run.invariant.results p x h);
       asked_before = λ p x h. c.conclude-2.ensures.asked_before p x (c.loop-run.invariant.asked_before p x h);
@@ -670,6 +813,7 @@ run_once-returns-in_err-frame g t c =
       keeps = c.start_run.ensures.keeps;
       stack = OnOk-err _ _ _ p.1;
       cache = AreCached-later g.D.Delegate.meaning c.args.cx.now c.start_run.new.cx c.args.cache.now.entries.items c.start_run.ensures.keeps c.requires.cache;
+      entries = OnOk-err _ _ _ p.1;
       goals = λ x n h. h;
       results = λ p x h. h;
       asked_before = λ p x h. h;
@@ -711,6 +855,7 @@ run_once-returns-in_err-request-in-Ask g t c =
       keeps = Keeps-trans m first c.ask.new.cx c.hear.new.cx (Keeps-trans m first c.loop-candidates.cx c.ask.new.cx c.loop-candidates.invariant.keeps c.ask.ensures.keeps) c.hear.ensures.keeps;
       stack = OnOk-err _ _ _ p.1;
       cache = AreCached-later g.D.Delegate.meaning c.ask.new.cx c.hear.new.cx c.ask.new.cache.entries.items c.hear.ensures.keeps c.ask.ensures.cache;
+      entries = OnOk-err _ _ _ p.1;
       goals = λ x n h. c.ask.ensures.goals x n (c.loop-candidates.invariant.goals x n h);
       results = λ p x h. c.ask.ensures.results p x (c.loop-candidates.invariant.results p x h);
       asked_before = λ p x h. c.ask.ensures.asked_before p x (c.loop-candidates.invariant.asked_before p x h);
@@ -756,7 +901,7 @@ run_once-ask-requires g t c κs within =
                 within.1.1.1.1.0,
                 (
                   within.1.1.1.1.1,
-                  (IsStack-now m first c.loop-candidates.cx (es ++ c.args.entry ∷ []) c.loop-candidates.search.stack.items inv.keeps inv.stack pushed, (inv.cache, known)),
+                  (IsStack-now m first c.loop-candidates.cx (es ++ c.args.entry ∷ []) c.loop-candidates.search.stack.items inv.keeps inv.stack pushed, (inv.cache, (rw (inv.keeps.world, steps-now m first c.loop-candidates.cx (es ++ c.args.entry ∷ []) c.loop-candidates.search.stack.items inv.keeps inv.stack pushed, steps_pushed m first es c.args.entry) inv.entries, known))),
                 ),
               ),
             ),
@@ -797,6 +942,7 @@ run_once-loop-candidates-preserved-in-Ask g t c =
     record {
       keeps = Keeps-trans m first c.ask.new.cx c.hear.new.cx keeps c.hear.ensures.keeps;
       cache = AreCached-later m c.ask.new.cx c.hear.new.cx c.ask.new.cache.entries.items c.hear.ensures.keeps c.ask.ensures.cache;
+      entries = entries_keep m w c.ask.new.cx c.hear.new.cx c.ask.new.cache.asked.items c.ask.new.cache.asked.items (steps ++ question_of m first c.args.entry ∷ []) c.ask.new.search.entries.lists.items c.hear.ensures.keeps (λ place a at. at) (rw (inv.keeps.world, steps-now m first c.loop-candidates.cx (es ++ c.args.entry ∷ []) c.loop-candidates.search.stack.items inv.keeps inv.stack pushed, steps_pushed m first es c.args.entry) at c.in_ok-nested-in-Ask.ensures.entries);
       goals = λ x n h. c.ask.ensures.goals x n (inv.goals x n h);
       results = λ p x h. c.ask.ensures.results p x (inv.results p x h);
       asked_before = λ p x h. c.ask.ensures.asked_before p x (inv.asked_before p x h);
@@ -819,7 +965,11 @@ run_once-loop-candidates-preserved-in-Ask g t c =
           let stack = AreLastWithin-now m w before w first c.loop-candidates.cx (es ++ c.args.entry ∷ []) c.loop-candidates.search.stack.items inv.keeps inv.stack pushed (AreLastWithin-push m w before first es c.args.entry last own) in
           let told = c.in_ok-nested-in-Ask.ensures.within before no (rw inv.keeps.world stack) (rw inv.keeps.world had.0) in
           let here = rw inv.keeps.world at told in (
-            AreCachedWithin-keeps m w before (m.world c.ask.new.cx) c.ask.new.cx c.hear.new.cx c.ask.new.cache.entries.items c.hear.ensures.keeps c.ask.ensures.cache here.0,
+            (
+              AreCachedWithin-keeps m w before (m.world c.ask.new.cx) c.ask.new.cx c.hear.new.cx c.ask.new.cache.entries.items c.hear.ensures.keeps c.ask.ensures.cache here.0.0,
+              entries_within_keep m w w before c.ask.new.cx c.hear.new.cx c.ask.new.cache.asked.items (steps ++ question_of m first c.args.entry ∷ []) c.ask.new.search.entries.lists.items c.hear.ensures.keeps
+                  (rw (inv.keeps.world, steps-now m first c.loop-candidates.cx (es ++ c.args.entry ∷ []) c.loop-candidates.search.stack.items inv.keeps inv.stack pushed, steps_pushed m first es c.args.entry) at c.in_ok-nested-in-Ask.ensures.entries) here.0.1,
+            ),
             hears_next m w steps x c.args.entry.step_kind (indices c.loop-candidates.dependencies.heads.items) c.loop-candidates.cx c.loop-candidates.frame c.loop-candidates.request (Evaluate c.in-Ask.input c.in-Ask.step_kind) asks.0 inv.keeps.world inv.running (IsGivenWithin m w before)
                 c.in-Ask.input c.in-Ask.step_kind (m.answer_of c.ask.new.cx nested.result) refl had.1 here.1,
           ));
@@ -876,6 +1026,7 @@ run_once-returns-in_err-nested-in-Ask g t c =
       keeps = Keeps-trans g.D.Delegate.meaning c.args.cx.now c.loop-candidates.cx c.ask.new.cx inv.keeps c.ask.ensures.keeps;
       stack = OnOk-err _ _ _ p.1;
       cache = c.ask.ensures.cache;
+      entries = OnOk-err _ _ _ p.1;
       goals = λ x n h. c.ask.ensures.goals x n (c.loop-candidates.invariant.goals x n h);
       results = λ p x h. c.ask.ensures.results p x (c.loop-candidates.invariant.results p x h);
       asked_before = λ p x h. c.ask.ensures.asked_before p x (c.loop-candidates.invariant.asked_before p x h);
@@ -914,6 +1065,10 @@ run_once-loop-candidates-init g t c =
     record {
       keeps = keeps;
       cache = AreCached-later m first c.start_run.new.cx c.args.cache.now.entries.items keeps c.requires.cache;
+      entries =
+          let none = c.in_ok-frame.ensures.none in
+          let begun = runs_begin m w first c.args.cache.now.asked.items steps (question_of m first c.args.entry) c.args.search.now.entries.lists.items none.0 (c.args.search.now.listed ∙ sym (length-steps_of m first es)) none.2 c.requires.entries in
+          entries_same m w first c.start_run.new.cx c.args.cache.now.asked.items c.args.cache.now.asked.items (steps ++ question_of m first c.args.entry ∷ []) (c.args.search.now.entries.lists.items ++ none.0 ∷ []) c.start_run.new.search.entries.lists.items keeps refl none.1 begun;
       goals = λ x n h. h;
       results = λ p x h. h;
       asked_before = λ p x h. h;
@@ -927,7 +1082,14 @@ run_once-loop-candidates-init g t c =
       limits = λ h. c.start_run.ensures.limits ∙ h;
       noted = λ off on. not_both {P = IsNotPlainOver m first es c.args.entry.input (c.args.depth + 1)} c.args.search.now.limits_met off (sym c.start_run.ensures.limits ∙ on);
       within = rw start.1 (λ before no last own cached.
-          (AreCachedWithin-keeps m w before w first c.start_run.new.cx c.args.cache.now.entries.items keeps c.requires.cache cached, also nothing refl tt));
+          let none = c.in_ok-frame.ensures.none in
+          let kept = entries_within_keep m w w before first c.start_run.new.cx c.args.cache.now.asked.items steps c.args.search.now.entries.lists.items keeps c.requires.entries cached.1 in (
+            (
+              AreCachedWithin-keeps m w before w first c.start_run.new.cx c.args.cache.now.entries.items keeps c.requires.cache cached.0,
+              rw none.1 (entries_within_begin m w before c.start_run.new.cx c.args.search.now.entries.lists.items none.0 none.2 kept),
+            ),
+            also nothing refl tt,
+          ));
       plain = rw start.1 (plain_first m w (c.args.depth + 1) steps x c.args.earlier.encountered_overflow (indices c.args.earlier.heads.items) c.requires.earlier);
     }
 
@@ -946,6 +1108,7 @@ run_once-returns-in_err-turn g t c =
       keeps = inv.keeps;
       stack = OnOk-err _ _ _ p.1;
       cache = inv.cache;
+      entries = OnOk-err _ _ _ p.1;
       goals = inv.goals;
       results = inv.results;
       asked_before = inv.asked_before;
@@ -1030,6 +1193,7 @@ run_once-loop-candidates-preserved g t c =
     record {
       keeps = Keeps-trans m first c.loop-candidates.cx c.step.new.cx inv.keeps c.step.ensures.keeps;
       cache = AreCached-later m c.loop-candidates.cx c.step.new.cx c.loop-candidates.cache.entries.items c.step.ensures.keeps inv.cache;
+      entries = entries_keep m w c.loop-candidates.cx c.step.new.cx c.loop-candidates.cache.asked.items c.loop-candidates.cache.asked.items (steps ++ question_of m first c.args.entry ∷ []) c.loop-candidates.search.entries.lists.items c.step.ensures.keeps (λ place a at. at) inv.entries;
       goals = inv.goals;
       results = inv.results;
       asked_before = inv.asked_before;
@@ -1044,7 +1208,10 @@ run_once-loop-candidates-preserved g t c =
       noted = inv.noted;
       within = rw next.1 (λ before no last own cached.
           let had = inv.within before no last own cached in (
-            AreCachedWithin-keeps m w before (m.world c.loop-candidates.cx) c.loop-candidates.cx c.step.new.cx c.loop-candidates.cache.entries.items c.step.ensures.keeps inv.cache had.0,
+            (
+              AreCachedWithin-keeps m w before (m.world c.loop-candidates.cx) c.loop-candidates.cx c.step.new.cx c.loop-candidates.cache.entries.items c.step.ensures.keeps inv.cache had.0.0,
+              entries_within_keep m w w before c.loop-candidates.cx c.step.new.cx c.loop-candidates.cache.asked.items (steps ++ question_of m first c.args.entry ∷ []) c.loop-candidates.search.entries.lists.items c.step.ensures.keeps inv.entries had.0.1,
+            ),
             hears_other m w steps x c.args.entry.step_kind (indices c.loop-candidates.dependencies.heads.items) c.loop-candidates.cx c.loop-candidates.frame c.loop-candidates.request c.loop-candidates.request refl inv.keeps.world inv.running (IsGivenWithin m w before) c.in-Tell.reply had.1 told.due told.quiet,
           ));
       plain = rw next.1 (plain_in_turn m w x inv.running.heard c.loop-candidates.cx c.loop-candidates.candidates.open c.take.new.self.open c.loop-candidates.candidates.finished.items c.take.new.self.finished.items inv.opened inv.listed
@@ -1103,11 +1270,31 @@ run_once-returns-in-End-clause-within g t c =
     let request = asked_now m w steps x c.args.entry.step_kind (indices c.loop-candidates.dependencies.heads.items) c.loop-candidates.cx c.loop-candidates.frame c.loop-candidates.request (Done c.in-End.answer) ends.0 inv.keeps.world inv.running in
     λ before no last own cached.
     let had = inv.within before (sym c.pop.ensures.limits ∙ no) last own cached in
-    (had.0, record { how = inr (inv.running.heard, had.1, sym request, sym inv.opened ∙ ends.1) })
+    let ended = c.in-Some.ensures.ended in
+    ((had.0.0, entries_within_leave m w before c.loop-candidates.cx c.pop.new.self.entries.lists.items ended.0 (rw ended.1 at had.0.1)), record { how = inr (inv.running.heard, had.1, sym request, sym inv.opened ∙ ends.1) })
 
 pub run_once-returns-in-End-clause-no_limit : goal.run_once-returns-in-End-clause-no_limit
 run_once-returns-in-End-clause-no_limit g t c =
     λ off on. c.loop-candidates.invariant.noted off (sym c.pop.ensures.limits ∙ on)
+
+pub run_once-returns-in-End-clause-entries : goal.run_once-returns-in-End-clause-entries
+run_once-returns-in-End-clause-entries g t c =
+    let m = g.D.Delegate.meaning in
+    let inv = c.loop-candidates.invariant in
+    let first = c.args.cx.now in
+    let es = c.args.search.now.stack.items in
+    let ended = c.in-Some.ensures.ended in
+    let lists = c.pop.new.self.entries.lists.items in
+    let size : length lists ≡ length (steps_of m first es) =
+    let a = c.loop-candidates.search.listed in
+    let b = length-append lists (ended.0 ∷ []) in
+    let d = length-append es (c.args.entry ∷ []) in
+    let e = length-steps_of m first es in
+    let f : length c.loop-candidates.search.entries.lists.items ≡ length (lists ++ ended.0 ∷ []) = ap length ended.1 in
+    let h : length c.loop-candidates.search.stack.items ≡ length (es ++ c.args.entry ∷ []) = ap length inv.stack in
+    omega (arith, a, b, d, e, f, h)
+    in
+    runs_leave m (m.world first) c.loop-candidates.cx c.loop-candidates.cache.asked.items (steps_of m first es) (question_of m first c.args.entry) lists ended.0 size (rw ended.1 at inv.entries)
 
 pub run_once-returns-in-End-clause-range : goal.run_once-returns-in-End-clause-range
 run_once-returns-in-End-clause-range g t c =

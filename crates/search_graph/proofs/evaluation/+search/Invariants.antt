@@ -5,10 +5,11 @@ use Rattle.search_graph.specs.Nested.{covered, one_goal}
 use Rattle.search_graph.specs.Chain.{AreInRange}
 use Rattle.search_graph.specs.Cache.{KeepsNumbers, KeepsResults}
 use Rattle.search_graph.specs.Computed.{Hears, IsGivenWithin}
-use Rattle.search_graph.specs.Stack.{steps_of, span_of_newest, IsEntry, IsRunning, AreCached, IsLastWithin, AreLastWithin, AreCachedWithin}
+use Rattle.search_graph.specs.Stack.{question_of, steps_of, span_of_newest, IsEntry, IsRunning, AreCached, IsLastWithin, AreLastWithin}
 use Rattle.search_graph.specs.Plain.{IsNotPlain}
 use Rattle.search_graph.specs.Faithful.{AllDescend, HeadsDescend, IsOnPlainTrack, IsUntouched}
 use Rattle.search_graph.specs.Bound.{question_bound}
+use Rattle.search_graph.specs.Provisional.{AreProvisional, AreKeptWithin}
 use Rattle.search_graph.proofs.evaluation.+search.Given as goal
 
 abbrev pub decreases-ask : goal.decreases-ask
@@ -29,6 +30,7 @@ invariant-evaluate_new-loop-run g l =
     record {
       keeps : Keeps m l.fn.cx l.cx;
       cache : AreCached m (m.world l.cx) l.cx l.cache.entries.items;
+      entries : AreProvisional m (m.world l.fn.cx) l.cx l.cache.asked.items (steps_of m l.fn.cx l.fn.search.stack.items) l.search.entries.lists.items;
       goals : KeepsNumbers g.D.Cx.Input.PartialEq.eq l.fn.cache.goals.keys l.cache.goals.keys;
       results : KeepsResults l.fn.cache.entries.items l.cache.entries.items;
       asked_before : KeepsResults l.fn.cache.asked.items l.cache.asked.items;
@@ -47,8 +49,8 @@ invariant-evaluate_new-loop-run g l =
       limits : l.fn.search.limits_met ≡ true → l.search.limits_met ≡ true;
       noted : l.fn.search.limits_met ≡ false → l.search.limits_met ≡ true → (limit : ℕ) → limit ≤ l.depth + 1
           → AllDescend m (m.world l.fn.cx) limit (steps_of m l.fn.cx l.fn.search.stack.items) (m.goal_of l.fn.cx l.fn.input) → IsNotPlain m (m.world l.fn.cx) limit (m.goal_of l.fn.cx l.fn.input);
-      within : (before : List (m.Goal × m.Answer)) → l.search.limits_met ≡ false → AreLastWithin m (m.world l.fn.cx) before l.fn.cx l.fn.search.stack.items → AreCachedWithin m (m.world l.fn.cx) before l.fn.cx l.fn.cache.entries.items
-          → AreCachedWithin m (m.world l.fn.cx) before l.cx l.cache.entries.items × IsLastWithin m (m.world l.fn.cx) before l.cx l.entry;
+      within : (before : List (m.Goal × m.Answer)) → l.search.limits_met ≡ false → AreLastWithin m (m.world l.fn.cx) before l.fn.cx l.fn.search.stack.items → AreKeptWithin m (m.world l.fn.cx) before l.fn.cx l.fn.cache.entries.items l.fn.search.entries.lists.items
+          → AreKeptWithin m (m.world l.fn.cx) before l.cx l.cache.entries.items l.search.entries.lists.items × IsLastWithin m (m.world l.fn.cx) before l.cx l.entry;
       again : 0 < l._run → (limit : ℕ) → (limit ≤ l.depth + 1) ⊎ (l.dependencies.encountered_overflow ≡ false)
           → HeadsDescend m (m.world l.fn.cx) limit (indices l.dependencies.heads.items) (steps_of m l.fn.cx l.fn.search.stack.items) (m.goal_of l.fn.cx l.fn.input) → IsNotPlain m (m.world l.fn.cx) limit (m.goal_of l.fn.cx l.fn.input);
     }
@@ -59,6 +61,7 @@ invariant-run_once-loop-candidates g l =
     record {
       keeps : Keeps m l.fn.cx l.cx;
       cache : AreCached m (m.world l.cx) l.cx l.cache.entries.items;
+      entries : AreProvisional m (m.world l.fn.cx) l.cx l.cache.asked.items (steps_of m l.fn.cx l.fn.search.stack.items ++ question_of m l.fn.cx l.fn.entry ∷ []) l.search.entries.lists.items;
       goals : KeepsNumbers g.D.Cx.Input.PartialEq.eq l.fn.cache.goals.keys l.cache.goals.keys;
       results : KeepsResults l.fn.cache.entries.items l.cache.entries.items;
       asked_before : KeepsResults l.fn.cache.asked.items l.cache.asked.items;
@@ -74,8 +77,8 @@ invariant-run_once-loop-candidates g l =
       noted : l.fn.search.limits_met ≡ false → l.search.limits_met ≡ true → (limit : ℕ) → limit ≤ l.depth + 1
           → AllDescend m (m.world l.fn.cx) limit (steps_of m l.fn.cx l.fn.search.stack.items) (m.goal_of l.fn.cx l.fn.entry.input) → IsNotPlain m (m.world l.fn.cx) limit (m.goal_of l.fn.cx l.fn.entry.input);
       within : (before : List (m.Goal × m.Answer)) → l.search.limits_met ≡ false → AreLastWithin m (m.world l.fn.cx) before l.fn.cx l.fn.search.stack.items → IsLastWithin m (m.world l.fn.cx) before l.fn.cx l.fn.entry
-          → AreCachedWithin m (m.world l.fn.cx) before l.fn.cx l.fn.cache.entries.items
-          → AreCachedWithin m (m.world l.fn.cx) before l.cx l.cache.entries.items × Hears m (m.world l.fn.cx) (IsGivenWithin m (m.world l.fn.cx) before) (m.goal_of l.fn.cx l.fn.entry.input) running.heard;
+          → AreKeptWithin m (m.world l.fn.cx) before l.fn.cx l.fn.cache.entries.items l.fn.search.entries.lists.items
+          → AreKeptWithin m (m.world l.fn.cx) before l.cx l.cache.entries.items l.search.entries.lists.items × Hears m (m.world l.fn.cx) (IsGivenWithin m (m.world l.fn.cx) before) (m.goal_of l.fn.cx l.fn.entry.input) running.heard;
       plain : IsOnPlainTrack m (m.world l.fn.cx) (l.depth + 1) (steps_of m l.fn.cx l.fn.search.stack.items) (m.goal_of l.fn.cx l.fn.entry.input) l.dependencies.encountered_overflow (indices l.dependencies.heads.items) running.heard;
     }
 

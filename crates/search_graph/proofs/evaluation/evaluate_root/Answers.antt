@@ -1,10 +1,11 @@
-use Rattle.std.proofs.Common.{◌≡◌, ◌∙◌, ◌+◌, [], ap, Result, Err}
+use Rattle.std.proofs.Common.{◌≡◌, ◌∙◌, ◌+◌, [], length, ap, Result, Err}
 use Rattle.std.proofs.lemmas.Option.{none-some}
 use Rattle.std.proofs.lemmas.Result.{IfOk-weaker}
 use Rattle.search_graph.specs.Question.{IsFaithfulOver}
 use Rattle.search_graph.specs.declared.fault.Stop.{Stop}
 use Rattle.search_graph.specs.declared.fault.GraphFault.{GraphFault}
 use Rattle.search_graph.specs.declared.fault.Stop.TheVariants.{Fault, Exhausted}
+use Rattle.search_graph.proofs.Entries.{none_listed}
 use Rattle.search_graph.proofs.evaluation.evaluate_root.Goals as goal
 
 given_up : {T : Type 0} (x : Stop) → x ≡ Exhausted → ◌≡◌ {A = Result T Stop} (Err x) (Err Exhausted)
@@ -45,13 +46,19 @@ pub returns-in-Ok-clause-faithful : goal.returns-in-Ok-clause-faithful
 returns-in-Ok-clause-faithful g c = rw c.requires.empty at c.in-Ok.ensures.faithful
 
 pub returns-in-Ok-clause-within : goal.returns-in-Ok-clause-within
-returns-in-Ok-clause-within g c = rw c.requires.empty at c.in-Ok.ensures.within
+returns-in-Ok-clause-within g c = λ before no last cached.
+    let all = rw c.requires.empty at c.in-Ok.ensures.within in
+    let told = all before no last (cached, λ head place e at. absurd (none_listed c.args.search.now.entries.lists.items (c.args.search.now.listed ∙ ap length c.requires.empty) head place e at)) in
+    (told.0.0, told.1)
+
+pub evaluate-requires-clause-entries : goal.evaluate-requires-clause-entries
+evaluate-requires-clause-entries g c head place e at = absurd (none_listed c.args.search.now.entries.lists.items (c.args.search.now.listed ∙ ap length c.requires.empty) head place e at)
 
 pub returns-in-Ok-clause-cached : goal.returns-in-Ok-clause-cached
 returns-in-Ok-clause-cached g c = rw c.requires.empty at c.evaluate.ensures.cached
 
 pub returns-in-Ok-clause-known : goal.returns-in-Ok-clause-known
-returns-in-Ok-clause-known g c = rw c.requires.empty at c.in-Ok.ensures.known
+returns-in-Ok-clause-known g c = rw c.requires.empty at (c.in-Ok.ensures.known c.requires.empty)
 
 pub returns-in-Err-Exhausted-clause-kept : goal.returns-in-Err-Exhausted-clause-kept
 returns-in-Err-Exhausted-clause-kept g c = rw c.in_ok-again.ensures.copy at c.give_up.ensures.kept

@@ -26,7 +26,7 @@ returns-clause-answer g c =
     let es = c.args.search.now.stack.items in
     let entry = c.index.result.now in
     let at : slice_get es c.args.cycle.index ≡ Some entry = rw (c.index.ensures ∙ get_or_from_slice_get es c.args.cycle.index cycle.0 entry cycle.1) cycle.1 in
-    rw (c.in_ok-read_head.ensures.heads, c.deref.ensures.value) (c.in_ok-answer.ensures.answer entry at)
+    rw (c.in_ok-read_head.ensures.heads, c.deref.ensures.value) (c.in_ok-answer.ensures.reply entry at)
 
 pub returns-clause-faithful : goal.returns-clause-faithful
 returns-clause-faithful g c = λ reach.

@@ -6,8 +6,8 @@ use Rattle.search_graph.proofs.Limits.{AreLastWithin-at}
 use Rattle.search_graph.proofs.Faithfuls.{cycle_not_plain}
 use Rattle.search_graph.proofs.search.Search.close_cycle.Goals as goal
 
-pub returns-in_ok-answer-in-Some-clause-answer : goal.returns-in_ok-answer-in-Some-clause-answer
-returns-in_ok-answer-in-Some-clause-answer g c =
+pub returns-in_ok-answer-in-Some-clause-reply : goal.returns-in_ok-answer-in-Some-clause-reply
+returns-in_ok-answer-in-Some-clause-reply g c =
     let m = g.D.Delegate.meaning in
     let cycle = c.requires.cycle in
     let first = c.args.cx.now in
@@ -18,8 +18,8 @@ returns-in_ok-answer-in-Some-clause-answer g c =
     rw c.in_ok-answer-in-Some.ensures.copy
     (last_answers m (m.world first) first c.args.cx.now es c.args.cycle.index e c.args.input.now c.args.step_kind c.in-Some.last at input last c.requires.stack (Keeps-refl m first))
 
-pub returns-in_ok-answer-in-None-clause-answer : goal.returns-in_ok-answer-in-None-clause-answer
-returns-in_ok-answer-in-None-clause-answer g c =
+pub returns-in_ok-answer-in-None-clause-reply : goal.returns-in_ok-answer-in-None-clause-reply
+returns-in_ok-answer-in-None-clause-reply g c =
     let m = g.D.Delegate.meaning in
     let cycle = c.requires.cycle in
     let first = c.args.cx.now in

@@ -1,0 +1,75 @@
+-- Results that rest on goals of the stack, kept for the runs of those goals: a list of entries for each goal of the stack.
+use Rattle.std.specs.Prelude.{◌≡◌, ◌≤◌, ◌+◌, ℕ, true, length, take, drop, List, [], ◌∷◌, ◌++◌, Some, slice_get}
+use Rattle.std.specs.Global.{Vec}
+use Rattle.search_graph.specs.declared.path_kind.PathKind.{PathKind}
+use Rattle.search_graph.specs.declared.cache.Asked.{Asked}
+use Rattle.search_graph.specs.declared.cache.CacheEntry.{CacheEntry}
+use Rattle.search_graph.specs.declared.stack.StackEntry.{StackEntry}
+use Rattle.search_graph.specs.declared.provisional.ProvisionalEntry.{ProvisionalEntry}
+use Rattle.search_graph.specs.KeptPaths.{indices, AreBelow}
+use Rattle.search_graph.specs.Meaning.{Meaning, IsFair}
+use Rattle.search_graph.specs.Computed.{IsComputed, IsGiven}
+use Rattle.search_graph.specs.Plain.{IsNotPlain}
+use Rattle.search_graph.specs.Stack.{kind_after, IsWithin, AreCachedWithin}
+use Rattle.search_graph.specs.Rests.{ShownFor}
+use Rattle.search_graph.specs.Faithful.{HeadsDescend}
+
+module _ {I R : Type 0} where
+  -- the entry is of this goal, for a path of this kind, and needs no more than this depth
+  pub record IsServing (number : ℕ) (input : I) (path : PathKind) (depth : ℕ) (e : ProvisionalEntry I R) : Type 0 where
+    pub numbered : e.number ≡ number
+    pub same : e.input ≡ input
+    pub alike : e.kind ≡ path
+    pub within : e.required_depth ≤ depth
+
+  -- the entry stands at this place of the list of the goal at that place of the stack
+  abbrev pub IsEntryAt : List (Vec (ProvisionalEntry I R)) → ℕ → ℕ → ProvisionalEntry I R → Type 0
+  IsEntryAt lists head place e = (list : Vec (ProvisionalEntry I R)) × (slice_get lists head ≡ Some list) × (slice_get list.items place ≡ Some e)
+
+  -- there is no entry
+  abbrev pub NoneIsLeft : List (Vec (ProvisionalEntry I R)) → Type 0
+  NoneIsLeft lists = (head place : ℕ) (e : ProvisionalEntry I R) → IsEntryAt lists head place e → ⊥
+
+  -- an entry stands there that serves the question: it is of the goal, and of the kind of the path from its head to the question
+  abbrev pub IsServingAt : List (Vec (ProvisionalEntry I R)) → List (StackEntry I R) → ℕ → I → PathKind → ℕ → ℕ → ℕ → Type 0
+  IsServingAt lists stack number input k depth head place =
+      (e : ProvisionalEntry I R) × IsEntryAt lists head place e × IsServing number input (kind_after (drop (head + 1) stack) k) depth e
+
+  -- no entry serves it
+  abbrev pub NoneServes : List (Vec (ProvisionalEntry I R)) → List (StackEntry I R) → ℕ → I → PathKind → ℕ → Type 0
+  NoneServes lists stack number input k depth = (head place : ℕ) → IsServingAt lists stack number input k depth head place → ⊥
+
+  -- an entry is added to the list of the goal at this place, and nothing else changes
+  pub record AddsEntry (old new : List (Vec (ProvisionalEntry I R))) (head : ℕ) (e : ProvisionalEntry I R) : Type 0 where
+    pub added : (list : Vec (ProvisionalEntry I R)) → slice_get old head ≡ Some list → (more : Vec (ProvisionalEntry I R)) × (slice_get new head ≡ Some more) × (more.items ≡ list.items ++ e ∷ [])
+    pub others : (other : ℕ) → (other ≡ head → ⊥) → slice_get new other ≡ slice_get old other
+    pub goals : length new ≡ length old
+
+module _ {C I R F : Type 0} (m : Meaning C I R F) where
+  -- An entry over the goals of the stack up to the one in whose list it stands, the oldest first. It is the result of its
+  -- goal, and rests on its heads alone: a yes is shown as the reply to a question of the newest of these goals, by one step
+  -- of the entry's kind. What was asked under it is listed
+  pub record IsProvisionalEntry (w : m.World) (c : C) (asked : List Asked) (before : List (m.Goal × PathKind)) (e : ProvisionalEntry I R) : Type 0 where
+    pub input : m.IsInput c e.input
+    pub known : m.IsResult c e.result
+    pub fair : IsFair m w (m.goal_of c e.input) (m.answer_of c e.result)
+    pub source : IsComputed m w (IsGiven m w) (m.goal_of c e.input) (m.answer_of c e.result)
+    pub some : e.heads.items ≡ [] → ⊥
+    pub below : AreBelow (length before) (indices e.heads.items)
+    pub yes : m.is_yes (m.answer_of c e.result) ≡ true → ShownFor m.Goal (m.Follows w) (indices e.heads.items) before (m.goal_of c e.input) e.kind
+    pub not_plain : (limit : ℕ) → HeadsDescend m w limit (indices e.heads.items) before (m.goal_of c e.input) → IsNotPlain m w limit (m.goal_of c e.input)
+    pub listed : (a : Asked) × (slice_get asked e.asked ≡ Some a)
+
+  -- so is each entry in the list of a goal of the stack, over the stack up to that goal
+  abbrev pub AreProvisional : m.World → C → List Asked → List (m.Goal × PathKind) → List (Vec (ProvisionalEntry I R)) → Type 0
+  AreProvisional w c asked steps lists =
+      (head place : ℕ) (e : ProvisionalEntry I R) → IsEntryAt lists head place e → IsProvisionalEntry w c asked (take (head + 1) steps) e
+
+  -- no limit had a part in their results, but for those that were known before
+  abbrev pub AreEntriesWithin : m.World → List (m.Goal × m.Answer) → C → List (Vec (ProvisionalEntry I R)) → Type 0
+  AreEntriesWithin w before c lists =
+      (head place : ℕ) (e : ProvisionalEntry I R) → IsEntryAt lists head place e → IsWithin m w before (m.goal_of c e.input) (m.answer_of c e.result)
+
+  -- nor in these and those of a cache
+  abbrev pub AreKeptWithin : m.World → List (m.Goal × m.Answer) → C → List (CacheEntry I R) → List (Vec (ProvisionalEntry I R)) → Type 0
+  AreKeptWithin w before c es lists = AreCachedWithin m w before c es × AreEntriesWithin w before c lists

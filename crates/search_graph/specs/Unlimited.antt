@@ -1,0 +1,20 @@
+-- That no limit had a part in what a question gave and left, said of the search and the cache as they were and as they are.
+use Rattle.std.specs.declared.cmp.PartialEq
+use Rattle.std.specs.declared.hash.Hash
+use Rattle.search_graph.specs.declared.delegate.Delegate
+use Rattle.search_graph.specs.declared.stack.StackEntry.{StackEntry}
+use Rattle.search_graph.specs.declared.search.Search.{Search}
+use Rattle.search_graph.specs.declared.cache.CachedResults.{CachedResults}
+use Rattle.search_graph.specs.Meaning.{Meaning}
+use Rattle.search_graph.specs.Question.{AllStayWithin, RunStaysWithin}
+
+module _ {D C F I R A : Type 0} {delegate : Delegate.Ghosts D C F I R A} {eq : PartialEq.Ghosts I} {hash : Hash.Ghosts I} {same : PartialEq.Ghosts R} (m : Meaning C I R F) where
+  -- of a question that was asked of the first search and answered by the second
+  abbrev pub SearchStaysWithin : C → Search D C F I R A delegate eq hash same → CachedResults D C F I R A delegate eq hash same → I
+      → C → Search D C F I R A delegate eq hash same → CachedResults D C F I R A delegate eq hash same → R → Type 0
+  SearchStaysWithin c old cache input d new more r = AllStayWithin m c old.stack.items cache.entries.items old.entries.lists.items input new.limits_met d more.entries.items new.entries.lists.items r
+
+  -- and of a run of the entry's goal
+  abbrev pub SearchRunsWithin : C → Search D C F I R A delegate eq hash same → CachedResults D C F I R A delegate eq hash same → StackEntry I R
+      → C → Search D C F I R A delegate eq hash same → CachedResults D C F I R A delegate eq hash same → R → Type 0
+  SearchRunsWithin c old cache entry d new more r = RunStaysWithin m c old.stack.items cache.entries.items old.entries.lists.items entry new.limits_met d more.entries.items new.entries.lists.items r
