@@ -1,11 +1,12 @@
 -- Why calls answer `Full`, from what their parts say.
 use Rattle.std.proofs.Common.{◌≡◌, ◌<◌, ◌≤◌, ◌⊎◌, inl, inr, ℕ, List, length, map, Result, Ok, Err, Option, refl, sym, ap, ◌∙◌, subst, arith}
-use Rattle.std.specs.Prelude.{IfErr, OnErr}
+use Rattle.std.specs.Prelude.{◌==◌, IfErr, OnErr}
 use Rattle.std.proofs.lemmas.List.{length-map}
+use Rattle.std.proofs.lemmas.List.Sums.{count_by-le-length}
 use Rattle.type_terms.specs.Label.{Sort}
 use Rattle.type_terms.specs.Terms.{Entry, Keeps, Lawful}
 use Rattle.type_terms.specs.Kinds.{ArgsHeld, arg_trees}
-use Rattle.type_terms.specs.Failures.{SomeKindIsFull}
+use Rattle.type_terms.specs.Failures.{SomeKindIsFull, full}
 use Rattle.type_terms.specs.declared.Fault.{Fault}
 use Rattle.type_terms.specs.declared.Fault.TheVariants.{Full}
 use Rattle.type_terms.specs.declared.TheConstants.{MAX_INDEX}
@@ -75,6 +76,10 @@ no-unknowns h = absurd (omega (arith, h))
 -- a fault that is handed out of an evaluation
 pub full-inside : {A : Type 0} (e : Result GoalEvaluation RootError) (r : Result A Fault) → IfErr r (λ fault. e ≡ Err (Root.Fault fault)) → r ≡ Err Full → e ≡ Err (Root.Fault Full)
 full-inside e r h q = subst (λ z. IfErr z (λ fault. e ≡ Err (Root.Fault fault))) q h
+
+-- where a kind is full there are so many terms
+pub many-terms : (es : List Entry) (limit n : ℕ) → SomeKindIsFull es limit → length es ≤ n → limit ≤ n
+many-terms es limit n (full kind le e) few = let count = count_by-le-length (λ (x : Entry). x.kind == kind) es in omega (arith, count, e, few)
 
 -- a session whose context is short is at a limit
 pub short-at-limit : (s : Subject) (c : SolverCx Solver) → HoldsAs c s → IsShort solver_by_view c → IsAtLimit s

@@ -9,6 +9,7 @@ ghost use Rattle.declarations.specs.Merges.{Each};
 ghost use Rattle.orphan_check.specs.Held.{ErrorHeld};
 ghost use Rattle.overlap_check.specs.SessionLaws.{HeadlineHolds, HeadlineOfHeldSets};
 ghost use Rattle.proof_checker.specs.Steps.{StepHeld};
+ghost use Rattle.view_lowering.specs.MostTerms.{most_terms};
 ghost use Rattle.workspace.specs.Numbered.{IsNumbered};
 ghost use Rattle.text_definitions.specs.Declarations.{Question};
 ghost use Rattle.sessions.specs.ByTrait.{ListsSeen, HavePartnersSeen};
@@ -112,7 +113,8 @@ impl<'w> Model for Session<'w> {
 impl<'w> Session<'w> {
     /// A session on a crate of a text, by its number: its view is lowered.
     ///
-    /// The fault is `Memory` where memory is refused, and `Full` where the view needs more handles than the limit allows.
+    /// The fault is `Memory` where memory is refused, and `Full` where the view needs more handles than the limit allows: so never where
+    /// that is above the number of terms that the view is made at most (`most_terms`), two for each part of a written type.
     pub fn new(
         alloc: Global,
         workspace: &'w Workspace,
@@ -129,6 +131,7 @@ impl<'w> Session<'w> {
         ensures term_limit { IfOk result (λ session. session.term_limit ≡ limits.handles) }
         ensures goal_limit { IfOk result (λ session. session.goal_limit ≡ limits.handles) }
         ensures frames { IfOk result (λ session. session.frames ≡ 0) }
+        ensures full { result ≡ Err Fault.Full → limits.handles ≤ most_terms workspace.now crate_id.index }
     {
         let mut interner = Interner::new(alloc, limits.handles);
         let declarations = lower_view(alloc, &mut interner, workspace, crate_id)?;

@@ -1,7 +1,9 @@
 //! What a session's crate sees.
 
-ghost use Rattle.std.specs.Prelude.{◌≡◌, ◌<◌, length, map, IfOk};
+ghost use Rattle.std.specs.Prelude.{◌≡◌, ◌+◌, ◌<◌, ◌≤◌, length, map, IfOk, Err};
+ghost use Rattle.type_terms.specs.Failures.{SomeKindIsFull};
 ghost use Rattle.declarations.specs.Items.{written, declared};
+ghost use Rattle.view_lowering.specs.MostTerms.{most_terms};
 ghost use Rattle.view_lowering.specs.Plain.{plainly_seen_from};
 ghost use Rattle.view_lowering.specs.Seen.{rules_seen_from, struct_sorts, trait_sorts, impl_sorts, struct_sorts_seen, trait_sorts_seen, impl_sorts_seen};
 ghost use Rattle.view_lowering.specs.Ready.{OfTexts};
@@ -54,6 +56,8 @@ pub(crate) fn lower_view(
     ensures local { IfOk result (λ decls. decls.local ≡ crate_id.index) }
     ensures ready { IfOk result (λ decls. AreReadyDeclarations cx.new.entries decls) }
     ensures limit { cx.new.limit ≡ cx.old.limit }
+    ensures few { length cx.new.entries ≤ length cx.old.entries + most_terms workspace.now crate_id.index }
+    ensures full { result ≡ Err Fault.Full → SomeKindIsFull cx.new.entries cx.new.limit }
 {
     impls_begin_declared();
     declarations_are_ready();

@@ -32,3 +32,4 @@ mod QuestionTypes
 mod QuestionTexts
 mod Refusals
 pub mod LaterImpls
+mod Counts

@@ -1,8 +1,9 @@
 -- The items of a view, added one after the other.
-use Rattle.std.proofs.Common.{◌≡◌, ℕ, ◌+◌, ◌<◌, Bool, true, false, cond, List, [], ◌∷◌, ◌++◌, length, map, take, Some, refl, sym, ap, ◌∙◌, subst, arith}
-use Rattle.std.specs.Prelude.{◌==◌, filter, slice_get}
+use Rattle.std.proofs.Common.{◌≡◌, ℕ, ◌+◌, ◌<◌, ◌≤◌, Bool, true, false, cond, List, [], ◌∷◌, ◌++◌, length, map, take, Some, refl, sym, ap, ◌∙◌, subst, arith}
+use Rattle.std.specs.Prelude.{◌==◌, filter, slice_get, sum_by, if◌then◌else◌}
 use Rattle.std.proofs.lemmas.Bool.{ne_eqb}
 use Rattle.std.proofs.lemmas.List.{length-map}
+use Rattle.std.proofs.lemmas.List.Sums.{sum_by_push, sum_by-take-le}
 use Rattle.type_terms.specs.Label.{of_type}
 use Rattle.type_terms.proofs.TermRules.{erased-views, filter-map}
 use Rattle.type_terms.specs.Erased.{erased_struct, erased_trait, erased_world}
@@ -20,8 +21,9 @@ use Rattle.declarations.specs.Merges.{Each}
 use Rattle.declarations.proofs.Growth.{all-written}
 use Rattle.view_lowering.specs.Plain.{plain_struct, plain_trait, plain_impl, plainly_seen_from}
 use Rattle.view_lowering.proofs.Plainly.{world-erased}
+use Rattle.view_lowering.specs.MostTerms.{struct_terms, trait_terms, impl_terms, struct_terms_seen, trait_terms_seen, impl_terms_seen}
 use Rattle.view_lowering.specs.Seen.{seen_from, rules_seen_from, impl_sorts, param_sorts, impl_sorts_seen, struct_sorts, trait_sorts, struct_sorts_seen, trait_sorts_seen}
-use Rattle.view_lowering.proofs.Going.{Gone, gone-first, gone-passed, gone-taken, gone-again, all-taken}
+use Rattle.view_lowering.proofs.Going.{one-more-taken, Gone, gone-first, gone-passed, gone-taken, gone-again, all-taken}
 
 -- numbers that are below n are not n
 none-there : {A B C : Type 0} (number : A → ℕ) (name : C → ℕ) (read : A → B) (erase : B → C) → ((x : A) → name (erase (read x)) ≡ number x) → (n : ℕ) (xs : List A) → Each (λ x. number x < n) xs
@@ -44,6 +46,13 @@ all-plain plain item p h ns i e =
 abbrev pub held_in : List Entry → HeldImpl → ImplDecl
 held_in es i = impl_in es i.id i.def
 
+-- ---- sums
+sum-taken : {A : Type 0} (f : A → ℕ) (xs : List A) (i : ℕ) (x : A) → slice_get xs i ≡ Some x → sum_by f (take (i + 1) xs) ≡ sum_by f (take i xs) + f x
+sum-taken f xs i x e = ap (sum_by f) (one-more-taken xs i x e) ∙ sum_by_push f (take i xs) x
+
+sum-passed : {A : Type 0} (f : A → ℕ) (xs : List A) (i : ℕ) (x : A) → slice_get xs i ≡ Some x → sum_by f (take i xs) ≤ sum_by f (take (i + 1) xs)
+sum-passed f xs i x e = let more = sum-taken f xs i x e in omega (arith, more)
+
 -- ---- Structs: the state of the loop
 abbrev pub StructsGone : text.Declarations → ℕ → List Entry → ℕ → List (AdtId × AdtDef) → Type 0
 StructsGone d c es i xs = Gone (struct_in es) (struct_sorts) (λ x. x.0.index) (λ s. plain_struct s.item) (λ s. s.kinds) (λ (x : StructDecl). sees (world_of d) c x.home) d.structs i xs
@@ -54,6 +63,7 @@ pub record StructsAdded (d : text.Declarations) (c : ℕ) (old : List Entry) (li
   pub others : now ≡ record start { structs = now.structs }
   pub held : AreHeld es now
   pub gone : StructsGone d c es i now.structs
+  pub few : length es ≤ length old + sum_by (struct_terms_seen d c) (take i d.structs)
 
 module _ (d : text.Declarations) (c : ℕ) (old : List Entry) (limit : ℕ) (start : Items) where
   pub structs-first : start.structs ≡ [] → AreHeld old start → StructsAdded d c old limit start 0 old limit start
@@ -64,6 +74,7 @@ module _ (d : text.Declarations) (c : ℕ) (old : List Entry) (limit : ℕ) (sta
         others = refl;
         held = held;
         gone = gone-first (struct_in old) (struct_sorts) (λ x. x.0.index) (λ s. plain_struct s.item) (λ s. s.kinds) (λ (x : StructDecl). sees (world_of d) c x.home) d.structs start.structs none;
+        few = omega arith;
       }
 
   pub structs-passed : (i : ℕ) (es : List Entry) (now_limit : ℕ) (now : Items) (s : text.NamedStruct) → slice_get d.structs i ≡ Some s → sees (world_of d) c s.item.home ≡ false → StructsAdded d c old limit start i es now_limit now
@@ -75,13 +86,14 @@ module _ (d : text.Declarations) (c : ℕ) (old : List Entry) (limit : ℕ) (sta
         others = a.others;
         held = a.held;
         gone = gone-passed (struct_in es) (struct_sorts) (λ x. x.0.index) (λ y. plain_struct y.item) (λ s. s.kinds) (λ (x : StructDecl). sees (world_of d) c x.home) d.structs i s now.structs there unseen a.gone;
+        few = let more = sum-passed (struct_terms_seen d c) d.structs i s there in let had = a.few in omega (arith, more, had);
       }
 
   pub structs-taken : (i : ℕ) (es : List Entry) (now_limit : ℕ) (now : Items) (s : text.NamedStruct) (new : List Entry) (new_limit : ℕ) (id : AdtId) (def : AdtDef) (next : Items)
       → slice_get d.structs i ≡ Some s → sees (world_of d) c s.item.home ≡ true → s.item.name ≡ i → Keeps es new → new_limit ≡ now_limit
-      → struct_in new (id, def) ≡ plain_struct s.item → struct_sorts (id, def) ≡ s.kinds → next ≡ with_struct now (id, def) → AreHeld new next → StructsAdded d c old limit start i es now_limit now
+      → struct_in new (id, def) ≡ plain_struct s.item → struct_sorts (id, def) ≡ s.kinds → next ≡ with_struct now (id, def) → AreHeld new next → length new ≤ length es + struct_terms s.item → StructsAdded d c old limit start i es now_limit now
       → StructsAdded d c old limit start (i + 1) new new_limit next
-  structs-taken i es now_limit now s new new_limit id def next there seen number k same_limit same sorted put held a =
+  structs-taken i es now_limit now s new new_limit id def next there seen number k same_limit same sorted put held few a =
       record {
         keeps = λ j e h. k j e (a.keeps j e h);
         limited = same_limit ∙ a.limited;
@@ -91,10 +103,26 @@ module _ (d : text.Declarations) (c : ℕ) (old : List Entry) (limit : ℕ) (sta
             subst (StructsGone d c new (i + 1)) (sym (ap (λ n. n.structs) put))
             (gone-taken (struct_in new) (struct_sorts) (λ x. x.0.index) (λ y. plain_struct y.item) (λ s. s.kinds) (λ (x : StructDecl). sees (world_of d) c x.home) d.structs i s now.structs (id, def) there seen same (sorted) (ap (λ x. x.name) same ∙ number)
             (gone-again (struct_in es) (struct_in new) (struct_sorts) (λ x. x.0.index) (λ y. plain_struct y.item) (λ s. s.kinds) (λ (x : StructDecl). sees (world_of d) c x.home) d.structs i now.structs (ap (λ w. w.structs) (all-written es new k now a.held)) a.gone));
+        few =
+            let more = sum-taken (struct_terms_seen d c) d.structs i s there ∙ ap (λ b. sum_by (struct_terms_seen d c) (take i d.structs) + (if b then struct_terms s.item else 0)) seen in
+            let had = a.few in
+            omega (arith, more, had, few);
       }
 
   pub structs-all : (i : ℕ) (es : List Entry) (now_limit : ℕ) (now : Items) → length d.structs ≡ i → StructsAdded d c old limit start i es now_limit now → map (struct_in es) now.structs ≡ (plainly_seen_from d c).structs
   structs-all i es now_limit now e a = a.gone.are ∙ all-plain plain_struct (λ (s : text.NamedStruct). s.item) (λ (x : StructDecl). sees (world_of d) c x.home) (λ x. refl) d.structs i (sym e)
+
+  pub structs-few : (i : ℕ) (es : List Entry) (now_limit : ℕ) (now : Items) → StructsAdded d c old limit start i es now_limit now → length es ≤ length old + sum_by (struct_terms_seen d c) d.structs
+  structs-few i es now_limit now a = let less = sum_by-take-le (struct_terms_seen d c) d.structs i in let had = a.few in omega (arith, less, had)
+
+  -- where the next one is seen, and fails
+  pub structs-fewer : (i : ℕ) (es : List Entry) (now_limit : ℕ) (now : Items) (s : text.NamedStruct) (new : List Entry) → slice_get d.structs i ≡ Some s → sees (world_of d) c s.item.home ≡ true → length new ≤ length es + struct_terms s.item
+      → StructsAdded d c old limit start i es now_limit now → length new ≤ length old + sum_by (struct_terms_seen d c) d.structs
+  structs-fewer i es now_limit now s new there seen few a =
+      let less = sum_by-take-le (struct_terms_seen d c) d.structs (i + 1) in
+      let more = sum-taken (struct_terms_seen d c) d.structs i s there ∙ ap (λ b. sum_by (struct_terms_seen d c) (take i d.structs) + (if b then struct_terms s.item else 0)) seen in
+      let had = a.few in
+      omega (arith, less, more, had, few)
 
   pub structs-sorted : (i : ℕ) (es : List Entry) (now_limit : ℕ) (now : Items) → length d.structs ≡ i → StructsAdded d c old limit start i es now_limit now → map struct_sorts now.structs ≡ struct_sorts_seen d c
   structs-sorted i es now_limit now e a = a.gone.sorts_are ∙ ap (λ l. map (λ s. s.kinds) (filter (λ (s : text.NamedStruct). sees (world_of d) c s.item.home) l)) (all-taken d.structs i (sym e))
@@ -109,6 +137,7 @@ pub record TraitsAdded (d : text.Declarations) (c : ℕ) (old : List Entry) (lim
   pub others : now ≡ record start { traits = now.traits }
   pub held : AreHeld es now
   pub gone : TraitsGone d c es i now.traits
+  pub few : length es ≤ length old + sum_by (trait_terms_seen d c) (take i d.traits)
 
 module _ (d : text.Declarations) (c : ℕ) (old : List Entry) (limit : ℕ) (start : Items) where
   pub traits-first : start.traits ≡ [] → AreHeld old start → TraitsAdded d c old limit start 0 old limit start
@@ -119,6 +148,7 @@ module _ (d : text.Declarations) (c : ℕ) (old : List Entry) (limit : ℕ) (sta
         others = refl;
         held = held;
         gone = gone-first (trait_in old) (trait_sorts) (λ x. x.0.index) (λ s. plain_trait s.item) (λ t. of_type ∷ t.kinds) (λ (x : TraitDecl). sees (world_of d) c x.home) d.traits start.traits none;
+        few = omega arith;
       }
 
   pub traits-passed : (i : ℕ) (es : List Entry) (now_limit : ℕ) (now : Items) (s : text.NamedTrait) → slice_get d.traits i ≡ Some s → sees (world_of d) c s.item.home ≡ false → TraitsAdded d c old limit start i es now_limit now
@@ -130,13 +160,14 @@ module _ (d : text.Declarations) (c : ℕ) (old : List Entry) (limit : ℕ) (sta
         others = a.others;
         held = a.held;
         gone = gone-passed (trait_in es) (trait_sorts) (λ x. x.0.index) (λ y. plain_trait y.item) (λ t. of_type ∷ t.kinds) (λ (x : TraitDecl). sees (world_of d) c x.home) d.traits i s now.traits there unseen a.gone;
+        few = let more = sum-passed (trait_terms_seen d c) d.traits i s there in let had = a.few in omega (arith, more, had);
       }
 
   pub traits-taken : (i : ℕ) (es : List Entry) (now_limit : ℕ) (now : Items) (s : text.NamedTrait) (new : List Entry) (new_limit : ℕ) (id : TraitId) (def : TraitDef) (next : Items)
       → slice_get d.traits i ≡ Some s → sees (world_of d) c s.item.home ≡ true → s.item.name ≡ i → Keeps es new → new_limit ≡ now_limit
-      → trait_in new (id, def) ≡ plain_trait s.item → trait_sorts (id, def) ≡ of_type ∷ s.kinds → next ≡ with_trait now (id, def) → AreHeld new next → TraitsAdded d c old limit start i es now_limit now
+      → trait_in new (id, def) ≡ plain_trait s.item → trait_sorts (id, def) ≡ of_type ∷ s.kinds → next ≡ with_trait now (id, def) → AreHeld new next → length new ≤ length es + trait_terms s.item → TraitsAdded d c old limit start i es now_limit now
       → TraitsAdded d c old limit start (i + 1) new new_limit next
-  traits-taken i es now_limit now s new new_limit id def next there seen number k same_limit same sorted put held a =
+  traits-taken i es now_limit now s new new_limit id def next there seen number k same_limit same sorted put held few a =
       record {
         keeps = λ j e h. k j e (a.keeps j e h);
         limited = same_limit ∙ a.limited;
@@ -146,10 +177,26 @@ module _ (d : text.Declarations) (c : ℕ) (old : List Entry) (limit : ℕ) (sta
             subst (TraitsGone d c new (i + 1)) (sym (ap (λ n. n.traits) put))
             (gone-taken (trait_in new) (trait_sorts) (λ x. x.0.index) (λ y. plain_trait y.item) (λ t. of_type ∷ t.kinds) (λ (x : TraitDecl). sees (world_of d) c x.home) d.traits i s now.traits (id, def) there seen same (sorted) (ap (λ x. x.name) same ∙ number)
             (gone-again (trait_in es) (trait_in new) (trait_sorts) (λ x. x.0.index) (λ y. plain_trait y.item) (λ t. of_type ∷ t.kinds) (λ (x : TraitDecl). sees (world_of d) c x.home) d.traits i now.traits (ap (λ w. w.traits) (all-written es new k now a.held)) a.gone));
+        few =
+            let more = sum-taken (trait_terms_seen d c) d.traits i s there ∙ ap (λ b. sum_by (trait_terms_seen d c) (take i d.traits) + (if b then trait_terms s.item else 0)) seen in
+            let had = a.few in
+            omega (arith, more, had, few);
       }
 
   pub traits-all : (i : ℕ) (es : List Entry) (now_limit : ℕ) (now : Items) → length d.traits ≡ i → TraitsAdded d c old limit start i es now_limit now → map (trait_in es) now.traits ≡ (plainly_seen_from d c).traits
   traits-all i es now_limit now e a = a.gone.are ∙ all-plain plain_trait (λ (s : text.NamedTrait). s.item) (λ (x : TraitDecl). sees (world_of d) c x.home) (λ x. refl) d.traits i (sym e)
+
+  pub traits-few : (i : ℕ) (es : List Entry) (now_limit : ℕ) (now : Items) → TraitsAdded d c old limit start i es now_limit now → length es ≤ length old + sum_by (trait_terms_seen d c) d.traits
+  traits-few i es now_limit now a = let less = sum_by-take-le (trait_terms_seen d c) d.traits i in let had = a.few in omega (arith, less, had)
+
+  -- where the next one is seen, and fails
+  pub traits-fewer : (i : ℕ) (es : List Entry) (now_limit : ℕ) (now : Items) (s : text.NamedTrait) (new : List Entry) → slice_get d.traits i ≡ Some s → sees (world_of d) c s.item.home ≡ true → length new ≤ length es + trait_terms s.item
+      → TraitsAdded d c old limit start i es now_limit now → length new ≤ length old + sum_by (trait_terms_seen d c) d.traits
+  traits-fewer i es now_limit now s new there seen few a =
+      let less = sum_by-take-le (trait_terms_seen d c) d.traits (i + 1) in
+      let more = sum-taken (trait_terms_seen d c) d.traits i s there ∙ ap (λ b. sum_by (trait_terms_seen d c) (take i d.traits) + (if b then trait_terms s.item else 0)) seen in
+      let had = a.few in
+      omega (arith, less, more, had, few)
 
   pub traits-sorted : (i : ℕ) (es : List Entry) (now_limit : ℕ) (now : Items) → length d.traits ≡ i → TraitsAdded d c old limit start i es now_limit now → map trait_sorts now.traits ≡ trait_sorts_seen d c
   traits-sorted i es now_limit now e a = a.gone.sorts_are ∙ ap (λ l. map (λ t. of_type ∷ t.kinds) (filter (λ (s : text.NamedTrait). sees (world_of d) c s.item.home) l)) (all-taken d.traits i (sym e))
@@ -164,6 +211,7 @@ pub record ImplsAdded (d : text.Declarations) (c : ℕ) (old : List Entry) (limi
   pub others : now ≡ record start { impls = now.impls }
   pub held : AreHeld es now
   pub gone : ImplsGone d c es i now.impls
+  pub few : length es ≤ length old + sum_by (impl_terms_seen d c) (take i d.impls)
 
 module _ (d : text.Declarations) (c : ℕ) (old : List Entry) (limit : ℕ) (start : Items) where
   pub impls-first : start.impls ≡ [] → AreHeld old start → ImplsAdded d c old limit start 0 old limit start
@@ -174,6 +222,7 @@ module _ (d : text.Declarations) (c : ℕ) (old : List Entry) (limit : ℕ) (sta
         others = refl;
         held = held;
         gone = gone-first (held_in old) (impl_sorts) (λ x. x.id.index) (λ s. plain_impl s.item) (param_sorts) (λ (x : ImplDecl). sees (world_of d) c x.home) d.impls start.impls none;
+        few = omega arith;
       }
 
   pub impls-passed : (i : ℕ) (es : List Entry) (now_limit : ℕ) (now : Items) (s : text.NamedImpl) → slice_get d.impls i ≡ Some s → sees (world_of d) c s.item.home ≡ false → ImplsAdded d c old limit start i es now_limit now
@@ -185,13 +234,14 @@ module _ (d : text.Declarations) (c : ℕ) (old : List Entry) (limit : ℕ) (sta
         others = a.others;
         held = a.held;
         gone = gone-passed (held_in es) (impl_sorts) (λ x. x.id.index) (λ y. plain_impl y.item) (param_sorts) (λ (x : ImplDecl). sees (world_of d) c x.home) d.impls i s now.impls there unseen a.gone;
+        few = let more = sum-passed (impl_terms_seen d c) d.impls i s there in let had = a.few in omega (arith, more, had);
       }
 
   pub impls-taken : (i : ℕ) (es : List Entry) (now_limit : ℕ) (now : Items) (s : text.NamedImpl) (new : List Entry) (new_limit : ℕ) (x : HeldImpl) (next : Items)
       → slice_get d.impls i ≡ Some s → sees (world_of d) c s.item.home ≡ true → s.item.name ≡ i → Keeps es new → new_limit ≡ now_limit
-      → held_in new (x) ≡ plain_impl s.item → impl_sorts x ≡ param_sorts s → next ≡ with_impl now (x) → AreHeld new next → ImplsAdded d c old limit start i es now_limit now
+      → held_in new (x) ≡ plain_impl s.item → impl_sorts x ≡ param_sorts s → next ≡ with_impl now (x) → AreHeld new next → length new ≤ length es + impl_terms s.item → ImplsAdded d c old limit start i es now_limit now
       → ImplsAdded d c old limit start (i + 1) new new_limit next
-  impls-taken i es now_limit now s new new_limit x next there seen number k same_limit same sorted put held a =
+  impls-taken i es now_limit now s new new_limit x next there seen number k same_limit same sorted put held few a =
       record {
         keeps = λ j e h. k j e (a.keeps j e h);
         limited = same_limit ∙ a.limited;
@@ -201,10 +251,26 @@ module _ (d : text.Declarations) (c : ℕ) (old : List Entry) (limit : ℕ) (sta
             subst (ImplsGone d c new (i + 1)) (sym (ap (λ n. n.impls) put))
             (gone-taken (held_in new) (impl_sorts) (λ x. x.id.index) (λ y. plain_impl y.item) (param_sorts) (λ (x : ImplDecl). sees (world_of d) c x.home) d.impls i s now.impls (x) there seen same (sorted) (ap (λ x. x.name) same ∙ number)
             (gone-again (held_in es) (held_in new) (impl_sorts) (λ x. x.id.index) (λ y. plain_impl y.item) (param_sorts) (λ (x : ImplDecl). sees (world_of d) c x.home) d.impls i now.impls (ap (λ w. w.impls) (all-written es new k now a.held)) a.gone));
+        few =
+            let more = sum-taken (impl_terms_seen d c) d.impls i s there ∙ ap (λ b. sum_by (impl_terms_seen d c) (take i d.impls) + (if b then impl_terms s.item else 0)) seen in
+            let had = a.few in
+            omega (arith, more, had, few);
       }
 
   pub impls-all : (i : ℕ) (es : List Entry) (now_limit : ℕ) (now : Items) → length d.impls ≡ i → ImplsAdded d c old limit start i es now_limit now → map (held_in es) now.impls ≡ (plainly_seen_from d c).impls
   impls-all i es now_limit now e a = a.gone.are ∙ all-plain plain_impl (λ (s : text.NamedImpl). s.item) (λ (x : ImplDecl). sees (world_of d) c x.home) (λ x. refl) d.impls i (sym e)
+
+  pub impls-few : (i : ℕ) (es : List Entry) (now_limit : ℕ) (now : Items) → ImplsAdded d c old limit start i es now_limit now → length es ≤ length old + sum_by (impl_terms_seen d c) d.impls
+  impls-few i es now_limit now a = let less = sum_by-take-le (impl_terms_seen d c) d.impls i in let had = a.few in omega (arith, less, had)
+
+  -- where the next one is seen, and fails
+  pub impls-fewer : (i : ℕ) (es : List Entry) (now_limit : ℕ) (now : Items) (s : text.NamedImpl) (new : List Entry) → slice_get d.impls i ≡ Some s → sees (world_of d) c s.item.home ≡ true → length new ≤ length es + impl_terms s.item
+      → ImplsAdded d c old limit start i es now_limit now → length new ≤ length old + sum_by (impl_terms_seen d c) d.impls
+  impls-fewer i es now_limit now s new there seen few a =
+      let less = sum_by-take-le (impl_terms_seen d c) d.impls (i + 1) in
+      let more = sum-taken (impl_terms_seen d c) d.impls i s there ∙ ap (λ b. sum_by (impl_terms_seen d c) (take i d.impls) + (if b then impl_terms s.item else 0)) seen in
+      let had = a.few in
+      omega (arith, less, more, had, few)
 
   pub impls-sorted : (i : ℕ) (es : List Entry) (now_limit : ℕ) (now : Items) → length d.impls ≡ i → ImplsAdded d c old limit start i es now_limit now → map impl_sorts now.impls ≡ impl_sorts_seen d c
   impls-sorted i es now_limit now e a = a.gone.sorts_are ∙ ap (λ l. map (param_sorts) (filter (λ (s : text.NamedImpl). sees (world_of d) c s.item.home) l)) (all-taken d.impls i (sym e))

@@ -6,3 +6,4 @@ pub mod TextLaws
 pub mod Ready
 pub mod QuestionVariables
 pub mod Later
+pub mod MostTerms

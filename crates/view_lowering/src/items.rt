@@ -1,5 +1,5 @@
 //! A struct, a trait, an impl.
-ghost use Rattle.std.specs.Prelude.{◌≡◌, ◌∷◌, true, map, Err, IfOk};
+ghost use Rattle.std.specs.Prelude.{◌≡◌, ◌+◌, ◌≤◌, ◌∷◌, true, length, map, Err, IfOk};
 ghost use Rattle.type_terms.specs.Label.{of_type};
 ghost use Rattle.type_terms.specs.Terms.{Keeps};
 ghost use Rattle.type_terms.specs.Failures.{SomeKindIsFull};
@@ -9,6 +9,7 @@ ghost use Rattle.declarations.specs.Items.{struct_in, trait_in, impl_in};
 ghost use Rattle.declarations.specs.Held.{StructHeld, TraitHeld, ImplHeld};
 ghost use Rattle.workspace.specs.Made.{AreMade, ReferenceMade, ReferencesMade, is_type};
 ghost use Rattle.workspace.specs.Views.{struct_of, trait_of, impl_of, sorts_of, sort_of_kind};
+ghost use Rattle.view_lowering.specs.MostTerms.{struct_terms, trait_terms, impl_terms};
 ghost use Rattle.view_lowering.specs.Plain.{plain_struct, plain_trait, plain_impl};
 ghost use Rattle.view_lowering.specs.Seen.{struct_sorts, trait_sorts, param_sorts};
 
@@ -32,6 +33,7 @@ pub(crate) fn lower_struct(
     ensures held { IfOk result (λ def. StructHeld cx.new.entries def) }
     ensures keeps { Keeps cx.old.entries cx.new.entries }
     ensures limit { cx.new.limit ≡ cx.old.limit }
+    ensures few { length cx.new.entries ≤ length cx.old.entries + struct_terms (struct_of entry.now).item }
     ensures full { result ≡ Err Fault.Full → SomeKindIsFull cx.new.entries cx.new.limit }
 {
     let mut params = Vec::new(alloc);
@@ -63,6 +65,7 @@ pub(crate) fn lower_trait(
     ensures held { IfOk result (λ def. TraitHeld cx.new.entries def) }
     ensures keeps { Keeps cx.old.entries cx.new.entries }
     ensures limit { cx.new.limit ≡ cx.old.limit }
+    ensures few { length cx.new.entries ≤ length cx.old.entries + trait_terms (trait_of entry.now).item }
     ensures full { result ≡ Err Fault.Full → SomeKindIsFull cx.new.entries cx.new.limit }
 {
     let params = trait_params(alloc, &entry.params)?;
@@ -102,6 +105,7 @@ pub(crate) fn lower_impl(
     ensures held { IfOk result (λ def. ImplHeld cx.new.entries def) }
     ensures keeps { Keeps cx.old.entries cx.new.entries }
     ensures limit { cx.new.limit ≡ cx.old.limit }
+    ensures few { length cx.new.entries ≤ length cx.old.entries + impl_terms (impl_of entry.now).item }
     ensures full { result ≡ Err Fault.Full → SomeKindIsFull cx.new.entries cx.new.limit }
 {
     let params = impl_params(alloc, &entry.params)?;

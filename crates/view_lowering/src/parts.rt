@@ -1,5 +1,5 @@
 //! Parameters and references.
-ghost use Rattle.std.specs.Prelude.{◌≡◌, ◌++◌, [], ◌∷◌, map, Err, IfOk, OnOk};
+ghost use Rattle.std.specs.Prelude.{◌≡◌, ◌+◌, ◌≤◌, ◌++◌, [], ◌∷◌, length, map, sum_by, Err, IfOk, OnOk};
 ghost use Rattle.type_terms.specs.Terms.{Keeps};
 ghost use Rattle.type_terms.specs.Failures.{SomeKindIsFull};
 ghost use Rattle.declarations.specs.Applied.{sort_of_param, references_in};
@@ -7,6 +7,7 @@ ghost use Rattle.declarations.specs.Held.{ReferenceHeld};
 ghost use Rattle.declarations.specs.Items.{reference_in};
 ghost use Rattle.declarations.specs.Merges.{Each};
 ghost use Rattle.workspace.specs.Made.{ReferenceMade, ReferencesMade};
+ghost use Rattle.workspace.specs.TermCounts.{reference_terms};
 ghost use Rattle.workspace.specs.Views.{sort_of_kind, sorts_of, reference_of};
 
 use declarations::items::GenericParamKind;
@@ -51,6 +52,7 @@ pub(crate) fn lower_reference(
     ensures held { IfOk result (λ trait_ref. ReferenceHeld cx.new.entries trait_ref) }
     ensures keeps { Keeps cx.old.entries cx.new.entries }
     ensures limit { cx.new.limit ≡ cx.old.limit }
+    ensures few { length cx.new.entries ≤ length cx.old.entries + reference_terms (reference_of cells.now) }
     ensures full { result ≡ Err Fault.Full → SomeKindIsFull cx.new.entries cx.new.limit }
 {
     let args = lower_args(alloc, cx, &cells.args)?;
@@ -71,6 +73,7 @@ pub(crate) fn lower_references(
     ensures held { IfOk result (λ refs. Each (ReferenceHeld cx.new.entries) refs.items) }
     ensures keeps { Keeps cx.old.entries cx.new.entries }
     ensures limit { cx.new.limit ≡ cx.old.limit }
+    ensures few { length cx.new.entries ≤ length cx.old.entries + sum_by reference_terms (map reference_of list.now) }
     ensures full { result ≡ Err Fault.Full → SomeKindIsFull cx.new.entries cx.new.limit }
 {
     let mut refs = Vec::new(alloc);

@@ -1,9 +1,10 @@
 //! The whole view of a crate.
-ghost use Rattle.std.specs.Prelude.{◌≡◌, ◌<◌, [], length, map, Err, OnOk, IfOk};
+ghost use Rattle.std.specs.Prelude.{◌≡◌, ◌+◌, ◌<◌, ◌≤◌, [], length, map, sum_by, Err, OnOk, IfOk};
 ghost use Rattle.type_terms.specs.Terms.{Keeps};
 ghost use Rattle.type_terms.specs.Failures.{SomeKindIsFull};
 ghost use Rattle.declarations.specs.Held.{AreHeld};
 ghost use Rattle.declarations.specs.Items.{written, declared, struct_in, trait_in, impl_in};
+ghost use Rattle.view_lowering.specs.MostTerms.{struct_terms_seen, trait_terms_seen, impl_terms_seen, most_terms};
 ghost use Rattle.view_lowering.specs.Plain.{plainly_seen_from};
 ghost use Rattle.view_lowering.specs.Seen.{BeginDeclared, rules_seen_from, struct_sorts, trait_sorts, impl_sorts, struct_sorts_seen, trait_sorts_seen, impl_sorts_seen};
 
@@ -31,6 +32,7 @@ fn lower_structs(
     ensures held { OnOk result (AreHeld cx.new.entries decls.new) }
     ensures keeps { Keeps cx.old.entries cx.new.entries }
     ensures limit { cx.new.limit ≡ cx.old.limit }
+    ensures few { length cx.new.entries ≤ length cx.old.entries + sum_by (struct_terms_seen workspace.now crate_id.index) workspace.now.structs }
     ensures full { result ≡ Err Fault.Full → SomeKindIsFull cx.new.entries cx.new.limit }
 {
     let _ = workspace.crates();
@@ -61,6 +63,7 @@ fn lower_traits(
     ensures held { OnOk result (AreHeld cx.new.entries decls.new) }
     ensures keeps { Keeps cx.old.entries cx.new.entries }
     ensures limit { cx.new.limit ≡ cx.old.limit }
+    ensures few { length cx.new.entries ≤ length cx.old.entries + sum_by (trait_terms_seen workspace.now crate_id.index) workspace.now.traits }
     ensures full { result ≡ Err Fault.Full → SomeKindIsFull cx.new.entries cx.new.limit }
 {
     let _ = workspace.crates();
@@ -92,6 +95,7 @@ fn lower_impls(
     ensures held { OnOk result (AreHeld cx.new.entries decls.new) }
     ensures keeps { Keeps cx.old.entries cx.new.entries }
     ensures limit { cx.new.limit ≡ cx.old.limit }
+    ensures few { length cx.new.entries ≤ length cx.old.entries + sum_by (impl_terms_seen workspace.now crate_id.index) workspace.now.impls }
     ensures full { result ≡ Err Fault.Full → SomeKindIsFull cx.new.entries cx.new.limit }
 {
     let _ = workspace.crates();
@@ -126,6 +130,9 @@ pub fn lower(
     ensures held { IfOk result (λ decls. AreHeld cx.new.entries decls) }
     ensures keeps { Keeps cx.old.entries cx.new.entries }
     ensures limit { cx.new.limit ≡ cx.old.limit }
+
+    // So many terms are made at most, after a fault too.
+    ensures few { length cx.new.entries ≤ length cx.old.entries + most_terms workspace.now crate_id.index }
     ensures full { result ≡ Err Fault.Full → SomeKindIsFull cx.new.entries cx.new.limit }
 {
     let mut decls = Declarations::new(alloc, crate_id);

@@ -10,3 +10,5 @@ mod Stacks
 mod Lowering
 mod CellLists
 mod Refusals
+mod Counting
+mod CellCounts

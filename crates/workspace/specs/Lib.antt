@@ -8,3 +8,4 @@ pub mod Stored
 pub mod CoreItems
 pub mod Stack
 pub mod Lowers
+pub mod TermCounts

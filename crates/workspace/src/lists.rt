@@ -1,9 +1,10 @@
 //! Lists of cells: the fields of a struct, the arguments of a reference.
-ghost use Rattle.std.specs.Prelude.{◌≡◌, [], map, Some, IsSome, Err, IfOk};
+ghost use Rattle.std.specs.Prelude.{◌≡◌, ◌+◌, ◌*◌, ◌≤◌, [], length, map, sum_by, Some, IsSome, Err, IfOk};
 ghost use Rattle.type_terms.specs.Terms.{Keeps, Is, args_lists, trees_at};
 ghost use Rattle.type_terms.specs.Kinds.{TysHeld};
 ghost use Rattle.type_terms.specs.Failures.{SomeKindIsFull};
 ghost use Rattle.workspace.specs.Made.{AreMade, CellsHeld, parts_of, is_type, is_arg};
+ghost use Rattle.workspace.specs.TermCounts.{parts};
 ghost use Rattle.workspace.specs.TermCells.{trees_of, joined, behind_cells};
 ghost use Rattle.workspace.specs.Views.{cells_of};
 ghost use Rattle.workspace.specs.Stack.{stack_of, parts_in, trees_of_stack, StackHeld, AllParts, lowered_arg, lowered_type};
@@ -25,6 +26,7 @@ fn lower_cells(alloc: Global, cx: &mut Interner, cells: &[TermCell]) -> Result<V
     ensures held { IfOk result (λ stack. StackHeld cx.new.entries (stack_of stack.items)) }
     ensures keeps { Keeps cx.old.entries cx.new.entries }
     ensures limit { cx.new.limit ≡ cx.old.limit }
+    ensures few { length cx.new.entries ≤ length cx.old.entries + 2 * length cells.now }
     ensures full { result ≡ Err Fault.Full → SomeKindIsFull cx.new.entries cx.new.limit }
 {
     let mut stack = Vec::new(alloc);
@@ -73,6 +75,9 @@ pub fn lower_types(alloc: Global, cx: &mut Interner, cells: &[TermCell]) -> Resu
     ensures held { IfOk result (λ tys. TysHeld cx.new.entries tys.items) }
     ensures keeps { Keeps cx.old.entries cx.new.entries }
     ensures limit { cx.new.limit ≡ cx.old.limit }
+
+    // A part is made one term, and maybe the list of what stands in it.
+    ensures few { length cx.new.entries ≤ length cx.old.entries + 2 * sum_by parts (trees_of (cells_of cells.now)) }
     ensures full { result ≡ Err Fault.Full → SomeKindIsFull cx.new.entries cx.new.limit }
 {
     let stack = lower_cells(alloc, cx, cells)?;
@@ -90,6 +95,7 @@ pub fn lower_args(
     ensures is { IfOk result (λ args. Is cx.new.entries args_lists args.0 (joined (trees_of (cells_of cells.now)))) }
     ensures keeps { Keeps cx.old.entries cx.new.entries }
     ensures limit { cx.new.limit ≡ cx.old.limit }
+    ensures few { length cx.new.entries ≤ length cx.old.entries + 2 * parts (joined (trees_of (cells_of cells.now))) + 1 }
     ensures full { result ≡ Err Fault.Full → SomeKindIsFull cx.new.entries cx.new.limit }
 {
     let stack = lower_cells(alloc, cx, cells)?;

@@ -1,4 +1,4 @@
-use Rattle.std.proofs.Common.{◌≡◌, ℕ, List, [], ◌∷◌, map, length, refl, subst, sym, ap, ◌∙◌, Err}
+use Rattle.std.proofs.Common.{arith, ◌≡◌, ℕ, List, [], ◌∷◌, map, length, refl, subst, sym, ap, ◌∙◌, Err}
 use Rattle.std.proofs.lemmas.List.{length-map}
 use Rattle.type_terms.specs.Worlds.{ImplDecl, Reference}
 use Rattle.declarations.specs.Applied.{sort_of_param}
@@ -12,6 +12,9 @@ use Rattle.view_lowering.specs.Plain.{all_kept, stands_in, plain_reference}
 use Rattle.view_lowering.specs.PlainCells.{named_in}
 use Rattle.view_lowering.proofs.Plainly.{references-same, begins-plain}
 use Rattle.view_lowering.proofs.Named.{named-stands}
+use Rattle.std.specs.Prelude.{sum_by}
+use Rattle.workspace.specs.TermCounts.{reference_terms}
+use Rattle.view_lowering.proofs.Counts.{plain-terms, all-plain-terms}
 use Rattle.view_lowering.proofs.items.lower_impl.Goals as goal
 
 twice : (ps : List Param) → map (λ q. q.1) (sorted_params ps) ≡ map (λ p. sort_of_kind p.kind) ps
@@ -59,3 +62,31 @@ returns-in_err-header-clause-full c = handed-on c.from_residual-in_err-header.re
 
 pub returns-in_err-clauses-clause-full : goal.returns-in_err-clauses-clause-full
 returns-in_err-clauses-clause-full c = handed-on c.from_residual-in_err-clauses.result c.from_residual-in_err-clauses.ensures.1 (λ p. c.in_err-clauses.ensures.full (ap Err p))
+
+pub returns-in_err-header-clause-few : goal.returns-in_err-header-clause-few
+returns-in_err-header-clause-few c =
+    let header = ap reference_terms c.in_ok-plain_header.ensures.is ∙ plain-terms all_kept (reference_of c.args.entry.now.header) in
+    omega (arith, header, c.lower_reference.ensures.few)
+
+pub returns-in_err-plain_clauses-clause-few : goal.returns-in_err-plain_clauses-clause-few
+returns-in_err-plain_clauses-clause-few c =
+    let header = ap reference_terms c.in_ok-plain_header.ensures.is ∙ plain-terms all_kept (reference_of c.args.entry.now.header) in
+    omega (arith, header, c.lower_reference.ensures.few)
+
+pub returns-in_err-clauses-clause-few : goal.returns-in_err-clauses-clause-few
+returns-in_err-clauses-clause-few c =
+    let header = ap reference_terms c.in_ok-plain_header.ensures.is ∙ plain-terms all_kept (reference_of c.args.entry.now.header) in
+    let clauses =
+    ap (λ x. sum_by reference_terms (map reference_of x)) c.deref-4.ensures.value ∙ ap (sum_by reference_terms) (c.in_ok-plain_clauses.ensures.are ∙ ap (λ x. map (plain_reference (named_in c.deref-3.result.now)) (map reference_of x)) c.deref-2.ensures.value)
+    ∙ all-plain-terms (named_in c.deref-3.result.now) (map reference_of c.args.entry.now.clauses.items)
+    in
+    omega (arith, header, clauses, c.lower_reference.ensures.few, c.lower_references.ensures.few)
+
+pub returns-clause-few : goal.returns-clause-few
+returns-clause-few c =
+    let header = ap reference_terms c.in_ok-plain_header.ensures.is ∙ plain-terms all_kept (reference_of c.args.entry.now.header) in
+    let clauses =
+    ap (λ x. sum_by reference_terms (map reference_of x)) c.deref-4.ensures.value ∙ ap (sum_by reference_terms) (c.in_ok-plain_clauses.ensures.are ∙ ap (λ x. map (plain_reference (named_in c.deref-3.result.now)) (map reference_of x)) c.deref-2.ensures.value)
+    ∙ all-plain-terms (named_in c.deref-3.result.now) (map reference_of c.args.entry.now.clauses.items)
+    in
+    omega (arith, header, clauses, c.lower_reference.ensures.few, c.lower_references.ensures.few)

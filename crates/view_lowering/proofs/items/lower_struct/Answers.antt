@@ -1,4 +1,4 @@
-use Rattle.std.proofs.Common.{ap, sym, subst, ◌∙◌, map, Err}
+use Rattle.std.proofs.Common.{◌≡◌, List, arith, ap, sym, subst, ◌∙◌, map, Err}
 use Rattle.infer_table.proofs.FullFacts.{handed-on}
 use Rattle.workspace.specs.Made.{AreMade, is_type}
 use Rattle.workspace.specs.TermCells.{trees_of}
@@ -8,6 +8,10 @@ use Rattle.view_lowering.specs.PlainCells.{plain_cell}
 use Rattle.view_lowering.proofs.Plainly.{trees-plain}
 use Rattle.view_lowering.proofs.Structs.{struct-lowered}
 use Rattle.view_lowering.proofs.Refusals.{never-full}
+use Rattle.std.specs.Prelude.{sum_by}
+use Rattle.workspace.specs.TermCounts.{parts}
+use Rattle.workspace.specs.declared.cell.TermCell.{TermCell}
+use Rattle.view_lowering.proofs.Counts.{all-parts-plain}
 use Rattle.view_lowering.proofs.items.lower_struct.Goals as goal
 
 pub lower_types-requires : goal.lower_types-requires
@@ -24,3 +28,18 @@ returns-in_err-fields-clause-full c = handed-on c.from_residual-in_err-fields.re
 
 pub returns-clause-full : goal.returns-clause-full
 returns-clause-full c = never-full c.new.result c.new.ensures.memory
+
+-- the fields are as many parts as they were
+same_parts : (plain_cells given : List TermCell) (fields : List TermCell) → plain_cells ≡ given → cells_of given ≡ map (plain_cell none_kept) (cells_of fields) → sum_by parts (trees_of (cells_of plain_cells)) ≡ sum_by parts (trees_of (cells_of fields))
+same_parts xs ys fields e f =
+    ap (λ zs. sum_by parts (trees_of (cells_of zs))) e ∙ ap (λ cs. sum_by parts (trees_of cs)) f ∙ ap (sum_by parts) (trees-plain none_kept (cells_of fields)) ∙ all-parts-plain none_kept (trees_of (cells_of fields))
+
+pub returns-in_err-fields-clause-few : goal.returns-in_err-fields-clause-few
+returns-in_err-fields-clause-few c =
+    let same = same_parts _ _ c.args.entry.now.fields.items c.deref-3.ensures.value (c.in_ok-cells.ensures.are ∙ ap (λ x. map (plain_cell none_kept) (cells_of x)) c.deref-2.ensures.value) in
+    omega (arith, same, c.lower_types.ensures.few)
+
+pub returns-clause-few : goal.returns-clause-few
+returns-clause-few c =
+    let same = same_parts _ _ c.args.entry.now.fields.items c.deref-3.ensures.value (c.in_ok-cells.ensures.are ∙ ap (λ x. map (plain_cell none_kept) (cells_of x)) c.deref-2.ensures.value) in
+    omega (arith, same, c.lower_types.ensures.few)

@@ -1,9 +1,12 @@
-use Rattle.std.proofs.Common.{subst, sym, ap, ◌∙◌, map, Err}
+use Rattle.std.proofs.Common.{arith, subst, sym, ap, ◌∙◌, map, Err}
 use Rattle.type_terms.specs.Worlds.{TraitDecl}
 use Rattle.infer_table.proofs.FullFacts.{handed-on}
 use Rattle.workspace.specs.Made.{ReferencesMade}
 use Rattle.workspace.specs.Views.{reference_of}
 use Rattle.view_lowering.specs.Plain.{none_kept, plain_reference}
+use Rattle.std.specs.Prelude.{sum_by}
+use Rattle.workspace.specs.TermCounts.{reference_terms}
+use Rattle.view_lowering.proofs.Counts.{all-plain-terms}
 use Rattle.view_lowering.proofs.items.lower_trait.Goals as goal
 
 pub lower_references-requires : goal.lower_references-requires
@@ -17,3 +20,19 @@ returns-clause-is c =
 
 pub returns-in_err-bounds-clause-full : goal.returns-in_err-bounds-clause-full
 returns-in_err-bounds-clause-full c = handed-on c.from_residual-in_err-bounds.result c.from_residual-in_err-bounds.ensures.1 (λ p. c.in_err-bounds.ensures.full (ap Err p))
+
+pub returns-in_err-bounds-clause-few : goal.returns-in_err-bounds-clause-few
+returns-in_err-bounds-clause-few c =
+    let same =
+    ap (λ x. sum_by reference_terms (map reference_of x)) c.deref-3.ensures.value ∙ ap (sum_by reference_terms) (c.in_ok-cells.ensures.are ∙ ap (λ x. map (plain_reference none_kept) (map reference_of x)) c.deref-2.ensures.value)
+    ∙ all-plain-terms none_kept (map reference_of c.args.entry.now.bounds.items)
+    in
+    omega (arith, same, c.lower_references.ensures.few)
+
+pub returns-clause-few : goal.returns-clause-few
+returns-clause-few c =
+    let same =
+    ap (λ x. sum_by reference_terms (map reference_of x)) c.deref-3.ensures.value ∙ ap (sum_by reference_terms) (c.in_ok-cells.ensures.are ∙ ap (λ x. map (plain_reference none_kept) (map reference_of x)) c.deref-2.ensures.value)
+    ∙ all-plain-terms none_kept (map reference_of c.args.entry.now.bounds.items)
+    in
+    omega (arith, same, c.lower_references.ensures.few)

@@ -1,9 +1,12 @@
-use Rattle.std.proofs.Common.{◌∙◌, ap, sym, subst, refl, Err}
+use Rattle.std.proofs.Common.{◌+◌, arith, ◌∙◌, ap, sym, subst, refl, Err}
 use Rattle.std.proofs.lemmas.Option.{slice_get_read}
 use Rattle.declarations.specs.Applied.{references_in, TraitRefsHeld}
 use Rattle.declarations.proofs.Bounded.{held-more}
 use Rattle.infer_table.proofs.FullFacts.{handed-on}
 use Rattle.view_lowering.proofs.References.{one-more-lowered}
+use Rattle.workspace.specs.TermCounts.{reference_terms}
+use Rattle.workspace.specs.Views.{reference_of}
+use Rattle.view_lowering.proofs.Counts.{one-more, no-more}
 use Rattle.view_lowering.proofs.parts.lower_references.Goals as goal
 
 pub lower_reference-requires : goal.lower_reference-requires
@@ -26,9 +29,27 @@ loop-cells-preserved c =
     record {
       keeps = λ j y h. k j y (inv.keeps j y h);
       limit = c.lower_reference.ensures.limit ∙ inv.limit;
+      few = let more = one-more reference_terms reference_of c.args.list.now i x c.loop-cells-test.true c.cells-item.is in omega (arith, more, inv.few, c.lower_reference.ensures.few);
       are = ap (references_in new) put ∙ one-more-lowered old new k rs r c.args.list.now i x inv.held e inv.are c.in_ok-trait_ref.ensures.is;
       held = subst (TraitRefsHeld new) (sym put) (held-more old new k rs r inv.held c.in_ok-trait_ref.ensures.held);
     }
 
 pub returns-in_err-trait_ref-clause-full : goal.returns-in_err-trait_ref-clause-full
 returns-in_err-trait_ref-clause-full c = handed-on c.from_residual.result c.from_residual.ensures.1 (λ p. c.in_err-trait_ref.ensures.full (ap Err p))
+
+pub returns-in_err-trait_ref-clause-few : goal.returns-in_err-trait_ref-clause-few
+returns-in_err-trait_ref-clause-few c =
+    let i = c.loop-cells.cells-index in
+    let more = one-more reference_terms reference_of c.args.list.now i c.cells-item.result c.loop-cells-test.true c.cells-item.is in
+    let less = no-more reference_terms reference_of c.args.list.now (i + 1) in
+    omega (arith, more, less, c.loop-cells.invariant.few, c.lower_reference.ensures.few)
+
+pub returns-in_err-push-clause-few : goal.returns-in_err-push-clause-few
+returns-in_err-push-clause-few c =
+    let i = c.loop-cells.cells-index in
+    let more = one-more reference_terms reference_of c.args.list.now i c.cells-item.result c.loop-cells-test.true c.cells-item.is in
+    let less = no-more reference_terms reference_of c.args.list.now (i + 1) in
+    omega (arith, more, less, c.loop-cells.invariant.few, c.lower_reference.ensures.few)
+
+pub returns-clause-few : goal.returns-clause-few
+returns-clause-few c = let less = no-more reference_terms reference_of c.args.list.now c.loop-cells.cells-index in omega (arith, less, c.loop-cells.invariant.few)

@@ -1,4 +1,4 @@
-use Rattle.std.proofs.Common.{ap, Err}
+use Rattle.std.proofs.Common.{arith, ap, Err}
 use Rattle.infer_table.proofs.FullFacts.{handed-on}
 use Rattle.view_lowering.proofs.Views.{view-written, view-rules}
 use Rattle.view_lowering.proofs.view.lower.Goals as goal
@@ -20,3 +20,15 @@ returns-in_err-lower_traits-clause-full c = handed-on c.from_residual-in_err-low
 
 pub returns-in_err-lower_impls-clause-full : goal.returns-in_err-lower_impls-clause-full
 returns-in_err-lower_impls-clause-full c = handed-on c.from_residual-in_err-lower_impls.result c.from_residual-in_err-lower_impls.ensures.1 (λ p. c.in_err-lower_impls.ensures.full (ap Err p))
+
+pub returns-in_err-lower_structs-clause-few : goal.returns-in_err-lower_structs-clause-few
+returns-in_err-lower_structs-clause-few c = omega (arith, c.lower_structs.ensures.few)
+
+pub returns-in_err-lower_traits-clause-few : goal.returns-in_err-lower_traits-clause-few
+returns-in_err-lower_traits-clause-few c = omega (arith, c.lower_structs.ensures.few, c.lower_traits.ensures.few)
+
+pub returns-in_err-lower_impls-clause-few : goal.returns-in_err-lower_impls-clause-few
+returns-in_err-lower_impls-clause-few c = omega (arith, c.lower_structs.ensures.few, c.lower_traits.ensures.few, c.lower_impls.ensures.few)
+
+pub returns-clause-few : goal.returns-clause-few
+returns-clause-few c = omega (arith, c.lower_structs.ensures.few, c.lower_traits.ensures.few, c.lower_impls.ensures.few)

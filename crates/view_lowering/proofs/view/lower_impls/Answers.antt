@@ -8,7 +8,7 @@ use Rattle.declarations.specs.Merges.{Each}
 use Rattle.declarations.proofs.Growth.{all-held}
 use Rattle.infer_table.proofs.FullFacts.{handed-on}
 use Rattle.workspace.specs.Views.{impl_of}
-use Rattle.view_lowering.proofs.Views.{ImplsAdded, impls-passed, impls-all, impls-taken}
+use Rattle.view_lowering.proofs.Views.{ImplsAdded, impls-passed, impls-all, impls-few, impls-fewer, impls-taken}
 use Rattle.view_lowering.proofs.view.lower_impls.Goals.{then-sees+in_ok-def+in_ok-add_impl, else-sees}
 use Rattle.view_lowering.proofs.view.lower_impls.Goals as goal
 
@@ -59,7 +59,7 @@ loop-entry-preserved c =
           subst (λ y. ImplsAdded d n old.entries old.limit c.args.decls.now (i + 1) y.entries y.limit c.if-sees.decls) (sym w.cx-is)
           (subst (λ ds. ImplsAdded d n old.entries old.limit c.args.decls.now (i + 1) new.entries new.limit ds) (sym w.decls-is)
           (impls-taken d n old.entries old.limit c.args.decls.now i es.entries es.limit now (impl_of x) new.entries new.limit (held_impl new.entries x.id w.in_ok-def.def) next at (sym c.sees.ensures ∙ w.if-sees.true)
-          (c.crates.ensures.numbered.impls i (impl_of x) at).0 k w.lower_impl.ensures.limit w.in_ok-def.ensures.is w.in_ok-def.ensures.sorts w.in_ok-add_impl.ensures.added held inv))
+          (c.crates.ensures.numbered.impls i (impl_of x) at).0 k w.lower_impl.ensures.limit w.in_ok-def.ensures.is w.in_ok-def.ensures.sorts w.in_ok-add_impl.ensures.added held w.lower_impl.ensures.few inv))
       | else-sees w ↦
           subst (λ y. ImplsAdded d n old.entries old.limit c.args.decls.now (i + 1) y.entries y.limit c.if-sees.decls) (sym w.cx-is)
           (subst (λ ds. ImplsAdded d n old.entries old.limit c.args.decls.now (i + 1) es.entries es.limit ds) (sym w.decls-is)
@@ -78,3 +78,28 @@ returns-clause-impls c =
 
 pub returns-in_err-def-clause-full : goal.returns-in_err-def-clause-full
 returns-in_err-def-clause-full c = handed-on c.from_residual.result c.from_residual.ensures.1 (λ p. c.in_err-def.ensures.full (ap Err p))
+
+pub returns-in_err-def-clause-few : goal.returns-in_err-def-clause-few
+returns-in_err-def-clause-few c =
+    let d = c.args.workspace.now in
+    let old = c.args.cx.now in
+    let i = c.loop-entry.entry-index in
+    let x = c.entry-item.result in
+    let es = c.loop-entry.cx in
+    let there = slice_get_read c.impls-entries.result.now _ i x refl c.loop-entry-test.true c.entry-item.is in
+    let at = sym (ap (λ l. slice_get l i) (c.impls-entries.ensures.items)) ∙ slice_get-map impl_of c.impls-entries.result.now i ∙ ap (option_map impl_of) there in
+    impls-fewer d c.args.crate_id.index old.entries old.limit c.args.decls.now i es.entries es.limit c.loop-entry.decls (impl_of x) c.lower_impl.new.cx.entries at (sym c.sees.ensures ∙ c.if-sees.true) c.lower_impl.ensures.few c.loop-entry.invariant
+
+pub returns-in_err-add_impl-clause-few : goal.returns-in_err-add_impl-clause-few
+returns-in_err-add_impl-clause-few c =
+    let d = c.args.workspace.now in
+    let old = c.args.cx.now in
+    let i = c.loop-entry.entry-index in
+    let x = c.entry-item.result in
+    let es = c.loop-entry.cx in
+    let there = slice_get_read c.impls-entries.result.now _ i x refl c.loop-entry-test.true c.entry-item.is in
+    let at = sym (ap (λ l. slice_get l i) (c.impls-entries.ensures.items)) ∙ slice_get-map impl_of c.impls-entries.result.now i ∙ ap (option_map impl_of) there in
+    impls-fewer d c.args.crate_id.index old.entries old.limit c.args.decls.now i es.entries es.limit c.loop-entry.decls (impl_of x) c.lower_impl.new.cx.entries at (sym c.sees.ensures ∙ c.if-sees.true) c.lower_impl.ensures.few c.loop-entry.invariant
+
+pub returns-clause-few : goal.returns-clause-few
+returns-clause-few c = impls-few c.args.workspace.now c.args.crate_id.index c.args.cx.now.entries c.args.cx.now.limit c.args.decls.now c.loop-entry.entry-index c.loop-entry.cx.entries c.loop-entry.cx.limit c.loop-entry.decls c.loop-entry.invariant

@@ -6,7 +6,7 @@ use Rattle.std.specs.Option.{option_map}
 use Rattle.declarations.proofs.Growth.{all-held}
 use Rattle.infer_table.proofs.FullFacts.{handed-on}
 use Rattle.workspace.specs.Views.{struct_of}
-use Rattle.view_lowering.proofs.Views.{StructsAdded, structs-passed, structs-all, structs-taken, structs-absent}
+use Rattle.view_lowering.proofs.Views.{StructsAdded, structs-passed, structs-all, structs-few, structs-fewer, structs-taken, structs-absent}
 use Rattle.view_lowering.proofs.view.lower_structs.Goals.{then-sees+in_ok-def+in_ok-add_struct, else-sees}
 use Rattle.view_lowering.proofs.view.lower_structs.Goals as goal
 
@@ -45,7 +45,7 @@ loop-entry-preserved c =
           subst (λ y. StructsAdded d n old.entries old.limit c.args.decls.now (i + 1) y.entries y.limit c.if-sees.decls) (sym w.cx-is)
           (subst (λ ds. StructsAdded d n old.entries old.limit c.args.decls.now (i + 1) new.entries new.limit ds) (sym w.decls-is)
           (structs-taken d n old.entries old.limit c.args.decls.now i es.entries es.limit now (struct_of x) new.entries new.limit x.id w.in_ok-def.def next at (sym c.sees.ensures ∙ w.if-sees.true) (c.crates.ensures.numbered.structs i (struct_of x) at).0 k
-          w.lower_struct.ensures.limit w.in_ok-def.ensures.is w.in_ok-def.ensures.sorts w.in_ok-add_struct.ensures.added held inv))
+          w.lower_struct.ensures.limit w.in_ok-def.ensures.is w.in_ok-def.ensures.sorts w.in_ok-add_struct.ensures.added held w.lower_struct.ensures.few inv))
       | else-sees w ↦
           subst (λ y. StructsAdded d n old.entries old.limit c.args.decls.now (i + 1) y.entries y.limit c.if-sees.decls) (sym w.cx-is)
           (subst (λ ds. StructsAdded d n old.entries old.limit c.args.decls.now (i + 1) es.entries es.limit ds) (sym w.decls-is)
@@ -64,3 +64,28 @@ returns-clause-structs c =
 
 pub returns-in_err-def-clause-full : goal.returns-in_err-def-clause-full
 returns-in_err-def-clause-full c = handed-on c.from_residual.result c.from_residual.ensures.1 (λ p. c.in_err-def.ensures.full (ap Err p))
+
+pub returns-in_err-def-clause-few : goal.returns-in_err-def-clause-few
+returns-in_err-def-clause-few c =
+    let d = c.args.workspace.now in
+    let old = c.args.cx.now in
+    let i = c.loop-entry.entry-index in
+    let x = c.entry-item.result in
+    let es = c.loop-entry.cx in
+    let there = slice_get_read c.structs-entries.result.now _ i x refl c.loop-entry-test.true c.entry-item.is in
+    let at = sym (ap (λ l. slice_get l i) (c.structs-entries.ensures.items)) ∙ slice_get-map struct_of c.structs-entries.result.now i ∙ ap (option_map struct_of) there in
+    structs-fewer d c.args.crate_id.index old.entries old.limit c.args.decls.now i es.entries es.limit c.loop-entry.decls (struct_of x) c.lower_struct.new.cx.entries at (sym c.sees.ensures ∙ c.if-sees.true) c.lower_struct.ensures.few c.loop-entry.invariant
+
+pub returns-in_err-add_struct-clause-few : goal.returns-in_err-add_struct-clause-few
+returns-in_err-add_struct-clause-few c =
+    let d = c.args.workspace.now in
+    let old = c.args.cx.now in
+    let i = c.loop-entry.entry-index in
+    let x = c.entry-item.result in
+    let es = c.loop-entry.cx in
+    let there = slice_get_read c.structs-entries.result.now _ i x refl c.loop-entry-test.true c.entry-item.is in
+    let at = sym (ap (λ l. slice_get l i) (c.structs-entries.ensures.items)) ∙ slice_get-map struct_of c.structs-entries.result.now i ∙ ap (option_map struct_of) there in
+    structs-fewer d c.args.crate_id.index old.entries old.limit c.args.decls.now i es.entries es.limit c.loop-entry.decls (struct_of x) c.lower_struct.new.cx.entries at (sym c.sees.ensures ∙ c.if-sees.true) c.lower_struct.ensures.few c.loop-entry.invariant
+
+pub returns-clause-few : goal.returns-clause-few
+returns-clause-few c = structs-few c.args.workspace.now c.args.crate_id.index c.args.cx.now.entries c.args.cx.now.limit c.args.decls.now c.loop-entry.entry-index c.loop-entry.cx.entries c.loop-entry.cx.limit c.loop-entry.decls c.loop-entry.invariant

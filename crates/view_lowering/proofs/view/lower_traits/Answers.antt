@@ -6,7 +6,7 @@ use Rattle.std.specs.Option.{option_map}
 use Rattle.declarations.proofs.Growth.{all-held}
 use Rattle.infer_table.proofs.FullFacts.{handed-on}
 use Rattle.workspace.specs.Views.{trait_of}
-use Rattle.view_lowering.proofs.Views.{TraitsAdded, traits-passed, traits-all, traits-taken, traits-absent}
+use Rattle.view_lowering.proofs.Views.{TraitsAdded, traits-passed, traits-all, traits-few, traits-fewer, traits-taken, traits-absent}
 use Rattle.view_lowering.proofs.view.lower_traits.Goals.{then-sees+in_ok-def+in_ok-add_trait, else-sees}
 use Rattle.view_lowering.proofs.view.lower_traits.Goals as goal
 
@@ -45,7 +45,7 @@ loop-entry-preserved c =
           subst (λ y. TraitsAdded d n old.entries old.limit c.args.decls.now (i + 1) y.entries y.limit c.if-sees.decls) (sym w.cx-is)
           (subst (λ ds. TraitsAdded d n old.entries old.limit c.args.decls.now (i + 1) new.entries new.limit ds) (sym w.decls-is)
           (traits-taken d n old.entries old.limit c.args.decls.now i es.entries es.limit now (trait_of x) new.entries new.limit x.id w.in_ok-def.def next at (sym c.sees.ensures ∙ w.if-sees.true) (c.crates.ensures.numbered.traits i (trait_of x) at).0 k
-          w.lower_trait.ensures.limit w.in_ok-def.ensures.is w.in_ok-def.ensures.sorts w.in_ok-add_trait.ensures.added held inv))
+          w.lower_trait.ensures.limit w.in_ok-def.ensures.is w.in_ok-def.ensures.sorts w.in_ok-add_trait.ensures.added held w.lower_trait.ensures.few inv))
       | else-sees w ↦
           subst (λ y. TraitsAdded d n old.entries old.limit c.args.decls.now (i + 1) y.entries y.limit c.if-sees.decls) (sym w.cx-is)
           (subst (λ ds. TraitsAdded d n old.entries old.limit c.args.decls.now (i + 1) es.entries es.limit ds) (sym w.decls-is)
@@ -64,3 +64,28 @@ returns-clause-traits c =
 
 pub returns-in_err-def-clause-full : goal.returns-in_err-def-clause-full
 returns-in_err-def-clause-full c = handed-on c.from_residual.result c.from_residual.ensures.1 (λ p. c.in_err-def.ensures.full (ap Err p))
+
+pub returns-in_err-def-clause-few : goal.returns-in_err-def-clause-few
+returns-in_err-def-clause-few c =
+    let d = c.args.workspace.now in
+    let old = c.args.cx.now in
+    let i = c.loop-entry.entry-index in
+    let x = c.entry-item.result in
+    let es = c.loop-entry.cx in
+    let there = slice_get_read c.traits-entries.result.now _ i x refl c.loop-entry-test.true c.entry-item.is in
+    let at = sym (ap (λ l. slice_get l i) (c.traits-entries.ensures.items)) ∙ slice_get-map trait_of c.traits-entries.result.now i ∙ ap (option_map trait_of) there in
+    traits-fewer d c.args.crate_id.index old.entries old.limit c.args.decls.now i es.entries es.limit c.loop-entry.decls (trait_of x) c.lower_trait.new.cx.entries at (sym c.sees.ensures ∙ c.if-sees.true) c.lower_trait.ensures.few c.loop-entry.invariant
+
+pub returns-in_err-add_trait-clause-few : goal.returns-in_err-add_trait-clause-few
+returns-in_err-add_trait-clause-few c =
+    let d = c.args.workspace.now in
+    let old = c.args.cx.now in
+    let i = c.loop-entry.entry-index in
+    let x = c.entry-item.result in
+    let es = c.loop-entry.cx in
+    let there = slice_get_read c.traits-entries.result.now _ i x refl c.loop-entry-test.true c.entry-item.is in
+    let at = sym (ap (λ l. slice_get l i) (c.traits-entries.ensures.items)) ∙ slice_get-map trait_of c.traits-entries.result.now i ∙ ap (option_map trait_of) there in
+    traits-fewer d c.args.crate_id.index old.entries old.limit c.args.decls.now i es.entries es.limit c.loop-entry.decls (trait_of x) c.lower_trait.new.cx.entries at (sym c.sees.ensures ∙ c.if-sees.true) c.lower_trait.ensures.few c.loop-entry.invariant
+
+pub returns-clause-few : goal.returns-clause-few
+returns-clause-few c = traits-few c.args.workspace.now c.args.crate_id.index c.args.cx.now.entries c.args.cx.now.limit c.args.decls.now c.loop-entry.entry-index c.loop-entry.cx.entries c.loop-entry.cx.limit c.loop-entry.decls c.loop-entry.invariant

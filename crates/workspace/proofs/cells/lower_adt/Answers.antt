@@ -2,6 +2,7 @@ use Rattle.std.proofs.Common.{subst, arith, ap, Err}
 use Rattle.type_terms.specs.Terms.{args_lists, types}
 use Rattle.workspace.specs.Stack.{stack_of, StackHeld}
 use Rattle.workspace.proofs.Lowering.{held-pushed, args-held, adt-lowers}
+use Rattle.workspace.proofs.Counting.{at-most-one, none-added}
 use Rattle.workspace.proofs.Refusals.{refused-term}
 use Rattle.workspace.proofs.cells.lower_adt.Goals as goal
 
@@ -22,3 +23,18 @@ pub returns-in_err-ty-clause-full : goal.returns-in_err-ty-clause-full
 returns-in_err-ty-clause-full c =
     let refused = c.in_err-ty.ensures in
     refused-term types c.from_residual-in_err-ty.result (omega arith) c.from_residual-in_err-ty.ensures.1 (λ p. refused.full (ap Err p)) refused.limit refused.refused
+
+pub returns-in_err-args-clause-few : goal.returns-in_err-args-clause-few
+returns-in_err-args-clause-few c = let same = none-added c.in_err-args.ensures.refused in omega (arith, same)
+
+pub returns-in_err-ty-clause-few : goal.returns-in_err-ty-clause-few
+returns-in_err-ty-clause-few c =
+    let one = at-most-one c.in_ok-args.ensures.adds in
+    let same = none-added c.in_err-ty.ensures.refused in
+    omega (arith, one, same)
+
+pub returns-clause-few : goal.returns-clause-few
+returns-clause-few c =
+    let one = at-most-one c.in_ok-args.ensures.adds in
+    let next = at-most-one c.in_ok-ty.ensures.adds in
+    omega (arith, one, next)

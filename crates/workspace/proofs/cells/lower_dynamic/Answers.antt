@@ -2,6 +2,7 @@ use Rattle.std.proofs.Common.{arith, ap, Err}
 use Rattle.type_terms.specs.Terms.{bounds_lists, types}
 use Rattle.workspace.specs.Stack.{stack_of}
 use Rattle.workspace.proofs.Lowering.{dyn-lowers, principal-made, principal-held}
+use Rattle.workspace.proofs.Counting.{at-most-one, none-added}
 use Rattle.workspace.proofs.Refusals.{refused-term}
 use Rattle.workspace.proofs.cells.lower_dynamic.Goals as goal
 
@@ -30,3 +31,18 @@ pub returns-in_err-ty-clause-full : goal.returns-in_err-ty-clause-full
 returns-in_err-ty-clause-full c =
     let refused = c.in_err-ty.ensures in
     refused-term types c.from_residual-in_err-ty.result (omega arith) c.from_residual-in_err-ty.ensures.1 (λ p. refused.full (ap Err p)) refused.limit refused.refused
+
+pub returns-in_err-bounds-clause-few : goal.returns-in_err-bounds-clause-few
+returns-in_err-bounds-clause-few c = let same = none-added c.in_err-bounds.ensures.refused in omega (arith, same)
+
+pub returns-in_err-ty-clause-few : goal.returns-in_err-ty-clause-few
+returns-in_err-ty-clause-few c =
+    let one = at-most-one c.in_ok-bounds.ensures.adds in
+    let same = none-added c.in_err-ty.ensures.refused in
+    omega (arith, one, same)
+
+pub returns-clause-few : goal.returns-clause-few
+returns-clause-few c =
+    let one = at-most-one c.in_ok-bounds.ensures.adds in
+    let next = at-most-one c.in_ok-ty.ensures.adds in
+    omega (arith, one, next)

@@ -2,6 +2,7 @@ use Rattle.std.proofs.Common.{subst, refl, arith, ap, Err}
 use Rattle.type_terms.specs.Terms.{args_lists}
 use Rattle.workspace.specs.Stack.{stack_of, StackHeld}
 use Rattle.workspace.proofs.Lowering.{held-pushed, args-held, principal-lowers}
+use Rattle.workspace.proofs.Counting.{at-most-one, none-added}
 use Rattle.workspace.proofs.Refusals.{refused-term}
 use Rattle.workspace.proofs.cells.lower_principal.Goals as goal
 
@@ -17,3 +18,9 @@ pub returns-in_err-args-clause-full : goal.returns-in_err-args-clause-full
 returns-in_err-args-clause-full c =
     let refused = c.in_err-args.ensures in
     refused-term args_lists c.from_residual-in_err-args.result (omega arith) c.from_residual-in_err-args.ensures.1 (λ p. refused.full (ap Err p)) refused.limit refused.refused
+
+pub returns-in_err-args-clause-few : goal.returns-in_err-args-clause-few
+returns-in_err-args-clause-few c = let same = none-added c.in_err-args.ensures.refused in omega (arith, same)
+
+pub returns-clause-few : goal.returns-clause-few
+returns-clause-few c = let one = at-most-one c.in_ok-args.ensures.adds in omega (arith, one)

@@ -2,6 +2,7 @@ use Rattle.std.proofs.Common.{arith, ap, Err}
 use Rattle.type_terms.specs.Terms.{types}
 use Rattle.workspace.specs.Stack.{stack_of}
 use Rattle.workspace.proofs.Lowering.{ref-lowers}
+use Rattle.workspace.proofs.Counting.{at-most-one, none-added}
 use Rattle.workspace.proofs.Refusals.{refused-term}
 use Rattle.workspace.proofs.cells.lower_ref.Goals as goal
 
@@ -12,3 +13,9 @@ pub returns-in_err-ty-clause-full : goal.returns-in_err-ty-clause-full
 returns-in_err-ty-clause-full c =
     let refused = c.in_err-ty.ensures in
     refused-term types c.from_residual.result (omega arith) c.from_residual.ensures.1 (λ p. refused.full (ap Err p)) refused.limit refused.refused
+
+pub returns-in_err-ty-clause-few : goal.returns-in_err-ty-clause-few
+returns-in_err-ty-clause-few c = let same = none-added c.in_err-ty.ensures.refused in omega (arith, same)
+
+pub returns-clause-few : goal.returns-clause-few
+returns-clause-few c = let one = at-most-one c.in_ok-ty.ensures.adds in omega (arith, one)

@@ -4,6 +4,7 @@ use Rattle.type_terms.specs.Terms.{types}
 use Rattle.workspace.specs.declared.cell.TermCell.TheVariants as cells
 use Rattle.workspace.specs.Stack.{stack_of}
 use Rattle.workspace.proofs.Lowering.{over-lowers}
+use Rattle.workspace.proofs.Counting.{at-most-one, none-added}
 use Rattle.workspace.proofs.Refusals.{refused-term}
 use Rattle.workspace.proofs.cells.lower_slice.Goals as goal
 
@@ -14,3 +15,9 @@ pub returns-in_err-ty-clause-full : goal.returns-in_err-ty-clause-full
 returns-in_err-ty-clause-full c =
     let refused = c.in_err-ty.ensures in
     refused-term types c.from_residual.result (omega arith) c.from_residual.ensures.1 (λ p. refused.full (ap Err p)) refused.limit refused.refused
+
+pub returns-in_err-ty-clause-few : goal.returns-in_err-ty-clause-few
+returns-in_err-ty-clause-few c = let same = none-added c.in_err-ty.ensures.refused in omega (arith, same)
+
+pub returns-clause-few : goal.returns-clause-few
+returns-clause-few c = let one = at-most-one c.in_ok-ty.ensures.adds in omega (arith, one)

@@ -3,7 +3,9 @@ use Rattle.type_terms.specs.Terms.{Is, args_lists}
 use Rattle.workspace.specs.Made.{is_arg}
 use Rattle.workspace.specs.Stack.{StackHeld, AllParts}
 use Rattle.workspace.proofs.Lowering.{args-held}
+use Rattle.workspace.proofs.CellCounts.{joined-cells-are-few}
 use Rattle.workspace.proofs.CellLists.{all-parts, args-are, stack-held}
+use Rattle.workspace.proofs.Counting.{at-most-one, none-added}
 use Rattle.workspace.proofs.Refusals.{handed-on, refused-term}
 use Rattle.workspace.proofs.lists.lower_args.Goals as goal
 
@@ -28,3 +30,21 @@ pub returns-in_err-args-clause-full : goal.returns-in_err-args-clause-full
 returns-in_err-args-clause-full c =
     let refused = c.in_err-args.ensures in
     refused-term args_lists c.from_residual-in_err-args.result (omega arith) c.from_residual-in_err-args.ensures.1 (λ p. refused.full (ap Err p)) refused.limit refused.refused
+
+pub returns-in_err-stack-clause-few : goal.returns-in_err-stack-clause-few
+returns-in_err-stack-clause-few c = let cells = joined-cells-are-few is_arg c.args.cells.now c.requires in omega (arith, cells, c.lower_cells.ensures.few)
+
+pub returns-in_err-list-clause-few : goal.returns-in_err-list-clause-few
+returns-in_err-list-clause-few c = let cells = joined-cells-are-few is_arg c.args.cells.now c.requires in omega (arith, cells, c.lower_cells.ensures.few)
+
+pub returns-in_err-args-clause-few : goal.returns-in_err-args-clause-few
+returns-in_err-args-clause-few c =
+    let same = none-added c.in_err-args.ensures.refused in
+    let cells = joined-cells-are-few is_arg c.args.cells.now c.requires in
+    omega (arith, same, cells, c.lower_cells.ensures.few)
+
+pub returns-clause-few : goal.returns-clause-few
+returns-clause-few c =
+    let one = at-most-one c.in_ok-args.ensures.adds in
+    let cells = joined-cells-are-few is_arg c.args.cells.now c.requires in
+    omega (arith, one, cells, c.lower_cells.ensures.few)

@@ -50,6 +50,7 @@ loop-cell-preserved c =
       held = subst (StackHeld es1) (sym c.in_ok-push.ensures) (low.term_held, low.stack_held);
       keeps = λ j e h. c.lower_cell.ensures.keeps j e (inv.keeps j e h);
       limit = c.lower_cell.ensures.limit ∙ inv.limit;
+      few = omega (arith, c.lower_cell.ensures.few, inv.few);
     }
 
 pub returns-clause-parts : goal.returns-clause-parts
@@ -63,3 +64,12 @@ returns-clause-trees c =
     let i = c.loop-cell.cell-index in
     let done : length c.args.cells.now ≡ i = omega (arith, c.loop-cell-test.false, c.loop-cell.auto.cell-index-end) in
     sym c.loop-cell.invariant.trees ∙ ap (λ cs. behind_cells (cells_of cs) (trees_of_stack c.loop-cell.cx.entries (stack_of c.loop-cell.stack.items))) (drop-all c.args.cells.now i done)
+
+pub returns-in_err-term-clause-few : goal.returns-in_err-term-clause-few
+returns-in_err-term-clause-few c = omega (arith, c.lower_cell.ensures.few, c.loop-cell.invariant.few, c.loop-cell-test.true)
+
+pub returns-in_err-push-clause-few : goal.returns-in_err-push-clause-few
+returns-in_err-push-clause-few c = omega (arith, c.lower_cell.ensures.few, c.loop-cell.invariant.few, c.loop-cell-test.true)
+
+pub returns-clause-few : goal.returns-clause-few
+returns-clause-few c = omega (arith, c.loop-cell.invariant.few, c.loop-cell.auto.cell-index-end)

@@ -1,4 +1,4 @@
-use Rattle.std.proofs.Common.{◌≡◌, [], drop}
+use Rattle.std.proofs.Common.{◌≡◌, ◌+◌, ◌*◌, ◌≤◌, [], drop, length}
 use Rattle.type_terms.specs.Terms.{Keeps}
 use Rattle.workspace.specs.Made.{parts_of}
 use Rattle.workspace.specs.TermCells.{behind_cells}
@@ -13,4 +13,5 @@ invariant-loop-cell l = record {
   held : StackHeld l.cx.entries (stack_of l.stack.items);
   keeps : Keeps l.fn.cx.entries l.cx.entries;
   limit : l.cx.limit ≡ l.fn.cx.limit;
+  few : length l.cx.entries ≤ length l.fn.cx.entries + 2 * l.cell-index;
 }

@@ -1,7 +1,8 @@
-use Rattle.std.proofs.Common.{subst, sym, ap, ◌∙◌, Err}
+use Rattle.std.proofs.Common.{arith, subst, sym, ap, ◌∙◌, Err}
 use Rattle.workspace.specs.Made.{is_type}
 use Rattle.workspace.specs.Stack.{StackHeld, AllParts}
 use Rattle.workspace.proofs.Lowering.{tys-held}
+use Rattle.workspace.proofs.CellCounts.{cells-are-few}
 use Rattle.workspace.proofs.CellLists.{all-parts, types-are, stack-held}
 use Rattle.workspace.proofs.Refusals.{handed-on}
 use Rattle.workspace.proofs.lists.lower_types.Goals as goal
@@ -20,3 +21,12 @@ returns-clause-held c =
 
 pub returns-in_err-stack-clause-full : goal.returns-in_err-stack-clause-full
 returns-in_err-stack-clause-full c = handed-on c.from_residual.result c.from_residual.ensures.1 (λ p. c.in_err-stack.ensures.full (ap Err p))
+
+pub returns-in_err-stack-clause-few : goal.returns-in_err-stack-clause-few
+returns-in_err-stack-clause-few c = let cells = cells-are-few is_type c.args.cells.now c.requires in omega (arith, cells, c.lower_cells.ensures.few)
+
+pub returns-in_err-tys-clause-few : goal.returns-in_err-tys-clause-few
+returns-in_err-tys-clause-few c = let cells = cells-are-few is_type c.args.cells.now c.requires in omega (arith, cells, c.lower_cells.ensures.few)
+
+pub returns-clause-few : goal.returns-clause-few
+returns-clause-few c = let cells = cells-are-few is_type c.args.cells.now c.requires in omega (arith, cells, c.lower_cells.ensures.few)

@@ -1,0 +1,17 @@
+-- How many terms lowering adds, and how many cells there are at most where the trees are known.
+use Rattle.std.proofs.Common.{◌≡◌, ℕ, zero, suc, ◌≤◌, ◌<◌, ◌+◌, ◌-◌, ◌*◌, Bool, true, false, List, [], ◌∷◌, ◌++◌, length, map, Option, Some, None, IsSome, refl, sym, ap, ◌∙◌, subst, arith, inl, inr}
+use Rattle.std.specs.Prelude.{reverse, if◌then◌else◌}
+use Rattle.std.specs.Option.{option_map, option_and_then}
+use Rattle.std.proofs.lemmas.List.{length-append}
+use Rattle.std.proofs.lemmas.Option.{same_Some}
+use Rattle.type_terms.specs.Label.{Label}
+use Rattle.type_terms.specs.Trees.{Trees, none, tree, leaf, ◌+++◌}
+use Rattle.type_terms.specs.Terms.{Entry, AddsAtMost}
+
+-- a term is added at most
+pub at-most-one : {old new : List Entry} {e : Entry} → AddsAtMost old e new → length new ≤ length old + 1
+at-most-one (inl p) = let q = ap length p in omega (arith, q)
+at-most-one {old = old} {e = e} (inr p) = let q = ap length p.1 ∙ length-append old (e ∷ []) in omega (arith, q)
+
+pub none-added : {old new : List Entry} → new ≡ old → length new ≤ length old
+none-added p = let q = ap length p in omega (arith, q)
