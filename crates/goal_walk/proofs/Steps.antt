@@ -17,7 +17,7 @@ use Rattle.goal_frames.specs.declared.store.ResponseId.{ResponseId}
 use Rattle.type_terms.specs.Terms as Terms
 use Rattle.solver_context.specs.Contexts.{Asked, entries_of, IsInput, IsReady}
 use Rattle.solver_context.specs.Lawful.{steps-kept}
-use Rattle.solver_context.specs.Searching.{solver_meaning, FrameHasHeard, steps_left}
+use Rattle.solver_context.specs.Searching.{solver_meaning, FrameHasHeard, steps_left, of_term}
 use Rattle.solver_context.specs.declared.context.SolverCx.{SolverCx}
 use Rattle.goal_walk.specs.Frames.{IsWalked}
 use Rattle.goal_walk.specs.declared.frames.FrameWalk.{FrameWalk}
@@ -123,7 +123,7 @@ module _ {Handler : Type 0} (handler : HandlerMeaning Handler) where
 
   -- the interner of a context that keeps what another one knows keeps its terms
   pub entries-kept : (c d : SolverCx Handler) → Keeps m c d → Terms.Keeps (entries_of c) (entries_of d)
-  entries-kept c d k = λ i e h. k.held (i, e) h
+  entries-kept c d k = λ i e h. k.held (of_term i e) h
 
   -- and it is ready where a frame is known
   pub ready-after : (c d : SolverCx Handler) → Keeps m c d → (w : FrameWalk) → IsWalked handler c w → IsReady handler.IsReady d

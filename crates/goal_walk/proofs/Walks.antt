@@ -19,7 +19,7 @@ use Rattle.goal_frames.specs.Meanings.{HandlerMeaning}
 use Rattle.search_graph.specs.Cache.{AreJustified}
 use Rattle.goal_frames.specs.declared.store.InputId.{InputId}
 use Rattle.solver_context.specs.Contexts.{entries_of, IsInput, IsReady}
-use Rattle.solver_context.specs.Searching.{solver_meaning}
+use Rattle.solver_context.specs.Searching.{solver_meaning, of_term}
 use Rattle.solver_context.proofs.Caches.{justified-later}
 use Rattle.solver_context.specs.declared.context.SolverCx.{SolverCx}
 use Rattle.goal_walk.specs.Walking.{KnownAnswers, WalkIsAskable, WalkHasAsked, IsWalkable, HasWalked, ReferencesHeld, GoalsHeld}
@@ -77,7 +77,7 @@ module _ {Handler : Type 0} (handler : HandlerMeaning Handler) where
   askable-after graph ks c d k i h e j = record { empty = e; cache = j; ready = (k.inputs i h).0.0 }
 
   pub asked-after : (graph left : SearchState) (c d : SolverCx Handler) → Search.Keeps (solver_meaning handler) c d → left.root_depth ≡ graph.root_depth → WalkHasAsked handler graph c left d
-  asked-after graph left c d k e = record { depth = e; keeps = k; entries = λ i x h. k.held (i, x) h }
+  asked-after graph left c d k e = record { depth = e; keeps = k; entries = λ i x h. k.held (of_term i x) h }
 
   -- where the context has grown alone
   pub askable-later : (graph : SearchState) (ks : KnownAnswers) (c d : SolverCx Handler) → Search.Keeps (solver_meaning handler) c d → IsReady handler.IsReady d
@@ -92,7 +92,7 @@ module _ {Handler : Type 0} (handler : HandlerMeaning Handler) where
   pub walkable-later : (graph : SearchState) (ks : KnownAnswers) (c d : SolverCx Handler) (t : Table) (rs : List TraitRef) → Search.Keeps (solver_meaning handler) c d → IsReady handler.IsReady d
       → IsWalkable handler graph ks c t rs → IsWalkable handler graph ks d t rs
   walkable-later graph ks c d t rs k r x =
-      let same : Keeps (entries_of c) (entries_of d) = λ i e h. k.held (i, e) h in
+      let same : Keeps (entries_of c) (entries_of d) = λ i e h. k.held (of_term i e) h in
       record {
         askable = askable-later graph ks c d k r (justified-later (solver_meaning handler) c d ks k x.askable.cache) x.askable;
         table = ready-later (entries_of c) (entries_of d) same t x.table;

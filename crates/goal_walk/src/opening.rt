@@ -1,6 +1,6 @@
 //! A candidate, opened over the table of the one who asks.
 
-ghost use Rattle.std.specs.Prelude.{IfOk, IfSome};
+ghost use Rattle.std.specs.Prelude.{◌≡◌, IfOk, IfSome};
 ghost use Rattle.type_terms.specs.Terms.{Keeps};
 ghost use Rattle.type_terms.specs.Kinds.{ArgHeld, ArgsHeld};
 ghost use Rattle.infer_table.specs.Content.{Ready, Grows};
@@ -31,6 +31,7 @@ fn fill(
     requires values { ArgsHeld cx.old.entries values.now }
     requires term { ArgHeld cx.old.entries term }
     ensures keeps { Keeps cx.old.entries cx.new.entries }
+    ensures limit { cx.new.limit ≡ cx.old.limit }
     ensures held { IfOk result (ArgHeld cx.new.entries) }
 {
     term.fold_with(alloc, cx, &CanonicalInstantiator { values })
@@ -50,6 +51,7 @@ fn equate(
     ensures ready { Ready cx.new.entries table.new }
     ensures grows { Grows table.old table.new }
     ensures keeps { Keeps cx.old.entries cx.new.entries }
+    ensures limit { cx.new.limit ≡ cx.old.limit }
 {
     let left = fill(alloc, cx, values, equation.left)?;
     let right = fill(alloc, cx, values, equation.right)?;
@@ -74,6 +76,7 @@ fn equate_all(
     ensures ready { Ready cx.new.entries table.new }
     ensures grows { Grows table.old table.new }
     ensures keeps { Keeps cx.old.entries cx.new.entries }
+    ensures limit { cx.new.limit ≡ cx.old.limit }
 {
     for equation in equations {
         if !equate(alloc, cx, table, values, equation)? {
@@ -96,6 +99,7 @@ fn values_of(
     ensures ready { Ready cx.new.entries table.new }
     ensures grows { Grows table.old table.new }
     ensures keeps { Keeps cx.old.entries cx.new.entries }
+    ensures limit { cx.new.limit ≡ cx.old.limit }
     ensures held { IfOk result (λ all. ArgsHeld cx.new.entries all.items) }
 {
     let own = next_values(alloc, cx, table, &spec.variables)?;
@@ -114,6 +118,7 @@ fn fill_goals(
     requires values { ArgsHeld cx.old.entries values.now }
     requires goals { Every (λ n. GoalHeld cx.old.entries n.1) goals.now }
     ensures keeps { Keeps cx.old.entries cx.new.entries }
+    ensures limit { cx.new.limit ≡ cx.old.limit }
     ensures held { IfOk result (λ gs. GoalsHeld cx.new.entries gs.items) }
 {
     let mut filled = Vec::new(alloc);
@@ -141,6 +146,7 @@ pub(crate) fn open_candidate(
     ensures ready { Ready cx.new.entries table.new }
     ensures grows { Grows table.old table.new }
     ensures keeps { Keeps cx.old.entries cx.new.entries }
+    ensures limit { cx.new.limit ≡ cx.old.limit }
     ensures held { IfOk result (λ o. IfSome o (λ gs. GoalsHeld cx.new.entries gs.items)) }
 {
     let all = values_of(alloc, cx, table, values, spec)?;

@@ -39,7 +39,7 @@ use Rattle.solver_context.specs.declared.outcome.RootError.TheVariants.{Conflict
 use Rattle.solver_context.specs.Contexts.{Asked, entries_of}
 use Rattle.solver_context.specs.Evaluations.{IsFoundBySearch, asked_in}
 use Rattle.solver_context.specs.Roots.{AtProvedSolutions, goal_in, fact_under, values_in}
-use Rattle.solver_context.specs.Searching.{solver_meaning}
+use Rattle.solver_context.specs.Searching.{of_term, solver_meaning}
 use Rattle.solver_context.specs.Shortages.{RootRunsOut, GoalHasNoForm, form, answer}
 use Rattle.goal_frames.specs.Meanings.{HandlerMeaning}
 use Rattle.sessions.specs.Impossible.{alone, resolved_alone, asked_alone, HasNoProofInWorlds, IsImpossible, SearchAnswers, SearchLeavesOpen, IsNoRefusal, GoalRunsOut}
@@ -147,7 +147,7 @@ module _ {Handler : Type 0} (handler : HandlerMeaning Handler) where
   module _ (c d : SolverCx Handler) (k : Search.Keeps m c d) (s u : SearchState) (depth : u.root_depth ≡ s.root_depth) (t v : Table) (same : v ≡ t) (tr : Ready (entries_of c) t)
       (r : TraitRef) (held : ReferenceHeld (entries_of c) r) where
     entries : Keeps (entries_of c) (entries_of d)
-    entries = λ i e h. k.held (i, e) h
+    entries = λ i e h. k.held (of_term i e) h
 
     asked : asked_alone (entries_of d) t r ≡ asked_alone (entries_of c) t r
     asked = asked-later (entries_of c) (entries_of d) entries t tr r held

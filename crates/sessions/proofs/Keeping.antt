@@ -14,7 +14,7 @@ use Rattle.declarations.specs.Items.{Items, written, declared}
 use Rattle.infer_table.specs.Canonical.{canonical_form}
 use Rattle.goal_frames.specs.Handlers.{same_answer, applies_always}
 use Rattle.solver_context.specs.declared.context.SolverCx.{SolverCx}
-use Rattle.solver_context.specs.Contexts.{entries_of, IsReady as IsReadyContext}
+use Rattle.solver_context.specs.Contexts.{entries_of, IsReady as IsReadyContext, KeepsLimits}
 use Rattle.solver_context.specs.Evaluations.{IsFoundBySearch}
 use Rattle.solver_context.specs.Searching.{solver_meaning}
 use Rattle.text_definitions.specs.Declarations.{Declarations, Question}
@@ -35,12 +35,16 @@ use Rattle.sessions.specs.Given.{refutation_of}
 use Rattle.sessions.specs.Promises.{view_in, IsRefutation, IsRefutedQuestion}
 use Rattle.sessions.specs.Refusals.{session_meaning, IsToldPossible}
 use Rattle.sessions.specs.Resting.{Cached, AreAtRest}
-use Rattle.sessions.specs.Sessions.{SolverRests, SolvesView, IsSolvingOf, IsSession}
+use Rattle.sessions.specs.Sessions.{SolverRests, SolvesView, IsSolvingOf, IsSession, HasLimits}
 use Rattle.sessions.specs.Subjects.{AsksRefutation}
 use Rattle.sessions.proofs.ExactRefusals.{refusals-are-exact, question-formed, closed-by}
 use Rattle.sessions.proofs.LifetimesAlone.{refusal-is}
 use Rattle.sessions.proofs.Refusals.{refuted, plain-erased}
 use Rattle.sessions.proofs.SelfTypes.{self-types-begin}
+
+-- limits that are kept are those that were given
+pub limits-stay : (handles : ℕ) (c d : SolverCx Solver) → HasLimits handles c → KeepsLimits c d → HasLimits handles d
+limits-stay handles c d h k = record { terms = k.terms ∙ h.terms; kept = k.kept ∙ h.kept }
 
 -- ---- any handler
 module _ {Handler : Type 0} (handler : HandlerMeaning Handler) where

@@ -84,9 +84,9 @@ many-terms es limit n (full kind le e) few = let count = count_by-le-length (λ 
 -- a session whose context is short is at a limit
 pub short-at-limit : (s : Subject) (c : SolverCx Solver) → HoldsAs c s → IsShort solver_by_view c → IsAtLimit s
 short-at-limit s c h (inl (inl (interner k))) =
-    terms (subst (λ es. SomeKindIsFull es s.term_limit) (sym h.terms) (subst (SomeKindIsFull (entries_of c)) (sym h.term_limit) k))
-short-at-limit s c h (inl (inl (store (inl e)))) = goals (h.goals ∙ e ∙ sym h.goal_limit)
-short-at-limit s c h (inl (inl (store (inr e)))) = answers (h.answers ∙ e ∙ sym h.goal_limit)
+    terms (subst (λ es. SomeKindIsFull es s.handles) (sym h.terms) (subst (SomeKindIsFull (entries_of c)) h.limits.terms k))
+short-at-limit s c h (inl (inl (store (inl e)))) = goals (h.goals ∙ e ∙ h.limits.kept)
+short-at-limit s c h (inl (inl (store (inr e)))) = answers (h.answers ∙ e ∙ h.limits.kept)
 short-at-limit s c h (inl (inl (variables i a e m))) = numbers c h (in_goal i a e m)
 short-at-limit s c h (inl (inr f)) = numbers c h (in_frame f)
 short-at-limit s c h (inr g) = numbers c h (in_asking g)

@@ -7,6 +7,7 @@ use Rattle.text_definitions.specs.Declarations.{Declarations}
 use Rattle.view_lowering.specs.Plain.{plainly_seen_from}
 use Rattle.view_lowering.specs.Seen.{rules_seen_from}
 use Rattle.view_lowering.specs.Ready.{AreSeen}
+use Rattle.goal_frames.specs.Stores.{limit_of}
 use Rattle.solver_context.specs.declared.context.SolverCx.{SolverCx}
 use Rattle.solver_context.specs.Contexts.{entries_of}
 use Rattle.candidate_assembly.specs.declared.solver.Solver.{Solver}
@@ -42,3 +43,13 @@ pub record IsSession (d : Declarations) (c depth : ℕ) (cx : SolverCx Solver) (
   pub view : SolvesView d c cx
   pub solving : IsSolvingOf d c (solving_of (entries_of cx) cx.handler.declarations)
   pub rest : SolverRests depth cx graph cache
+
+-- The interner and the store hold as much at most as the session was given.
+pub record HasLimits (handles : ℕ) (cx : SolverCx Solver) : Type 0 where
+  pub terms : cx.interner.limit ≡ handles
+  pub kept : limit_of cx.store ≡ handles
+
+-- It is one, within the limits that it was given.
+pub record IsSessionWithin (d : Declarations) (c depth handles : ℕ) (cx : SolverCx Solver) (graph : SearchState) (cache : Cached) : Type 0 where
+  pub session : IsSession d c depth cx graph cache
+  pub limits : HasLimits handles cx

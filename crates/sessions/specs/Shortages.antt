@@ -16,7 +16,7 @@ use Rattle.overlap_check.specs.Headers.{PairRunsOut}
 use Rattle.overlap_check.specs.Orphans.{SomeHeaderRunsOut}
 use Rattle.overlap_check.specs.Partners.{IsPairAt}
 use Rattle.goal_frames.specs.Meanings.{HandlerMeaning}
-use Rattle.goal_frames.specs.Stores.{input_at, kept_inputs, kept_responses, limit_of}
+use Rattle.goal_frames.specs.Stores.{input_at, kept_inputs, kept_responses}
 use Rattle.goal_frames.specs.declared.store.InputId.{InputId}
 use Rattle.search_graph.specs.SearchState.{SearchState}
 use Rattle.solver_context.specs.Contexts.{entries_of}
@@ -30,6 +30,7 @@ use Rattle.candidate_assembly.specs.declared.solver.Solver.{Solver}
 use Rattle.text_definitions.specs.Declarations.{Question}
 use Rattle.sessions.specs.Checking.{solving_in}
 use Rattle.sessions.specs.Impossible.{GoalRunsOut}
+use Rattle.sessions.specs.Sessions.{HasLimits}
 use Rattle.sessions.specs.Subjects.{Subject}
 use Rattle.sessions.specs.Supertraits.{AreOfOwn}
 use Rattle.sessions.specs.declared.supertraits.SupertraitGoals.{SupertraitGoals}
@@ -62,13 +63,12 @@ module _ {Handler : Type 0} (handler : HandlerMeaning Handler) where
   IsShort c = ContextIsFull handler c ⊎ SomeGoalRunsOut c
 
 -- ---- a session
--- It holds the terms, and as many goals and answers, as the context does.
+-- It holds the terms, and as many goals and answers, as the context does, and both have the limits that it was given.
 pub record HoldsAs (c : SolverCx Solver) (s : Subject) : Type 0 where
   pub terms : s.terms ≡ entries_of c
-  pub term_limit : s.term_limit ≡ c.interner.limit
   pub goals : s.goals ≡ length (kept_inputs c.store)
   pub answers : s.answers ≡ length (kept_responses c.store)
-  pub goal_limit : s.goal_limit ≡ limit_of c.store
+  pub limits : HasLimits s.handles c
 
 -- Numbers are used up at an impl of the declarations that are solved by: for unknowns of its parameters, for those of a pair, at a
 -- where-clause of one, asked alone, for placeholders of its parameters, or for the supertraits of its header.
@@ -92,10 +92,10 @@ pub data RunsOutOfNumbers (c : SolverCx Solver) : Type 0 where
   in_asking : SomeGoalRunsOut solver_by_view c → RunsOutOfNumbers c
   at_impls : ImplsRunOut c → RunsOutOfNumbers c
 
--- A session is at a limit: of some kind there are as many terms as its limit allows, or as many goals, or as many answers; or numbers of
+-- A session is at the limit that it was given: of some kind there are as many terms, or as many goals, or as many answers; or numbers of
 -- variables are used up.
 pub data IsAtLimit (s : Subject) : Type 0 where
-  terms : SomeKindIsFull s.terms s.term_limit → IsAtLimit s
-  goals : s.goals ≡ s.goal_limit → IsAtLimit s
-  answers : s.answers ≡ s.goal_limit → IsAtLimit s
+  terms : SomeKindIsFull s.terms s.handles → IsAtLimit s
+  goals : s.goals ≡ s.handles → IsAtLimit s
+  answers : s.answers ≡ s.handles → IsAtLimit s
   numbers : (c : SolverCx Solver) → HoldsAs c s → RunsOutOfNumbers c → IsAtLimit s

@@ -7,27 +7,25 @@ use Rattle.text_definitions.specs.Text.{TextGives}
 use Rattle.workspace.specs.Stored.{declarations_code}
 use Rattle.view_lowering.specs.Questions.{IsQuestion}
 
--- declarations, one of their crates by its number, and the limits; the terms of the session's interner, in which its answers are read, and
--- how many of each kind that interner holds at most; how many goals and answers the session keeps, and how many of each at most; and how
--- many frames its graph has started
+-- declarations, one of their crates by its number, and the limits: the depth, and how many terms of a kind, goals and answers there are at
+-- most; the terms of the session's interner, in which its answers are read; how many goals and answers the session keeps; and how many
+-- frames its graph has started
 pub record Subject : Type 0 where
   pub declarations : Declarations
   pub of_crate : ℕ
   pub depth : ℕ
   pub handles : ℕ
   pub terms : List Entry
-  pub term_limit : ℕ
   pub goals : ℕ
   pub answers : ℕ
-  pub goal_limit : ℕ
   pub frames : ℕ
 
 abbrev pub subject_code : Coded Subject
 subject_code =
-    code_by (Declarations × (ℕ × (ℕ × (ℕ × (List Entry × (ℕ × (ℕ × (ℕ × (ℕ × ℕ)))))))))
-    (coded× declarations_code (coded× coded_ℕ (coded× coded_ℕ (coded× coded_ℕ (coded× (coded_list entry_code) (coded× coded_ℕ (coded× coded_ℕ (coded× coded_ℕ (coded× coded_ℕ coded_ℕ)))))))))
-    (λ s. (s.declarations, (s.of_crate, (s.depth, (s.handles, (s.terms, (s.term_limit, (s.goals, (s.answers, (s.goal_limit, s.frames))))))))))
-    (λ (d, (c, (n, (h, (es, (m, (i, (j, (l, k))))))))). record { declarations = d; of_crate = c; depth = n; handles = h; terms = es; term_limit = m; goals = i; answers = j; goal_limit = l; frames = k })
+    code_by (Declarations × (ℕ × (ℕ × (ℕ × (List Entry × (ℕ × (ℕ × ℕ)))))))
+    (coded× declarations_code (coded× coded_ℕ (coded× coded_ℕ (coded× coded_ℕ (coded× (coded_list entry_code) (coded× coded_ℕ (coded× coded_ℕ coded_ℕ)))))))
+    (λ s. (s.declarations, (s.of_crate, (s.depth, (s.handles, (s.terms, (s.goals, (s.answers, s.frames))))))))
+    (λ (d, (c, (n, (h, (es, (i, (j, k))))))). record { declarations = d; of_crate = c; depth = n; handles = h; terms = es; goals = i; answers = j; frames = k })
     (λ _. refl)
 
 -- A call leaves what is asked about, and the limits, as they were; each handle keeps its term.

@@ -11,6 +11,7 @@ ghost use Rattle.sessions.specs.Checking.{IsReadySolver, SolverStaysReady, HaveO
 ghost use Rattle.sessions.specs.Promises.{view_in};
 ghost use Rattle.sessions.specs.Sessions.{SolverRests, IsSession};
 ghost use Rattle.sessions.specs.Shortages.{IsOutOf};
+ghost use Rattle.solver_context.specs.Contexts.{KeepsLimits};
 
 use crate::asked::rest_laws;
 use crate::obligations::has_impossible_obligation;
@@ -91,6 +92,7 @@ pub(crate) fn overlap_at(
     ensures rest { SolverRests graph.old.root_depth cx.new graph.new cache.new }
     ensures solving { solving_in cx.new ≡ solving_in cx.old }
     ensures entries { Keeps cx.old.interner.entries cx.new.interner.entries }
+    ensures limits { KeepsLimits cx.old cx.new }
     ensures judged { (d : Declarations) (c depth : ℕ) → IsSession d c depth cx.old graph.old cache.old
         → IfOk result (IsJudgedAt depth (view_in d c) c later.index earlier.index) }
     ensures full { result ≡ Err Fault.Full → IsOutOf cx.new }

@@ -46,6 +46,7 @@ fn placeholder_for_param(
     place: u32,
 ) -> Result<GenericArgKind, Fault>
     ensures keeps { Keeps cx.old.entries cx.new.entries }
+    ensures limit { cx.new.limit ≡ cx.old.limit }
     ensures held { IfOk result (λ arg. ArgHeld cx.new.entries arg) }
     ensures is { IfOk result (λ arg. arg_trees cx.new.entries arg ≡ leaf (placeholder (sort_of_param kind) place)) }
     ensures full { result ≡ Err Fault.Full → SomeKindIsFull cx.new.entries cx.new.limit }
@@ -72,6 +73,7 @@ fn placeholders_for_item(
     params: &[GenericParamKind],
 ) -> Result<GenericArgs, Fault>
     ensures keeps { Keeps cx.old.entries cx.new.entries }
+    ensures limit { cx.new.limit ≡ cx.old.limit }
     ensures held { IfOk result (λ args. Has cx.new.entries args_lists args.0) }
     ensures are { IfOk result (λ args. trees_at cx.new.entries args.0 ≡ placeholders_from 0 (map sort_of_param params.now)) }
     ensures full { result ≡ Err Fault.Full → SomeKindIsFull cx.new.entries cx.new.limit ⊎ (MAX_INDEX ≤ length params.now) }
@@ -100,6 +102,7 @@ fn instantiate_trait_ref(
     requires closed { outer_binder (trees_at cx.old.entries args.0) ≡ 0 }
     requires fits { first_misfit (trees_at cx.old.entries args.0) (trees_at cx.old.entries trait_ref.args.0) ≡ None }
     ensures keeps { Keeps cx.old.entries cx.new.entries }
+    ensures limit { cx.new.limit ≡ cx.old.limit }
     ensures held { IfOk result (ReferenceHeld cx.new.entries) }
     ensures is { IfOk result (λ r. reference_in cx.new.entries r ≡ with_args (trees_at cx.old.entries args.0) (reference_in cx.old.entries trait_ref)) }
     ensures full { result ≡ Err Fault.Full → SomeKindIsFull cx.new.entries cx.new.limit }
@@ -125,6 +128,7 @@ fn instantiate_trait_refs(
     requires closed { outer_binder (trees_at cx.old.entries args.0) ≡ 0 }
     requires fits { Each (λ k. first_misfit (trees_at cx.old.entries args.0) (trees_at cx.old.entries k.args.0) ≡ None) references.now }
     ensures keeps { Keeps cx.old.entries cx.new.entries }
+    ensures limit { cx.new.limit ≡ cx.old.limit }
     ensures held { IfOk result (λ v. TraitRefsHeld cx.new.entries v.items) }
     ensures are { IfOk result (λ v. references_in cx.new.entries v.items ≡ all_with_args (trees_at cx.old.entries args.0) (references_in cx.old.entries references.now)) }
     ensures full { result ≡ Err Fault.Full → SomeKindIsFull cx.new.entries cx.new.limit }
@@ -158,6 +162,7 @@ pub(crate) fn opaque_impl(
     requires held { ImplHeld cx.old.entries def.now }
     requires written { IsWrittenWell cx.old.entries def.now }
     ensures keeps { Keeps cx.old.entries cx.new.entries }
+    ensures limit { cx.new.limit ≡ cx.old.limit }
     ensures is { IfOk result (IsOpaqueOf cx.old.entries def.now cx.new.entries) }
     ensures full { result ≡ Err Fault.Full → SomeKindIsFull cx.new.entries cx.new.limit ⊎ HasManyParams def.now }
 {

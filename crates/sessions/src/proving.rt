@@ -16,7 +16,7 @@ ghost use Rattle.infer_table.specs.Goals.{GoalHeld, goal_trees};
 ghost use Rattle.sessions.specs.Goals.{goal_of};
 ghost use Rattle.text_definitions.specs.Declarations.{Question};
 ghost use Rattle.view_lowering.specs.Questions.{IsQuestion, IsLowered};
-ghost use Rattle.solver_context.specs.Contexts.{Advances, IsReady};
+ghost use Rattle.solver_context.specs.Contexts.{Advances, IsReady, KeepsLimits};
 ghost use Rattle.candidate_assembly.specs.Fitting.{solving_of};
 ghost use Rattle.candidate_assembly.specs.SolverMeaning.{solver_by_view};
 ghost use Rattle.sessions.specs.Frames.{SettlesInFrames, QuestionInFrames};
@@ -86,6 +86,7 @@ fn read_values(
     requires asked { Has cx.old.entries args_lists asked.args.0 }
     requires unknowns { ArgsHeld cx.old.entries unknowns.now }
     ensures keeps { Keeps cx.old.entries cx.new.entries }
+    ensures limit { cx.new.limit ≡ cx.old.limit }
     ensures held { IfOk result (AnswerValuesHeld cx.new.entries) }
     ensures read { IfOk result (AreReadOff cx.old.entries table.now (trees_at cx.old.entries asked.args.0) unknowns.now cx.new.entries) }
     ensures full { result ≡ Err Fault.Full → SomeKindIsFull cx.new.entries cx.new.limit }
@@ -156,6 +157,7 @@ fn ask_for<H: GoalHandler>(
     ensures rest { AreAtRest H.meaning graph.old.root_depth cx.new graph.new cache.new }
     ensures meaning { H.meaning.world cx.new.handler cx.new.interner.entries ≡ H.meaning.world cx.old.handler cx.old.interner.entries }
     ensures keeps { Keeps cx.old.interner.entries cx.new.interner.entries }
+    ensures limits { KeepsLimits cx.old cx.new }
     ensures held { IfOk result (AnswerValuesHeld cx.new.interner.entries) }
     ensures answer { IfOk result (IsAnswered H.meaning (H.meaning.world cx.old.handler cx.old.interner.entries) graph.old.root_depth
         (map arg_sort unknowns.now) (goal_trees cx.old.interner.entries goal.now) (map (arg_trees cx.old.interner.entries) unknowns.now) cx.new.interner.entries) }
@@ -218,6 +220,7 @@ pub(crate) fn prove_under(
     ensures rest { SolverRests graph.old.root_depth cx.new graph.new cache.new }
     ensures solving { SolvesTheSame cx.old cx.new }
     ensures keeps { Keeps cx.old.interner.entries cx.new.interner.entries }
+    ensures limits { KeepsLimits cx.old cx.new }
     ensures held { IfOk result (AnswerValuesHeld cx.new.interner.entries) }
     ensures answer { IfOk result (IsGoalAnswered (solving_of cx.old.interner.entries cx.old.handler.declarations) graph.old.root_depth (map arg_sort unknowns.now)
         (goal_of (references_in cx.old.interner.entries clauses.now) (reference_in cx.old.interner.entries asked)) (map (arg_trees cx.old.interner.entries) unknowns.now) cx.new.interner.entries) }
@@ -245,6 +248,7 @@ fn prove_lowered(
     ensures rest { SolverRests graph.old.root_depth cx.new graph.new cache.new }
     ensures solving { SolvesTheSame cx.old cx.new }
     ensures keeps { Keeps cx.old.interner.entries cx.new.interner.entries }
+    ensures limits { KeepsLimits cx.old cx.new }
     ensures held { IfOk result (AnswerValuesHeld cx.new.interner.entries) }
     ensures answer { IfOk result (λ a. (q : Question) → IsLowered cx.old.interner.entries q lowered.now
         → IsAnsweredBySolver (solving_of cx.old.interner.entries cx.old.handler.declarations) graph.old.root_depth q cx.new.interner.entries a) }
@@ -274,6 +278,7 @@ pub(crate) fn prove_question(
     ensures rest { SolverRests graph.old.root_depth cx.new graph.new cache.new }
     ensures solving { SolvesTheSame cx.old cx.new }
     ensures keeps { Keeps cx.old.interner.entries cx.new.interner.entries }
+    ensures limits { KeepsLimits cx.old cx.new }
     ensures held { IfOk result (AnswerValuesHeld cx.new.interner.entries) }
     ensures answer { IfOk result (λ a. (q : Question) → IsQuestion workspace.now number q
         → IsAnsweredBySolver (solving_of cx.old.interner.entries cx.old.handler.declarations) graph.old.root_depth q cx.new.interner.entries a) }

@@ -16,6 +16,7 @@ ghost use Rattle.sessions.specs.Frames.{StartsFramesOfOne};
 ghost use Rattle.sessions.specs.Impossible.{IsNoRefusal};
 ghost use Rattle.sessions.specs.Resting.{AreAtRest};
 ghost use Rattle.sessions.specs.Shortages.{IsShort, HasManyVariables};
+ghost use Rattle.solver_context.specs.Contexts.{KeepsLimits};
 
 use crate::answers::RefuteAnswer;
 use crate::asked::{lower_in, rest_laws};
@@ -48,6 +49,7 @@ fn ask_in_coherence<H: GoalHandler>(
     ensures rest { AreAtRest H.meaning graph.old.root_depth cx.new graph.new cache.new }
     ensures meaning { H.meaning.world cx.new.handler cx.new.interner.entries ≡ H.meaning.world cx.old.handler cx.old.interner.entries }
     ensures keeps { Keeps cx.old.interner.entries cx.new.interner.entries }
+    ensures limits { KeepsLimits cx.old cx.new }
 
     // A reference that is refused has no proof, if it speaks of the table's variables alone.
     ensures no { result ≡ Ok RefuteAnswer.No → let r = reference_in cx.old.interner.entries asked in HasNoCanonical r.args → AreKnown (variables_of table.old) r.args
@@ -95,6 +97,7 @@ fn refute_lowered<H: GoalHandler>(
     ensures rest { AreAtRest H.meaning graph.old.root_depth cx.new graph.new cache.new }
     ensures meaning { H.meaning.world cx.new.handler cx.new.interner.entries ≡ H.meaning.world cx.old.handler cx.old.interner.entries }
     ensures keeps { Keeps cx.old.interner.entries cx.new.interner.entries }
+    ensures limits { KeepsLimits cx.old cx.new }
     ensures no { result ≡ Ok RefuteAnswer.No → (q : Question) → IsLowered cx.old.interner.entries q lowered.now → HasVariablesAlone q
         → HasNoProof (H.meaning.goals.handled (H.meaning.world cx.old.handler cx.old.interner.entries)) (goal_alone (unbound_reference q.asked)) }
     ensures refused { result ≡ Ok RefuteAnswer.No → (q : Question) → IsLowered cx.old.interner.entries q lowered.now
@@ -125,6 +128,7 @@ pub(crate) fn refute_question<H: GoalHandler>(
     ensures rest { AreAtRest H.meaning graph.old.root_depth cx.new graph.new cache.new }
     ensures meaning { H.meaning.world cx.new.handler cx.new.interner.entries ≡ H.meaning.world cx.old.handler cx.old.interner.entries }
     ensures keeps { Keeps cx.old.interner.entries cx.new.interner.entries }
+    ensures limits { KeepsLimits cx.old cx.new }
 
     // The reference is made as an interner's terms are.
     ensures made { OnOk result ((q : Question) → IsQuestion workspace.now number q → is_made is_in_range terms (unbound_reference q.asked).args ≡ true) }

@@ -91,8 +91,8 @@ impl<'w> Model for Session<'w> {
     ghost coded = { subject_code };
 
     ghost use Rattle.std.specs.Prelude.{length};
-    ghost use Rattle.goal_frames.specs.Stores.{kept_inputs, kept_responses, limit_of};
-    ghost use Rattle.sessions.specs.Sessions.{IsSession};
+    ghost use Rattle.goal_frames.specs.Stores.{kept_inputs, kept_responses};
+    ghost use Rattle.sessions.specs.Sessions.{IsSessionWithin};
 
     ghost view = { λ s. record {
       declarations = s.workspace.now;
@@ -100,14 +100,12 @@ impl<'w> Model for Session<'w> {
       depth = s.limits.depth;
       handles = s.limits.handles;
       terms = s.cx.interner.entries;
-      term_limit = s.cx.interner.limit;
       goals = length (kept_inputs s.cx.store);
       answers = length (kept_responses s.cx.store);
-      goal_limit = limit_of s.cx.store;
       frames = s.graph.frames;
     } };
 
-    ghost invariant = { λ s. IsSession s.workspace.now s.crate_id.index s.limits.depth s.cx s.graph s.cache };
+    ghost invariant = { λ s. IsSessionWithin s.workspace.now s.crate_id.index s.limits.depth s.limits.handles s.cx s.graph s.cache };
 }
 
 impl<'w> Session<'w> {
@@ -128,8 +126,6 @@ impl<'w> Session<'w> {
         ensures of_crate { IfOk result (λ session. session.of_crate ≡ crate_id.index) }
         ensures depth { IfOk result (λ session. session.depth ≡ limits.depth) }
         ensures handles { IfOk result (λ session. session.handles ≡ limits.handles) }
-        ensures term_limit { IfOk result (λ session. session.term_limit ≡ limits.handles) }
-        ensures goal_limit { IfOk result (λ session. session.goal_limit ≡ limits.handles) }
         ensures frames { IfOk result (λ session. session.frames ≡ 0) }
         ensures full { result ≡ Err Fault.Full → limits.handles ≤ most_terms workspace.now crate_id.index }
     {
@@ -292,7 +288,7 @@ impl<'w> Session<'w> {
     /// The terms of the session, in which its answers are read.
     pub fn interner(&self) -> &Interner
         ensures terms { result.now.entries ≡ self.now.terms }
-        ensures term_limit { result.now.limit ≡ self.now.term_limit }
+        ensures limit { result.now.limit ≡ self.now.handles }
     {
         &self.cx.interner
     }
@@ -323,8 +319,7 @@ impl<'w> Session<'w> {
 
         // No goal is asked.
         ensures frames { self.new.frames ≡ self.old.frames }
-        ensures term_limit { self.new.term_limit ≡ self.old.term_limit }
-        ensures full { result ≡ Err Fault.Full → SomeKindIsFull self.new.terms self.new.term_limit }
+        ensures full { result ≡ Err Fault.Full → SomeKindIsFull self.new.terms self.new.handles }
     {
         rest_laws::<Solver>();
         added_impls_break_no_user();

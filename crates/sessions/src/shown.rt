@@ -43,6 +43,7 @@ fn equate(
     requires value { ArgHeld cx.old.entries value }
     ensures ready { Ready cx.new.entries table.new }
     ensures keeps { Keeps cx.old.entries cx.new.entries }
+    ensures limit { cx.new.limit ≡ cx.old.limit }
 {
     match table.eq(cx, unknown, value) {
         Ok(()) => Ok(()),
@@ -63,6 +64,7 @@ fn equate_all(
     requires values { ArgsHeld cx.old.entries values.now }
     ensures ready { Ready cx.new.entries table.new }
     ensures keeps { Keeps cx.old.entries cx.new.entries }
+    ensures limit { cx.new.limit ≡ cx.old.limit }
 {
     let mut left = unknowns;
     let mut given = values;
@@ -92,6 +94,7 @@ fn resolve_reference(
     requires unknowns { ArgsHeld cx.old.entries unknowns.now }
     requires values { ArgsHeld cx.old.entries values.now }
     ensures keeps { Keeps cx.old.entries cx.new.entries }
+    ensures limit { cx.new.limit ≡ cx.old.limit }
     ensures held { IfOk result (ReferenceHeld cx.new.entries) }
     ensures resolved { IfOk result (λ r. IsResolved (reference_in cx.old.entries reference) (reference_in cx.new.entries r)) }
 {

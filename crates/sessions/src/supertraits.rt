@@ -16,6 +16,7 @@ ghost use Rattle.sessions.specs.Proving.{SolverAdvances, SolverIsReady, SolvesTh
 ghost use Rattle.sessions.specs.Sessions.{SolverRests, IsSession};
 ghost use Rattle.sessions.specs.Shortages.{HasManyParams, ImplHasManyParams, IsOutOf, IsShort};
 ghost use Rattle.sessions.specs.Supertraits.{AreGoalsFor, AreOfOwn, HasApplied, ImplsApply, IsCheckedAt, IsHeaderTold, SolverTells};
+ghost use Rattle.solver_context.specs.Contexts.{KeepsLimits};
 
 use crate::answers::ProveAnswer;
 use crate::asked::rest_laws;
@@ -65,6 +66,7 @@ fn goals_of(
     requires written { IsWrittenWell cx.old.entries def.now }
     requires applied { HasApplied declarations.now (reference_in cx.old.entries def.now.header) (references_in cx.old.entries def.now.clauses.items) }
     ensures keeps { Keeps cx.old.entries cx.new.entries }
+    ensures limit { cx.new.limit ≡ cx.old.limit }
     ensures are { IfOk result (AreGoalsFor (written cx.old.entries declarations.now)
         (reference_in cx.old.entries def.now.header) (references_in cx.old.entries def.now.clauses.items) cx.new.entries) }
     ensures full { result ≡ Err Fault.Full → SomeKindIsFull cx.new.entries cx.new.limit ⊎ HasManyParams def.now }
@@ -88,6 +90,7 @@ fn own_goals(
     requires ready { AreReadyDeclarations cx.old.entries declarations.now }
     requires applied { ImplsApply declarations.now (written cx.old.entries declarations.now) }
     ensures keeps { Keeps cx.old.entries cx.new.entries }
+    ensures limit { cx.new.limit ≡ cx.old.limit }
     ensures goals { IfOk result (AreOfOwn (written cx.old.entries declarations.now) declarations.now.local id.index cx.new.entries) }
     ensures full { result ≡ Err Fault.Full → SomeKindIsFull cx.new.entries cx.new.limit ⊎ ImplHasManyParams declarations.now id.index }
 {
@@ -134,6 +137,7 @@ fn ask_under(
     ensures rest { SolverRests graph.old.root_depth cx.new graph.new cache.new }
     ensures solving { SolvesTheSame cx.old cx.new }
     ensures keeps { Keeps cx.old.interner.entries cx.new.interner.entries }
+    ensures limits { KeepsLimits cx.old cx.new }
     ensures told { IfOk result (SolverTells (solving_of cx.old.interner.entries cx.old.handler.declarations) graph.old.root_depth
         (references_in cx.old.interner.entries clauses.now) (reference_in cx.old.interner.entries asked)) }
     ensures full { result ≡ Err Fault.Full → IsShort solver_by_view cx.new }
@@ -160,6 +164,7 @@ fn first_unproved(
     ensures rest { SolverRests graph.old.root_depth cx.new graph.new cache.new }
     ensures solving { SolvesTheSame cx.old cx.new }
     ensures keeps { Keeps cx.old.interner.entries cx.new.interner.entries }
+    ensures limits { KeepsLimits cx.old cx.new }
     ensures told { IfOk result (IsHeaderTold (solving_of cx.old.interner.entries cx.old.handler.declarations) graph.old.root_depth
         (references_in cx.old.interner.entries goals.now.clauses.items) (references_in cx.old.interner.entries goals.now.supertraits.items)) }
     ensures full { result ≡ Err Fault.Full → IsShort solver_by_view cx.new ⊎ (MAX_INDEX ≤ length goals.now.supertraits.items) }
@@ -191,6 +196,7 @@ pub(crate) fn header_answer_at(
     ensures rest { SolverRests graph.old.root_depth cx.new graph.new cache.new }
     ensures solving { SolvesTheSame cx.old cx.new }
     ensures keeps { Keeps cx.old.interner.entries cx.new.interner.entries }
+    ensures limits { KeepsLimits cx.old cx.new }
     ensures checked { (d : text.Declarations) (c depth : ℕ) → IsSession d c depth cx.old graph.old cache.old → IfOk result (IsCheckedAt depth d c id.index) }
     ensures full { result ≡ Err Fault.Full → IsOutOf cx.new }
 {

@@ -16,7 +16,7 @@ use Rattle.evaluation.specs.TableAnswers.{IsWellFormed}
 use Rattle.goal_frames.specs.Searches.{replies_of}
 use Rattle.goal_frames.specs.declared.store.InputId.{InputId}
 use Rattle.goal_frames.specs.declared.store.ResponseId.{ResponseId}
-use Rattle.goal_frames.specs.Stores.{StoreIsHeld, StoreGrows, response_at, HasResponse, StandsForInput, StandsForResponse}
+use Rattle.goal_frames.specs.Stores.{StoreIsHeld, StoreGrows, response_at, HasResponse, StandsForInput, StandsForResponse, limit_of}
 use Rattle.goal_frames.proofs.Answers.{response-held-later, answer-later, same-answers}
 use Rattle.goal_frames.proofs.Numbers.{goal-later, same-goals}
 use Rattle.infer_table.proofs.Numbers.{goal-held-later}
@@ -24,8 +24,8 @@ use Rattle.goal_frames.specs.declared.frame.GoalFrame.{GoalFrame}
 use Rattle.goal_frames.specs.Frames as Frames
 use Rattle.goal_frames.specs.Meanings.{HandlerMeaning}
 use Rattle.solver_context.specs.declared.context.SolverCx.{SolverCx}
-use Rattle.solver_context.specs.Contexts.{Asked, asked_of, asked_or_none, entries_of, goal_of, answer_of, IsReady, IsInput, ResponseIsMade, IsKeptAnswer, Advances}
-use Rattle.solver_context.specs.Searching.{bare, AnyAnswer, RepliedResultIs, world_of, FrameHasHeard, solver_meaning}
+use Rattle.solver_context.specs.Contexts.{Asked, asked_of, asked_or_none, entries_of, goal_of, answer_of, IsReady, IsInput, ResponseIsMade, IsKeptAnswer, Advances, KeepsLimits}
+use Rattle.solver_context.specs.Searching.{bare, AnyAnswer, RepliedResultIs, world_of, FrameHasHeard, solver_meaning, Lasting, of_term, of_limits, HasLasting}
 use Rattle.solver_context.proofs.Frames.{heard-later}
 
 pub grows-same : {Handler : Type 0} (c : SolverCx Handler) → StoreGrows c.store c.store
@@ -40,6 +40,15 @@ store-held c new k h = record {
 
 pub asked-later : (old new : List Entry) → Keeps old new → (a : CanonicalInput) → GoalHeld old a.goal → asked_of new a ≡ asked_of old a
 asked-later old new k a h = ap (λ q. (q.mode, q.form)) (goal-later old new k a h)
+
+-- limits that are kept, and kept again
+pub limits-further : {Handler : Type 0} (c d e : SolverCx Handler) → KeepsLimits c d → KeepsLimits d e → KeepsLimits c e
+limits-further c d e a b = record { terms = b.terms ∙ a.terms; kept = b.kept ∙ a.kept }
+
+-- what a context has for good stays
+lasting-later : {Handler : Type 0} (c d : SolverCx Handler) → Keeps (entries_of c) (entries_of d) → KeepsLimits c d → (x : Lasting) → HasLasting c x → HasLasting d x
+lasting-later c d k l (of_term i e) h = k i e h
+lasting-later c d k l (of_limits terms kept) h = (l.terms ∙ h.0, l.kept ∙ h.1)
 
 module _ {Handler : Type 0} (ready : Handler → List Entry → Type 0) (c d : SolverCx Handler) (a : Advances ready c d) where
   pub input-later : (i : InputId) → IsInput ready c i → IsInput ready d i × (goal_of d i ≡ goal_of c i)
@@ -66,8 +75,8 @@ module _ {Handler : Type 0} (ready : Handler → List Entry → Type 0) (c d : S
 module _ {Handler : Type 0} (ready : Handler → List Entry → Type 0) where
   -- a context of which the interner has grown, and nothing else
   pub later : ((h : Handler) (old new : List Entry) → Keeps old new → ready h old → ready h new) → (c d : SolverCx Handler) → IsReady ready c → d.handler ≡ c.handler → d.store ≡ c.store
-      → Keeps (entries_of c) (entries_of d) → Lawful (entries_of d) → Advances ready c d
-  later stays c d now h s k law = record {
+      → Keeps (entries_of c) (entries_of d) → Lawful (entries_of d) → d.interner.limit ≡ c.interner.limit → Advances ready c d
+  later stays c d now h s k law limit = record {
     handler = h;
     entries = k;
     store = subst (λ z. StoreGrows c.store z) (sym s) (grows-same c);
@@ -76,6 +85,7 @@ module _ {Handler : Type 0} (ready : Handler → List Entry → Type 0) where
       store = subst (StoreIsHeld (entries_of d)) (sym s) (store-held c (entries_of d) k now.store);
       lawful = law;
     };
+    limits = record { terms = limit; kept = ap limit_of s };
   }
 
   -- one after the other
@@ -85,6 +95,7 @@ module _ {Handler : Type 0} (ready : Handler → List Entry → Type 0) where
     entries = λ i x h. b.entries i x (a.entries i x h);
     store = record { inputs = λ i x h. b.store.inputs i x (a.store.inputs i x h); responses = λ i x h. b.store.responses i x (a.store.responses i x h) };
     ready = b.ready;
+    limits = limits-further c d e a.limits b.limits;
   }
 
   goal-is : (c : SolverCx Handler) (i : InputId) (a : CanonicalInput) → StandsForInput c.store i a → goal_of c i ≡ asked_of (entries_of c) a
@@ -159,7 +170,7 @@ module _ {Handler : Type 0} (m : HandlerMeaning Handler)
       inputs = λ i x. input-later m.IsReady c d a i x;
       results = λ r x. result-later m.IsReady c d a r x;
       frames = frame-later;
-      held = λ x h. a.entries x.0 x.1 h;
+      held = lasting-later c d a.entries a.limits;
     }
 
   -- the frame of a goal that is kept

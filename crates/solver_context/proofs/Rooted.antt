@@ -1,5 +1,5 @@
 -- From the context in which a goal is asked to the one that a search leaves.
-use Rattle.std.proofs.Common.{◌≡◌, Bool, true, false, ◌&&◌, not, List, ◌∙◌, ap, subst, Option}
+use Rattle.std.proofs.Common.{◌≡◌, Bool, true, false, ◌&&◌, not, List, ◌∙◌, ap, subst, Option, refl}
 use Rattle.type_terms.specs.Terms.{Entry, Keeps}
 use Rattle.search_graph.specs.Meaning as Search
 use Rattle.search_graph.proofs.Graphs.{Keeps-trans}
@@ -9,6 +9,7 @@ use Rattle.infer_table.specs.Responses.{AnswerTrees}
 use Rattle.evaluation.specs.Operations.{is_yes}
 use Rattle.evaluation.specs.Table.{operations}
 use Rattle.evaluation.specs.declared.goal.HasChanged.TheVariants.{No}
+use Rattle.goal_frames.specs.Stores.{limit_of}
 use Rattle.goal_frames.specs.declared.store.InputId.{InputId}
 use Rattle.goal_frames.specs.declared.store.ResponseId.{ResponseId}
 use Rattle.goal_frames.specs.declared.frame.GoalFrame.{GoalFrame}
@@ -16,9 +17,9 @@ use Rattle.evaluation.specs.TableAnswers.{has_values}
 use Rattle.evaluation.specs.Tables.{frame_tables}
 use Rattle.goal_frames.specs.Meanings.{HandlerMeaning}
 use Rattle.solver_context.specs.declared.context.SolverCx.{SolverCx}
-use Rattle.solver_context.specs.Contexts.{Asked, entries_of, goal_of, IsReady, Advances}
-use Rattle.solver_context.specs.Searching.{solver_meaning, world_of}
-use Rattle.solver_context.proofs.Growing.{same-world, keeps}
+use Rattle.solver_context.specs.Contexts.{Asked, entries_of, goal_of, IsReady, Advances, KeepsLimits}
+use Rattle.solver_context.specs.Searching.{solver_meaning, world_of, of_term, of_limits}
+use Rattle.solver_context.proofs.Growing.{same-world, keeps, limits-further}
 use Rattle.solver_context.specs.Changes.{changed}
 use Rattle.solver_context.specs.Evaluations.{IsRight}
 
@@ -38,13 +39,20 @@ module _ {Handler : Type 0} (m : HandlerMeaning Handler)
   abbrev world : SolverCx Handler → m.goals.World
   world c = world_of m c
 
+  -- a search leaves the limits
+  limits-searched : (c d : SolverCx Handler) → Search.Keeps meaning c d → KeepsLimits c d
+  limits-searched c d k = let same = k.held (of_limits c.interner.limit (limit_of c.store)) (refl, refl) in record { terms = same.0; kept = same.1 }
+
   -- a context, one that it has grown to, and one that a search has left
   module _ (b c d : SolverCx Handler) (now : IsReady m.IsReady b) (a : Advances m.IsReady b c) (k : Search.Keeps meaning c d) where
     pub keeps-two : Search.Keeps meaning b d
     keeps-two = Keeps-trans meaning b c d (keeps m kept b c now a) k
 
     pub entries-two : Keeps (entries_of b) (entries_of d)
-    entries-two = λ i e h. k.held (i, e) (a.entries i e h)
+    entries-two = λ i e h. k.held (of_term i e) (a.entries i e h)
+
+    pub limits-two : KeepsLimits b d
+    limits-two = limits-further b c d a.limits (limits-searched c d k)
 
     -- and it has grown again
     pub keeps-three : (e : SolverCx Handler) → IsReady m.IsReady d → Advances m.IsReady d e → Search.Keeps meaning b e

@@ -12,7 +12,7 @@ use Rattle.infer_table.specs.Responses.{AnswerTrees, answer_trees}
 use Rattle.evaluation.specs.TableAnswers.{IsWellFormed}
 use Rattle.goal_frames.specs.declared.store.InputId.{InputId}
 use Rattle.goal_frames.specs.declared.store.ResponseId.{ResponseId}
-use Rattle.goal_frames.specs.Stores.{input_at, response_at, answer_at, HasInput, StoreIsHeld, StoreGrows}
+use Rattle.goal_frames.specs.Stores.{input_at, response_at, answer_at, HasInput, StoreIsHeld, StoreGrows, limit_of}
 use Rattle.solver_context.specs.declared.context.SolverCx.{SolverCx}
 
 -- a goal in the mode in which it is asked
@@ -43,12 +43,18 @@ module _ {Handler : Type 0} where
   answer_of c None = None
   answer_of c (Some i) = answer_at (entries_of c) c.store i
 
+  -- the interner and the store hold as much at most as they did
+  pub record KeepsLimits (old new : SolverCx Handler) : Type 0 where
+    pub terms : new.interner.limit ≡ old.interner.limit
+    pub kept : limit_of new.store ≡ limit_of old.store
+
   -- nothing but the interner has grown
   pub record InternerGrows (old new : SolverCx Handler) : Type 0 where
     pub handler : new.handler ≡ old.handler
     pub store : new.store ≡ old.store
     pub entries : Keeps (entries_of old) (entries_of new)
     pub lawful : Lawful (entries_of new)
+    pub limit : new.interner.limit ≡ old.interner.limit
 
   module _ (is_ready : Handler → List Entry → Type 0) where
     -- all handles in it are those of its interner
@@ -75,3 +81,4 @@ module _ {Handler : Type 0} where
       pub entries : Keeps (entries_of old) (entries_of new)
       pub store : StoreGrows old.store new.store
       pub ready : IsReady new
+      pub limits : KeepsLimits old new

@@ -18,7 +18,7 @@ use Rattle.evaluation.specs.declared.goal.HasChanged.TheVariants.{No}
 use Rattle.goal_frames.specs.Meanings.{HandlerMeaning}
 use Rattle.goal_frames.specs.declared.store.InputId.{InputId}
 use Rattle.goal_frames.specs.declared.store.ResponseId.{ResponseId}
-use Rattle.solver_context.specs.Contexts.{Asked, entries_of, IsReady}
+use Rattle.solver_context.specs.Contexts.{Asked, entries_of, IsReady, KeepsLimits}
 use Rattle.solver_context.specs.Evaluations.{asked_in, Says}
 use Rattle.solver_context.specs.Results.{FramesAreBounded, KnownIsFree, LimitsAreNoted, IsNotPlainWithin, IsResult}
 use Rattle.solver_context.specs.Roots.{goal_in, values_in, left_by, SolutionsAreProved, AtProvedSolutions, SolutionGoesOn}
@@ -61,6 +61,7 @@ module _ {Handler : Type 0} (m : HandlerMeaning Handler) (c : SolverCx Handler) 
     pub ready : IsReady m.IsReady d
     pub keeps : Search.Keeps (solver_meaning m) c d
     pub entries : Keeps (entries_of c) (entries_of d)
+    pub limits : KeepsLimits c d
     pub table : Ready (entries_of d) u
     pub grows : Grows t u
 

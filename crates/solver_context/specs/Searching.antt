@@ -11,6 +11,7 @@ use Rattle.evaluation.specs.Lists.{Every}
 use Rattle.evaluation.specs.Tables.{frame_tables}
 use Rattle.goal_frames.specs.Programs.{Programs}
 use Rattle.goal_frames.specs.Searches.{Handles, replies_of, meaning}
+use Rattle.goal_frames.specs.Stores.{limit_of}
 use Rattle.goal_frames.specs.declared.store.InputId.{InputId}
 use Rattle.goal_frames.specs.declared.store.ResponseId.{ResponseId}
 use Rattle.goal_frames.specs.declared.frame.GoalFrame.{GoalFrame}
@@ -54,6 +55,15 @@ module _ (goals : Goals) where
   abbrev pub bare : Meaning goals.World Asked (Option AnswerTrees) (Unit {0})
   bare = meaning frame_tables programs bare_handles
 
+-- what a context has for good: a term of the interner under its number, and the limits of the interner and of the store
+pub data Lasting : Type 0 where
+  of_term : ℕ → Entry → Lasting
+  of_limits : ℕ → ℕ → Lasting
+
+abbrev pub HasLasting : {Handler : Type 0} → SolverCx Handler → Lasting → Type 0
+HasLasting c (of_term i e) = slice_get (entries_of c) i ≡ Some e
+HasLasting c (of_limits terms kept) = (c.interner.limit ≡ terms) × (limit_of c.store ≡ kept)
+
 module _ {Handler : Type 0} (m : HandlerMeaning Handler) where
   -- what the context's handler declares
   abbrev pub world_of : SolverCx Handler → m.goals.World
@@ -94,9 +104,8 @@ module _ {Handler : Type 0} (m : HandlerMeaning Handler) where
     IsResult = ResponseIsMade m.IsReady;
     answer_of = answer_of;
     HasHeard = FrameHasHeard;
-    -- terms of the interner, each under its number
-    Held = ℕ × Entry;
-    Holds = λ c x. slice_get (entries_of c) x.0 ≡ Some x.1;
+    Held = Lasting;
+    Holds = HasLasting;
   }
 
   abbrev pub solver_meaning : Meaning (SolverCx Handler) InputId (Option ResponseId) GoalFrame

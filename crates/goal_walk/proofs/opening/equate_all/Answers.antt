@@ -1,4 +1,4 @@
-use Rattle.std.proofs.Common.{sym, subst}
+use Rattle.std.proofs.Common.{◌∙◌, refl, sym, subst}
 use Rattle.type_terms.specs.Kept.{args-held-later}
 use Rattle.infer_table.specs.Growth.{grows-trans, grows-refl}
 use Rattle.evaluation.specs.Readings.{EquationHeld}
@@ -7,7 +7,7 @@ use Rattle.evaluation.proofs.Turns.{every-at}
 use Rattle.goal_walk.proofs.opening.equate_all.Goals as goal
 
 pub loop-equation-init : goal.loop-equation-init
-loop-equation-init c = record { keeps = λ i e h. h; ready = c.requires.ready; grows = grows-refl c.args.table.now }
+loop-equation-init c = record { keeps = λ i e h. h; limit = refl; ready = c.requires.ready; grows = grows-refl c.args.table.now }
 
 pub equate-requires-clause-values : goal.equate-requires-clause-values
 equate-requires-clause-values c = args-held-later c.args.cx.now.entries c.loop-equation.cx.entries c.loop-equation.invariant.keeps c.args.values.now c.requires.values
@@ -23,4 +23,4 @@ pub loop-equation-preserved : goal.loop-equation-preserved
 loop-equation-preserved c =
     let inv = c.loop-equation.invariant in
     let e = c.equate.ensures in
-    record { keeps = λ j x h. e.keeps j x (inv.keeps j x h); ready = e.ready; grows = grows-trans _ _ _ inv.grows e.grows }
+    record { keeps = λ j x h. e.keeps j x (inv.keeps j x h); limit = e.limit ∙ inv.limit; ready = e.ready; grows = grows-trans _ _ _ inv.grows e.grows }

@@ -1,4 +1,4 @@
-use Rattle.std.proofs.Common.{sym, subst}
+use Rattle.std.proofs.Common.{◌∙◌, refl, sym, subst}
 use Rattle.type_terms.specs.Kept.{args-held-later}
 use Rattle.infer_table.proofs.Numbers.{goal-held-later}
 use Rattle.evaluation.proofs.Turns.{every-at}
@@ -8,7 +8,7 @@ use Rattle.goal_walk.proofs.Walks.{goals-later, goals-push}
 use Rattle.goal_walk.proofs.opening.fill_goals.Goals as goal
 
 pub loop-nested-init : goal.loop-nested-init
-loop-nested-init c = record { keeps = λ i x h. h; held = subst (GoalsHeld c.args.cx.now.entries) (sym c.new-filled.ensures.items) tt }
+loop-nested-init c = record { keeps = λ i x h. h; limit = refl; held = subst (GoalsHeld c.args.cx.now.entries) (sym c.new-filled.ensures.items) tt }
 
 pub instantiate_with_values-requires-clause-goal : goal.instantiate_with_values-requires-clause-goal
 instantiate_with_values-requires-clause-goal c =
@@ -29,5 +29,6 @@ loop-nested-preserved c =
     let before = c.loop-nested.filled.items in
     record {
       keeps = λ j e h. k j e (inv.keeps j e h);
+      limit = c.instantiate_with_values.ensures.limit ∙ inv.limit;
       held = subst (GoalsHeld next) (sym c.in_ok-push.ensures.items) (goals-push next before c.in_ok-goal.goal (goals-later now next k before inv.held) c.in_ok-goal.ensures.held);
     }

@@ -35,6 +35,7 @@ references-preserved c =
     let put = c.in_ok-push.ensures.items in
     record {
       keeps = λ j e h. k j e (inv.keeps j e h);
+      limit = c.instantiate_trait_ref.ensures.limit ∙ inv.limit;
       left_held = held.1;
       left_fit = fit.1;
       found_held = subst (TraitRefsHeld next) (sym put) (held-more now next k found r inv.found_held c.in_ok-instance.ensures.held);

@@ -9,6 +9,7 @@ use Rattle.sessions.proofs.placeholders.instantiate_trait_refs.Given as goal
 abbrev pub invariant-references : goal.invariant-references
 invariant-references l = record {
   keeps : Keeps l.fn.cx.entries l.cx.entries;
+  limit : l.cx.limit ≡ l.fn.cx.limit;
   left_held : TraitRefsHeld l.fn.cx.entries l.left;
   left_fit : Each (λ k. first_misfit (trees_at l.fn.cx.entries l.fn.args.0) (trees_at l.fn.cx.entries k.args.0) ≡ None) l.left;
   found_held : TraitRefsHeld l.cx.entries l.found.items;

@@ -31,6 +31,7 @@ params-preserved c =
     let put = c.in_ok-push.ensures.items in
     record {
       keeps = λ j e h. k j e (inv.keeps j e h);
+      limit = c.placeholder_for_param.ensures.limit ∙ inv.limit;
       count = omega (arith, inv.count, ap length back, c.in_ok-place.ensures.next);
       held = subst (ArgsHeld next) (sym put) (args-held-push next xs a (args-held-later now next k xs inv.held) c.in_ok-arg.ensures.held);
       are = subst (λ l. args_trees next l +++ placeholders_from c.in_ok-place.place (map sort_of_param rest) ≡ all) (sym put)

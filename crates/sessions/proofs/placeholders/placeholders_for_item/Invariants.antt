@@ -9,6 +9,7 @@ use Rattle.sessions.proofs.placeholders.placeholders_for_item.Given as goal
 abbrev pub invariant-params : goal.invariant-params
 invariant-params l = record {
   keeps : Keeps l.fn.cx.entries l.cx.entries;
+  limit : l.cx.limit ≡ l.fn.cx.limit;
   count : l.place + length l.left ≡ length l.params;
   held : ArgsHeld l.cx.entries l.placeholders.items;
   are : args_trees l.cx.entries l.placeholders.items +++ placeholders_from l.place (map sort_of_param l.left) ≡ placeholders_from 0 (map sort_of_param l.params);

@@ -16,7 +16,7 @@ elaborate-elaborated-requires-clause-applied c = c.requires.applied
 pub returns-clause-advances : goal.returns-clause-advances
 returns-clause-advances c =
     c.rest_laws.ensures.interner c.args.cx.now (record { alloc = c.args.cx.now.alloc; interner = c.elaborate-elaborated.new.cx; handler = c.args.cx.now.handler; store = c.args.cx.now.store }) c.requires.ready
-    (record { handler = refl; store = refl; entries = c.elaborate-elaborated.ensures.keeps; lawful = c.lawful.ensures })
+    (record { handler = refl; store = refl; entries = c.elaborate-elaborated.ensures.keeps; lawful = c.lawful.ensures; limit = c.elaborate-elaborated.ensures.limit })
 
 pub returns-clause-held : goal.returns-clause-held
 returns-clause-held c = c.elaborate-elaborated.ensures.held

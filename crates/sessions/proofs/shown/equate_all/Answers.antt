@@ -1,4 +1,4 @@
-use Rattle.std.proofs.Common.{subst}
+use Rattle.std.proofs.Common.{◌∙◌, subst}
 use Rattle.type_terms.specs.Kinds.{ArgsHeld}
 use Rattle.type_terms.specs.Kept.{args-held-later}
 use Rattle.sessions.proofs.shown.equate_all.Goals as goal
@@ -19,6 +19,7 @@ unknowns-preserved c =
     let given = subst (ArgsHeld now) c.in-Some-split_first.ensures.cases.0 inv.given_held in
     record {
       keeps = λ j e h. k j e (inv.keeps j e h);
+      limit = c.equate.ensures.limit ∙ inv.limit;
       ready = c.equate.ensures.ready;
       left_held = args-held-later now next k c.in-Some.unknowns_left.now left.1;
       given_held = args-held-later now next k c.in-Some-split_first.values_left.now given.1;

@@ -12,6 +12,7 @@ use Rattle.sessions.proofs.HeaderChecks.{first-told, more-told, told-of}
 use Rattle.sessions.proofs.Lists.{each-here}
 use Rattle.infer_table.proofs.FullFacts.{handed-on}
 use Rattle.type_terms.specs.declared.TheConstants.{MAX_INDEX}
+use Rattle.solver_context.proofs.Growing.{limits-further}
 use Rattle.sessions.proofs.supertraits.first_unproved.Goals as goal
 
 pub ask_under-requires-clause-clauses : goal.ask_under-requires-clause-clauses
@@ -84,6 +85,7 @@ loop-supertrait-preserved c =
       rest = subst (λ n. SolverRests n c.ask_under.new.cx c.ask_under.new.graph c.ask_under.new.cache) inv.rest.depth c.ask_under.ensures.rest;
       solving = c.ask_under.ensures.solving ∙ inv.solving;
       keeps = λ i e h. c.ask_under.ensures.keeps i e (inv.keeps i e h);
+      limits = limits-further c.args.cx.now c.loop-supertrait.cx c.ask_under.new.cx inv.limits c.ask_under.ensures.limits;
       place = c.in_ok-place.ensures.next ∙ ap (λ n. n + 1) inv.place;
       told = more-told s depth F old xs c.loop-supertrait.supertrait-index item c.supertrait-item.is c.loop-supertrait-test.true inv.told told;
     }

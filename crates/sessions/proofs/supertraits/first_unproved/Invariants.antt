@@ -3,6 +3,7 @@ use Rattle.type_terms.specs.Proofs.{Every}
 use Rattle.type_terms.specs.Terms.{Keeps}
 use Rattle.declarations.specs.Applied.{references_in}
 use Rattle.candidate_assembly.specs.Fitting.{solving_of}
+use Rattle.solver_context.specs.Contexts.{KeepsLimits}
 use Rattle.sessions.specs.Proving.{SolvesTheSame}
 use Rattle.sessions.specs.Sessions.{SolverRests}
 use Rattle.sessions.specs.Supertraits.{SolverTells}
@@ -14,6 +15,7 @@ invariant-loop-supertrait l = record {
   rest : SolverRests l.fn.graph.root_depth l.cx l.graph l.cache;
   solving : SolvesTheSame l.fn.cx l.cx;
   keeps : Keeps l.fn.cx.interner.entries l.cx.interner.entries;
+  limits : KeepsLimits l.fn.cx l.cx;
   place : l.place ≡ l.supertrait-index;
   told : Every (λ r. SolverTells (solving_of l.fn.cx.interner.entries l.fn.cx.handler.declarations) l.fn.graph.root_depth (references_in l.fn.cx.interner.entries l.fn.goals.clauses.items) r Proved)
       (take l.supertrait-index (references_in l.fn.cx.interner.entries l.supertrait-items));

@@ -17,7 +17,7 @@ pub returns-in_err-resolved-clause-advances : goal.returns-in_err-resolved-claus
 returns-in_err-resolved-clause-advances g c =
     later g.H.GoalHandler.meaning.IsReady g.met.H.GoalHandler.lawful.ready_kept c.args.cx.now
     (record { alloc = c.args.cx.now.alloc; interner = c.resolve_goal-resolved.new.cx; handler = c.args.cx.now.handler; store = c.args.cx.now.store }) c.requires.ready refl refl
-    c.resolve_goal-resolved.ensures.keeps c.lawful.ensures
+    c.resolve_goal-resolved.ensures.keeps c.lawful.ensures c.resolve_goal-resolved.ensures.limit
 
 pub canonicalize_goal-canonicalized-requires-clause-held :
     goal.canonicalize_goal-canonicalized-requires-clause-held
@@ -29,14 +29,14 @@ returns-in_err-input-clause-advances g c =
     later g.H.GoalHandler.meaning.IsReady g.met.H.GoalHandler.lawful.ready_kept c.args.cx.now
     (record { alloc = c.args.cx.now.alloc; interner = c.canonicalize_goal-canonicalized.new.cx; handler = c.args.cx.now.handler; store = c.args.cx.now.store }) c.requires.ready refl refl
     (keeps-further c.args.cx.now.interner.entries c.resolve_goal-resolved.new.cx.entries c.canonicalize_goal-canonicalized.new.cx.entries c.resolve_goal-resolved.ensures.keeps
-    c.canonicalize_goal-canonicalized.ensures.keeps) c.lawful-2.ensures
+    c.canonicalize_goal-canonicalized.ensures.keeps) c.lawful-2.ensures (c.canonicalize_goal-canonicalized.ensures.limit ∙ c.resolve_goal-resolved.ensures.limit)
 
 pub keep_goal-requires-clause-ready : goal.keep_goal-requires-clause-ready
 keep_goal-requires-clause-ready g c =
     (later g.H.GoalHandler.meaning.IsReady g.met.H.GoalHandler.lawful.ready_kept c.args.cx.now
     (record { alloc = c.args.cx.now.alloc; interner = c.canonicalize_goal-canonicalized.new.cx; handler = c.args.cx.now.handler; store = c.args.cx.now.store }) c.requires.ready refl refl
     (keeps-further c.args.cx.now.interner.entries c.resolve_goal-resolved.new.cx.entries c.canonicalize_goal-canonicalized.new.cx.entries c.resolve_goal-resolved.ensures.keeps
-    c.canonicalize_goal-canonicalized.ensures.keeps) c.lawful-2.ensures).ready
+    c.canonicalize_goal-canonicalized.ensures.keeps) c.lawful-2.ensures (c.canonicalize_goal-canonicalized.ensures.limit ∙ c.resolve_goal-resolved.ensures.limit)).ready
 
 pub returns-clause-held : goal.returns-clause-held
 returns-clause-held g c =

@@ -4,7 +4,7 @@ use Rattle.solver_context.proofs.Growing.{later, further, keeps}
 use Rattle.solver_context.proofs.laws.context_laws.Goals as goal
 
 pub returns-clause-interner : goal.returns-clause-interner
-returns-clause-interner g c = λ x y now h. later g.H.GoalHandler.meaning.IsReady g.met.H.GoalHandler.lawful.ready_kept x y now h.handler h.store h.entries h.lawful
+returns-clause-interner g c = λ x y now h. later g.H.GoalHandler.meaning.IsReady g.met.H.GoalHandler.lawful.ready_kept x y now h.handler h.store h.entries h.lawful h.limit
 
 pub returns-clause-further : goal.returns-clause-further
 returns-clause-further g c = λ x y z a b. further g.H.GoalHandler.meaning.IsReady x y z a b

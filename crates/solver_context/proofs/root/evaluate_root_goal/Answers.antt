@@ -13,8 +13,8 @@ use Rattle.infer_table.proofs.Numbers.{goal-held-later, goal-trees-later}
 use Rattle.infer_table.specs.Covers.{IsOfKnown}
 use Rattle.infer_table.specs.Responses.{answer_trees}
 use Rattle.evaluation.specs.StepReadings.{result_read}
-use Rattle.solver_context.specs.Searching.{solver_meaning}
-use Rattle.solver_context.proofs.Growing.{later, keeps}
+use Rattle.solver_context.specs.Searching.{solver_meaning, of_term}
+use Rattle.solver_context.proofs.Growing.{later, keeps, limits-further}
 use Rattle.solver_context.specs.Errors.{error_of_equation}
 use Rattle.solver_context.specs.Evaluations.{asked_in}
 use Rattle.solver_context.specs.declared.outcome.GoalEvaluation.{GoalEvaluation}
@@ -28,7 +28,7 @@ use Rattle.solver_context.specs.Contexts.{goal_of}
 use Rattle.solver_context.specs.Shortages.{answer}
 use Rattle.solver_context.proofs.Shortages.{applied-full, asked-full, handed-error, handed-root, out-of-numbers}
 use Rattle.solver_context.proofs.Results.{no-frames, no-cost, no-limits, frames-before, free-before, limits-before, result-before, result-later}
-use Rattle.solver_context.proofs.Rooted.{definite, keeps-two, entries-two, keeps-three, right-at}
+use Rattle.solver_context.proofs.Rooted.{definite, keeps-two, entries-two, keeps-three, right-at, limits-two}
 use Rattle.solver_context.proofs.Searched.{root-proof, root-agrees}
 use Rattle.solver_context.proofs.root.evaluate_root_goal.Goals as goal
 
@@ -39,12 +39,12 @@ search-requires-clause-cache g c =
 pub apply_answer-applied-requires-clause-values : goal.apply_answer-applied-requires-clause-values
 apply_answer-applied-requires-clause-values g c =
     let d : c.deref.result.now ≡ c.in_ok-asked.asked.values.items = search rules in
-    (values-later c.ask.new.cx.interner.entries c.search.new.cx.interner.entries (λ i e h. c.search.ensures.keeps.held (i, e) h) c.in_ok-asked.asked.values.items c.deref.result.now d (goal_leaves (goal_in c.args.cx.now.interner.entries c.args.table.now c.args.goal.now)) c.in_ok-asked.ensures.args c.in_ok-asked.ensures.leaves c.in_ok-asked.ensures.values).args
+    (values-later c.ask.new.cx.interner.entries c.search.new.cx.interner.entries (λ i e h. c.search.ensures.keeps.held (of_term i e) h) c.in_ok-asked.asked.values.items c.deref.result.now d (goal_leaves (goal_in c.args.cx.now.interner.entries c.args.table.now c.args.goal.now)) c.in_ok-asked.ensures.args c.in_ok-asked.ensures.leaves c.in_ok-asked.ensures.values).args
 
 pub apply_answer-applied-requires-clause-leaves : goal.apply_answer-applied-requires-clause-leaves
 apply_answer-applied-requires-clause-leaves g c =
     let d : c.deref.result.now ≡ c.in_ok-asked.asked.values.items = search rules in
-    (values-later c.ask.new.cx.interner.entries c.search.new.cx.interner.entries (λ i e h. c.search.ensures.keeps.held (i, e) h) c.in_ok-asked.asked.values.items c.deref.result.now d (goal_leaves (goal_in c.args.cx.now.interner.entries c.args.table.now c.args.goal.now)) c.in_ok-asked.ensures.args c.in_ok-asked.ensures.leaves c.in_ok-asked.ensures.values).leaves
+    (values-later c.ask.new.cx.interner.entries c.search.new.cx.interner.entries (λ i e h. c.search.ensures.keeps.held (of_term i e) h) c.in_ok-asked.asked.values.items c.deref.result.now d (goal_leaves (goal_in c.args.cx.now.interner.entries c.args.table.now c.args.goal.now)) c.in_ok-asked.ensures.args c.in_ok-asked.ensures.leaves c.in_ok-asked.ensures.values).leaves
 
 pub apply_answer-applied-requires-clause-ready : goal.apply_answer-applied-requires-clause-ready
 apply_answer-applied-requires-clause-ready g c =
@@ -72,6 +72,7 @@ returns-in_err-asked-clause-rests g c = record {
   ready = search rules;
   keeps = keeps g.H.GoalHandler.meaning g.met.H.GoalHandler.lawful.world_kept c.args.cx.now c.ask.new.cx c.requires.ready c.ask.ensures.advances;
   entries = search rules;
+  limits = c.ask.ensures.advances.limits;
   table = search rules;
   grows = grows-refl c.args.table.now;
 }
@@ -102,6 +103,7 @@ returns-in_err-answer-clause-rests g c = record {
   ready = search rules;
   keeps = keeps-two g.H.GoalHandler.meaning g.met.H.GoalHandler.lawful.world_kept c.args.cx.now c.ask.new.cx c.search.new.cx c.requires.ready c.ask.ensures.advances c.search.ensures.keeps;
   entries = entries-two g.H.GoalHandler.meaning g.met.H.GoalHandler.lawful.world_kept c.args.cx.now c.ask.new.cx c.search.new.cx c.requires.ready c.ask.ensures.advances c.search.ensures.keeps;
+  limits = limits-two g.H.GoalHandler.meaning g.met.H.GoalHandler.lawful.world_kept c.args.cx.now c.ask.new.cx c.search.new.cx c.requires.ready c.ask.ensures.advances c.search.ensures.keeps;
   table = ready-later c.args.cx.now.interner.entries c.search.new.cx.interner.entries c.args.table.now (entries-two g.H.GoalHandler.meaning g.met.H.GoalHandler.lawful.world_kept c.args.cx.now c.ask.new.cx c.search.new.cx c.requires.ready c.ask.ensures.advances c.search.ensures.keeps) c.requires.table;
   grows = grows-refl c.args.table.now;
 }
@@ -133,6 +135,7 @@ returns-in_default-clause-rests g c = record {
   ready = search rules;
   keeps = keeps-two g.H.GoalHandler.meaning g.met.H.GoalHandler.lawful.world_kept c.args.cx.now c.ask.new.cx c.search.new.cx c.requires.ready c.ask.ensures.advances c.search.ensures.keeps;
   entries = entries-two g.H.GoalHandler.meaning g.met.H.GoalHandler.lawful.world_kept c.args.cx.now c.ask.new.cx c.search.new.cx c.requires.ready c.ask.ensures.advances c.search.ensures.keeps;
+  limits = limits-two g.H.GoalHandler.meaning g.met.H.GoalHandler.lawful.world_kept c.args.cx.now c.ask.new.cx c.search.new.cx c.requires.ready c.ask.ensures.advances c.search.ensures.keeps;
   table = ready-later c.args.cx.now.interner.entries c.search.new.cx.interner.entries c.args.table.now (entries-two g.H.GoalHandler.meaning g.met.H.GoalHandler.lawful.world_kept c.args.cx.now c.ask.new.cx c.search.new.cx c.requires.ready c.ask.ensures.advances c.search.ensures.keeps) c.requires.table;
   grows = grows-refl c.args.table.now;
 }
@@ -161,12 +164,13 @@ pub returns-in-Ok-clause-rests : goal.returns-in-Ok-clause-rests
 returns-in-Ok-clause-rests g c = record {
   empty = search rules;
   depth = search rules;
-  cache = justified-later (solver_meaning g.H.GoalHandler.meaning) c.search.new.cx (record { alloc = c.search.new.cx.alloc; interner = c.apply_answer-applied.new.cx; handler = c.search.new.cx.handler; store = c.search.new.cx.store }) c.search.new.cache (keeps g.H.GoalHandler.meaning g.met.H.GoalHandler.lawful.world_kept c.search.new.cx (record { alloc = c.search.new.cx.alloc; interner = c.apply_answer-applied.new.cx; handler = c.search.new.cx.handler; store = c.search.new.cx.store }) c.search.ensures.ready (later g.H.GoalHandler.meaning.IsReady g.met.H.GoalHandler.lawful.ready_kept c.search.new.cx (record { alloc = c.search.new.cx.alloc; interner = c.apply_answer-applied.new.cx; handler = c.search.new.cx.handler; store = c.search.new.cx.store }) c.search.ensures.ready refl refl c.apply_answer-applied.ensures.keeps c.lawful.ensures)) c.search.ensures.cache;
+  cache = justified-later (solver_meaning g.H.GoalHandler.meaning) c.search.new.cx (record { alloc = c.search.new.cx.alloc; interner = c.apply_answer-applied.new.cx; handler = c.search.new.cx.handler; store = c.search.new.cx.store }) c.search.new.cache (keeps g.H.GoalHandler.meaning g.met.H.GoalHandler.lawful.world_kept c.search.new.cx (record { alloc = c.search.new.cx.alloc; interner = c.apply_answer-applied.new.cx; handler = c.search.new.cx.handler; store = c.search.new.cx.store }) c.search.ensures.ready (later g.H.GoalHandler.meaning.IsReady g.met.H.GoalHandler.lawful.ready_kept c.search.new.cx (record { alloc = c.search.new.cx.alloc; interner = c.apply_answer-applied.new.cx; handler = c.search.new.cx.handler; store = c.search.new.cx.store }) c.search.ensures.ready refl refl c.apply_answer-applied.ensures.keeps c.lawful.ensures c.apply_answer-applied.ensures.limit)) c.search.ensures.cache;
   consistent = search rules;
   results = search rules;
-  ready = (later g.H.GoalHandler.meaning.IsReady g.met.H.GoalHandler.lawful.ready_kept c.search.new.cx (record { alloc = c.search.new.cx.alloc; interner = c.apply_answer-applied.new.cx; handler = c.search.new.cx.handler; store = c.search.new.cx.store }) c.search.ensures.ready refl refl c.apply_answer-applied.ensures.keeps c.lawful.ensures).ready;
-  keeps = keeps-three g.H.GoalHandler.meaning g.met.H.GoalHandler.lawful.world_kept c.args.cx.now c.ask.new.cx c.search.new.cx c.requires.ready c.ask.ensures.advances c.search.ensures.keeps (record { alloc = c.search.new.cx.alloc; interner = c.apply_answer-applied.new.cx; handler = c.search.new.cx.handler; store = c.search.new.cx.store }) c.search.ensures.ready (later g.H.GoalHandler.meaning.IsReady g.met.H.GoalHandler.lawful.ready_kept c.search.new.cx (record { alloc = c.search.new.cx.alloc; interner = c.apply_answer-applied.new.cx; handler = c.search.new.cx.handler; store = c.search.new.cx.store }) c.search.ensures.ready refl refl c.apply_answer-applied.ensures.keeps c.lawful.ensures);
+  ready = (later g.H.GoalHandler.meaning.IsReady g.met.H.GoalHandler.lawful.ready_kept c.search.new.cx (record { alloc = c.search.new.cx.alloc; interner = c.apply_answer-applied.new.cx; handler = c.search.new.cx.handler; store = c.search.new.cx.store }) c.search.ensures.ready refl refl c.apply_answer-applied.ensures.keeps c.lawful.ensures c.apply_answer-applied.ensures.limit).ready;
+  keeps = keeps-three g.H.GoalHandler.meaning g.met.H.GoalHandler.lawful.world_kept c.args.cx.now c.ask.new.cx c.search.new.cx c.requires.ready c.ask.ensures.advances c.search.ensures.keeps (record { alloc = c.search.new.cx.alloc; interner = c.apply_answer-applied.new.cx; handler = c.search.new.cx.handler; store = c.search.new.cx.store }) c.search.ensures.ready (later g.H.GoalHandler.meaning.IsReady g.met.H.GoalHandler.lawful.ready_kept c.search.new.cx (record { alloc = c.search.new.cx.alloc; interner = c.apply_answer-applied.new.cx; handler = c.search.new.cx.handler; store = c.search.new.cx.store }) c.search.ensures.ready refl refl c.apply_answer-applied.ensures.keeps c.lawful.ensures c.apply_answer-applied.ensures.limit);
   entries = λ i e h. c.apply_answer-applied.ensures.keeps i e (entries-two g.H.GoalHandler.meaning g.met.H.GoalHandler.lawful.world_kept c.args.cx.now c.ask.new.cx c.search.new.cx c.requires.ready c.ask.ensures.advances c.search.ensures.keeps i e h);
+  limits = limits-further c.args.cx.now c.search.new.cx (record { alloc = c.search.new.cx.alloc; interner = c.apply_answer-applied.new.cx; handler = c.search.new.cx.handler; store = c.search.new.cx.store }) (limits-two g.H.GoalHandler.meaning g.met.H.GoalHandler.lawful.world_kept c.args.cx.now c.ask.new.cx c.search.new.cx c.requires.ready c.ask.ensures.advances c.search.ensures.keeps) (record { terms = c.apply_answer-applied.ensures.limit; kept = refl });
   table = search rules;
   grows = search rules;
 }
@@ -180,13 +184,13 @@ returns-in-Ok-clause-costs g c = record {
 
 pub returns-in-Ok-clause-says : goal.returns-in-Ok-clause-says
 returns-in-Ok-clause-says g c = record {
-  held = goal-held-later c.ask.new.cx.interner.entries c.apply_answer-applied.new.cx.entries (λ i e h. c.apply_answer-applied.ensures.keeps i e (c.search.ensures.keeps.held (i, e) h)) c.in_ok-asked.asked.goal c.in_ok-asked.ensures.held;
-  resolved = goal-trees-later c.ask.new.cx.interner.entries c.apply_answer-applied.new.cx.entries (λ i e h. c.apply_answer-applied.ensures.keeps i e (c.search.ensures.keeps.held (i, e) h)) c.in_ok-asked.asked.goal c.in_ok-asked.ensures.held ∙ c.in_ok-asked.ensures.resolved;
+  held = goal-held-later c.ask.new.cx.interner.entries c.apply_answer-applied.new.cx.entries (λ i e h. c.apply_answer-applied.ensures.keeps i e (c.search.ensures.keeps.held (of_term i e) h)) c.in_ok-asked.asked.goal c.in_ok-asked.ensures.held;
+  resolved = goal-trees-later c.ask.new.cx.interner.entries c.apply_answer-applied.new.cx.entries (λ i e h. c.apply_answer-applied.ensures.keeps i e (c.search.ensures.keeps.held (of_term i e) h)) c.in_ok-asked.asked.goal c.in_ok-asked.ensures.held ∙ c.in_ok-asked.ensures.resolved;
   answer =
       let d : c.deref.result.now ≡ c.in_ok-asked.asked.values.items = search rules in
-      let v = (values-later c.ask.new.cx.interner.entries c.search.new.cx.interner.entries (λ i e h. c.search.ensures.keeps.held (i, e) h) c.in_ok-asked.asked.values.items c.deref.result.now d (goal_leaves (goal_in c.args.cx.now.interner.entries c.args.table.now c.args.goal.now)) c.in_ok-asked.ensures.args c.in_ok-asked.ensures.leaves c.in_ok-asked.ensures.values) in (
+      let v = (values-later c.ask.new.cx.interner.entries c.search.new.cx.interner.entries (λ i e h. c.search.ensures.keeps.held (of_term i e) h) c.in_ok-asked.asked.values.items c.deref.result.now d (goal_leaves (goal_in c.args.cx.now.interner.entries c.args.table.now c.args.goal.now)) c.in_ok-asked.ensures.args c.in_ok-asked.ensures.leaves c.in_ok-asked.ensures.values) in (
         (answer_trees c.search.new.cx.interner.entries c.in-Some.answer),
-        (result-later (solver_meaning g.H.GoalHandler.meaning) c.args.cx.now c.search.new.cx (record { alloc = c.search.new.cx.alloc; interner = c.apply_answer-applied.new.cx; handler = c.search.new.cx.handler; store = c.search.new.cx.store }) (keeps g.H.GoalHandler.meaning g.met.H.GoalHandler.lawful.world_kept c.search.new.cx (record { alloc = c.search.new.cx.alloc; interner = c.apply_answer-applied.new.cx; handler = c.search.new.cx.handler; store = c.search.new.cx.store }) c.search.ensures.ready (later g.H.GoalHandler.meaning.IsReady g.met.H.GoalHandler.lawful.ready_kept c.search.new.cx (record { alloc = c.search.new.cx.alloc; interner = c.apply_answer-applied.new.cx; handler = c.search.new.cx.handler; store = c.search.new.cx.store }) c.search.ensures.ready refl refl c.apply_answer-applied.ensures.keeps c.lawful.ensures)) c.args.cache.now c.search.new.cache c.search.ensures.cache c.args.graph.now c.search.new.graph (asked_in c.args.mode c.args.cx.now.interner.entries c.args.table.now c.args.goal.now) (Some (answer_trees c.search.new.cx.interner.entries c.in-Some.answer))
+        (result-later (solver_meaning g.H.GoalHandler.meaning) c.args.cx.now c.search.new.cx (record { alloc = c.search.new.cx.alloc; interner = c.apply_answer-applied.new.cx; handler = c.search.new.cx.handler; store = c.search.new.cx.store }) (keeps g.H.GoalHandler.meaning g.met.H.GoalHandler.lawful.world_kept c.search.new.cx (record { alloc = c.search.new.cx.alloc; interner = c.apply_answer-applied.new.cx; handler = c.search.new.cx.handler; store = c.search.new.cx.store }) c.search.ensures.ready (later g.H.GoalHandler.meaning.IsReady g.met.H.GoalHandler.lawful.ready_kept c.search.new.cx (record { alloc = c.search.new.cx.alloc; interner = c.apply_answer-applied.new.cx; handler = c.search.new.cx.handler; store = c.search.new.cx.store }) c.search.ensures.ready refl refl c.apply_answer-applied.ensures.keeps c.lawful.ensures c.apply_answer-applied.ensures.limit)) c.args.cache.now c.search.new.cache c.search.ensures.cache c.args.graph.now c.search.new.graph (asked_in c.args.mode c.args.cx.now.interner.entries c.args.table.now c.args.goal.now) (Some (answer_trees c.search.new.cx.interner.entries c.in-Some.answer))
             (result-before (solver_meaning g.H.GoalHandler.meaning) c.args.cx.now c.ask.new.cx (keeps g.H.GoalHandler.meaning g.met.H.GoalHandler.lawful.world_kept c.args.cx.now c.ask.new.cx c.requires.ready c.ask.ensures.advances) (goal_of c.ask.new.cx c.in_ok-asked.asked.input) (asked_in c.args.mode c.args.cx.now.interner.entries c.args.table.now c.args.goal.now) c.in_ok-asked.ensures.input.1 c.args.graph.now c.search.new.graph c.args.cache.now c.requires.cache c.search.new.cache c.search.new.cx (result_read c.search.new.cx.interner.entries c.in_ok-answer.field-0) (Some (answer_trees c.search.new.cx.interner.entries c.in-Some.answer)) (ap (result_read c.search.new.cx.interner.entries) c.in-Some.is) c.in_ok-answer.ensures.found)),
         record { certainty = refl; has_changed = c.has_changed-changed.ensures },
         left-later c.args.cx.now.interner.entries c.search.new.cx.interner.entries (entries-two g.H.GoalHandler.meaning g.met.H.GoalHandler.lawful.world_kept c.args.cx.now c.ask.new.cx c.search.new.cx c.requires.ready c.ask.ensures.advances c.search.ensures.keeps) c.args.table.now c.requires.table (values_of c.search.new.cx.interner.entries c.deref.result.now) (goal_in c.args.cx.now.interner.entries c.args.table.now c.args.goal.now) (answer_trees c.search.new.cx.interner.entries c.in-Some.answer) (values-are c.search.new.cx.interner.entries c.search.ensures.ready.lawful c.deref.result.now (goal_in c.args.cx.now.interner.entries c.args.table.now c.args.goal.now) v.args v.leaves v.labels_are) ∙ c.in-Ok.ensures.exact,
@@ -194,7 +198,7 @@ returns-in-Ok-clause-says g c = record {
   covers =
       λ p x s h q.
       let d : c.deref.result.now ≡ c.in_ok-asked.asked.values.items = search rules in
-      let v = (values-later c.ask.new.cx.interner.entries c.search.new.cx.interner.entries (λ i e h. c.search.ensures.keeps.held (i, e) h) c.in_ok-asked.asked.values.items c.deref.result.now d (goal_leaves (goal_in c.args.cx.now.interner.entries c.args.table.now c.args.goal.now)) c.in_ok-asked.ensures.args c.in_ok-asked.ensures.leaves c.in_ok-asked.ensures.values) in
+      let v = (values-later c.ask.new.cx.interner.entries c.search.new.cx.interner.entries (λ i e h. c.search.ensures.keeps.held (of_term i e) h) c.in_ok-asked.asked.values.items c.deref.result.now d (goal_leaves (goal_in c.args.cx.now.interner.entries c.args.table.now c.args.goal.now)) c.in_ok-asked.ensures.args c.in_ok-asked.ensures.leaves c.in_ok-asked.ensures.values) in
       let same = (content-kept c.args.cx.now.interner.entries c.search.new.cx.interner.entries c.args.table.now.values (entries-two g.H.GoalHandler.meaning g.met.H.GoalHandler.lawful.world_kept c.args.cx.now c.ask.new.cx c.search.new.cx c.requires.ready c.ask.ensures.advances c.search.ensures.keeps) c.requires.table.held) in
       c.in-Ok.ensures.kept (goal_in c.args.cx.now.interner.entries c.args.table.now c.args.goal.now) v.labels_are p.environment_known p.predicate_known (subst (IsOfKnown (variables_of c.args.table.now)) (sym same) p.table_known) s (subst (Solves s) (sym same) h)
       (root-agrees c.args.cx.now.interner.entries c.requires.ready.lawful c.args.table.now c.requires.table c.args.goal.now c.requires.goal p.clean s h g.H.GoalHandler.meaning.goals g.met.H.GoalHandler.lawful.goals (g.H.GoalHandler.meaning.world c.args.cx.now.handler c.args.cx.now.interner.entries) c.args.mode (Some (answer_trees c.search.new.cx.interner.entries c.in-Some.answer)) (right-at g.H.GoalHandler.meaning g.met.H.GoalHandler.lawful.world_kept c.args.cx.now c.ask.new.cx c.requires.ready c.ask.ensures.advances c.in_ok-asked.asked.input (asked_in c.args.mode c.args.cx.now.interner.entries c.args.table.now c.args.goal.now) (result_read c.search.new.cx.interner.entries c.in_ok-answer.field-0) (Some (answer_trees c.search.new.cx.interner.entries c.in-Some.answer)) c.in_ok-asked.ensures.input.1 (ap (result_read c.search.new.cx.interner.entries) c.in-Some.is) c.in_ok-answer.ensures.sound).covers x q);
@@ -211,12 +215,13 @@ pub returns-in-Err-clause-rests : goal.returns-in-Err-clause-rests
 returns-in-Err-clause-rests g c = record {
   empty = search rules;
   depth = search rules;
-  cache = justified-later (solver_meaning g.H.GoalHandler.meaning) c.search.new.cx (record { alloc = c.search.new.cx.alloc; interner = c.apply_answer-applied.new.cx; handler = c.search.new.cx.handler; store = c.search.new.cx.store }) c.search.new.cache (keeps g.H.GoalHandler.meaning g.met.H.GoalHandler.lawful.world_kept c.search.new.cx (record { alloc = c.search.new.cx.alloc; interner = c.apply_answer-applied.new.cx; handler = c.search.new.cx.handler; store = c.search.new.cx.store }) c.search.ensures.ready (later g.H.GoalHandler.meaning.IsReady g.met.H.GoalHandler.lawful.ready_kept c.search.new.cx (record { alloc = c.search.new.cx.alloc; interner = c.apply_answer-applied.new.cx; handler = c.search.new.cx.handler; store = c.search.new.cx.store }) c.search.ensures.ready refl refl c.apply_answer-applied.ensures.keeps c.lawful.ensures)) c.search.ensures.cache;
+  cache = justified-later (solver_meaning g.H.GoalHandler.meaning) c.search.new.cx (record { alloc = c.search.new.cx.alloc; interner = c.apply_answer-applied.new.cx; handler = c.search.new.cx.handler; store = c.search.new.cx.store }) c.search.new.cache (keeps g.H.GoalHandler.meaning g.met.H.GoalHandler.lawful.world_kept c.search.new.cx (record { alloc = c.search.new.cx.alloc; interner = c.apply_answer-applied.new.cx; handler = c.search.new.cx.handler; store = c.search.new.cx.store }) c.search.ensures.ready (later g.H.GoalHandler.meaning.IsReady g.met.H.GoalHandler.lawful.ready_kept c.search.new.cx (record { alloc = c.search.new.cx.alloc; interner = c.apply_answer-applied.new.cx; handler = c.search.new.cx.handler; store = c.search.new.cx.store }) c.search.ensures.ready refl refl c.apply_answer-applied.ensures.keeps c.lawful.ensures c.apply_answer-applied.ensures.limit)) c.search.ensures.cache;
   consistent = search rules;
   results = search rules;
-  ready = (later g.H.GoalHandler.meaning.IsReady g.met.H.GoalHandler.lawful.ready_kept c.search.new.cx (record { alloc = c.search.new.cx.alloc; interner = c.apply_answer-applied.new.cx; handler = c.search.new.cx.handler; store = c.search.new.cx.store }) c.search.ensures.ready refl refl c.apply_answer-applied.ensures.keeps c.lawful.ensures).ready;
-  keeps = keeps-three g.H.GoalHandler.meaning g.met.H.GoalHandler.lawful.world_kept c.args.cx.now c.ask.new.cx c.search.new.cx c.requires.ready c.ask.ensures.advances c.search.ensures.keeps (record { alloc = c.search.new.cx.alloc; interner = c.apply_answer-applied.new.cx; handler = c.search.new.cx.handler; store = c.search.new.cx.store }) c.search.ensures.ready (later g.H.GoalHandler.meaning.IsReady g.met.H.GoalHandler.lawful.ready_kept c.search.new.cx (record { alloc = c.search.new.cx.alloc; interner = c.apply_answer-applied.new.cx; handler = c.search.new.cx.handler; store = c.search.new.cx.store }) c.search.ensures.ready refl refl c.apply_answer-applied.ensures.keeps c.lawful.ensures);
+  ready = (later g.H.GoalHandler.meaning.IsReady g.met.H.GoalHandler.lawful.ready_kept c.search.new.cx (record { alloc = c.search.new.cx.alloc; interner = c.apply_answer-applied.new.cx; handler = c.search.new.cx.handler; store = c.search.new.cx.store }) c.search.ensures.ready refl refl c.apply_answer-applied.ensures.keeps c.lawful.ensures c.apply_answer-applied.ensures.limit).ready;
+  keeps = keeps-three g.H.GoalHandler.meaning g.met.H.GoalHandler.lawful.world_kept c.args.cx.now c.ask.new.cx c.search.new.cx c.requires.ready c.ask.ensures.advances c.search.ensures.keeps (record { alloc = c.search.new.cx.alloc; interner = c.apply_answer-applied.new.cx; handler = c.search.new.cx.handler; store = c.search.new.cx.store }) c.search.ensures.ready (later g.H.GoalHandler.meaning.IsReady g.met.H.GoalHandler.lawful.ready_kept c.search.new.cx (record { alloc = c.search.new.cx.alloc; interner = c.apply_answer-applied.new.cx; handler = c.search.new.cx.handler; store = c.search.new.cx.store }) c.search.ensures.ready refl refl c.apply_answer-applied.ensures.keeps c.lawful.ensures c.apply_answer-applied.ensures.limit);
   entries = λ i e h. c.apply_answer-applied.ensures.keeps i e (entries-two g.H.GoalHandler.meaning g.met.H.GoalHandler.lawful.world_kept c.args.cx.now c.ask.new.cx c.search.new.cx c.requires.ready c.ask.ensures.advances c.search.ensures.keeps i e h);
+  limits = limits-further c.args.cx.now c.search.new.cx (record { alloc = c.search.new.cx.alloc; interner = c.apply_answer-applied.new.cx; handler = c.search.new.cx.handler; store = c.search.new.cx.store }) (limits-two g.H.GoalHandler.meaning g.met.H.GoalHandler.lawful.world_kept c.args.cx.now c.ask.new.cx c.search.new.cx c.requires.ready c.ask.ensures.advances c.search.ensures.keeps) (record { terms = c.apply_answer-applied.ensures.limit; kept = refl });
   table = search rules;
   grows = search rules;
 }
@@ -234,16 +239,16 @@ returns-in-Err-clause-refusal g c = record {
   answer =
       λ n.
       let d : c.deref.result.now ≡ c.in_ok-asked.asked.values.items = search rules in
-      let v = (values-later c.ask.new.cx.interner.entries c.search.new.cx.interner.entries (λ i e h. c.search.ensures.keeps.held (i, e) h) c.in_ok-asked.asked.values.items c.deref.result.now d (goal_leaves (goal_in c.args.cx.now.interner.entries c.args.table.now c.args.goal.now)) c.in_ok-asked.ensures.args c.in_ok-asked.ensures.leaves c.in_ok-asked.ensures.values) in (
+      let v = (values-later c.ask.new.cx.interner.entries c.search.new.cx.interner.entries (λ i e h. c.search.ensures.keeps.held (of_term i e) h) c.in_ok-asked.asked.values.items c.deref.result.now d (goal_leaves (goal_in c.args.cx.now.interner.entries c.args.table.now c.args.goal.now)) c.in_ok-asked.ensures.args c.in_ok-asked.ensures.leaves c.in_ok-asked.ensures.values) in (
         Some (answer_trees c.search.new.cx.interner.entries c.in-Some.answer),
-        (result-later (solver_meaning g.H.GoalHandler.meaning) c.args.cx.now c.search.new.cx (record { alloc = c.search.new.cx.alloc; interner = c.apply_answer-applied.new.cx; handler = c.search.new.cx.handler; store = c.search.new.cx.store }) (keeps g.H.GoalHandler.meaning g.met.H.GoalHandler.lawful.world_kept c.search.new.cx (record { alloc = c.search.new.cx.alloc; interner = c.apply_answer-applied.new.cx; handler = c.search.new.cx.handler; store = c.search.new.cx.store }) c.search.ensures.ready (later g.H.GoalHandler.meaning.IsReady g.met.H.GoalHandler.lawful.ready_kept c.search.new.cx (record { alloc = c.search.new.cx.alloc; interner = c.apply_answer-applied.new.cx; handler = c.search.new.cx.handler; store = c.search.new.cx.store }) c.search.ensures.ready refl refl c.apply_answer-applied.ensures.keeps c.lawful.ensures)) c.args.cache.now c.search.new.cache c.search.ensures.cache c.args.graph.now c.search.new.graph (asked_in c.args.mode c.args.cx.now.interner.entries c.args.table.now c.args.goal.now) (Some (answer_trees c.search.new.cx.interner.entries c.in-Some.answer))
+        (result-later (solver_meaning g.H.GoalHandler.meaning) c.args.cx.now c.search.new.cx (record { alloc = c.search.new.cx.alloc; interner = c.apply_answer-applied.new.cx; handler = c.search.new.cx.handler; store = c.search.new.cx.store }) (keeps g.H.GoalHandler.meaning g.met.H.GoalHandler.lawful.world_kept c.search.new.cx (record { alloc = c.search.new.cx.alloc; interner = c.apply_answer-applied.new.cx; handler = c.search.new.cx.handler; store = c.search.new.cx.store }) c.search.ensures.ready (later g.H.GoalHandler.meaning.IsReady g.met.H.GoalHandler.lawful.ready_kept c.search.new.cx (record { alloc = c.search.new.cx.alloc; interner = c.apply_answer-applied.new.cx; handler = c.search.new.cx.handler; store = c.search.new.cx.store }) c.search.ensures.ready refl refl c.apply_answer-applied.ensures.keeps c.lawful.ensures c.apply_answer-applied.ensures.limit)) c.args.cache.now c.search.new.cache c.search.ensures.cache c.args.graph.now c.search.new.graph (asked_in c.args.mode c.args.cx.now.interner.entries c.args.table.now c.args.goal.now) (Some (answer_trees c.search.new.cx.interner.entries c.in-Some.answer))
             (result-before (solver_meaning g.H.GoalHandler.meaning) c.args.cx.now c.ask.new.cx (keeps g.H.GoalHandler.meaning g.met.H.GoalHandler.lawful.world_kept c.args.cx.now c.ask.new.cx c.requires.ready c.ask.ensures.advances) (goal_of c.ask.new.cx c.in_ok-asked.asked.input) (asked_in c.args.mode c.args.cx.now.interner.entries c.args.table.now c.args.goal.now) c.in_ok-asked.ensures.input.1 c.args.graph.now c.search.new.graph c.args.cache.now c.requires.cache c.search.new.cache c.search.new.cx (result_read c.search.new.cx.interner.entries c.in_ok-answer.field-0) (Some (answer_trees c.search.new.cx.interner.entries c.in-Some.answer)) (ap (result_read c.search.new.cx.interner.entries) c.in-Some.is) c.in_ok-answer.ensures.found)),
         left-later c.args.cx.now.interner.entries c.search.new.cx.interner.entries (entries-two g.H.GoalHandler.meaning g.met.H.GoalHandler.lawful.world_kept c.args.cx.now c.ask.new.cx c.search.new.cx c.requires.ready c.ask.ensures.advances c.search.ensures.keeps) c.args.table.now c.requires.table (values_of c.search.new.cx.interner.entries c.deref.result.now) (goal_in c.args.cx.now.interner.entries c.args.table.now c.args.goal.now) (answer_trees c.search.new.cx.interner.entries c.in-Some.answer) (values-are c.search.new.cx.interner.entries c.search.ensures.ready.lawful c.deref.result.now (goal_in c.args.cx.now.interner.entries c.args.table.now c.args.goal.now) v.args v.leaves v.labels_are) ∙ c.in-Err.ensures.refusal (ap Err (refused c.in-Err.error (sym c.from.ensures ∙ err-is _ _ n))),
       );
   no_proof =
       λ n p x s h q.
       let d : c.deref.result.now ≡ c.in_ok-asked.asked.values.items = search rules in
-      let v = (values-later c.ask.new.cx.interner.entries c.search.new.cx.interner.entries (λ i e h. c.search.ensures.keeps.held (i, e) h) c.in_ok-asked.asked.values.items c.deref.result.now d (goal_leaves (goal_in c.args.cx.now.interner.entries c.args.table.now c.args.goal.now)) c.in_ok-asked.ensures.args c.in_ok-asked.ensures.leaves c.in_ok-asked.ensures.values) in
+      let v = (values-later c.ask.new.cx.interner.entries c.search.new.cx.interner.entries (λ i e h. c.search.ensures.keeps.held (of_term i e) h) c.in_ok-asked.asked.values.items c.deref.result.now d (goal_leaves (goal_in c.args.cx.now.interner.entries c.args.table.now c.args.goal.now)) c.in_ok-asked.ensures.args c.in_ok-asked.ensures.leaves c.in_ok-asked.ensures.values) in
       let same = (content-kept c.args.cx.now.interner.entries c.search.new.cx.interner.entries c.args.table.now.values (entries-two g.H.GoalHandler.meaning g.met.H.GoalHandler.lawful.world_kept c.args.cx.now c.ask.new.cx c.search.new.cx c.requires.ready c.ask.ensures.advances c.search.ensures.keeps) c.requires.table.held) in
       c.in-Err.ensures.accepted (ap Err (refused c.in-Err.error (sym c.from.ensures ∙ err-is _ _ n))) (goal_in c.args.cx.now.interner.entries c.args.table.now c.args.goal.now) v.labels_are p.environment_known p.predicate_known (subst (IsOfKnown (variables_of c.args.table.now)) (sym same) p.table_known) s (subst (Solves s) (sym same) h)
       (root-agrees c.args.cx.now.interner.entries c.requires.ready.lawful c.args.table.now c.requires.table c.args.goal.now c.requires.goal p.clean s h g.H.GoalHandler.meaning.goals g.met.H.GoalHandler.lawful.goals (g.H.GoalHandler.meaning.world c.args.cx.now.handler c.args.cx.now.interner.entries) c.args.mode (Some (answer_trees c.search.new.cx.interner.entries c.in-Some.answer)) (right-at g.H.GoalHandler.meaning g.met.H.GoalHandler.lawful.world_kept c.args.cx.now c.ask.new.cx c.requires.ready c.ask.ensures.advances c.in_ok-asked.asked.input (asked_in c.args.mode c.args.cx.now.interner.entries c.args.table.now c.args.goal.now) (result_read c.search.new.cx.interner.entries c.in_ok-answer.field-0) (Some (answer_trees c.search.new.cx.interner.entries c.in-Some.answer)) c.in_ok-asked.ensures.input.1 (ap (result_read c.search.new.cx.interner.entries) c.in-Some.is) c.in_ok-answer.ensures.sound).covers x q);
@@ -257,11 +262,11 @@ returns-in-Err-clause-faults g c = record {
       λ n.
       let d : c.deref.result.now ≡ c.in_ok-asked.asked.values.items = search rules in
       let goal_is = goal_in c.args.cx.now.interner.entries c.args.table.now c.args.goal.now in
-      let v = (values-later c.ask.new.cx.interner.entries c.search.new.cx.interner.entries (λ i e h. c.search.ensures.keeps.held (i, e) h) c.in_ok-asked.asked.values.items c.deref.result.now d (goal_leaves goal_is) c.in_ok-asked.ensures.args c.in_ok-asked.ensures.leaves c.in_ok-asked.ensures.values) in
+      let v = (values-later c.ask.new.cx.interner.entries c.search.new.cx.interner.entries (λ i e h. c.search.ensures.keeps.held (of_term i e) h) c.in_ok-asked.asked.values.items c.deref.result.now d (goal_leaves goal_is) c.in_ok-asked.ensures.args c.in_ok-asked.ensures.leaves c.in_ok-asked.ensures.values) in
       let k = entries-two g.H.GoalHandler.meaning g.met.H.GoalHandler.lawful.world_kept c.args.cx.now c.ask.new.cx c.search.new.cx c.requires.ready c.ask.ensures.advances c.search.ensures.keeps in
       applied-full
       (λ h. answer (answer_trees c.search.new.cx.interner.entries c.in-Some.answer)
-      (result-later (solver_meaning g.H.GoalHandler.meaning) c.args.cx.now c.search.new.cx (record { alloc = c.search.new.cx.alloc; interner = c.apply_answer-applied.new.cx; handler = c.search.new.cx.handler; store = c.search.new.cx.store }) (keeps g.H.GoalHandler.meaning g.met.H.GoalHandler.lawful.world_kept c.search.new.cx (record { alloc = c.search.new.cx.alloc; interner = c.apply_answer-applied.new.cx; handler = c.search.new.cx.handler; store = c.search.new.cx.store }) c.search.ensures.ready (later g.H.GoalHandler.meaning.IsReady g.met.H.GoalHandler.lawful.ready_kept c.search.new.cx (record { alloc = c.search.new.cx.alloc; interner = c.apply_answer-applied.new.cx; handler = c.search.new.cx.handler; store = c.search.new.cx.store }) c.search.ensures.ready refl refl c.apply_answer-applied.ensures.keeps c.lawful.ensures)) c.args.cache.now c.search.new.cache c.search.ensures.cache c.args.graph.now c.search.new.graph (asked_in c.args.mode c.args.cx.now.interner.entries c.args.table.now c.args.goal.now) (Some (answer_trees c.search.new.cx.interner.entries c.in-Some.answer))
+      (result-later (solver_meaning g.H.GoalHandler.meaning) c.args.cx.now c.search.new.cx (record { alloc = c.search.new.cx.alloc; interner = c.apply_answer-applied.new.cx; handler = c.search.new.cx.handler; store = c.search.new.cx.store }) (keeps g.H.GoalHandler.meaning g.met.H.GoalHandler.lawful.world_kept c.search.new.cx (record { alloc = c.search.new.cx.alloc; interner = c.apply_answer-applied.new.cx; handler = c.search.new.cx.handler; store = c.search.new.cx.store }) c.search.ensures.ready (later g.H.GoalHandler.meaning.IsReady g.met.H.GoalHandler.lawful.ready_kept c.search.new.cx (record { alloc = c.search.new.cx.alloc; interner = c.apply_answer-applied.new.cx; handler = c.search.new.cx.handler; store = c.search.new.cx.store }) c.search.ensures.ready refl refl c.apply_answer-applied.ensures.keeps c.lawful.ensures c.apply_answer-applied.ensures.limit)) c.args.cache.now c.search.new.cache c.search.ensures.cache c.args.graph.now c.search.new.graph (asked_in c.args.mode c.args.cx.now.interner.entries c.args.table.now c.args.goal.now) (Some (answer_trees c.search.new.cx.interner.entries c.in-Some.answer))
       (result-before (solver_meaning g.H.GoalHandler.meaning) c.args.cx.now c.ask.new.cx (keeps g.H.GoalHandler.meaning g.met.H.GoalHandler.lawful.world_kept c.args.cx.now c.ask.new.cx c.requires.ready c.ask.ensures.advances) (goal_of c.ask.new.cx c.in_ok-asked.asked.input) (asked_in c.args.mode c.args.cx.now.interner.entries c.args.table.now c.args.goal.now) c.in_ok-asked.ensures.input.1 c.args.graph.now c.search.new.graph c.args.cache.now c.requires.cache c.search.new.cache c.search.new.cx (result_read c.search.new.cx.interner.entries c.in_ok-answer.field-0) (Some (answer_trees c.search.new.cx.interner.entries c.in-Some.answer)) (ap (result_read c.search.new.cx.interner.entries) c.in-Some.is) c.in_ok-answer.ensures.found))
       (same-shortage {a = answer_trees c.search.new.cx.interner.entries c.in-Some.answer} (table-kept c.args.cx.now.interner.entries c.search.new.cx.interner.entries k c.args.table.now c.requires.table) (values-are c.search.new.cx.interner.entries c.search.ensures.ready.lawful c.deref.result.now goal_is v.args v.leaves v.labels_are) refl h))
       (c.in-Err.ensures.full (ap Err (out-of-numbers c.in-Err.error (sym c.from.ensures ∙ err-is _ _ n))));

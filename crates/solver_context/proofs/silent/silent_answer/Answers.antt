@@ -20,13 +20,13 @@ pub returns-in_err-response-clause-advances : goal.returns-in_err-response-claus
 returns-in_err-response-clause-advances g c =
     let cx = c.args.cx.now in
     let mid : SolverCx g.row.H.Denot = record cx { interner = c.response_no_constraints_raw-made.new.cx } in
-    later g.H.GoalHandler.meaning.IsReady g.met.H.GoalHandler.lawful.ready_kept cx mid c.requires.0 refl refl c.response_no_constraints_raw-made.ensures.keeps c.lawful.ensures
+    later g.H.GoalHandler.meaning.IsReady g.met.H.GoalHandler.lawful.ready_kept cx mid c.requires.0 refl refl c.response_no_constraints_raw-made.ensures.keeps c.lawful.ensures c.response_no_constraints_raw-made.ensures.limit
 
 pub keep_answer-requires-clause-ready : goal.keep_answer-requires-clause-ready
 keep_answer-requires-clause-ready g c =
     let cx = c.args.cx.now in
     let mid : SolverCx g.row.H.Denot = record cx { interner = c.response_no_constraints_raw-made.new.cx } in
-    (later g.H.GoalHandler.meaning.IsReady g.met.H.GoalHandler.lawful.ready_kept cx mid c.requires.0 refl refl c.response_no_constraints_raw-made.ensures.keeps c.lawful.ensures).ready
+    (later g.H.GoalHandler.meaning.IsReady g.met.H.GoalHandler.lawful.ready_kept cx mid c.requires.0 refl refl c.response_no_constraints_raw-made.ensures.keeps c.lawful.ensures c.response_no_constraints_raw-made.ensures.limit).ready
 
 pub keep_answer-requires-clause-fits : goal.keep_answer-requires-clause-fits
 keep_answer-requires-clause-fits g c =

@@ -1,5 +1,5 @@
 use Rattle.std.proofs.Common.{◌≡◌, ◌∙◌, true, refl, sym, ap, subst, length}
-use Rattle.goal_frames.specs.Stores.{kept_inputs, kept_responses, limit_of}
+use Rattle.goal_frames.specs.Stores.{kept_inputs, kept_responses}
 use Rattle.std.specs.Prelude.{IfOk}
 use Rattle.type_terms.specs.Kinds.{ArgsHeld}
 use Rattle.declarations.specs.Merges.{Each}
@@ -12,18 +12,18 @@ use Rattle.sessions.specs.Checking.{rules_in}
 use Rattle.sessions.specs.Sessions.{IsSolvingOf}
 use Rattle.sessions.specs.Shown.{AreProofOfQuestion}
 use Rattle.sessions.specs.Subjects.{Subject, AsksProof, StaysOn}
-use Rattle.sessions.proofs.Keeping.{session-kept, session-rests}
+use Rattle.sessions.proofs.Keeping.{session-kept, session-rests, limits-stay}
 use Rattle.sessions.proofs.RightAnswers.{is-asked}
 use Rattle.sessions.proofs.ShownProofs.{shown-proof}
 use Rattle.sessions.proofs.session.Session.is_proof_of.Goals as goal
 
 pub is_proof_of_question-requires-clause-ready : goal.is_proof_of_question-requires-clause-ready
-is_proof_of_question-requires-clause-ready c = c.self.invariant.rest.ready
+is_proof_of_question-requires-clause-ready c = c.self.invariant.session.rest.ready
 
 pub is_proof_of_question-requires-clause-question : goal.is_proof_of_question-requires-clause-question
 is_proof_of_question-requires-clause-question c =
     let i = c.self.inside in
-    is-asked i.workspace.now i.crate_id.index i.limits.depth i.cx i.graph i.cache c.self.invariant c.args.number
+    is-asked i.workspace.now i.crate_id.index i.limits.depth i.cx i.graph i.cache c.self.invariant.session c.args.number
     (subst (λ (s : Subject). (q : Question) × AsksProof s.declarations s.of_crate c.args.number q) (sym c.self.view_is) c.requires.question)
 
 pub is_proof_of_question-requires-clause-values : goal.is_proof_of_question-requires-clause-values
@@ -36,9 +36,12 @@ pub invariant_of-self : goal.invariant_of-self
 invariant_of-self c =
     let i = c.self.inside in
     let next = c.is_proof_of_question.new.cx in
-    session-kept i.workspace.now i.crate_id.index i.limits.depth i.cx i.graph i.cache c.self.invariant next i.graph i.cache
-    (c.rest_laws.ensures.meaning i.cx next c.self.invariant.rest.ready c.is_proof_of_question.ensures.advances)
-    (c.rest_laws.ensures.rest i.graph.root_depth i.cx next i.graph i.cache (session-rests i.workspace.now i.crate_id.index i.limits.depth i.cx i.graph i.cache c.self.invariant) c.is_proof_of_question.ensures.advances)
+    record {
+      session = session-kept i.workspace.now i.crate_id.index i.limits.depth i.cx i.graph i.cache c.self.invariant.session next i.graph i.cache
+          (c.rest_laws.ensures.meaning i.cx next c.self.invariant.session.rest.ready c.is_proof_of_question.ensures.advances)
+          (c.rest_laws.ensures.rest i.graph.root_depth i.cx next i.graph i.cache (session-rests i.workspace.now i.crate_id.index i.limits.depth i.cx i.graph i.cache c.self.invariant.session) c.is_proof_of_question.ensures.advances);
+      limits = limits-stay i.limits.handles i.cx c.is_proof_of_question.new.cx c.self.invariant.limits c.is_proof_of_question.ensures.advances.limits;
+    }
 
 pub returns-clause-proof : goal.returns-clause-proof
 returns-clause-proof c =
@@ -48,15 +51,15 @@ returns-clause-proof c =
     let ss = c.args.steps.now in
     subst (λ (s : Subject). (q : Question) → AsksProof s.declarations s.of_crate c.args.number q → IfOk c.is_proof_of_question.result (λ b. b ≡ true → AreProofOfQuestion s.declarations q s.terms ss)) c.self.view_is
     (λ q asks.
-    let of = subst (λ k. IsSolvingOf d k (solving_of es i.cx.handler.declarations)) (sym asks.asks.asker) c.self.invariant.solving in
+    let of = subst (λ k. IsSolvingOf d k (solving_of es i.cx.handler.declarations)) (sym asks.asks.asker) c.self.invariant.session.solving in
     mapped _ _ c.is_proof_of_question.result
     (λ b shown t.
-    shown-proof d c.self.invariant.text c.args.number q asks.asks.question (solving_of es i.cx.handler.declarations) of (rules_in i.cx)
-    (c.self.invariant.view.rules ∙ ap (rules_seen_from d) (sym asks.asks.asker)) es ss (shown t))
+    shown-proof d c.self.invariant.session.text c.args.number q asks.asks.question (solving_of es i.cx.handler.declarations) of (rules_in i.cx)
+    (c.self.invariant.session.view.rules ∙ ap (rules_seen_from d) (sym asks.asks.asker)) es ss (shown t))
     (c.is_proof_of_question.ensures.proof q asks.asks.question))
 
 pub returns-clause-stays : goal.returns-clause-stays
 returns-clause-stays c =
     let i = c.self.inside in
-    subst (λ (s : Subject). StaysOn s (record { declarations = i.workspace.now; of_crate = i.crate_id.index; depth = i.limits.depth; handles = i.limits.handles; terms = c.is_proof_of_question.new.cx.interner.entries; term_limit = c.is_proof_of_question.new.cx.interner.limit; goals = length (kept_inputs c.is_proof_of_question.new.cx.store); answers = length (kept_responses c.is_proof_of_question.new.cx.store); goal_limit = limit_of c.is_proof_of_question.new.cx.store; frames = i.graph.frames })) c.self.view_is
+    subst (λ (s : Subject). StaysOn s (record { declarations = i.workspace.now; of_crate = i.crate_id.index; depth = i.limits.depth; handles = i.limits.handles; terms = c.is_proof_of_question.new.cx.interner.entries; goals = length (kept_inputs c.is_proof_of_question.new.cx.store); answers = length (kept_responses c.is_proof_of_question.new.cx.store); frames = i.graph.frames })) c.self.view_is
     (record { declarations = refl; of_crate = refl; depth = refl; handles = refl; terms = c.is_proof_of_question.ensures.advances.entries })

@@ -25,19 +25,19 @@ invariant_of-result c =
     let cx = c.new-cx.result in
     let view = c.in_ok-declarations.ensures in
     record {
-      text = c.requires.parsed;
-      declared = c.requires.declared;
-      view = solves-view c.args.workspace.now c.args.crate_id.index es decls cx (ap (λ (t : Terms). t.entries) c.new-cx.ensures.interner)
-          (ap (λ (h : Solver). h.declarations) c.new-cx.ensures.handler ∙ c.new-solver.ensures) view.written view.rules view.local;
-      solving = solves-seen c.args.workspace.now c.args.crate_id.index es decls cx (ap (λ (t : Terms). t.entries) c.new-cx.ensures.interner)
-          (ap (λ (h : Solver). h.declarations) c.new-cx.ensures.handler ∙ c.new-solver.ensures)
-          (record { written = view.written; structs = view.struct_sorts; traits = view.trait_sorts; impls = view.impl_sorts }) view.local;
-      rest = solver-rests-first c.args.limits.depth cx c.in_ok-graph.graph c.in_ok-cache.cache c.in_ok-graph.ensures c.in_ok-cache.ensures
-          (c.new-cx.ensures.ready (subst (AreReadyDeclarations es) (sym c.new-solver.ensures) view.ready));
+      session = record {
+        text = c.requires.parsed;
+        declared = c.requires.declared;
+        view = solves-view c.args.workspace.now c.args.crate_id.index es decls cx (ap (λ (t : Terms). t.entries) c.new-cx.ensures.interner)
+            (ap (λ (h : Solver). h.declarations) c.new-cx.ensures.handler ∙ c.new-solver.ensures) view.written view.rules view.local;
+        solving = solves-seen c.args.workspace.now c.args.crate_id.index es decls cx (ap (λ (t : Terms). t.entries) c.new-cx.ensures.interner)
+            (ap (λ (h : Solver). h.declarations) c.new-cx.ensures.handler ∙ c.new-solver.ensures)
+            (record { written = view.written; structs = view.struct_sorts; traits = view.trait_sorts; impls = view.impl_sorts }) view.local;
+        rest = solver-rests-first c.args.limits.depth cx c.in_ok-graph.graph c.in_ok-cache.cache c.in_ok-graph.ensures c.in_ok-cache.ensures
+            (c.new-cx.ensures.ready (subst (AreReadyDeclarations es) (sym c.new-solver.ensures) view.ready));
+      };
+      limits = record {
+        terms = ap (λ (t : Terms). t.limit) c.new-cx.ensures.interner ∙ c.lower_view.ensures.limit ∙ c.new-interner.ensures.limit;
+        kept = c.new-cx.ensures.limit;
+      };
     }
-
-pub returns-clause-term_limit : goal.returns-clause-term_limit
-returns-clause-term_limit c = ap (λ (t : Terms). t.limit) c.new-cx.ensures.interner ∙ c.lower_view.ensures.limit ∙ c.new-interner.ensures.limit
-
-pub returns-clause-goal_limit : goal.returns-clause-goal_limit
-returns-clause-goal_limit c = c.new-cx.ensures.limit

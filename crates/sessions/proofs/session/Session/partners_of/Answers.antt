@@ -8,11 +8,11 @@ use Rattle.sessions.proofs.Posing.{over-ok}
 use Rattle.sessions.proofs.session.Session.partners_of.Goals as goal
 
 pub partners_of-requires-clause-held : goal.partners_of-requires-clause-held
-partners_of-requires-clause-held c = c.self.invariant.rest.ready.handler.held
+partners_of-requires-clause-held c = c.self.invariant.session.rest.ready.handler.held
 
 pub partners_of-requires-clause-listed : goal.partners_of-requires-clause-listed
 partners_of-requires-clause-listed c =
-    subst (λ (V : World). ListsImpls c.self.inside.cx.interner.entries V c.args.impls.now) (sym c.self.invariant.view.rules) (subst (λ (s : Subject). ListsSeen s c.args.impls.now) (sym c.self.view_is) c.requires)
+    subst (λ (V : World). ListsImpls c.self.inside.cx.interner.entries V c.args.impls.now) (sym c.self.invariant.session.view.rules) (subst (λ (s : Subject). ListsSeen s c.args.impls.now) (sym c.self.view_is) c.requires)
 
 pub returns : goal.returns
 returns c =
@@ -20,4 +20,4 @@ returns c =
     let k = c.args.later.index in
     subst (λ (s : Subject). IfOk c.partners_of.result (λ ids. HavePartnersSeen s k ids.items)) c.self.view_is
     (over-ok c.partners_of.result
-    (λ ids have x y p e m. have x y (pair-here i.workspace.now i.crate_id.index i.limits.depth i.cx i.graph i.cache c.self.invariant k y.name x y (record { pair = p; later = e; earlier = refl })).pair e m) c.partners_of.ensures)
+    (λ ids have x y p e m. have x y (pair-here i.workspace.now i.crate_id.index i.limits.depth i.cx i.graph i.cache c.self.invariant.session k y.name x y (record { pair = p; later = e; earlier = refl })).pair e m) c.partners_of.ensures)

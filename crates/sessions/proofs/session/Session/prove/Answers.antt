@@ -1,11 +1,11 @@
 use Rattle.std.proofs.Common.{[], refl, sym, subst, length, ◌≡◌, ◌⊎◌, Err}
-use Rattle.goal_frames.specs.Stores.{kept_inputs, kept_responses, limit_of}
+use Rattle.goal_frames.specs.Stores.{kept_inputs, kept_responses}
 use Rattle.std.specs.Prelude.{IfOk}
 use Rattle.sessions.specs.Given.{answer_in}
 use Rattle.sessions.specs.Promises.{IsProved, view_in}
 use Rattle.sessions.specs.Subjects.{Subject, AsksProof, StaysOn}
 use Rattle.text_definitions.specs.Declarations.{Question}
-use Rattle.sessions.proofs.Keeping.{session-kept, session-rests}
+use Rattle.sessions.proofs.Keeping.{session-kept, session-rests, limits-stay}
 use Rattle.sessions.proofs.RightAnswers.{is-asked, clauses-apply, answered-rightly}
 use Rattle.candidate_assembly.specs.Fitting.{solving_of}
 use Rattle.candidate_assembly.specs.SolverMeaning.{solver_by_view}
@@ -25,32 +25,35 @@ use Rattle.sessions.proofs.session.Session.prove.Goals as goal
 pub prove_question-requires-clause-rest : goal.prove_question-requires-clause-rest
 prove_question-requires-clause-rest c =
     let i = c.self.inside in
-    session-rests i.workspace.now i.crate_id.index i.limits.depth i.cx i.graph i.cache c.self.invariant
+    session-rests i.workspace.now i.crate_id.index i.limits.depth i.cx i.graph i.cache c.self.invariant.session
 
 pub prove_question-requires-clause-question : goal.prove_question-requires-clause-question
 prove_question-requires-clause-question c =
     let i = c.self.inside in
-    is-asked i.workspace.now i.crate_id.index i.limits.depth i.cx i.graph i.cache c.self.invariant c.args.number
+    is-asked i.workspace.now i.crate_id.index i.limits.depth i.cx i.graph i.cache c.self.invariant.session c.args.number
     (subst (λ (s : Subject). (q : Question) × AsksProof s.declarations s.of_crate c.args.number q) (sym c.self.view_is) c.requires)
 
 pub prove_question-requires-clause-applied : goal.prove_question-requires-clause-applied
 prove_question-requires-clause-applied c =
     let i = c.self.inside in
-    clauses-apply i.workspace.now i.crate_id.index i.limits.depth i.cx i.graph i.cache c.self.invariant c.args.number c.clauses_apply.ensures.solved
+    clauses-apply i.workspace.now i.crate_id.index i.limits.depth i.cx i.graph i.cache c.self.invariant.session c.args.number c.clauses_apply.ensures.solved
     (subst (λ (s : Subject). (q : Question) × AsksProof s.declarations s.of_crate c.args.number q) (sym c.self.view_is) c.requires)
 
 pub invariant_of-self : goal.invariant_of-self
 invariant_of-self c =
     let i = c.self.inside in
     let x = c.prove_question.new in
-    session-kept i.workspace.now i.crate_id.index i.limits.depth i.cx i.graph i.cache c.self.invariant x.cx x.graph x.cache c.prove_question.ensures.solving c.prove_question.ensures.rest
+    record {
+      session = session-kept i.workspace.now i.crate_id.index i.limits.depth i.cx i.graph i.cache c.self.invariant.session x.cx x.graph x.cache c.prove_question.ensures.solving c.prove_question.ensures.rest;
+      limits = limits-stay i.limits.handles i.cx c.prove_question.new.cx c.self.invariant.limits c.prove_question.ensures.limits;
+    }
 
 pub returns-clause-answer : goal.returns-clause-answer
 returns-clause-answer c =
     let i = c.self.inside in
     subst (λ (s : Subject). (q : Question) → AsksProof s.declarations s.of_crate c.args.number q → IfOk c.prove_question.result (λ a. IsProved s.depth s.declarations q (answer_in c.prove_question.new.cx.interner.entries a))) c.self.view_is
     (λ q asks.
-    answered-rightly i.workspace.now i.crate_id.index i.limits.depth i.cx i.graph i.cache c.self.invariant c.args.number c.yes_is_proved.ensures c.other_answers_are_right.ensures q asks
+    answered-rightly i.workspace.now i.crate_id.index i.limits.depth i.cx i.graph i.cache c.self.invariant.session c.args.number c.yes_is_proved.ensures c.other_answers_are_right.ensures q asks
     c.prove_question.new.cx.interner.entries c.prove_question.result c.prove_question.ensures.answer)
 
 pub returns-clause-held : goal.returns-clause-held
@@ -59,27 +62,27 @@ returns-clause-held c = c.prove_question.ensures.held
 pub returns-clause-stays : goal.returns-clause-stays
 returns-clause-stays c =
     let i = c.self.inside in
-    subst (λ (s : Subject). StaysOn s (record { declarations = i.workspace.now; of_crate = i.crate_id.index; depth = i.limits.depth; handles = i.limits.handles; terms = c.prove_question.new.cx.interner.entries; term_limit = c.prove_question.new.cx.interner.limit; goals = length (kept_inputs c.prove_question.new.cx.store); answers = length (kept_responses c.prove_question.new.cx.store); goal_limit = limit_of c.prove_question.new.cx.store; frames = c.prove_question.new.graph.frames })) c.self.view_is
+    subst (λ (s : Subject). StaysOn s (record { declarations = i.workspace.now; of_crate = i.crate_id.index; depth = i.limits.depth; handles = i.limits.handles; terms = c.prove_question.new.cx.interner.entries; goals = length (kept_inputs c.prove_question.new.cx.store); answers = length (kept_responses c.prove_question.new.cx.store); frames = c.prove_question.new.graph.frames })) c.self.view_is
     (record { declarations = refl; of_crate = refl; depth = refl; handles = refl; terms = c.prove_question.ensures.keeps })
 
 pub returns-clause-frames : goal.returns-clause-frames
 returns-clause-frames c =
     let i = c.self.inside in
     let x = c.prove_question.new in
-    let new : Subject = record { declarations = i.workspace.now; of_crate = i.crate_id.index; depth = i.limits.depth; handles = i.limits.handles; terms = x.cx.interner.entries; term_limit = x.cx.interner.limit; goals = length (kept_inputs x.cx.store); answers = length (kept_responses x.cx.store); goal_limit = limit_of x.cx.store; frames = x.graph.frames } in
+    let new : Subject = record { declarations = i.workspace.now; of_crate = i.crate_id.index; depth = i.limits.depth; handles = i.limits.handles; terms = x.cx.interner.entries; goals = length (kept_inputs x.cx.store); answers = length (kept_responses x.cx.store); frames = x.graph.frames } in
     let s = solving_of i.cx.interner.entries i.cx.handler.declarations in
     subst (λ (old : Subject). (q : Question) → AsksProof old.declarations old.of_crate c.args.number q → ProvesInFrames old q new) c.self.view_is
     (λ q asks.
-    question-within s (view_in i.workspace.now i.crate_id.index) (seen-erased-world i.cx.interner.entries i.cx.handler.declarations i.workspace.now i.crate_id.index c.self.invariant.view.written) i.limits.depth q i.graph.frames x.graph.frames
-    (subst (λ n. AskingsStartFrames solver_by_view s n (goal_asking s.view q) MAX_ASKINGS (table_trees [] (table_of (variable_kinds q))) i.graph.frames x.graph.frames) c.self.invariant.rest.depth
+    question-within s (view_in i.workspace.now i.crate_id.index) (seen-erased-world i.cx.interner.entries i.cx.handler.declarations i.workspace.now i.crate_id.index c.self.invariant.session.view.written) i.limits.depth q i.graph.frames x.graph.frames
+    (subst (λ n. AskingsStartFrames solver_by_view s n (goal_asking s.view q) MAX_ASKINGS (table_trees [] (table_of (variable_kinds q))) i.graph.frames x.graph.frames) c.self.invariant.session.rest.depth
     (c.prove_question.ensures.frames q asks.asks.question)))
 
 pub returns-clause-full : goal.returns-clause-full
 returns-clause-full c =
     let i = c.self.inside in
     let x = c.prove_question.new in
-    let new : Subject = record { declarations = i.workspace.now; of_crate = i.crate_id.index; depth = i.limits.depth; handles = i.limits.handles; terms = x.cx.interner.entries; term_limit = x.cx.interner.limit; goals = length (kept_inputs x.cx.store); answers = length (kept_responses x.cx.store); goal_limit = limit_of x.cx.store; frames = x.graph.frames } in
+    let new : Subject = record { declarations = i.workspace.now; of_crate = i.crate_id.index; depth = i.limits.depth; handles = i.limits.handles; terms = x.cx.interner.entries; goals = length (kept_inputs x.cx.store); answers = length (kept_responses x.cx.store); frames = x.graph.frames } in
     subst (λ (old : Subject). (q : Question) → AsksProof old.declarations old.of_crate c.args.number q → c.prove_question.result ≡ Err Full → IsAtLimit new ⊎ HasManyVariables q) c.self.view_is
     (λ q asks e.
     either (c.prove_question.ensures.full q asks.asks.question e)
-    (short-at-limit new x.cx (record { terms = refl; term_limit = refl; goals = refl; answers = refl; goal_limit = refl })) (λ m. m))
+    (short-at-limit new x.cx (record { terms = refl; goals = refl; answers = refl; limits = limits-stay i.limits.handles i.cx c.prove_question.new.cx c.self.invariant.limits c.prove_question.ensures.limits })) (λ m. m))

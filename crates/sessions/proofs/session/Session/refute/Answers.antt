@@ -1,5 +1,5 @@
 use Rattle.std.proofs.Common.{◌+◌, ◌≤◌, subst, length, ◌≡◌, ◌⊎◌, Err, refl}
-use Rattle.goal_frames.specs.Stores.{kept_inputs, kept_responses, limit_of}
+use Rattle.goal_frames.specs.Stores.{kept_inputs, kept_responses}
 use Rattle.std.specs.Prelude.{IfOk}
 use Rattle.candidate_assembly.specs.SolverMeaning.{solver_by_view}
 use Rattle.candidate_assembly.specs.Fitting.{solving_of}
@@ -13,7 +13,7 @@ use Rattle.sessions.specs.Promises.{IsRefutation, view_in}
 use Rattle.sessions.specs.Subjects.{Subject, AsksRefutation}
 use Rattle.text_definitions.specs.Declarations.{Question}
 use Rattle.sessions.proofs.Alone.{on-map}
-use Rattle.sessions.proofs.Keeping.{answered-exactly}
+use Rattle.sessions.proofs.Keeping.{answered-exactly, limits-stay}
 use Rattle.type_terms.specs.declared.Fault.TheVariants.{Full}
 use Rattle.sessions.specs.Shortages.{IsAtLimit, HasManyVariables}
 use Rattle.sessions.proofs.ShortCalls.{either, short-at-limit}
@@ -24,7 +24,7 @@ returns-clause-answer c =
     let i = c.self.inside in
     subst (λ (s : Subject). (q : Question) → AsksRefutation s.declarations s.of_crate c.args.number q → IfOk c.refute_question.result (λ a. IsRefutation s.depth s.declarations q (refutation_of a))) c.self.view_is
     (λ q asks.
-    answered-exactly i.workspace.now i.crate_id.index i.limits.depth i.cx i.graph i.cache c.self.invariant c.refutations_have_variables_alone.ensures c.args.number q asks c.refute_question.result
+    answered-exactly i.workspace.now i.crate_id.index i.limits.depth i.cx i.graph i.cache c.self.invariant.session c.refutations_have_variables_alone.ensures c.args.number q asks c.refute_question.result
     (record {
       made = on-map c.refute_question.result _ _ (λ f. f q asks.asks.question) c.refute_question.ensures.made;
       no = λ r own. c.refute_question.ensures.no r q asks.asks.question own;
@@ -35,20 +35,20 @@ returns-clause-answer c =
 pub returns-clause-frames : goal.returns-clause-frames
 returns-clause-frames c =
     let i = c.self.inside in
-    let new : Subject = record { declarations = i.workspace.now; of_crate = i.crate_id.index; depth = i.limits.depth; handles = i.limits.handles; terms = c.refute_question.new.cx.interner.entries; term_limit = c.refute_question.new.cx.interner.limit; goals = length (kept_inputs c.refute_question.new.cx.store); answers = length (kept_responses c.refute_question.new.cx.store); goal_limit = limit_of c.refute_question.new.cx.store; frames = c.refute_question.new.graph.frames } in
+    let new : Subject = record { declarations = i.workspace.now; of_crate = i.crate_id.index; depth = i.limits.depth; handles = i.limits.handles; terms = c.refute_question.new.cx.interner.entries; goals = length (kept_inputs c.refute_question.new.cx.store); answers = length (kept_responses c.refute_question.new.cx.store); frames = c.refute_question.new.graph.frames } in
     let s = solving_of i.cx.interner.entries i.cx.handler.declarations in
     subst (λ (old : Subject). (q : Question) → AsksRefutation old.declarations old.of_crate c.args.number q → RefutesInFrames old q new) c.self.view_is
     (λ q asks.
-    refutation-within s (view_in i.workspace.now i.crate_id.index) (seen-erased-world i.cx.interner.entries i.cx.handler.declarations i.workspace.now i.crate_id.index c.self.invariant.view.written) i.limits.depth q i.graph.frames new.frames
-    (subst (λ n. new.frames ≤ i.graph.frames + frames_for solver_by_view s n (asked_alone (unbound_reference q.asked))) c.self.invariant.rest.depth
+    refutation-within s (view_in i.workspace.now i.crate_id.index) (seen-erased-world i.cx.interner.entries i.cx.handler.declarations i.workspace.now i.crate_id.index c.self.invariant.session.view.written) i.limits.depth q i.graph.frames new.frames
+    (subst (λ n. new.frames ≤ i.graph.frames + frames_for solver_by_view s n (asked_alone (unbound_reference q.asked))) c.self.invariant.session.rest.depth
     (c.refute_question.ensures.frames q asks.asks.question)))
 
 pub returns-clause-full : goal.returns-clause-full
 returns-clause-full c =
     let i = c.self.inside in
     let x = c.refute_question.new in
-    let new : Subject = record { declarations = i.workspace.now; of_crate = i.crate_id.index; depth = i.limits.depth; handles = i.limits.handles; terms = x.cx.interner.entries; term_limit = x.cx.interner.limit; goals = length (kept_inputs x.cx.store); answers = length (kept_responses x.cx.store); goal_limit = limit_of x.cx.store; frames = x.graph.frames } in
+    let new : Subject = record { declarations = i.workspace.now; of_crate = i.crate_id.index; depth = i.limits.depth; handles = i.limits.handles; terms = x.cx.interner.entries; goals = length (kept_inputs x.cx.store); answers = length (kept_responses x.cx.store); frames = x.graph.frames } in
     subst (λ (old : Subject). (q : Question) → AsksRefutation old.declarations old.of_crate c.args.number q → c.refute_question.result ≡ Err Full → IsAtLimit new ⊎ HasManyVariables q) c.self.view_is
     (λ q asks e.
     either (c.refute_question.ensures.full q asks.asks.question e)
-    (short-at-limit new x.cx (record { terms = refl; term_limit = refl; goals = refl; answers = refl; goal_limit = refl })) (λ m. m))
+    (short-at-limit new x.cx (record { terms = refl; goals = refl; answers = refl; limits = limits-stay i.limits.handles i.cx c.refute_question.new.cx c.self.invariant.limits c.refute_question.ensures.limits })) (λ m. m))
