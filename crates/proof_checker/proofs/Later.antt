@@ -1,5 +1,5 @@
 -- Steps while the interner grows.
-use Rattle.std.proofs.Common.{◌≡◌, ℕ, zero, suc, List, [], ◌∷◌, ◌++◌, length, take, map, refl, ap, sym, ◌∙◌, subst, Bool, true, false, if◌then◌else◌, arith, Some}
+use Rattle.std.proofs.Common.{◌≡◌, ℕ, zero, suc, List, [], ◌∷◌, ◌++◌, length, take, refl, ap, sym, subst, Bool, true, false, if◌then◌else◌, arith, Some}
 use Rattle.std.specs.List.{slice_get}
 use Rattle.type_terms.specs.Worlds.{Reference}
 use Rattle.type_terms.specs.Erased.{erased_reference}
@@ -13,7 +13,7 @@ use Rattle.declarations.specs.Held.{ReferenceHeld}
 use Rattle.declarations.specs.Merges.{Each}
 use Rattle.declarations.proofs.Growth.{reference-same, reference-kept, each-kept}
 use Rattle.proof_checker.specs.declared.steps.Way.{Way}
-use Rattle.proof_checker.specs.declared.steps.Way.TheVariants.{Impl, Clause, Supertrait, Assumed}
+use Rattle.proof_checker.specs.declared.steps.Way.TheVariants.{Impl, Clause, Supertrait, BuiltIn, Assumed}
 use Rattle.proof_checker.specs.declared.steps.Step.{Step}
 use Rattle.proof_checker.specs.Steps.{term_of, terms_of, steps_say, assumed_by, assumed_in, StepHeld, WayHeld}
 
@@ -28,6 +28,7 @@ module _ (es fs : List Entry) (k : Keeps es fs) where
   way-kept (Impl i args) h = has-later es fs k args_lists args.0 h
   way-kept (Clause n) h = h
   way-kept (Supertrait n) h = h
+  way-kept BuiltIn h = h
   way-kept Assumed h = h
 
   step-kept : (s : Step) → StepHeld es s → StepHeld fs s
@@ -51,6 +52,7 @@ module _ (es fs : List Entry) (k : Keeps es fs) where
   one-assumed r (Impl i args) h = refl
   one-assumed r (Clause n) h = refl
   one-assumed r (Supertrait n) h = refl
+  one-assumed r BuiltIn h = refl
   one-assumed r Assumed h = ap (λ t. t ∷ []) (term-same r h)
 
   pub assumed-same : (ss : List Step) → Each (StepHeld es) ss → assumed_in fs ss ≡ assumed_in es ss

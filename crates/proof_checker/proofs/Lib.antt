@@ -10,3 +10,4 @@ pub mod Later
 pub mod Ends
 pub mod Above
 pub mod Moved
+pub mod TypeRows

@@ -13,3 +13,12 @@ pub both-some : {A F : Type 0} (P Q R : A → Type 0) (r : Result (Option A) F) 
 both-some P Q R (Ok (Some v)) f p q = f v p q
 both-some P Q R (Ok None) f p q = tt
 both-some P Q R (Err e) f p q = tt
+
+pub mapped-if : {A : Type 0} (P Q : A → Type 0) (o : Option A) → ((v : A) → P v → Q v) → IfSome o P → IfSome o Q
+mapped-if P Q (Some v) f p = f v p
+mapped-if P Q None f p = tt
+
+pub mapped-some : {A F : Type 0} (P Q : A → Type 0) (r : Result (Option A) F) → ((v : A) → P v → Q v) → IfOk r (λ o. IfSome o P) → IfOk r (λ o. IfSome o Q)
+mapped-some P Q (Ok (Some v)) f p = f v p
+mapped-some P Q (Ok None) f p = tt
+mapped-some P Q (Err e) f p = tt

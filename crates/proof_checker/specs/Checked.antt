@@ -1,7 +1,7 @@
 -- What is checked of one step.
-use Rattle.std.specs.Prelude.{◌≡◌, ℕ, take, List, [], if◌then◌else◌}
+use Rattle.std.specs.Prelude.{ℕ, take, List, [], if◌then◌else◌}
 use Rattle.type_terms.specs.Worlds.{World, Reference}
-use Rattle.type_terms.specs.Rules.{Rule, by_super, rules, is_coinductive}
+use Rattle.type_terms.specs.Rules.{Rule, BuiltIn, by_super, built_in, rules, is_coinductive}
 use Rattle.type_terms.specs.Rules as rule
 use Rattle.type_terms.specs.Proofs.{In, Every}
 use Rattle.type_terms.specs.Terms as terms
@@ -15,6 +15,10 @@ IsRuleByWay W E r w ps = In (let u : Rule = record { way = w; premises = ps } in
 -- Some supertrait of the where-clause at this place is the reference.
 abbrev pub IsSuperRule : World → List Reference → Reference → ℕ → Type 0
 IsSuperRule W E r k = (n : ℕ) × IsRuleByWay W E r (by_super k n) []
+
+-- Some built-in row concludes the reference from the premises.
+abbrev pub IsBuiltInRule : World → List Reference → Reference → List Reference → Type 0
+IsBuiltInRule W E r ps = (b : BuiltIn) × IsRuleByWay W E r (built_in b) ps
 
 -- By the step's way its premises conclude its reference, where rs are the references of all steps.
 pub record StepHasRule (W : World) (E : List Reference) (es : List terms.Entry) (rs : List Reference) (s : Step) : Type 0 where

@@ -3,7 +3,7 @@ use Rattle.std.specs.Prelude.{◌≡◌, ℕ, List, [], ◌∷◌, ◌++◌, map
 use Rattle.std.specs.List.{slice_get, flat_map}
 use Rattle.type_terms.specs.Erased.{erased_reference, erased_impl, IsCovered}
 use Rattle.type_terms.specs.Worlds.{World, Reference, ImplDecl}
-use Rattle.type_terms.specs.Rules.{by_impl, by_clause, by_super}
+use Rattle.type_terms.specs.Rules.{BuiltIn, by_impl, by_clause, by_super, built_in}
 use Rattle.type_terms.specs.Rules as rule
 use Rattle.type_terms.specs.Proofs.{ProofEntry, In, Stands, IsProof}
 use Rattle.type_terms.specs.Terms as terms
@@ -12,7 +12,7 @@ use Rattle.term_folds.specs.declared.predicate.TraitRef.{TraitRef}
 use Rattle.declarations.specs.Held.{ReferenceHeld}
 use Rattle.declarations.specs.Items.{Items, reference_in, written}
 use Rattle.proof_checker.specs.declared.steps.Way.{Way}
-use Rattle.proof_checker.specs.declared.steps.Way.TheVariants.{Impl, Clause, Supertrait, Assumed}
+use Rattle.proof_checker.specs.declared.steps.Way.TheVariants.{Impl, Clause, Supertrait, BuiltIn as ByBuiltIn, Assumed}
 use Rattle.proof_checker.specs.declared.steps.Step.{Step}
 
 -- A reference without lifetimes.
@@ -36,12 +36,13 @@ abbrev pub at_places : List Reference → List ℕ → List Reference
 at_places rs [] = []
 at_places rs (k ∷ ks) = as_list (slice_get rs k) ++ at_places rs ks
 
--- The step's way is this one of a rule. A step does not say which of a clause's supertraits its reference is; what is assumed is a
--- where-clause further on.
+-- The step's way is this one of a rule. A step does not say which of a clause's supertraits its reference is, or which built-in row
+-- concludes it; what is assumed is a where-clause further on.
 abbrev pub IsWayOf : Way → rule.Way → Type 0
 IsWayOf (Impl i args) w = w ≡ by_impl i.index
 IsWayOf (Clause k) w = w ≡ by_clause k
 IsWayOf (Supertrait k) w = (n : ℕ) × (w ≡ by_super k n)
+IsWayOf ByBuiltIn w = (b : BuiltIn) × (w ≡ built_in b)
 IsWayOf Assumed w = (k : ℕ) × (w ≡ by_clause k)
 
 -- The entry is what the step says, where rs are the references of all steps.

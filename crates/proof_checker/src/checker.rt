@@ -13,6 +13,7 @@ ghost use Rattle.proof_checker.specs.Checked.{StepHasRule, PremisesStand};
 ghost use Rattle.proof_checker.specs.Steps.{term_of, terms_of, steps_say, at_places, assumed_in, AreProof, AreProofOf, StepHeld, ParametersAreCovered};
 
 use crate::lifetimes::are_one;
+use crate::rows::by_built_in;
 use crate::rules::{by_clause, by_impl};
 use crate::steps::{Step, Way};
 use crate::supertraits::by_supertrait;
@@ -125,6 +126,12 @@ fn is_step(
             let found = by_supertrait(alloc, cx, declarations, clauses, step.reference, place)?;
             Ok(found && leaf)
         }
+        Way::BuiltIn => match by_built_in(alloc, cx, step.reference)? {
+            Some(premises) => {
+                premises_stand(alloc, cx, steps, allowed, &step.premises, &premises)
+            }
+            None => Ok(false),
+        },
         Way::Assumed => Ok(leaf),
     }
 }

@@ -3,6 +3,7 @@
 
 pub mod checker;
 mod lifetimes;
-mod rules;
+pub mod rows;
+pub mod rules;
 pub mod steps;
 mod supertraits;

@@ -13,14 +13,16 @@ pub enum Way {
     Clause(usize),
     /// A supertrait of the where-clause at this place, through any number of levels.
     Supertrait(usize),
+    /// A built-in rule: of `Sized`, but for structs, of `Copy`, `Clone`, `Tuple` or `FnPtr`.
+    BuiltIn,
     /// Nothing: the reference is taken for granted, and the proof is one under it as a further where-clause. So stands what no
-    /// rule of this list concludes, as a built-in rule.
+    /// rule of this list concludes, as another built-in rule.
     Assumed,
 }
 
 /// A reference, what concludes it, and the places of the steps that are its premises, in the order in which the rule asks them.
 ///
-/// The where-clauses of an impl are its premises; the other ways have none.
+/// The where-clauses of an impl are its premises, and what a built-in rule asks; the other ways have none.
 pub struct Step {
     pub reference: TraitRef,
     pub way: Way,

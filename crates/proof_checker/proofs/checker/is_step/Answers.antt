@@ -1,12 +1,12 @@
-use Rattle.std.proofs.Common.{◌≡◌, ◌++◌, true, [], refl, ap, sym, ◌∙◌, subst, take, Err}
-use Rattle.std.specs.Prelude.{IfSome}
-use Rattle.type_terms.specs.Worlds.{Reference}
+use Rattle.std.proofs.Common.{◌≡◌, ◌++◌, [], refl, ap, sym, ◌∙◌, subst, take, Err}
+use Rattle.std.specs.Prelude.{IfSome, List}
+use Rattle.type_terms.specs.Worlds.{World, Reference}
 use Rattle.type_terms.specs.Rules as rule
 use Rattle.type_terms.specs.Rules.{is_coinductive}
 use Rattle.type_terms.specs.Proofs.{In, Every}
 use Rattle.declarations.specs.Items.{declared}
 use Rattle.declarations.proofs.Bounded.{handed-on}
-use Rattle.proof_checker.specs.Checked.{IsRuleByWay}
+use Rattle.proof_checker.specs.Checked.{IsRuleByWay, IsBuiltInRule}
 use Rattle.proof_checker.specs.Steps.{term_of, terms_of, steps_say, at_places, assumed_in, IsWayOf, StepHeld}
 use Rattle.proof_checker.proofs.Results.{mapped, both}
 use Rattle.proof_checker.proofs.Places.{each-at}
@@ -81,6 +81,62 @@ returns-in-Some-clause-stand c =
       | else-is_coinductive w ↦ stand-before (is_coinductive W t) (sym co ∙ w.if-is_coinductive.false) n c.args.place rs ps w.allowed-is stand
     ])
     c.premises_stand.ensures.are c.premises_stand.ensures.stand
+
+-- ---- built-in rules
+pub returns-in_err-premises-in-BuiltIn-clause-full : goal.returns-in_err-premises-in-BuiltIn-clause-full
+returns-in_err-premises-in-BuiltIn-clause-full c = λ q.
+    let handed = c.from_residual-in_err-premises-in-BuiltIn in
+    handed-on handed.result handed.ensures.1 (λ p. c.in_err-premises-in-BuiltIn.ensures.full (ap Err p)) q
+
+pub premises_stand-requires-in-Some-2-clause-steps : goal.premises_stand-requires-in-Some-2-clause-steps
+premises_stand-requires-in-Some-2-clause-steps c = steps-kept c.args.cx.now.entries c.by_built_in.new.cx.entries c.by_built_in.ensures.keeps c.args.steps.now c.requires.steps
+
+pub by_built_in-requires : goal.by_built_in-requires
+by_built_in-requires c = (each-at (StepHeld c.args.cx.now.entries) c.args.steps.now c.args.place c.args.step.now c.requires.steps c.requires.step).0
+
+pub returns-in-Some-2-clause-rule : goal.returns-in-Some-2-clause-rule
+returns-in-Some-2-clause-rule c =
+    let es = c.args.cx.now.entries in
+    let fs = c.by_built_in.new.cx.entries in
+    let ss = c.args.steps.now in
+    let W = declared es c.args.declarations.now in
+    let E = terms_of es c.args.clauses.now ++ assumed_in es ss in
+    let r = term_of es c.args.step.now.reference in
+    let rs = steps_say es ss in
+    let ps = c.args.step.now.premises.items in
+    let same = say-same es fs c.by_built_in.ensures.keeps ss c.requires.steps in
+    let found = subst (λ o. IfSome o (λ v. (V : World) (F : List Reference) → IsBuiltInRule V F r (terms_of fs v.items))) c.in-Some-2.is c.in_ok-premises-in-BuiltIn.ensures.rule W E in
+    let way = rule.built_in found.0 in
+    mapped _ _ c.premises_stand-in-Some-2.result
+    (λ b are q.
+    let places : at_places rs ps ≡ terms_of fs c.in-Some-2.premises.items =
+    ap (λ l. at_places l ps) (sym same) ∙ ap (at_places (steps_say fs ss)) (sym c.deref-in-Some-2.ensures.value) ∙ are q ∙ ap (terms_of fs) c.deref-in-Some-2-2.ensures.value in
+    record { way = way; of_step = subst (λ w. IsWayOf w way) (sym c.in-BuiltIn.is) (found.0, refl); rule = subst (IsRuleByWay W E r way) (sym places) found.1 })
+    c.premises_stand-in-Some-2.ensures.are
+
+pub returns-in-Some-2-clause-stand : goal.returns-in-Some-2-clause-stand
+returns-in-Some-2-clause-stand c =
+    let es = c.args.cx.now.entries in
+    let fs = c.by_built_in.new.cx.entries in
+    let ss = c.args.steps.now in
+    let W = declared es c.args.declarations.now in
+    let t = c.args.step.now.reference.def_id.index in
+    let rs = steps_say es ss in
+    let ps = at_places rs c.args.step.now.premises.items in
+    let same = say-same es fs c.by_built_in.ensures.keeps ss c.requires.steps in
+    let n = c.if-is_coinductive.allowed in
+    let co = c.is_coinductive.ensures es in
+    both _ _ _ c.premises_stand-in-Some-2.result
+    (λ b are stands q.
+    let places : ps ≡ terms_of fs c.deref-in-Some-2-2.result.now =
+    ap (λ l. at_places l c.args.step.now.premises.items) (sym same) ∙ ap (at_places (steps_say fs ss)) (sym c.deref-in-Some-2.ensures.value) ∙ are q in
+    let stand : Every (λ (p : Reference). In p (take n rs)) ps =
+    subst (λ l. Every (λ (p : Reference). In p (take n l)) ps) same (subst (λ l. Every (λ (p : Reference). In p (take n (steps_say fs ss))) l) (sym places) (stands q)) in
+    elim c.if-is_coinductive.branch [
+      | then-is_coinductive w ↦ stand-all (is_coinductive W t) (sym co ∙ w.if-is_coinductive.true) n c.args.place rs ps (w.allowed-is ∙ sym (say-length es ss)) stand
+      | else-is_coinductive w ↦ stand-before (is_coinductive W t) (sym co ∙ w.if-is_coinductive.false) n c.args.place rs ps w.allowed-is stand
+    ])
+    c.premises_stand-in-Some-2.ensures.are c.premises_stand-in-Some-2.ensures.stand
 
 -- ---- where-clauses
 pub returns-then-found-clause-rule : goal.returns-then-found-clause-rule

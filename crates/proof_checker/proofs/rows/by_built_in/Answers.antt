@@ -1,0 +1,26 @@
+use Rattle.std.proofs.Common.{ap, sym, ◌∙◌, subst, Err}
+use Rattle.std.specs.Prelude.{IfSome}
+use Rattle.type_terms.specs.Rules.{asked}
+use Rattle.type_terms.specs.Terms.{trees_at}
+use Rattle.type_terms.specs.Trees.{erase}
+use Rattle.type_terms.specs.Worlds.{World}
+use Rattle.declarations.proofs.Bounded.{handed-on}
+use Rattle.proof_checker.specs.Checked.{IsBuiltInRule}
+use Rattle.proof_checker.specs.Rows.{HasRow, each_asked_of}
+use Rattle.proof_checker.proofs.TypeRows.{built-in-rule}
+use Rattle.proof_checker.proofs.rows.by_built_in.Goals as goal
+
+pub returns-in_err-premises-in-Some-2-clause-full : goal.returns-in_err-premises-in-Some-2-clause-full
+returns-in_err-premises-in-Some-2-clause-full c = λ q.
+    let handed = c.from_residual-in_err-premises-in-Some-2 in
+    handed-on handed.result handed.ensures.1 (λ p. c.in_err-premises-in-Some-2.ensures.full (ap Err p)) q
+
+pub returns-in_ok-premises-in-Some-2-clause-rule : goal.returns-in_ok-premises-in-Some-2-clause-rule
+returns-in_ok-premises-in-Some-2-clause-rule c = λ W E.
+    let es = c.args.cx.now.entries in
+    let t = c.args.reference.def_id.index in
+    let s = erase (trees_at es c.in-Some.self_ty.0) in
+    let row = subst (λ o. IfSome o (λ v. (V : World) → HasRow V t s (each_asked_of es t v.items))) c.in-Some-2.is c.in_ok-tys.ensures.row in
+    let by = built-in-rule W E t s (each_asked_of es t c.in-Some-2.tys.items) (row W) in
+    subst (IsBuiltInRule W E (asked t (erase (trees_at es c.args.reference.args.0)))) (sym (c.in_ok-premises-in-Some-2.ensures.are ∙ ap (each_asked_of es t) c.deref.ensures.value))
+    (subst (λ z. IsBuiltInRule W E (asked t (erase z)) (each_asked_of es t c.in-Some-2.tys.items)) (sym c.in-Some.ensures.is) by)

@@ -1,0 +1,22 @@
+use Rattle.std.proofs.Common.{ap, ◌∙◌, arith, Err}
+use Rattle.type_terms.specs.Kept.{trees-is}
+use Rattle.type_terms.specs.Kinds.{args_trees}
+use Rattle.type_terms.specs.Rules.{asked}
+use Rattle.type_terms.specs.Terms.{args_lists, trees_at}
+use Rattle.type_terms.specs.Trees.{erase}
+use Rattle.type_terms.proofs.FailFacts.{refused-term}
+use Rattle.type_terms.proofs.TreeLaws.{append-none}
+use Rattle.declarations.proofs.Bounded.{handed-on}
+use Rattle.proof_checker.proofs.rows.type_asked.Goals as goal
+
+pub returns-in_err-args-clause-full : goal.returns-in_err-args-clause-full
+returns-in_err-args-clause-full c = λ q.
+    let refused = c.in_err-args.ensures in
+    let handed = c.from_residual-in_err-args in
+    handed-on handed.result handed.ensures.1 (λ p. refused-term args_lists (omega arith) (refused.full (ap Err p)) refused.limit refused.refused) q
+
+pub returns-clause-is : goal.returns-clause-is
+returns-clause-is c =
+    let old = c.args.cx.now.entries in
+    let new = c.mk_args.new.self.entries in
+    ap (λ t. asked c.args.def_id.index (erase t)) (trees-is new args_lists c.in_ok-args.args.0 _ c.in_ok-args.ensures.is ∙ ap (args_trees old) c.in_ok-list.ensures.items ∙ append-none (trees_at old c.args.ty.0))

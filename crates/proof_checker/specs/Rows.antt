@@ -1,0 +1,32 @@
+-- What built-in rows ask of types, without lifetimes.
+use Rattle.std.specs.Prelude.{◌≡◌, ℕ, List, [], ◌∷◌, map}
+use Rattle.type_terms.specs.Proofs.{In}
+use Rattle.type_terms.specs.Rules.{Rule, Way, BuiltIn, built_in, asked, built_in_rules}
+use Rattle.type_terms.specs.Terms.{Entry, trees_at}
+use Rattle.type_terms.specs.Trees.{Trees, erase}
+use Rattle.type_terms.specs.Worlds.{World, Reference}
+use Rattle.type_terms.specs.declared.kinds.Ty.{Ty}
+
+-- Each of the types asked for the trait.
+abbrev pub each_asked_of : List Entry → ℕ → List Ty → List Reference
+each_asked_of es t tys = map (λ (ty : Ty). asked t (erase (trees_at es ty.0))) tys
+
+-- The way is by a built-in row.
+abbrev pub IsBuiltInWay : Way → Type 0
+IsBuiltInWay (built_in b) = Unit {0}
+IsBuiltInWay w = ⊥
+
+-- There is one rule, a built-in row with these premises.
+abbrev pub IsOneRow : List Rule → List Reference → Type 0
+IsOneRow (u ∷ []) ps = IsBuiltInWay u.way × (u.premises ≡ ps)
+IsOneRow us ps = ⊥
+
+-- A built-in row concludes the trait of the type from the premises.
+abbrev pub HasRow : World → ℕ → Trees → List Reference → Type 0
+HasRow V t s ps = (b : BuiltIn) × In (let u : Rule = record { way = built_in b; premises = ps } in u) (built_in_rules V (asked t s))
+
+-- The last type alone.
+abbrev pub last_type : List Ty → List Ty
+last_type [] = []
+last_type (t ∷ []) = t ∷ []
+last_type (t ∷ u ∷ ts) = last_type (u ∷ ts)
