@@ -3,3 +3,4 @@ mod Responses
 mod Readying
 mod Questions
 mod Rows
+mod BothGoals

@@ -51,7 +51,7 @@ struct Wanted<'a> {
 pub type Row = (&'static [u8], Option<Told>);
 
 /// The question at a place in canonical form, without its where-clauses, and these.
-fn question(
+pub(crate) fn question(
     alloc: Global,
     cx: &mut Interner,
     workspace: &Workspace,

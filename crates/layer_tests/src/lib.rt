@@ -11,6 +11,8 @@ mod candidates;
 #[cfg(test)]
 mod contexts;
 #[cfg(test)]
+mod first_steps;
+#[cfg(test)]
 mod goals;
 #[cfg(test)]
 mod merges;
@@ -32,6 +34,8 @@ mod stores;
 mod texts;
 #[cfg(test)]
 mod usages;
+#[cfg(test)]
+mod views;
 #[cfg(test)]
 mod walks;
 #[cfg(test)]

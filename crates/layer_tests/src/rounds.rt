@@ -101,3 +101,43 @@ fn a_value_is_applied_and_its_goal_asked_again(rt: HostRuntime) -> Result<(), Ev
     assert!(rt; asked_again(rt.alloc(), &mut cx)? == [true, true]);
     Ok(())
 }
+
+/// An evaluation to which the goals that `u8` and `bool` are `Show` are added together.
+fn begun_with_both(alloc: Global, cx: &mut Interner) -> Result<EvalCtxt, Fault>
+    ensures { IfOk result (λ context. IsReadyContext cx.new.entries context) }
+{
+    let mut context = begun(alloc, cx)?;
+    let first = shown(alloc, cx, Sample::Byte)?;
+    let second = shown(alloc, cx, Sample::Bool)?;
+    context.add_goals(GoalSource::Misc, vec![in alloc; first, second]?)?;
+    Ok(context)
+}
+
+/// How sure the evaluation's answer is, or none where a reply is waited for.
+fn make_response(cx: &mut Interner, context: &mut EvalCtxt) -> Result<Option<Certainty>, EvalError>
+    requires { IsReadyContext cx.old.entries context.old }
+    ensures { IsReadyContext cx.new.entries context.new }
+{
+    match context.evaluate_added_goals_and_make_canonical_response(cx, Certainty::Yes)? {
+        EvalStep::Ready(answer) => Ok(Some(answer.certainty)),
+        EvalStep::Ask(_, _) => Ok(None),
+    }
+}
+
+/// What the evaluation answers before any reply, after one by which a goal holds, and after two.
+fn asked_in_turn(alloc: Global, cx: &mut Interner) -> Result<[Option<Certainty>; 3], EvalError> {
+    let mut context = begun_with_both(alloc, cx)?;
+    let first = make_response(cx, &mut context)?;
+    hear(cx, &mut context, holds(alloc))?;
+    let second = make_response(cx, &mut context)?;
+    hear(cx, &mut context, holds(alloc))?;
+    Ok([first, second, make_response(cx, &mut context)?])
+}
+
+#[test]
+fn goals_added_together_are_asked_one_after_the_other(rt: HostRuntime) -> Result<(), EvalError> {
+    let mut cx = Interner::new(rt.alloc(), 100);
+    let wanted = [None, None, Some(Certainty::Yes)];
+    assert!(rt; asked_in_turn(rt.alloc(), &mut cx)? == wanted);
+    Ok(())
+}

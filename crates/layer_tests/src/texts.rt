@@ -47,7 +47,7 @@ fn first_asker(workspace: &Workspace) -> Option<CrateId> {
 }
 
 /// The crate that asks, if it is one of the text's.
-fn asker(workspace: &Workspace) -> Result<CrateId, Fault>
+pub(crate) fn asker(workspace: &Workspace) -> Result<CrateId, Fault>
     ensures { IfOk result (λ asker. asker.index < length workspace.now.crates) }
 {
     match first_asker(workspace) {
