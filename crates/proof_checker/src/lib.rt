@@ -6,4 +6,4 @@ mod lifetimes;
 pub mod rows;
 pub mod rules;
 pub mod steps;
-mod supertraits;
+pub mod supertraits;

@@ -123,7 +123,7 @@ pub(crate) fn by_impl(
 }
 
 /// Whether the where-clause at this place concludes the reference.
-pub(crate) fn by_clause(
+pub fn by_clause(
     alloc: Global,
     cx: &mut Interner,
     clauses: &[TraitRef],

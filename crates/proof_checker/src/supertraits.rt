@@ -99,7 +99,7 @@ fn is_supertrait_of(
 }
 
 /// Whether the reference is found among the supertraits of the where-clause at this place.
-pub(crate) fn by_supertrait(
+pub fn by_supertrait(
     alloc: Global,
     cx: &mut Interner,
     declarations: &Declarations,

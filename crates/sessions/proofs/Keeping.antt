@@ -9,14 +9,16 @@ use Rattle.type_terms.specs.declared.Fault.{Fault}
 use Rattle.infer_table.specs.Responses.{AnswerTrees}
 use Rattle.type_terms.specs.Terms.{Entry}
 use Rattle.search_graph.specs.Cache.{AreJustified}
+use Rattle.search_graph.specs.Meaning as Search
 use Rattle.search_graph.specs.SearchState.{SearchState}
 use Rattle.declarations.specs.Items.{Items, written, declared}
 use Rattle.infer_table.specs.Canonical.{canonical_form}
+use Rattle.goal_frames.specs.Stores.{limit_of}
 use Rattle.goal_frames.specs.Handlers.{same_answer, applies_always}
 use Rattle.solver_context.specs.declared.context.SolverCx.{SolverCx}
 use Rattle.solver_context.specs.Contexts.{entries_of, IsReady as IsReadyContext, KeepsLimits}
 use Rattle.solver_context.specs.Evaluations.{IsFoundBySearch}
-use Rattle.solver_context.specs.Searching.{solver_meaning}
+use Rattle.solver_context.specs.Searching.{solver_meaning, of_limits}
 use Rattle.text_definitions.specs.Declarations.{Declarations, Question}
 use Rattle.view_lowering.specs.Plain.{plainly_seen_from, unbound_reference}
 use Rattle.view_lowering.specs.Seen.{rules_seen_from}
@@ -48,6 +50,10 @@ limits-stay handles c d h k = record { terms = k.terms ∙ h.terms; kept = k.kep
 
 -- ---- any handler
 module _ {Handler : Type 0} (handler : HandlerMeaning Handler) where
+  -- a search leaves the limits
+  pub limits-searched : (c d : SolverCx Handler) → Search.Keeps (solver_meaning handler) c d → KeepsLimits c d
+  limits-searched c d k = let same = k.held (of_limits c.interner.limit (limit_of c.store)) (refl, refl) in record { terms = same.0; kept = same.1 }
+
   pub resting-as-deep : (n : ℕ) (c : SolverCx Handler) (s : SearchState) (ks : Cached) → AreAtRest handler n c s ks → AreAtRest handler s.root_depth c s ks
   resting-as-deep n c s ks r = record { empty = r.empty; depth = refl; cached = r.cached; ready = r.ready }
 

@@ -15,7 +15,7 @@ use view_lowering::{LoweredQuestion, lower_question};
 use workspace::Workspace;
 
 /// A context that has grown means what it meant, and all stays at rest in it. It grows where its interner does.
-pub(crate) fn rest_laws<H: GoalHandler>()
+pub fn rest_laws<H: GoalHandler>()
     ensures rest { (depth : _) (c d : _) (s : _) (ks : _) → AreAtRest H.meaning depth c s ks → Advances H.meaning.IsReady c d
         → AreAtRest H.meaning depth d s ks }
     ensures meaning { (c d : _) → IsReady H.meaning.IsReady c → Advances H.meaning.IsReady c d → H.meaning.world d.handler d.interner.entries ≡ H.meaning.world c.handler c.interner.entries }
@@ -25,7 +25,7 @@ pub(crate) fn rest_laws<H: GoalHandler>()
 }
 
 /// The question with a number, as terms of the context. Errors are those of `lower_question`.
-pub(crate) fn lower_in<H: GoalHandler>(
+pub fn lower_in<H: GoalHandler>(
     cx: &mut SolverCx<H>,
     workspace: &Workspace,
     number: u32,

@@ -51,7 +51,7 @@ pub(crate) fn first_broken_header(
 
 /// What the impls of two numbers have in common, where the crate that asks has to compare them; `None` where it has not, or their
 /// headers have no common instance. Errors are those of `impl_intersection`.
-fn intersection_at(
+pub fn intersection_at(
     cx: &mut SolverCx<Solver>,
     later: ImplId,
     earlier: ImplId,

@@ -47,7 +47,7 @@ pub fn added_impls_break_no_user()
 }
 
 /// Whether users may rely on what the trait is not implemented for: it is fundamental, or auto.
-fn trait_is_relied_on(declarations: &Declarations, id: TraitId) -> bool
+pub fn trait_is_relied_on(declarations: &Declarations, id: TraitId) -> bool
     ensures { (es : List Entry) → let V = declared es declarations.now in result ≡ (trait_is (λ x. x.is_fundamental) V id.index || trait_is (λ x. x.is_auto) V id.index) }
 {
     match declarations.trait_def(id) {
@@ -83,7 +83,7 @@ fn first_breaking(cx: &Interner, declarations: &Declarations, impls: &[ImplDef])
 }
 
 /// The impls of the section with a number, as terms of the context. Errors are those of `lower_later`.
-fn added_impls(
+pub fn added_impls(
     cx: &mut SolverCx<Solver>,
     workspace: &Workspace,
     section: u32,

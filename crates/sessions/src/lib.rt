@@ -38,9 +38,12 @@ pub mod values;
 mod view;
 mod written;
 
+pub use applying::clauses_apply;
+pub use asked::{lower_in, rest_laws};
 pub use answers::{LaterAnswer, ProveAnswer, RefuteAnswer, SupersAnswer, Verdict};
+pub use checked::intersection_at;
 pub use impossible::is_impossible;
-pub use later::added_impls_break_no_user;
+pub use later::{added_impls, added_impls_break_no_user, trait_is_relied_on};
 pub use limits::Limits;
 pub use obligations::has_impossible_obligation;
 pub use orphan_check::errors::{OrphanCheckErr, UncoveredTyParams};
@@ -51,7 +54,10 @@ pub use question_laws::{
     questions_are_formed, references_are_goals, refusals_are_exact, sorts_tell_fits,
     texts_are_formed,
 };
+pub use proving::{elaborate_in, goal_under, question_table_in};
 pub use session::Session;
+pub use supertrait_laws::impls_apply;
+pub use supertraits::{SupertraitGoals, own_goals_in};
 pub use text_laws::{
     accepted_texts_are_coherent, held_texts_are_coherent, impls_are_in_scope, texts_are_joined,
     texts_list_in_order,

@@ -122,7 +122,7 @@ fn read_values_in<H: GoalHandler>(
 }
 
 /// A table for the unknowns of a question, over the interner of a context.
-pub(crate) fn question_table_in<H: GoalHandler>(
+pub fn question_table_in<H: GoalHandler>(
     cx: &mut SolverCx<H>,
     unknowns: &[GenericArgKind],
 ) -> Result<InferCtxt, Fault>
@@ -174,7 +174,7 @@ fn ask_for<H: GoalHandler>(
 }
 
 /// The references with their supertraits through all levels, over the interner of a solver's context.
-fn elaborate_in(cx: &mut SolverCx<Solver>, references: &[TraitRef]) -> Result<Vec<TraitRef>, Fault>
+pub fn elaborate_in(cx: &mut SolverCx<Solver>, references: &[TraitRef]) -> Result<Vec<TraitRef>, Fault>
     requires ready { SolverIsReady cx.old }
     requires held { TraitRefsHeld cx.old.interner.entries references.now }
     requires applied { AreApplied cx.old.interner.entries cx.old.handler.declarations references.now }
@@ -192,7 +192,7 @@ fn elaborate_in(cx: &mut SolverCx<Solver>, references: &[TraitRef]) -> Result<Ve
 }
 
 /// The goal that asks for a reference under where-clauses.
-fn goal_under(alloc: Global, clauses: &[TraitRef], asked: TraitRef) -> Result<Goal, AllocError>
+pub fn goal_under(alloc: Global, clauses: &[TraitRef], asked: TraitRef) -> Result<Goal, AllocError>
     ensures clauses { IfOk result (λ goal. goal.param_env.items ≡ where_clauses clauses.now) }
     ensures asked { IfOk result (λ goal. goal.predicate.trait_ref ≡ asked) }
 {

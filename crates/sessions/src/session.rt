@@ -60,13 +60,15 @@ use workspace::Workspace;
 /// A session sees the view of its crate alone: the crate and all that it uses, directly or through others, `core` included. It lowers
 /// the view when it is made. It can be asked again after any call, one that ended with a fault too: the terms, goals and answers that
 /// a call has made stay, and what the cache holds is justified.
+///
+/// Its parts are public for what asks more of its search: whoever uses them leaves them as they are between two calls.
 pub struct Session<'w> {
-    workspace: &'w Workspace,
-    crate_id: CrateId,
-    limits: Limits,
-    cx: SolverCx<Solver>,
-    graph: SearchGraph<SolverGraph<Solver>>,
-    cache: GlobalCache<SolverGraph<Solver>>,
+    pub workspace: &'w Workspace,
+    pub crate_id: CrateId,
+    pub limits: Limits,
+    pub cx: SolverCx<Solver>,
+    pub graph: SearchGraph<SolverGraph<Solver>>,
+    pub cache: GlobalCache<SolverGraph<Solver>>,
 }
 
 // Written, so that what owns one drops it by one call at each way out, and not field by field.

@@ -38,7 +38,7 @@ enum Asking {
     /// It is not known whether there is a solution.
     IsUnsure,
     /// There is no solution.
-    GoalIsRefused,
+    IsRefused,
 }
 
 /// What an evaluation with this certainty comes to.

@@ -4,7 +4,7 @@ ghost use Rattle.sessions.specs.Supertraits.{SolversImplsApply, SupertraitsAreTo
 
 /// The header and the where-clauses of an impl that a crate sees of a text without a fault have, with placeholders for its parameters, an
 /// argument for each parameter of their traits, by all declarations that mean for the solver what the crate sees.
-pub(crate) fn impls_apply()
+pub fn impls_apply()
     ensures { SolversImplsApply }
 {}
 

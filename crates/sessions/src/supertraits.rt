@@ -38,9 +38,9 @@ use type_terms::{Fault, ImplId};
 /// What is asked of an impl: the strict supertraits of its header, each once, under its where-clauses with all their supertraits. Its
 /// parameters stand in all of them as placeholders.
 #[derive(Drop)]
-struct SupertraitGoals {
-    supertraits: Vec<TraitRef>,
-    clauses: Vec<TraitRef>,
+pub struct SupertraitGoals {
+    pub supertraits: Vec<TraitRef>,
+    pub clauses: Vec<TraitRef>,
 }
 
 /// How the supertraits of one header are answered. They count from 1.
@@ -107,7 +107,7 @@ fn own_goals(
 }
 
 /// The same over the interner of a solver's context.
-fn own_goals_in(cx: &mut SolverCx<Solver>, id: ImplId) -> Result<Option<SupertraitGoals>, Fault>
+pub fn own_goals_in(cx: &mut SolverCx<Solver>, id: ImplId) -> Result<Option<SupertraitGoals>, Fault>
     requires ready { SolverIsReady cx.old }
     requires applied { ImplsApply cx.old.handler.declarations (written cx.old.interner.entries cx.old.handler.declarations) }
     ensures advances { SolverAdvances cx.old cx.new }

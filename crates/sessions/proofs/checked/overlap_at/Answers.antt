@@ -6,6 +6,8 @@ use Rattle.sessions.proofs.PairChecks.{apart-passes, judged}
 use Rattle.infer_table.proofs.FullFacts.{handed-on}
 use Rattle.sessions.specs.Shortages.{in_clause}
 use Rattle.sessions.proofs.ShortCalls.{either}
+use Rattle.solver_context.proofs.Growing.{limits-further}
+use Rattle.sessions.proofs.Keeping.{limits-searched}
 use Rattle.sessions.proofs.checked.overlap_at.Goals as goal
 
 pub returns-in_err-found-clause-rest : goal.returns-in_err-found-clause-rest
@@ -43,3 +45,13 @@ pub returns-in_err-refused-clause-full : goal.returns-in_err-refused-clause-full
 returns-in_err-refused-clause-full c = λ q.
     either (handed-on c.from_residual-in_err-refused.result c.from_residual-in_err-refused.ensures.1 (λ p. c.in_err-refused.ensures.full (ap Err p)) q)
     inl (λ h. in_clause c.intersection_at.new.cx c.args.graph.now c.in-Some.found.table h.0 c.in_err-refused.ensures.entries h.2)
+
+pub returns-in_err-refused-clause-limits : goal.returns-in_err-refused-clause-limits
+returns-in_err-refused-clause-limits c =
+    limits-further c.args.cx.now c.intersection_at.new.cx c.has_impossible_obligation.new.cx c.intersection_at.ensures.advances.limits
+    (limits-searched _ c.intersection_at.new.cx c.has_impossible_obligation.new.cx c.has_impossible_obligation.ensures.keeps)
+
+pub returns-clause-limits : goal.returns-clause-limits
+returns-clause-limits c =
+    limits-further c.args.cx.now c.intersection_at.new.cx c.has_impossible_obligation.new.cx c.intersection_at.ensures.advances.limits
+    (limits-searched _ c.intersection_at.new.cx c.has_impossible_obligation.new.cx c.has_impossible_obligation.ensures.keeps)

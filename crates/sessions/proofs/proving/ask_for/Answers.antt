@@ -9,6 +9,8 @@ use Rattle.sessions.specs.Frames.{AskingsOf}
 use Rattle.sessions.specs.declared.settling.TheConstants.{MAX_ASKINGS}
 use Rattle.infer_table.proofs.FullFacts.{handed-on}
 use Rattle.sessions.proofs.ShortCalls.{short-of-terms, short-when-settling}
+use Rattle.solver_context.proofs.Growing.{limits-further}
+use Rattle.sessions.proofs.Keeping.{limits-searched}
 use Rattle.sessions.proofs.proving.ask_for.Goals as goal
 
 pub ask_until_settled-requires : goal.ask_until_settled-requires
@@ -120,3 +122,16 @@ returns-in_err-ask_until_settled-clause-full g c = λ q.
 
 pub returns-in-Proved-clause-full : goal.returns-in-Proved-clause-full
 returns-in-Proved-clause-full g c = λ q. short-of-terms g.H.GoalHandler.meaning c.read_values_in.new.cx (c.read_values_in.ensures.full q)
+
+pub returns-in_err-ask_until_settled-clause-limits : goal.returns-in_err-ask_until_settled-clause-limits
+returns-in_err-ask_until_settled-clause-limits g c = limits-searched _ c.args.cx.now c.ask_until_settled.new.cx c.ask_until_settled.ensures.asked.keeps
+
+pub returns-in-Proved-clause-limits : goal.returns-in-Proved-clause-limits
+returns-in-Proved-clause-limits g c =
+    limits-further c.args.cx.now c.ask_until_settled.new.cx c.read_values_in.new.cx (limits-searched _ c.args.cx.now c.ask_until_settled.new.cx c.ask_until_settled.ensures.asked.keeps) c.read_values_in.ensures.advances.limits
+
+pub returns-in-Unproved-clause-limits : goal.returns-in-Unproved-clause-limits
+returns-in-Unproved-clause-limits g c = limits-searched _ c.args.cx.now c.ask_until_settled.new.cx c.ask_until_settled.ensures.asked.keeps
+
+pub returns-in-Maybe-clause-limits : goal.returns-in-Maybe-clause-limits
+returns-in-Maybe-clause-limits g c = limits-searched _ c.args.cx.now c.ask_until_settled.new.cx c.ask_until_settled.ensures.asked.keeps

@@ -16,6 +16,7 @@ use Rattle.sessions.proofs.FramesStarted.{asked-none, settles-same}
 use Rattle.type_terms.specs.declared.TheConstants.{MAX_INDEX}
 use Rattle.infer_table.proofs.FullFacts.{handed-on}
 use Rattle.sessions.proofs.ShortCalls.{either, short-of-terms, many-variables}
+use Rattle.solver_context.proofs.Growing.{limits-further}
 use Rattle.sessions.proofs.proving.prove_lowered.Goals as goal
 
 pub elaborate_in-requires-clause-ready : goal.elaborate_in-requires-clause-ready
@@ -124,3 +125,9 @@ returns-clause-full c = λ q low e.
     let vs : c.deref-3.result.now ≡ us = search rules in
     either (c.prove_under.ensures.full e) (λ s. s)
     (λ m. many-variables c.args.cx.now.interner.entries c.requires.rest.ready.lawful us q low.unknowns_held low.unknowns (subst (λ (xs : _). MAX_INDEX ≤ length xs) vs m))
+
+pub returns-in_err-clauses-clause-limits : goal.returns-in_err-clauses-clause-limits
+returns-in_err-clauses-clause-limits c = c.elaborate_in.ensures.advances.limits
+
+pub returns-clause-limits : goal.returns-clause-limits
+returns-clause-limits c = limits-further c.args.cx.now c.elaborate_in.new.cx c.prove_under.new.cx c.elaborate_in.ensures.advances.limits c.prove_under.ensures.limits

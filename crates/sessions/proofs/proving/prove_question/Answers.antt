@@ -9,6 +9,7 @@ use Rattle.sessions.specs.Frames.{QuestionInFrames}
 use Rattle.sessions.proofs.FramesStarted.{asked-none}
 use Rattle.infer_table.proofs.FullFacts.{handed-on}
 use Rattle.sessions.proofs.ShortCalls.{either, short-of-terms, more-variables}
+use Rattle.solver_context.proofs.Growing.{limits-further}
 use Rattle.sessions.proofs.proving.prove_question.Goals as goal
 
 pub lower_in-requires-clause-ready : goal.lower_in-requires-clause-ready
@@ -75,3 +76,9 @@ returns-in_err-lowered-clause-full c = λ q is e.
 
 pub returns-clause-full : goal.returns-clause-full
 returns-clause-full c = λ q is e. c.prove_lowered.ensures.full q (c.in_ok-lowered.ensures.lowered q is) e
+
+pub returns-in_err-lowered-clause-limits : goal.returns-in_err-lowered-clause-limits
+returns-in_err-lowered-clause-limits c = c.lower_in.ensures.advances.limits
+
+pub returns-clause-limits : goal.returns-clause-limits
+returns-clause-limits c = limits-further c.args.cx.now c.lower_in.new.cx c.prove_lowered.new.cx c.lower_in.ensures.advances.limits c.prove_lowered.ensures.limits

@@ -16,6 +16,7 @@ use Rattle.candidate_assembly.specs.SolverMeaning.{solver_by_view}
 use Rattle.sessions.proofs.FramesStarted.{asked-none, settles-same}
 use Rattle.infer_table.proofs.FullFacts.{handed-on}
 use Rattle.sessions.proofs.ShortCalls.{either, short-of-terms}
+use Rattle.solver_context.proofs.Growing.{limits-further}
 use Rattle.sessions.proofs.proving.prove_under.Goals as goal
 
 pub question_table_in-requires : goal.question_table_in-requires
@@ -112,3 +113,9 @@ returns-in_err-table-clause-full c = λ q.
 
 pub returns-clause-full : goal.returns-clause-full
 returns-clause-full c = λ q. inl (c.ask_for.ensures.full q)
+
+pub returns-in_err-table-clause-limits : goal.returns-in_err-table-clause-limits
+returns-in_err-table-clause-limits c = c.question_table_in.ensures.advances.limits
+
+pub returns-clause-limits : goal.returns-clause-limits
+returns-clause-limits c = limits-further c.args.cx.now c.question_table_in.new.cx c.ask_for.new.cx c.question_table_in.ensures.advances.limits c.ask_for.ensures.limits

@@ -11,6 +11,7 @@ use Rattle.sessions.proofs.Alone.{clean-there, known-there, refused-there, refer
 use Rattle.type_terms.specs.declared.TheConstants.{MAX_INDEX}
 use Rattle.infer_table.proofs.FullFacts.{handed-on}
 use Rattle.sessions.proofs.ShortCalls.{either, short-of-terms, many-variables}
+use Rattle.solver_context.proofs.Growing.{limits-further}
 use Rattle.sessions.proofs.refuted.refute_lowered.Goals as goal
 
 pub returns-in_err-table-clause-rest : goal.returns-in_err-table-clause-rest
@@ -91,3 +92,6 @@ returns-in_err-table-clause-full g c = λ q low e.
 
 pub returns-clause-full : goal.returns-clause-full
 returns-clause-full g c = λ q low e. inl (c.ask_in_coherence.ensures.full e)
+
+pub returns-clause-limits : goal.returns-clause-limits
+returns-clause-limits g c = limits-further c.args.cx.now c.question_table_in.new.cx c.ask_in_coherence.new.cx c.question_table_in.ensures.advances.limits c.ask_in_coherence.ensures.limits

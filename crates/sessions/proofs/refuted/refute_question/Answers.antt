@@ -9,6 +9,7 @@ use Rattle.sessions.specs.Frames.{StartsFramesOfOne}
 use Rattle.sessions.proofs.Alone.{on-ok}
 use Rattle.infer_table.proofs.FullFacts.{handed-on}
 use Rattle.sessions.proofs.ShortCalls.{either, short-of-terms, more-variables}
+use Rattle.solver_context.proofs.Growing.{limits-further}
 use Rattle.sessions.proofs.refuted.refute_question.Goals as goal
 
 pub returns-in_err-lowered-clause-rest : goal.returns-in_err-lowered-clause-rest
@@ -69,3 +70,6 @@ returns-in_err-lowered-clause-full g c = λ q is e.
 
 pub returns-clause-full : goal.returns-clause-full
 returns-clause-full g c = λ q is e. c.refute_lowered.ensures.full q (c.in_ok-lowered.ensures.lowered q is) e
+
+pub returns-clause-limits : goal.returns-clause-limits
+returns-clause-limits g c = limits-further c.args.cx.now c.lower_in.new.cx c.refute_lowered.new.cx c.lower_in.ensures.advances.limits c.refute_lowered.ensures.limits

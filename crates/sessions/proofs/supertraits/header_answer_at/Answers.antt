@@ -9,6 +9,7 @@ use Rattle.std.specs.Prelude.{Some}
 use Rattle.candidate_assembly.specs.Solving.{Solving}
 use Rattle.sessions.specs.Shortages.{in_supertraits}
 use Rattle.sessions.proofs.ShortCalls.{either}
+use Rattle.solver_context.proofs.Growing.{limits-further}
 use Rattle.sessions.proofs.supertraits.header_answer_at.Goals as goal
 
 pub returns-in_err-goals-clause-rest : goal.returns-in_err-goals-clause-rest
@@ -53,3 +54,6 @@ returns-clause-full c = λ q.
     either (c.first_unproved.ensures.full q) (λ s. s)
     (λ m. in_supertraits c.args.id.index mid.interner.entries c.in-Some.goals c.first_unproved.ensures.keeps
     (subst (λ (s : Solving). AreOfOwn s.view s.crate c.args.id.index mid.interner.entries (Some c.in-Some.goals)) (sym same) goals) m)
+
+pub returns-clause-limits : goal.returns-clause-limits
+returns-clause-limits c = limits-further c.args.cx.now c.own_goals_in.new.cx c.first_unproved.new.cx c.own_goals_in.ensures.advances.limits c.first_unproved.ensures.limits
