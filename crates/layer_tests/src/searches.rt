@@ -11,7 +11,7 @@ use std::alloc::{AllocError, Global};
 const CHAIN: usize = 21;
 
 /// The goals from 21 on: their steps, what their frames make of answers, and the result after the last step.
-const GOALS: [(&[Step], Rule, u8); 38] = [
+const GOALS: [(&[Step], Rule, u8); 42] = [
     // 21 to 23 ask themselves, each by a step of another kind.
     (&[Step::Ask(21, PathKind::Coinductive)], Rule::All, YES),
     (&[Step::Ask(22, PathKind::Unknown)], Rule::All, YES),
@@ -148,19 +148,51 @@ const GOALS: [(&[Step], Rule, u8); 38] = [
     (&[Step::Ask(54, PathKind::Coinductive)], Rule::All, YES),
     (&[Step::Ask(58, PathKind::Coinductive)], Rule::All, YES),
     (&[Step::Ask(55, PathKind::Coinductive)], Rule::All, YES),
+    // 59 to 62: 59 ignores the candidate under which it was read, and 61 does not.
+    (
+        &[
+            Step::Enter,
+            Step::Ask(60, PathKind::Unknown),
+            Step::Finish,
+            Step::Ignore(0),
+            Step::Ask(0, PathKind::Unknown),
+        ],
+        Rule::Any,
+        NO,
+    ),
+    (
+        &[Step::Ask(59, PathKind::Unknown)],
+        Rule::Map(NO, NO, NO, NO),
+        NO,
+    ),
+    (
+        &[
+            Step::Enter,
+            Step::Ask(62, PathKind::Unknown),
+            Step::Finish,
+            Step::Ask(0, PathKind::Unknown),
+        ],
+        Rule::Any,
+        NO,
+    ),
+    (
+        &[Step::Ask(61, PathKind::Unknown)],
+        Rule::Map(NO, NO, NO, NO),
+        NO,
+    ),
 ];
 
-/// Goals 59 to 66: each asks all others of them by coinductive steps. With each goal more they take twice the frames.
+/// Goals 63 to 70: each asks all others of them by coinductive steps. With each goal more they take twice the frames.
 const CLIQUE: usize = 8;
 
-/// Goals 67 to 98: two in each of so many levels, which ask both of the next level, and the last ones the first goal of all.
+/// Goals 71 to 102: two in each of so many levels, which ask both of the next level, and the last ones the first goal of all.
 const LEVELS: usize = 16;
 
 /// What a search finds: the answer, how many frames it started, and whether it met a limit.
 type Found = (Result<u8, GraphFault>, u64, bool);
 
 /// A depth and a goal that are asked with a new cache, and what is found.
-const ALONE: [(usize, usize, Found); 28] = [
+const ALONE: [(usize, usize, Found); 30] = [
     (8, 7, (Ok(YES), 8, false)),
     (8, 9, (Ok(OVERFLOW), 9, true)),
     (8, 21, (Ok(YES), 1, false)),
@@ -186,13 +218,16 @@ const ALONE: [(usize, usize, Found); 28] = [
     (5, 54, (Ok(YES), 5, false)),
     // 55 and 56 are evaluated anew, with less depth than they need, and all three again after that overflow.
     (4, 54, (Ok(OVERFLOW), 10, true)),
-    (255, 59, (Ok(YES), 128, false)),
+    // What was read under an ignored candidate asks for no second run.
+    (8, 59, (Ok(YES), 3, false)),
+    (8, 61, (Ok(YES), 5, false)),
+    (255, 63, (Ok(YES), 128, false)),
     // With less depth fewer results serve again. It is given up at the 1,024th that is not kept, while five goals are evaluated.
-    (16, 59, (Ok(OVERFLOW), 1029, true)),
+    (16, 63, (Ok(OVERFLOW), 1029, true)),
     // Each goal takes one frame, where it would take as many as there are ways to it.
-    (16, 67, (Ok(YES), 31, false)),
-    (15, 67, (Ok(OVERFLOW), 16, true)),
-    (255, 67, (Ok(YES), 31, false)),
+    (16, 71, (Ok(YES), 31, false)),
+    (15, 71, (Ok(OVERFLOW), 16, true)),
+    (255, 71, (Ok(YES), 31, false)),
 ];
 
 /// The same with one cache, in this order.
@@ -209,9 +244,9 @@ const TOGETHER: [(usize, usize, Found); 16] = [
     (1, 44, (Ok(OVERFLOW), 2, true)),
     (1, 21, (Ok(YES), 1, false)),
     // A goal that was given up is kept for goals of its depth, and each call counts anew.
-    (16, 59, (Ok(OVERFLOW), 1029, true)),
-    (16, 59, (Ok(OVERFLOW), 0, false)),
-    (17, 59, (Ok(OVERFLOW), 1029, true)),
+    (16, 63, (Ok(OVERFLOW), 1029, true)),
+    (16, 63, (Ok(OVERFLOW), 0, false)),
+    (17, 63, (Ok(OVERFLOW), 1029, true)),
     // What used a result that rests on a goal is not kept either: it is found again.
     (8, 45, (Ok(YES), 3, false)),
     (8, 47, (Ok(YES), 3, false)),

@@ -13,7 +13,8 @@ use Rattle.type_terms.proofs.InfoFacts.{or-assoc}
 use Rattle.search_graph.specs.declared.dependencies.CycleHead.{CycleHead}
 use Rattle.search_graph.specs.KeptPaths.{indices, AreKept, AreBelow}
 use Rattle.search_graph.specs.Faithful.{IsHead}
-use Rattle.search_graph.specs.Heads.{paths_to, RestsOn, IsFirstOf, AreHeadsOfBoth, AreHeadsBut}
+use Rattle.std.specs.Global.{Vec}
+use Rattle.search_graph.specs.Heads.{paths_to, paths_in, RestsOn, IsFirstOf, AreHeadsOfBoth, AreHeadsBut}
 
 or_assoc : (a b c : ℕ) → bit_or a (bit_or b c) ≡ bit_or (bit_or a b) c
 or_assoc a b c = sym (or-assoc a b c)
@@ -55,6 +56,24 @@ indices-none (x ∷ heads) h = absurd (let n : suc (length (indices heads)) ≡ 
 pub indices-append : (heads more : List CycleHead) → indices (heads ++ more) ≡ indices heads ++ indices more
 indices-append [] more = refl
 indices-append (x ∷ heads) more = ap (λ l. x.index ∷ l) (indices-append heads more)
+
+-- a head that was not read adds no paths
+pub unread_adds : (head : CycleHead) (x place : ℕ) → head.paths.0 ≡ 0 → bit_or x (paths_to (head ∷ []) place) ≡ x
+unread_adds head x place none =
+    elim (eqb head.index place) as (λ b. bit_or x (cond b (bit_or head.paths.0 0) 0) ≡ x) [
+      | true ↦ ap (λ n. bit_or x (bit_or n 0)) none ∙ ap (bit_or x) (or_zero_r 0) ∙ or_zero_r x
+      | false ↦ or_zero_r x
+    ]
+
+-- nor does one of another goal
+pub other_adds : (head : CycleHead) (x place : ℕ) → (place ≡ head.index → ⊥) → bit_or x (paths_to (head ∷ []) place) ≡ x
+other_adds head x place other =
+    subst (λ b. bit_or x (cond b (bit_or head.paths.0 0) 0) ≡ x) (sym (ne_eqb head.index place (λ e. other (sym e)))) (or_zero_r x)
+
+-- the paths in the lists of a longer list
+pub paths_in-append : (reads : List (Vec CycleHead)) (more : Vec CycleHead) (place : ℕ) → paths_in (reads ++ more ∷ []) place ≡ bit_or (paths_in reads place) (paths_to more.items place)
+paths_in-append [] more place = or_comm (paths_to more.items place) 0
+paths_in-append (read ∷ reads) more place = ap (bit_or (paths_to read.items place)) (paths_in-append reads more place) ∙ or_assoc (paths_to read.items place) (paths_in reads place) (paths_to more.items place)
 
 -- heads that lie below a place, one by one
 pub below_head : (top place : ℕ) (heads : List ℕ) → AreBelow top heads → IsHead place heads → place < top
@@ -118,7 +137,7 @@ rests_further first more further then now one two place = (
 )
 
 -- a known head stays where it is
-indices-set : (heads : List CycleHead) (i : ℕ) (k u : CycleHead) → i < length heads → k ≡ get_or heads i k → u.index ≡ k.index → indices (set heads i u) ≡ indices heads
+pub indices-set : (heads : List CycleHead) (i : ℕ) (k u : CycleHead) → i < length heads → k ≡ get_or heads i k → u.index ≡ k.index → indices (set heads i u) ≡ indices heads
 indices-set [] i k u lt is same = refl
 indices-set (h ∷ heads) zero k u lt is same = (λ i. same i ∷ indices heads) ∙ (λ i. (is i).index ∷ indices heads)
 indices-set (h ∷ heads) (suc i) k u lt is same = ap (λ l. h.index ∷ l) (indices-set heads i k u (omega (arith, lt)) is same)

@@ -1,6 +1,7 @@
 -- The goals of the stack on which results rest.
 use Rattle.std.specs.Prelude.{◌≡◌, ◌==◌, ◌↔◌, ◌⊎◌, ℕ, List, [], ◌∷◌, Some, slice_get, position, if◌then◌else◌}
 use Rattle.std.specs.Int.RustNames.{bit_or}
+use Rattle.std.specs.Global.{Vec}
 use Rattle.search_graph.specs.declared.dependencies.CycleHead.{CycleHead}
 use Rattle.search_graph.specs.KeptPaths.{indices}
 use Rattle.search_graph.specs.Faithful.{IsHead}
@@ -9,6 +10,11 @@ use Rattle.search_graph.specs.Faithful.{IsHead}
 abbrev pub paths_to : List CycleHead → ℕ → ℕ
 paths_to [] place = 0
 paths_to (head ∷ heads) place = if head.index == place then bit_or head.paths.0 (paths_to heads place) else paths_to heads place
+
+-- those by which it was read in any of these lists
+abbrev pub paths_in : List (Vec CycleHead) → ℕ → ℕ
+paths_in [] place = 0
+paths_in (heads ∷ more) place = bit_or (paths_to heads.items place) (paths_in more place)
 
 -- the goal at this place is one of the heads
 abbrev pub RestsOn : List CycleHead → ℕ → Type 0
@@ -25,3 +31,7 @@ AreHeadsOfBoth one other both = (place : ℕ) → RestsOn both place ↔ (RestsO
 -- the first heads are the others, and maybe the goal at the place
 abbrev pub AreHeadsBut : ℕ → List ℕ → List ℕ → Type 0
 AreHeadsBut place less heads = (other : ℕ) → IsHead other heads → (other ≡ place) ⊎ IsHead other less
+
+-- what was read by the last heads is what was read by both
+abbrev pub AreReadByBoth : List CycleHead → List CycleHead → List CycleHead → Type 0
+AreReadByBoth one other both = (place : ℕ) → paths_to both place ≡ bit_or (paths_to one place) (paths_to other place)

@@ -11,8 +11,7 @@ use std::alloc::Global;
 
 /// The candidates of a frame, by the requests that it made.
 ///
-/// What a candidate's questions read of the stack would be kept here, to be handed out with its number and taken back where it
-/// is ignored; so far ignoring it changes nothing else.
+/// What their questions read of the stack is kept beside them (`CandidateReads`).
 #[derive(Drop)]
 pub struct Candidates {
     /// Whether the frame has entered a candidate that it has not finished; there is one at most.

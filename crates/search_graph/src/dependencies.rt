@@ -99,7 +99,8 @@ impl Dependencies {
 
 /// Adds the goals at these places, whose own results were not read.
 fn rest_on(heads: &mut Vec<CycleHead>, places: &[usize]) -> Result<(), AllocError>
-    ensures { OnOk result (indices heads.new.items ≡ indices heads.old.items ++ places.now) }
+    ensures added { OnOk result (indices heads.new.items ≡ indices heads.old.items ++ places.now) }
+    ensures unread { OnOk result ((place : ℕ) → paths_to heads.new.items place ≡ paths_to heads.old.items place) }
 {
     for place in places {
         heads.push(CycleHead {
@@ -134,8 +135,39 @@ pub(crate) fn nearest_head(heads: &[CycleHead]) -> Option<usize>
     Some(nearest)
 }
 
+/// Leaves the heads as if none of their results were read. After a refusal some may be missing.
+pub(crate) fn forget_paths(alloc: Global, heads: &mut Vec<CycleHead>) -> Result<(), AllocError>
+    ensures same { OnOk result (indices heads.new.items ≡ indices heads.old.items) }
+    ensures unread { OnOk result ((place : ℕ) → paths_to heads.new.items place ≡ 0) }
+{
+    let places = places_of(alloc, heads)?;
+    heads.clear();
+    rest_on(heads, &places)
+}
+
+/// Adds the paths of a head, if it is there.
+fn add_paths(heads: &mut Vec<CycleHead>, read: CycleHead)
+    ensures same { indices heads.new.items ≡ indices heads.old.items }
+    ensures counted { (place : ℕ) → RestsOn heads.old.items place → paths_to heads.new.items place ≡ bit_or (paths_to heads.old.items place) (paths_to (read ∷ []) place) }
+{
+    match place_of(heads, read.index) {
+        Some(place) => heads[place].paths.insert(read.paths),
+        None => {}
+    }
+}
+
+/// Adds the paths of these heads, as far as they are there.
+pub(crate) fn add_all_paths(heads: &mut Vec<CycleHead>, more: &[CycleHead])
+    ensures same { indices heads.new.items ≡ indices heads.old.items }
+    ensures counted { (place : ℕ) → RestsOn heads.old.items place → paths_to heads.new.items place ≡ bit_or (paths_to heads.old.items place) (paths_to more.now place) }
+{
+    for head in more {
+        add_paths(heads, *head);
+    }
+}
+
 /// Adds the heads of a goal that was asked.
-fn merge_heads(heads: &mut Vec<CycleHead>, more: &[CycleHead]) -> Result<(), AllocError>
+pub(crate) fn merge_heads(heads: &mut Vec<CycleHead>, more: &[CycleHead]) -> Result<(), AllocError>
     ensures unread { more.now ≡ [] → heads.new.items ≡ heads.old.items }
     ensures united { OnOk result ((place : ℕ) → paths_to heads.new.items place ≡ bit_or (paths_to heads.old.items place) (paths_to more.now place)) }
     ensures rests { OnOk result (AreHeadsOfBoth heads.old.items more.now heads.new.items) }

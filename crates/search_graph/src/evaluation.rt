@@ -18,10 +18,11 @@ use crate::delegate::{Cx, Delegate, InputOf, ResultOf};
 use crate::dependencies::{Dependencies, EvaluationResult, take_head};
 use crate::fault::{GraphFault, Stop};
 use crate::path_kind::PathKind;
+use crate::reads::CandidateReads;
 use crate::search::{Evaluation, Outcome, Search, is_last_run, nested_depth, run_limit};
 use crate::stack::StackEntry;
 use crate::steps::{
-    conclude, give_up, hear, look_up, reply_in_cycle, reply_with_overflow, start_run,
+    conclude, give_up, hear, look_up, reply_in_cycle, reply_with_overflow, start_run, take_turn,
 };
 
 /// The reply to a question from outside. Where the call is given up, it is an overflow by depth, which is kept.
@@ -250,20 +251,30 @@ fn run_once<D: Delegate>(
 {
     let (mut frame, mut request) = start_run(search, cx, entry)?;
     let mut dependencies = earlier;
+    let mut reads = CandidateReads::new(search.alloc);
     let mut candidates = Candidates::new(search.alloc);
     loop {
-        let turn = candidates.take(request)?;
+        let turn = take_turn(&mut candidates, &mut reads, request)?;
         match turn {
             Turn::Ask(input, step_kind) => {
                 let overflowed = dependencies.encountered_overflow;
                 let nested = ask(search, cache, cx, input, step_kind, depth, overflowed)?;
-                request = hear::<D>(&mut frame, cx, &mut dependencies, nested)?;
+                let is_open = candidates.open;
+                request = hear::<D>(
+                    &mut frame,
+                    cx,
+                    &mut dependencies,
+                    &mut reads,
+                    is_open,
+                    nested,
+                )?;
             }
             Turn::Tell(reply) => request = D::step(&mut frame, cx, reply)?,
             Turn::End(answer) => {
                 let Some(entry) = search.pop() else {
                     unreachable!()
                 };
+                reads.count(&mut dependencies.heads);
                 return Ok((
                     entry,
                     EvaluationResult {

@@ -16,6 +16,7 @@ mod head_usages;
 mod nested_goals;
 mod path_kind;
 mod provisional;
+mod reads;
 mod search;
 mod stack;
 mod steps;

@@ -39,9 +39,9 @@ pub(crate) type Outcome<D> = Result<EvaluationResult<ResultOf<D>>, Stop>;
 /// where each counts for 1 and for what it costs beyond a small one (`Delegate::cost_of`). Where the count comes to this the call
 /// is given up.
 ///
-/// Such results aren't kept, so they are computed again wherever their goals are asked again, and in goals that ask each other
-/// by many paths that happens exponentially often in the number of goals. A goal of them has at most `FIXPOINT_STEP_LIMIT`
-/// runs, and all other goals are kept. So this bounds the time of a call, to a second or two. Goals that form no
+/// Such results are kept no longer than a run of their nearest goal, if at all, so they are computed again where their goals are
+/// asked after it, and in goals that ask each other by many paths that may happen exponentially often in the number of goals. A
+/// goal of them has at most `FIXPOINT_STEP_LIMIT` runs, and all other goals are kept. So this bounds the time of a call, to a second or two. Goals that form no
 /// cycle and whose chains fit the depth are never counted, whatever they cost.
 pub(crate) const OPEN_ENDS_LIMIT: usize = 1024;
 

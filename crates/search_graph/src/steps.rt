@@ -1,8 +1,8 @@
 //! The parts of an evaluation that ask no goal, each with what the evaluation says of it.
 
 ghost use Rattle.std.specs.Prelude.{◌≡◌, [], ◌∷◌, ◌++◌, ◌+◌, ◌-◌, ◌^◌, ◌<◌, ◌≤◌, ◌||◌, ◌⊎◌, ℕ, min, max, IfOk, OnOk, IfSome, IsSome, IsPermutation, true, false, length};
-ghost use Rattle.std.specs.Int.RustNames.{bit_or};
-ghost use Rattle.search_graph.specs.Heads.{paths_to, AreHeadsOfBoth};
+ghost use Rattle.search_graph.specs.Heads.{AreReadByBoth, AreHeadsOfBoth};
+ghost use Rattle.search_graph.specs.Turn.{IsInTurn, IsTurn};
 ghost use Rattle.search_graph.specs.KeptPaths.{AreBelow, indices};
 ghost use Rattle.search_graph.specs.Meaning.{Keeps, IsDue, IsReply, Steps};
 ghost use Rattle.search_graph.specs.Chain.{AreInRange};
@@ -12,10 +12,12 @@ ghost use Rattle.search_graph.specs.Stack.{span_of_newest, IsStack, IsProvisiona
 ghost use Rattle.search_graph.specs.Question.{AreEntriesOver, IsResultOver, EntriesStayWithin, IsWithinAsKept, IsReplyOver, IsFaithfulOver, IsKeptResult, IsNotPlainUpTo, IsWithinAsCached, IsWithinAsStack, KeepsWithin};
 
 use crate::cache::CachedResults;
+use crate::candidates::{Candidates, Turn};
 use crate::delegate::{Delegate, InputOf, Reply, Request, ResultOf};
 use crate::dependencies::{Dependencies, EvaluationResult, nearest_head};
 use crate::fault::{GraphFault, Stop};
 use crate::path_kind::{PathKind, PathsToNested};
+use crate::reads::CandidateReads;
 use crate::search::{Evaluation, Outcome, Search, finish};
 use crate::stack::{Cycle, StackEntry};
 
@@ -150,11 +152,30 @@ pub(crate) fn start_run<D: Delegate>(
     Ok((frame, request))
 }
 
-/// Adds what a nested goal rests on to the dependencies of the goal that asked it, and gives its result to that goal's frame.
+/// What is due after a request, of which the candidates and their reads take note. It is refused where it is out of order
+/// (`Protocol`), and where memory is.
+pub(crate) fn take_turn<I: Drop, R: Drop>(
+    candidates: &mut Candidates,
+    reads: &mut CandidateReads,
+    request: Request<I, R>,
+) -> Result<Turn<I, R>, GraphFault>
+    ensures turn { IfOk result (λ turn. IsTurn candidates.old.open candidates.old.finished.items request turn candidates.new.open candidates.new.finished.items) }
+    ensures protocol { result ≡ Err GraphFault.Protocol → IsInTurn candidates.old.open candidates.old.finished.items request → ⊥ }
+    ensures no_conflict { result ≡ Err GraphFault.Conflict → ⊥ }
+    ensures room { result ≡ Err GraphFault.Full → ⊥ }
+{
+    reads.note(&request)?;
+    candidates.take(request)
+}
+
+/// Adds what a nested goal rests on to the dependencies of the goal that asked it, and gives its result to that goal's frame. What it
+/// read counts for the open candidate, if there is one.
 pub(crate) fn hear<D: Delegate>(
     frame: &mut D::Frame,
     cx: &mut D::Cx,
     dependencies: &mut Dependencies,
+    reads: &mut CandidateReads,
+    is_open: bool,
     nested: EvaluationResult<ResultOf<D>>,
 ) -> Result<Request<InputOf<D>, ResultOf<D>>, GraphFault>
     requires due { IsDue D.meaning cx.old frame.old (Reply.Result nested.result) }
@@ -165,7 +186,9 @@ pub(crate) fn hear<D: Delegate>(
     ensures overflow { OnOk result (dependencies.new.encountered_overflow ≡ (dependencies.old.encountered_overflow || nested.dependencies.encountered_overflow)) }
     ensures depth { OnOk result (dependencies.new.required_depth ≡ max dependencies.old.required_depth (min (nested.dependencies.required_depth + 1) (2 ^ 64 - 1))) }
     ensures unread { OnOk result (dependencies.old.heads.items ≡ [] → nested.dependencies.heads.items ≡ [] → dependencies.new.heads.items ≡ []) }
-    ensures heads { OnOk result ((place : ℕ) → paths_to dependencies.new.heads.items place ≡ bit_or (paths_to dependencies.old.heads.items place) (paths_to nested.dependencies.heads.items place)) }
+    ensures read { OnOk result (is_open ≡ false → AreReadByBoth dependencies.old.heads.items nested.dependencies.heads.items dependencies.new.heads.items) }
+    ensures held { OnOk result (is_open ≡ true → AreReadByBoth reads.old.unfinished.items nested.dependencies.heads.items reads.new.unfinished.items) }
+    ensures unread_yet { OnOk result (is_open ≡ true → AreReadByBoth dependencies.old.heads.items [] dependencies.new.heads.items) }
     ensures rests { OnOk result (AreHeadsOfBoth dependencies.old.heads.items nested.dependencies.heads.items dependencies.new.heads.items) }
     ensures goals { OnOk result (IsPermutation (dependencies.old.nested_goals.goals.items ++ nested.dependencies.nested_goals.goals.items) dependencies.new.nested_goals.goals.items) }
     ensures cached { OnOk result (IsPermutation (dependencies.old.nested_goals.cached.items ++ nested.dependencies.nested_goals.cached.items) dependencies.new.nested_goals.cached.items) }
@@ -176,8 +199,9 @@ pub(crate) fn hear<D: Delegate>(
 {
     let EvaluationResult {
         result: answer,
-        dependencies: more,
+        dependencies: mut more,
     } = nested;
+    reads.hold(is_open, &mut more.heads)?;
     dependencies.gather(more)?;
     let request = D::step(frame, cx, Reply::Result(answer))?;
     Ok(request)

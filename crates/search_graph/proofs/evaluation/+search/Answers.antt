@@ -839,7 +839,7 @@ run_once-returns-in_err-request-in-Ask g t c =
     let p = err_from_is_err_and c.from_residual-in_err-request-in-Ask.result c.from_residual-in_err-request-in-Ask.ensures.1 in
     let m = g.D.Delegate.meaning in
     let first = c.args.cx.now in
-    let asks = asked_in_turn c.loop-candidates.candidates.open c.take.new.self.open c.loop-candidates.candidates.finished.items c.take.new.self.finished.items c.loop-candidates.request c.in_ok-turn.turn c.in-Ask.input c.in-Ask.step_kind c.in-Ask.is c.in_ok-turn.ensures.turn in
+    let asks = asked_in_turn c.loop-candidates.candidates.open c.take_turn.new.candidates.open c.loop-candidates.candidates.finished.items c.take_turn.new.candidates.finished.items c.loop-candidates.request c.in_ok-turn.turn c.in-Ask.input c.in-Ask.step_kind c.in-Ask.is c.in_ok-turn.ensures.turn in
     let law = g.met.D.Delegate.lawful in
     let es = c.args.search.now.stack.items in
     let w = m.world first in
@@ -880,7 +880,7 @@ run_once-returns-in_err-request-in-Ask g t c =
 
 pub run_once-ask-requires : goal.run_once-ask-requires
 run_once-ask-requires g t c κs within =
-    let asks = asked_in_turn c.loop-candidates.candidates.open c.take.new.self.open c.loop-candidates.candidates.finished.items c.take.new.self.finished.items c.loop-candidates.request c.in_ok-turn.turn c.in-Ask.input c.in-Ask.step_kind c.in-Ask.is c.in_ok-turn.ensures.turn in
+    let asks = asked_in_turn c.loop-candidates.candidates.open c.take_turn.new.candidates.open c.loop-candidates.candidates.finished.items c.take_turn.new.candidates.finished.items c.loop-candidates.request c.in_ok-turn.turn c.in-Ask.input c.in-Ask.step_kind c.in-Ask.is c.in_ok-turn.ensures.turn in
     let m = g.D.Delegate.meaning in
     let inv = c.loop-candidates.invariant in
     let first = c.args.cx.now in
@@ -912,7 +912,7 @@ run_once-ask-requires g t c κs within =
 
 pub run_once-loop-candidates-preserved-in-Ask : goal.run_once-loop-candidates-preserved-in-Ask
 run_once-loop-candidates-preserved-in-Ask g t c =
-    let asks = asked_in_turn c.loop-candidates.candidates.open c.take.new.self.open c.loop-candidates.candidates.finished.items c.take.new.self.finished.items c.loop-candidates.request c.in_ok-turn.turn c.in-Ask.input c.in-Ask.step_kind c.in-Ask.is c.in_ok-turn.ensures.turn in
+    let asks = asked_in_turn c.loop-candidates.candidates.open c.take_turn.new.candidates.open c.loop-candidates.candidates.finished.items c.take_turn.new.candidates.finished.items c.loop-candidates.request c.in_ok-turn.turn c.in-Ask.input c.in-Ask.step_kind c.in-Ask.is c.in_ok-turn.ensures.turn in
     let m = g.D.Delegate.meaning in
     let law = g.met.D.Delegate.lawful in
     let inv = c.loop-candidates.invariant in
@@ -990,7 +990,7 @@ run_once-loop-candidates-smaller-in-Ask g t c =
 
 pub run_once-hear-requires-clause-due : goal.run_once-hear-requires-clause-due
 run_once-hear-requires-clause-due g t c =
-    let asks = asked_in_turn c.loop-candidates.candidates.open c.take.new.self.open c.loop-candidates.candidates.finished.items c.take.new.self.finished.items c.loop-candidates.request c.in_ok-turn.turn c.in-Ask.input c.in-Ask.step_kind c.in-Ask.is c.in_ok-turn.ensures.turn in
+    let asks = asked_in_turn c.loop-candidates.candidates.open c.take_turn.new.candidates.open c.loop-candidates.candidates.finished.items c.take_turn.new.candidates.finished.items c.loop-candidates.request c.in_ok-turn.turn c.in-Ask.input c.in-Ask.step_kind c.in-Ask.is c.in_ok-turn.ensures.turn in
     let m = g.D.Delegate.meaning in
     let inv = c.loop-candidates.invariant in
     let first = c.args.cx.now in
@@ -1006,7 +1006,7 @@ pub run_once-returns-in_err-nested-in-Ask : goal.run_once-returns-in_err-nested-
 run_once-returns-in_err-nested-in-Ask g t c =
     let inv = c.loop-candidates.invariant in
     let p = err_from_is_err_and c.from_residual-in_err-nested-in-Ask.result c.from_residual-in_err-nested-in-Ask.ensures.1 in
-    let asks = asked_in_turn c.loop-candidates.candidates.open c.take.new.self.open c.loop-candidates.candidates.finished.items c.take.new.self.finished.items c.loop-candidates.request c.in_ok-turn.turn c.in-Ask.input c.in-Ask.step_kind c.in-Ask.is c.in_ok-turn.ensures.turn in
+    let asks = asked_in_turn c.loop-candidates.candidates.open c.take_turn.new.candidates.open c.loop-candidates.candidates.finished.items c.take_turn.new.candidates.finished.items c.loop-candidates.request c.in_ok-turn.turn c.in-Ask.input c.in-Ask.step_kind c.in-Ask.is c.in_ok-turn.ensures.turn in
     let m = g.D.Delegate.meaning in
     let first = c.args.cx.now in
     let es = c.args.search.now.stack.items in
@@ -1160,7 +1160,7 @@ run_once-step-requires-clause-due g t c =
     let steps = steps_of m first es in
     let turn = c.in_ok-turn.ensures.turn in
     let request : request_of m c.loop-candidates.cx c.loop-candidates.request ≡ m.asks w x inv.running.heard = inv.running.request in
-    let told = told_in_turn m w x inv.running.heard c.loop-candidates.cx c.loop-candidates.candidates.open c.take.new.self.open c.loop-candidates.candidates.finished.items c.take.new.self.finished.items inv.opened inv.listed c.loop-candidates.request c.in_ok-turn.turn c.in-Tell.reply c.in-Tell.is turn request in
+    let told = told_in_turn m w x inv.running.heard c.loop-candidates.cx c.loop-candidates.candidates.open c.take_turn.new.candidates.open c.loop-candidates.candidates.finished.items c.take_turn.new.candidates.finished.items inv.opened inv.listed c.loop-candidates.request c.in_ok-turn.turn c.in-Tell.reply c.in-Tell.is turn request in
     due_other m w steps x c.args.entry.step_kind (indices c.loop-candidates.dependencies.heads.items) c.loop-candidates.cx c.loop-candidates.frame c.loop-candidates.request c.loop-candidates.request refl inv.keeps.world inv.running c.in-Tell.reply told.due
 
 pub run_once-step-requires-clause-reply : goal.run_once-step-requires-clause-reply
@@ -1174,7 +1174,7 @@ run_once-step-requires-clause-reply g t c =
     let steps = steps_of m first es in
     let turn = c.in_ok-turn.ensures.turn in
     let request : request_of m c.loop-candidates.cx c.loop-candidates.request ≡ m.asks w x inv.running.heard = inv.running.request in
-    let told = told_in_turn m w x inv.running.heard c.loop-candidates.cx c.loop-candidates.candidates.open c.take.new.self.open c.loop-candidates.candidates.finished.items c.take.new.self.finished.items inv.opened inv.listed c.loop-candidates.request c.in_ok-turn.turn c.in-Tell.reply c.in-Tell.is turn request in
+    let told = told_in_turn m w x inv.running.heard c.loop-candidates.cx c.loop-candidates.candidates.open c.take_turn.new.candidates.open c.loop-candidates.candidates.finished.items c.take_turn.new.candidates.finished.items inv.opened inv.listed c.loop-candidates.request c.in_ok-turn.turn c.in-Tell.reply c.in-Tell.is turn request in
     told.given
 
 pub run_once-loop-candidates-preserved : goal.run_once-loop-candidates-preserved
@@ -1188,7 +1188,7 @@ run_once-loop-candidates-preserved g t c =
     let steps = steps_of m first es in
     let turn = c.in_ok-turn.ensures.turn in
     let request : request_of m c.loop-candidates.cx c.loop-candidates.request ≡ m.asks w x inv.running.heard = inv.running.request in
-    let told = told_in_turn m w x inv.running.heard c.loop-candidates.cx c.loop-candidates.candidates.open c.take.new.self.open c.loop-candidates.candidates.finished.items c.take.new.self.finished.items inv.opened inv.listed c.loop-candidates.request c.in_ok-turn.turn c.in-Tell.reply c.in-Tell.is turn request in
+    let told = told_in_turn m w x inv.running.heard c.loop-candidates.cx c.loop-candidates.candidates.open c.take_turn.new.candidates.open c.loop-candidates.candidates.finished.items c.take_turn.new.candidates.finished.items inv.opened inv.listed c.loop-candidates.request c.in_ok-turn.turn c.in-Tell.reply c.in-Tell.is turn request in
     let next = running_other m w steps x c.args.entry.step_kind (indices c.loop-candidates.dependencies.heads.items) c.loop-candidates.cx c.loop-candidates.frame c.loop-candidates.request c.loop-candidates.request refl inv.keeps.world inv.running c.step.new.cx c.step.new.frame c.in-Tell.reply c.in_ok-request-in-Tell.request told.due told.by told.quiet told.counts told.shows c.in_ok-request-in-Tell.ensures.steps in
     record {
       keeps = Keeps-trans m first c.loop-candidates.cx c.step.new.cx inv.keeps c.step.ensures.keeps;
@@ -1214,7 +1214,7 @@ run_once-loop-candidates-preserved g t c =
             ),
             hears_other m w steps x c.args.entry.step_kind (indices c.loop-candidates.dependencies.heads.items) c.loop-candidates.cx c.loop-candidates.frame c.loop-candidates.request c.loop-candidates.request refl inv.keeps.world inv.running (IsGivenWithin m w before) c.in-Tell.reply had.1 told.due told.quiet,
           ));
-      plain = rw next.1 (plain_in_turn m w x inv.running.heard c.loop-candidates.cx c.loop-candidates.candidates.open c.take.new.self.open c.loop-candidates.candidates.finished.items c.take.new.self.finished.items inv.opened inv.listed
+      plain = rw next.1 (plain_in_turn m w x inv.running.heard c.loop-candidates.cx c.loop-candidates.candidates.open c.take_turn.new.candidates.open c.loop-candidates.candidates.finished.items c.take_turn.new.candidates.finished.items inv.opened inv.listed
           (c.args.depth + 1) steps c.loop-candidates.dependencies.encountered_overflow (indices c.loop-candidates.dependencies.heads.items) inv.plain c.loop-candidates.request c.in_ok-turn.turn c.in-Tell.reply c.in-Tell.is turn request);
     }
 
@@ -1230,7 +1230,7 @@ run_once-returns-in-End-clause-frames g t c =
 
 pub run_once-returns-in-End-clause-provisional : goal.run_once-returns-in-End-clause-provisional
 run_once-returns-in-End-clause-provisional g t c =
-    let ends = ended_in_turn c.loop-candidates.candidates.open c.take.new.self.open c.loop-candidates.candidates.finished.items c.take.new.self.finished.items c.loop-candidates.request c.in_ok-turn.turn c.in-End.answer c.in-End.is c.in_ok-turn.ensures.turn in
+    let ends = ended_in_turn c.loop-candidates.candidates.open c.take_turn.new.candidates.open c.loop-candidates.candidates.finished.items c.take_turn.new.candidates.finished.items c.loop-candidates.request c.in_ok-turn.turn c.in-End.answer c.in-End.is c.in_ok-turn.ensures.turn in
     let m = g.D.Delegate.meaning in
     let law = g.met.D.Delegate.lawful in
     let inv = c.loop-candidates.invariant in
@@ -1238,7 +1238,8 @@ run_once-returns-in-End-clause-provisional g t c =
     let es = c.args.search.now.stack.items in
     let w = m.world first in
     let steps = steps_of m first es in
-    let heads = indices c.loop-candidates.dependencies.heads.items in (
+    let heads = indices c.loop-candidates.dependencies.heads.items in
+    rw c.count.ensures.same (
       subst (λ n. AreBelow (n + 1) heads) (length-steps_of m first es) inv.running.below,
       λ less but. running_done m law w steps (m.goal_of first c.args.entry.input) c.args.entry.step_kind heads less c.loop-candidates.cx c.loop-candidates.frame c.loop-candidates.request c.in-End.answer ends.0
           (subst (λ n. AreHeadsBut n less heads) (sym (length-steps_of m first es)) but) inv.running (sym inv.opened ∙ ends.1),
@@ -1246,7 +1247,7 @@ run_once-returns-in-End-clause-provisional g t c =
 
 pub run_once-returns-in-End-clause-faithful : goal.run_once-returns-in-End-clause-faithful
 run_once-returns-in-End-clause-faithful g t c =
-    let ends = ended_in_turn c.loop-candidates.candidates.open c.take.new.self.open c.loop-candidates.candidates.finished.items c.take.new.self.finished.items c.loop-candidates.request c.in_ok-turn.turn c.in-End.answer c.in-End.is c.in_ok-turn.ensures.turn in
+    let ends = ended_in_turn c.loop-candidates.candidates.open c.take_turn.new.candidates.open c.loop-candidates.candidates.finished.items c.take_turn.new.candidates.finished.items c.loop-candidates.request c.in_ok-turn.turn c.in-End.answer c.in-End.is c.in_ok-turn.ensures.turn in
     let m = g.D.Delegate.meaning in
     let inv = c.loop-candidates.invariant in
     let first = c.args.cx.now in
@@ -1255,12 +1256,13 @@ run_once-returns-in-End-clause-faithful g t c =
     let x = m.goal_of first c.args.entry.input in
     let steps = steps_of m first es in
     let request = asked_now m w steps x c.args.entry.step_kind (indices c.loop-candidates.dependencies.heads.items) c.loop-candidates.cx c.loop-candidates.frame c.loop-candidates.request (Done c.in-End.answer) ends.0 inv.keeps.world inv.running in
-    plain_done m w (c.args.depth + 1) steps x c.loop-candidates.dependencies.encountered_overflow (indices c.loop-candidates.dependencies.heads.items) inv.running.heard (m.answer_of c.loop-candidates.cx c.in-End.answer)
-    (sym request) inv.plain
+    rw c.count.ensures.same
+    (plain_done m w (c.args.depth + 1) steps x c.loop-candidates.dependencies.encountered_overflow (indices c.loop-candidates.dependencies.heads.items) inv.running.heard (m.answer_of c.loop-candidates.cx c.in-End.answer)
+    (sym request) inv.plain)
 
 pub run_once-returns-in-End-clause-within : goal.run_once-returns-in-End-clause-within
 run_once-returns-in-End-clause-within g t c =
-    let ends = ended_in_turn c.loop-candidates.candidates.open c.take.new.self.open c.loop-candidates.candidates.finished.items c.take.new.self.finished.items c.loop-candidates.request c.in_ok-turn.turn c.in-End.answer c.in-End.is c.in_ok-turn.ensures.turn in
+    let ends = ended_in_turn c.loop-candidates.candidates.open c.take_turn.new.candidates.open c.loop-candidates.candidates.finished.items c.take_turn.new.candidates.finished.items c.loop-candidates.request c.in_ok-turn.turn c.in-End.answer c.in-End.is c.in_ok-turn.ensures.turn in
     let m = g.D.Delegate.meaning in
     let inv = c.loop-candidates.invariant in
     let first = c.args.cx.now in
