@@ -7,7 +7,7 @@ use Rattle.text_definitions.specs.Declarations.{Declarations, Check, of_later, o
 use Rattle.workspace.specs.Numbered.{IsNumbered, IsCheckIn}
 use Rattle.sessions.specs.Subjects.{Subject, StaysOn}
 use Rattle.coherence.specs.Groups.{checked_crate, IsCheckedIn, IsAskedIn, ArePlacesWhere}
-use Rattle.coherence.specs.Progress.{IsCheckLineOf, IsLineOf, IsKeptLine, KeepsEach, KeepsChecks, KeepsQuestions}
+use Rattle.coherence.specs.KeptLines.{IsCheckLineOf, IsLineOf, IsKeptLine, KeepsEach, KeepsChecks, KeepsQuestions}
 use Rattle.coherence.specs.declared.kept.KeptLine.{KeptLine}
 use Rattle.coherence.proofs.Sets.{set-here, set-elsewhere}
 

@@ -14,3 +14,5 @@ pub mod ErasedValues
 pub mod AcceptedLines
 pub mod CrateNames
 pub mod HeldLines
+pub mod FirstLines
+pub mod SourceLines

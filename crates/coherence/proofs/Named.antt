@@ -11,7 +11,7 @@ use Rattle.workspace.specs.Numbered.{IsNumbered}
 use Rattle.sessions.specs.Promises.{IsVerdictOf, view_in}
 use Rattle.sessions.specs.Releases.{StopsAt}
 use Rattle.sessions.specs.Verdicts.{Verdict, accepted, orphan, overlap}
-use Rattle.coherence.specs.Progress.{NamesImpls}
+use Rattle.coherence.specs.KeptLines.{NamesImpls}
 
 -- an element of a mapped list stands for one of the list
 mapped : {A B : Type 0} (f : A → B) (xs : List A) (k : ℕ) (y : B) → slice_get (map f xs) k ≡ Some y → (x : A) × (slice_get xs k ≡ Some x) × (f x ≡ y)

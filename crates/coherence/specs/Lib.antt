@@ -4,4 +4,6 @@ pub mod Faults
 pub mod Lines
 pub mod Coherent
 pub mod Groups
-pub mod Progress
+pub mod KeptLines
+pub mod LineByLine
+pub mod LineSources

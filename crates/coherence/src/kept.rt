@@ -1,18 +1,17 @@
 //! The lines of checks and of questions, kept until all crates are judged.
 
-ghost use Rattle.std.specs.Prelude.{◌≡◌, ◌≢◌, ◌+◌, ◌<◌, ℕ, length, IfOk, IfErr, OnOk, OnErr};
+ghost use Rattle.std.specs.Prelude.{◌≡◌, ◌≢◌, ◌+◌, ◌<◌, ◌≤◌, ℕ, length, IfOk, IfErr, IfSome, OnOk};
 ghost use Rattle.workspace.specs.Numbered.{IsNumbered, IsFew};
 ghost use Rattle.sessions.specs.Subjects.{IsOfText, StaysOn};
 ghost use Rattle.coherence.specs.Groups.{IsAskedIn, IsCheckedIn, ArePlacesWhere, IsGroup};
-ghost use Rattle.coherence.specs.Progress.{KeepsChecks, KeepsQuestions, KeepsLines, WritesChecks, WritesChecksPrefix, WritesQuestions, WritesQuestionsPrefix};
+ghost use Rattle.coherence.specs.LineByLine.{CountsLine};
+ghost use Rattle.coherence.specs.KeptLines.{KeepsChecks, KeepsQuestions, KeepsLines, HasKeptLineAt};
 
 use crate::groups::Group;
 use crate::lines::{check_line, question_line};
 use crate::status::RunFault;
-use crate::streams::write_text;
 use sessions::Session;
 use std::alloc::{AllocError, Global};
-use std::io::Write;
 use workspace::{ENTRY_LIMIT, Workspace};
 
 /// A line as text, with its end; empty before it is known.
@@ -41,6 +40,34 @@ fn empty_lines(alloc: Global, count: usize) -> Result<Vec<KeptLine>, AllocError>
     Ok(lines)
 }
 
+/// A copy of a line.
+fn copy_line(alloc: Global, line: &KeptLine) -> Result<Vec<u8>, AllocError>
+    ensures { IfOk result (λ text. text.items ≡ line.now.text.items) }
+{
+    let mut text = Vec::new(alloc);
+    text.extend_from_slice(&line.text)?;
+    Ok(text)
+}
+
+/// The line at a place, which is counted up; none behind the last.
+pub fn next_line(
+    alloc: Global,
+    lines: &[KeptLine],
+    place: &mut usize,
+) -> Result<Option<Vec<u8>>, AllocError>
+    requires { place.old ≤ length lines.now }
+    ensures line { IfOk result (λ next. IfSome next (λ text. HasKeptLineAt lines.now place.old text.items)) }
+    ensures counts { CountsLine (length lines.now) place.old place.new result }
+    ensures within { place.new ≤ length lines.now }
+{
+    if *place >= lines.len() {
+        return Ok(None);
+    }
+    let text = copy_line(alloc, &lines[*place])?;
+    *place += 1;
+    Ok(Some(text))
+}
+
 /// Room for a line of each check and of each question.
 pub fn no_lines(alloc: Global, workspace: &Workspace) -> Result<KeptLines, AllocError>
     ensures { (limit : ℕ) → IfOk result (λ lines. KeepsLines limit workspace.now 0 lines) }
@@ -64,7 +91,8 @@ fn keep_checks(
     requires kept { KeepsChecks session.old.depth workspace.now session.old.of_crate lines.old.items }
     ensures kept { OnOk result (KeepsChecks session.old.depth workspace.now (session.old.of_crate + 1) lines.new.items) }
     ensures stays { StaysOn session.old session.new }
-    ensures written { IfErr result (λ fault. fault ≢ RunFault.Read) }
+    ensures unread { IfErr result (λ fault. fault ≢ RunFault.Read) }
+    ensures unwritten { IfErr result (λ fault. fault ≢ RunFault.Write) }
 {
     for place in places {
         let text = check_line(alloc, session, workspace, *place)?;
@@ -87,7 +115,8 @@ fn keep_questions(
     requires places { ArePlacesWhere (length workspace.now.questions) (IsAskedIn workspace.now session.old.of_crate) places.now }
     requires kept { KeepsQuestions session.old.depth workspace.now session.old.of_crate lines.old.items }
     ensures kept { OnOk result (KeepsQuestions session.old.depth workspace.now (session.old.of_crate + 1) lines.new.items) }
-    ensures written { IfErr result (λ fault. fault ≢ RunFault.Read) }
+    ensures unread { IfErr result (λ fault. fault ≢ RunFault.Read) }
+    ensures unwritten { IfErr result (λ fault. fault ≢ RunFault.Write) }
 {
     for place in places {
         let text = question_line(alloc, session, workspace, *place)?;
@@ -111,7 +140,8 @@ pub fn keep_answers(
     requires group { IsGroup (length workspace.now.checks) (length workspace.now.questions) workspace.now session.old.of_crate group.now }
     requires kept { KeepsLines session.old.depth workspace.now session.old.of_crate lines.old }
     ensures kept { OnOk result (KeepsLines session.old.depth workspace.now (session.old.of_crate + 1) lines.new) }
-    ensures written { IfErr result (λ fault. fault ≢ RunFault.Read) }
+    ensures unread { IfErr result (λ fault. fault ≢ RunFault.Read) }
+    ensures unwritten { IfErr result (λ fault. fault ≢ RunFault.Write) }
 {
     keep_checks(alloc, session, workspace, &group.checks, &mut lines.checks)?;
     keep_questions(
@@ -121,42 +151,4 @@ pub fn keep_answers(
         &group.questions,
         &mut lines.questions,
     )
-}
-
-/// Writes the line of each check, in the order of the text.
-pub fn write_checks<W: Write>(
-    workspace: &Workspace,
-    lines: &[KeptLine],
-    depth: u32,
-    writer: &mut W,
-) -> Result<(), RunFault>
-    requires numbered { IsNumbered workspace.now }
-    requires kept { KeepsChecks depth workspace.now (length workspace.now.crates) lines.now }
-    ensures whole { OnOk result (WritesChecks depth workspace.now (length workspace.now.checks) (W.contents writer.old) (W.contents writer.new)) }
-    ensures prefix { OnErr result (WritesChecksPrefix depth workspace.now (W.contents writer.old) (W.contents writer.new)) }
-    ensures written { IfErr result (λ fault. fault ≢ RunFault.Read) }
-{
-    for line in lines {
-        write_text(writer, &line.text)?;
-    }
-    Ok(())
-}
-
-/// Writes the line of each question, in the order of the text.
-pub fn write_questions<W: Write>(
-    workspace: &Workspace,
-    lines: &[KeptLine],
-    depth: u32,
-    writer: &mut W,
-) -> Result<(), RunFault>
-    requires numbered { IsNumbered workspace.now }
-    requires kept { KeepsQuestions depth workspace.now (length workspace.now.crates) lines.now }
-    ensures whole { OnOk result (WritesQuestions depth workspace.now (length workspace.now.questions) (W.contents writer.old) (W.contents writer.new)) }
-    ensures prefix { OnErr result (WritesQuestionsPrefix depth workspace.now (W.contents writer.old) (W.contents writer.new)) }
-    ensures written { IfErr result (λ fault. fault ≢ RunFault.Read) }
-{
-    for line in lines {
-        write_text(writer, &line.text)?;
-    }
-    Ok(())
 }

@@ -6,6 +6,7 @@ mod depths;
 mod groups;
 mod kept;
 mod lines;
+mod output_lines;
 mod outputs;
 mod status;
 mod streams;
@@ -13,6 +14,7 @@ mod text_run;
 
 pub use coherent::{accepted_lines_tell, held_lines_tell};
 pub use depths::parse_depth;
+pub use output_lines::OutputLines;
 pub use outputs::{Output, answer};
 pub use sessions::Limits;
 pub use status::{RunFault, Status};

@@ -18,7 +18,7 @@ ghost use Rattle.sessions.specs.Subjects.{IsOfText, AsksProof, AsksRefutation, S
 ghost use Rattle.sessions.specs.TextQuestions.{IsQuestion};
 ghost use Rattle.coherence.specs.Groups.{IsAskedIn, IsCheckedIn};
 ghost use Rattle.coherence.specs.Lines.{crate_text, impl_home, number_in_crate, header_text, orphan_line, verdict_line};
-ghost use Rattle.coherence.specs.Progress.{NamesImpls, HasCheckLine, IsCheckLineOf, HasLine, IsLineOf};
+ghost use Rattle.coherence.specs.KeptLines.{NamesImpls, HasCheckLine, IsCheckLineOf, HasLine, IsLineOf};
 
 use crate::status::RunFault;
 use answer_lines::{Answer, HeaderNames, answer_values, print_line, print_type};
@@ -220,7 +220,8 @@ fn later_line(
     requires section { IsSectionOf workspace.now changed.index section }
     ensures line { IfOk result (λ text. HasCheckLine session.old.depth workspace.now (of_later section changed.index) text.items) }
     ensures stays { StaysOn session.old session.new }
-    ensures written { IfErr result (λ fault. fault ≢ RunFault.Read) }
+    ensures unread { IfErr result (λ fault. fault ≢ RunFault.Read) }
+    ensures unwritten { IfErr result (λ fault. fault ≢ RunFault.Write) }
 {
     let answer = session.check_later(section)?;
     let name = workspace.crate_name(changed);
@@ -244,7 +245,8 @@ fn supers_line(
     requires declared { asked.index < length workspace.now.crates }
     ensures line { IfOk result (λ text. HasCheckLine session.old.depth workspace.now (of_supers asked.index) text.items) }
     ensures stays { StaysOn session.old session.new }
-    ensures written { IfErr result (λ fault. fault ≢ RunFault.Read) }
+    ensures unread { IfErr result (λ fault. fault ≢ RunFault.Read) }
+    ensures unwritten { IfErr result (λ fault. fault ≢ RunFault.Write) }
 {
     let answer = session.check_supertraits()?;
     let name = workspace.crate_name(asked);
@@ -288,7 +290,8 @@ pub fn check_line(
     requires checked { IsCheckedIn workspace.now session.old.of_crate place }
     ensures line { IfOk result (λ text. IsCheckLineOf session.old.depth workspace.now place text.items) }
     ensures stays { StaysOn session.old session.new }
-    ensures written { IfErr result (λ fault. fault ≢ RunFault.Read) }
+    ensures unread { IfErr result (λ fault. fault ≢ RunFault.Read) }
+    ensures unwritten { IfErr result (λ fault. fault ≢ RunFault.Write) }
 {
     let line = match workspace.checks()[place] {
         Check::Later(section, changed) => {
@@ -312,7 +315,8 @@ fn prove_line(
     ensures line { (q : Question) → AsksProof workspace.now session.old.of_crate number q
         → IfOk result (λ text. HasLine session.old.depth workspace.now number q text.items) }
     ensures stays { StaysOn session.old session.new }
-    ensures written { IfErr result (λ fault. fault ≢ RunFault.Read) }
+    ensures unread { IfErr result (λ fault. fault ≢ RunFault.Read) }
+    ensures unwritten { IfErr result (λ fault. fault ≢ RunFault.Write) }
 {
     let answer = session.prove(number)?;
     let line = match answer {
@@ -337,7 +341,8 @@ fn refute_line(
     ensures line { (q : Question) → AsksRefutation workspace.now session.old.of_crate number q
         → IfOk result (λ text. HasLine session.old.depth workspace.now number q text.items) }
     ensures stays { StaysOn session.old session.new }
-    ensures written { IfErr result (λ fault. fault ≢ RunFault.Read) }
+    ensures unread { IfErr result (λ fault. fault ≢ RunFault.Read) }
+    ensures unwritten { IfErr result (λ fault. fault ≢ RunFault.Write) }
 {
     let answer = session.refute(number)?;
     let line = match answer {
@@ -360,7 +365,8 @@ pub fn question_line(
     requires asked { IsAskedIn workspace.now session.old.of_crate place }
     ensures line { IfOk result (λ text. IsLineOf session.old.depth workspace.now place text.items) }
     ensures stays { StaysOn session.old session.new }
-    ensures written { IfErr result (λ fault. fault ≢ RunFault.Read) }
+    ensures unread { IfErr result (λ fault. fault ≢ RunFault.Read) }
+    ensures unwritten { IfErr result (λ fault. fault ≢ RunFault.Write) }
 {
     let number = place + 1;
     let line = match workspace.questions()[place as usize] {

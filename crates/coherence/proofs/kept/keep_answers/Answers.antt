@@ -1,7 +1,7 @@
 use Rattle.std.proofs.Common.{◌+◌, length, subst, sym}
 use Rattle.std.proofs.lemmas.Result.{on_ok_weaker}
 use Rattle.coherence.specs.Groups.{IsCheckedIn, IsAskedIn, ArePlacesWhere}
-use Rattle.coherence.specs.Progress.{KeepsQuestions}
+use Rattle.coherence.specs.KeptLines.{KeepsQuestions}
 use Rattle.coherence.proofs.kept.keep_answers.Goals as goal
 
 pub keep_checks-requires-clause-places : goal.keep_checks-requires-clause-places

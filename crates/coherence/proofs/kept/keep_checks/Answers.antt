@@ -4,7 +4,7 @@ use Rattle.std.proofs.lemmas.Bool.{cases_lt}
 use Rattle.std.proofs.lemmas.List.{length-set}
 use Rattle.std.proofs.lemmas.Option.{same_Some, slice_get-get_or, slice_get_within}
 use Rattle.coherence.specs.Groups.{IsCheckedIn}
-use Rattle.coherence.specs.Progress.{IsCheckLineOf}
+use Rattle.coherence.specs.KeptLines.{IsCheckLineOf}
 use Rattle.coherence.specs.declared.kept.KeptLine.{KeptLine}
 use Rattle.coherence.proofs.KeptLines.{stays-on, still-kept, one-crate-more, check-there}
 use Rattle.coherence.proofs.kept.keep_checks.Goals as goal

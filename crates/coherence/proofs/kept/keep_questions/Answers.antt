@@ -4,7 +4,7 @@ use Rattle.std.proofs.lemmas.Bool.{cases_lt}
 use Rattle.std.proofs.lemmas.List.{length-set}
 use Rattle.std.proofs.lemmas.Option.{same_Some, slice_get-get_or, slice_get_within}
 use Rattle.coherence.specs.Groups.{IsAskedIn}
-use Rattle.coherence.specs.Progress.{IsLineOf}
+use Rattle.coherence.specs.KeptLines.{IsLineOf}
 use Rattle.coherence.specs.declared.kept.KeptLine.{KeptLine}
 use Rattle.coherence.proofs.KeptLines.{stays-on, still-kept, one-crate-more, question-there}
 use Rattle.coherence.proofs.kept.keep_questions.Goals as goal

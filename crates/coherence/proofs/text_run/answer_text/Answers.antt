@@ -1,34 +1,77 @@
-use Rattle.std.proofs.Common.{[], ◌∷◌, ◌++◌, inl, inr}
+use Rattle.std.proofs.Common.{◌+◌, [], ◌∷◌, ◌++◌, List, ℕ, sym, ap, ◌∙◌, subst, Result, IfOk, OnOk, Vec, Global}
+use Rattle.std.specs.Io.KnownBytes.{Appends}
+use Rattle.std.proofs.KnownBytes.{Appends-nil}
 use Rattle.std.proofs.lemmas.Result.{err_from_is_err_and}
-use Rattle.name_resolution.specs.FaultNumbers.{fault_number}
-use Rattle.text_definitions.specs.Output.{fault}
-use Rattle.coherence.specs.Lines.{of_fault, of_answers, begins_fault, begins_crates, begins_checks, begins_questions}
-use Rattle.coherence.proofs.LineLaws.{alone-line, alone-prefix}
+use Rattle.text_definitions.specs.Declarations.{Declarations}
+use Rattle.text_definitions.specs.Text.{TextGives}
+use Rattle.coherence.specs.LineByLine.{OutputProgress, IsAfterLine, IsLineAt, status_of}
+use Rattle.coherence.specs.Lines.{IsOutput}
+use Rattle.coherence.specs.Streams.{AppendsPrefix}
+use Rattle.coherence.specs.declared.status.RunFault.{RunFault}
+use Rattle.coherence.specs.declared.status.Status.{Status}
+use Rattle.coherence.proofs.FirstLines.{FirstLines, no_lines, and_line, all-lines, some-lines, all-given}
+use Rattle.coherence.proofs.LineLaws.{one_more, line_prefix, whole_prefix}
 use Rattle.coherence.proofs.text_run.answer_text.Goals as goal
 
-pub returns-in_err-write_fault-in-Err-Text-clause-prefix : goal.returns-in_err-write_fault-in-Err-Text-clause-prefix
-returns-in_err-write_fault-in-Err-Text-clause-prefix g c =
-    let p = err_from_is_err_and c.from_residual.result c.from_residual.ensures.1 in
-    let given = rw c.in-Err-Text.field-0-is at c.in-Err-Text.ensures.refused in
-    let line = fault c.in-Err-Text.fault.line (fault_number c.in-Err-Text.fault.kind) in
-    rw p.1 (inr (line ∷ [], begins_fault c.in-Err-Text.fault.line (fault_number c.in-Err-Text.fault.kind) given, alone-prefix _ _ line (rw c.in-Err-Text.fault-is at c.in_err-write_fault-in-Err-Text.ensures.prefix)))
+pub loop-line-init : goal.loop-line-init
+loop-line-init g c =
+    let new = c.in_ok-lines.ensures in
+    record {
+      text = new.text;
+      depth = new.depth;
+      has_failed = new.has_failed;
+      written = ([], subst (λ n. FirstLines c.args.limits.depth c.in_ok-lines.lines.text n []) (sym new.given) no_lines, Appends-nil _);
+    }
 
-pub returns-in_ok-write_fault-in-Err-Text-clause-whole : goal.returns-in_ok-write_fault-in-Err-Text-clause-whole
-returns-in_ok-write_fault-in-Err-Text-clause-whole g c =
-    let given = rw c.in-Err-Text.field-0-is at c.in-Err-Text.ensures.refused in
-    let line = fault c.in-Err-Text.fault.line (fault_number c.in-Err-Text.fault.kind) in
-    (line ∷ [], of_fault c.in-Err-Text.fault.line (fault_number c.in-Err-Text.fault.kind) given, alone-line _ _ line (rw c.in-Err-Text.fault-is at c.in_ok-write_fault-in-Err-Text.ensures.whole))
+pub returns-in_err-line-clause-prefix : goal.returns-in_err-line-clause-prefix
+returns-in_err-line-clause-prefix g c =
+    let p = err_from_is_err_and c.from_residual-in_err-line.result c.from_residual-in_err-line.ensures.1 in
+    let inv = c.loop-line.invariant in
+    let at = c.loop-line.lines in
+    let so_far = inv.written in
+    rw p.1 (some-lines c.args.limits.depth c.args.text.now at.text inv.text at.given so_far.0 so_far.1 _ _ (whole_prefix _ _ _ so_far.2))
 
-pub returns-in_err-write_answers-in-Ok-clause-prefix : goal.returns-in_err-write_answers-in-Ok-clause-prefix
-returns-in_err-write_answers-in-Ok-clause-prefix g c =
-    let p = err_from_is_err_and c.from_residual-in_err-write_answers-in-Ok.result c.from_residual-in_err-write_answers-in-Ok.ensures.1 in
-    rw p.1 (elim c.in_err-write_answers-in-Ok.ensures.prefix [
-      | inl w ↦ inr (w.1, begins_crates c.in-Ok.workspace w.0 w.1 c.in-Ok.ensures.taken w.2 w.3, w.4)
-      | inr (inl w) ↦ inr (w.1 ++ w.2, begins_checks c.in-Ok.workspace w.0 w.1 w.2 c.in-Ok.ensures.taken w.3 w.4 w.5, w.6)
-      | inr (inr w) ↦ inr ((w.1 ++ w.2) ++ w.3, begins_questions c.in-Ok.workspace w.0 w.1 w.2 w.3 c.in-Ok.ensures.taken w.4 w.5 w.6, w.7)
-    ])
+pub returns-in_err-write_text-clause-prefix : goal.returns-in_err-write_text-clause-prefix
+returns-in_err-write_text-clause-prefix g c =
+    let p = err_from_is_err_and c.from_residual-in_err-write_text.result c.from_residual-in_err-write_text.ensures.1 in
+    let inv = c.loop-line.invariant in
+    let at = c.loop-line.lines in
+    let so_far = inv.written in
+    let limit = c.args.limits.depth in
+    let text = c.in_ok-line.field-0.items in
+    let found : IsLineAt at.depth at.text at.given text = subst (λ (r : Result (Vec ℕ Global) RunFault). IfOk r (λ v. IsLineAt at.depth at.text at.given v.items)) c.in_ok-line.was c.in-Some.ensures.line in
+    let line : IsLineAt limit at.text at.given text = subst (λ n. IsLineAt n at.text at.given text) inv.depth found in
+    let lines = and_line at.given so_far.0 line.0 so_far.1 line.1 in
+    let gained = subst (λ (bytes : List ℕ). AppendsPrefix (g.W.Write.contents c.loop-line.writer) (g.W.Write.contents c.write_text.new.writer) bytes) (c.deref.ensures.value ∙ line.2) c.in_err-write_text.ensures.prefix in
+    rw p.1 (some-lines limit c.args.text.now at.text inv.text (at.given + 1) (so_far.0 ++ line.0 ∷ []) lines _ _ (line_prefix _ _ _ so_far.0 line.0 so_far.2 gained))
 
-pub returns-in_ok-write_answers-in-Ok-clause-whole : goal.returns-in_ok-write_answers-in-Ok-clause-whole
-returns-in_ok-write_answers-in-Ok-clause-whole g c =
-    let w = c.in_ok-write_answers-in-Ok.ensures.whole in
-    ((w.0 ++ w.1) ++ w.2, of_answers c.in-Ok.workspace w.0 w.1 w.2 c.in-Ok.ensures.taken w.3 w.4, w.5)
+pub loop-line-preserved : goal.loop-line-preserved
+loop-line-preserved g c =
+    let inv = c.loop-line.invariant in
+    let at = c.loop-line.lines in
+    let next = c.next.new.self in
+    let so_far = inv.written in
+    let limit = c.args.limits.depth in
+    let text = c.in_ok-line.field-0.items in
+    let found : IsLineAt at.depth at.text at.given text = subst (λ (r : Result (Vec ℕ Global) RunFault). IfOk r (λ v. IsLineAt at.depth at.text at.given v.items)) c.in_ok-line.was c.in-Some.ensures.line in
+    let line : IsLineAt limit at.text at.given text = subst (λ n. IsLineAt n at.text at.given text) inv.depth found in
+    let after : IsAfterLine at next = subst (λ (r : Result (Vec ℕ Global) RunFault). OnOk r (IsAfterLine at next)) c.in_ok-line.was c.in-Some.ensures.given in
+    let ls = so_far.0 ++ line.0 ∷ [] in
+    let lines : FirstLines limit at.text (at.given + 1) ls = and_line at.given so_far.0 line.0 so_far.1 line.1 in
+    let gained = subst (λ (bytes : List ℕ). Appends (g.W.Write.contents c.loop-line.writer) (g.W.Write.contents c.write_text.new.writer) bytes) (c.deref.ensures.value ∙ line.2) c.in_ok-write_text.ensures.whole in
+    record {
+      text = subst (λ (t : Result Declarations (ℕ × ℕ)). TextGives c.args.text.now t) (sym after.text) inv.text;
+      depth = after.depth ∙ inv.depth;
+      has_failed = after.has_failed;
+      written = (ls, subst (λ n. FirstLines limit next.text n ls) (sym after.given) (subst (λ (t : Result Declarations (ℕ × ℕ)). FirstLines limit t (at.given + 1) ls) (sym after.text) lines), one_more _ _ _ so_far.0 line.0 so_far.2 gained);
+    }
+
+pub returns-clause-whole : goal.returns-clause-whole
+returns-clause-whole g c =
+    let inv = c.loop-line.invariant in
+    let at = c.loop-line.lines in
+    let so_far = inv.written in
+    let end = c.next.ensures.end c.in_default.is in
+    let all = all-lines c.args.limits.depth c.args.text.now at.text inv.text at.given so_far.0 so_far.1 (all-given at inv.has_failed end.1) in
+    let status = c.status.ensures ∙ ap (λ (p : OutputProgress). status_of p.text) end.0 in
+    (so_far.0, subst (λ (s : Status). IsOutput c.args.limits.depth c.args.text.now s so_far.0) (sym status) all, so_far.2)

@@ -4,7 +4,7 @@ use Rattle.std.proofs.lemmas.Option.{slice_get-get_or}
 use Rattle.text_definitions.specs.Declarations.{NamedCrate}
 use Rattle.type_terms.specs.declared.CrateId.{CrateId}
 use Rattle.coherence.proofs.Places.{crate-number}
-use Rattle.coherence.proofs.text_run.crate_at.Goals as goal
+use Rattle.coherence.proofs.output_lines.crate_at.Goals as goal
 
 pub returns : goal.returns
 returns c =

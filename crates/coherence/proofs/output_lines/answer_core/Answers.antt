@@ -2,9 +2,9 @@ use Rattle.std.proofs.Common.{◌∙◌, ◌+◌, ◌==◌, ℕ, length, sym, su
 use Rattle.std.proofs.lemmas.Bool.{eqb-true}
 use Rattle.type_terms.proofs.Walking.{left, right}
 use Rattle.coherence.specs.Groups.{IsCheckedIn, IsAskedIn}
-use Rattle.coherence.specs.Progress.{IsCheckLineOf, IsLineOf, KeepsLines}
+use Rattle.coherence.specs.KeptLines.{IsCheckLineOf, IsLineOf, KeepsLines}
 use Rattle.coherence.proofs.KeptLines.{one-crate-more, check-there, question-there}
-use Rattle.coherence.proofs.text_run.answer_core.Goals as goal
+use Rattle.coherence.proofs.output_lines.answer_core.Goals as goal
 
 pub returns-then-is_empty-clause-kept : goal.returns-then-is_empty-clause-kept
 returns-then-is_empty-clause-kept c =
@@ -30,5 +30,8 @@ returns-clause-kept c =
     subst (λ k. kept c.args.limits.depth k) (c.in_ok-session.ensures.of_crate ∙ c.crate_at.ensures)
     (subst (λ n. kept n s.of_crate) c.in_ok-session.ensures.depth c.keep_answers.ensures.kept)
 
-pub returns-clause-written : goal.returns-clause-written
-returns-clause-written c = c.keep_answers.ensures.written
+pub returns-clause-unread : goal.returns-clause-unread
+returns-clause-unread c = c.keep_answers.ensures.unread
+
+pub returns-clause-unwritten : goal.returns-clause-unwritten
+returns-clause-unwritten c = c.keep_answers.ensures.unwritten

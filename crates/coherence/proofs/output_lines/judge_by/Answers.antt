@@ -1,0 +1,23 @@
+use Rattle.std.proofs.Common.{◌∙◌, sym}
+use Rattle.std.proofs.lemmas.Result.{err_from_is_err_and}
+use Rattle.sessions.specs.Given.{verdict_in}
+use Rattle.coherence.proofs.Answered.{verdict-of}
+use Rattle.coherence.proofs.Named.{names}
+use Rattle.coherence.proofs.output_lines.judge_by.Goals as goal
+
+pub verdict_line-requires-clause-named : goal.verdict_line-requires-clause-named
+verdict_line-requires-clause-named c =
+    let s = c.args.session.now in
+    let d = c.args.workspace.now in
+    let v = verdict_in c.check_crate.new.self.terms c.in_ok-verdict.verdict in
+    rw c.interner.ensures.terms (names s.depth d c.args.id.index v c.requires.numbered (verdict-of s d c.args.id.index v c.requires.on c.requires.of_crate c.in_ok-verdict.ensures.verdict))
+
+pub returns-in_err-keep_answers-clause-unread : goal.returns-in_err-keep_answers-clause-unread
+returns-in_err-keep_answers-clause-unread c =
+    let p = err_from_is_err_and c.from_residual-in_err-keep_answers.result c.from_residual-in_err-keep_answers.ensures.1 in
+    rw p.1 (λ e. c.in_err-keep_answers.ensures.unread (sym p.2 ∙ e))
+
+pub returns-in_err-keep_answers-clause-unwritten : goal.returns-in_err-keep_answers-clause-unwritten
+returns-in_err-keep_answers-clause-unwritten c =
+    let p = err_from_is_err_and c.from_residual-in_err-keep_answers.result c.from_residual-in_err-keep_answers.ensures.1 in
+    rw p.1 (λ e. c.in_err-keep_answers.ensures.unwritten (sym p.2 ∙ e))

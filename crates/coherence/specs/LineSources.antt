@@ -1,0 +1,57 @@
+-- What the lines of a text are made of, while they are given one after the other.
+use Rattle.std.specs.Prelude.{◌≡◌, ℕ, ◌+◌, ◌-◌, ◌≤◌, ◌<◌, Bool, false, length, Result, Ok, Err}
+use Rattle.name_resolution.specs.FaultNumbers.{fault_number}
+use Rattle.text_definitions.specs.Declarations.{Declarations}
+use Rattle.workspace.specs.Numbered.{IsNumbered, IsFew}
+use Rattle.sessions.specs.Subjects.{IsOfText}
+use Rattle.coherence.specs.Groups.{AreGroups}
+use Rattle.coherence.specs.KeptLines.{KeepsLines}
+use Rattle.coherence.specs.declared.kept.KeptLines.{KeptLines}
+use Rattle.coherence.specs.declared.output_lines.LineCounts.{LineCounts}
+use Rattle.coherence.specs.declared.output_lines.LineSource.{LineSource}
+use Rattle.coherence.specs.declared.output_lines.LineSource.TheVariants.{Fault, Answers}
+use Rattle.coherence.specs.declared.output_lines.TextAnswers.{TextAnswers}
+
+abbrev pub text_of : LineSource → Result Declarations (ℕ × ℕ)
+text_of (Fault f) = Err (f.line, fault_number f.kind)
+text_of (Answers a) = Ok a.workspace
+
+abbrev pub lines_given : LineCounts → ℕ
+lines_given g = g.faults + g.crates + g.checks + g.questions
+
+abbrev pub IsNoneGiven : LineCounts → Type 0
+IsNoneGiven g = (g.faults ≡ 0) × (g.crates ≡ 0) × (g.checks ≡ 0) × (g.questions ≡ 0)
+
+-- at most that of the fault
+pub record IsGivenOfFault (g : LineCounts) : Type 0 where
+  pub faults : g.faults ≤ 1
+  pub crates : g.crates ≡ 0
+  pub checks : g.checks ≡ 0
+  pub questions : g.questions ≡ 0
+
+-- Those of crates come first, then those of checks, and then those of questions.
+pub record IsGivenInOrder (d : Declarations) (g : LineCounts) : Type 0 where
+  pub faults : g.faults ≡ 0
+  pub crates : g.crates ≤ length d.crates - 1
+  pub checks : g.checks ≤ length d.checks
+  pub questions : g.questions ≤ length d.questions
+  pub after_crates : 0 < g.checks + g.questions → g.crates ≡ length d.crates - 1
+  pub after_checks : 0 < g.questions → g.checks ≡ length d.checks
+
+-- a place for the line of each check and of each question
+pub record HasRoom (d : Declarations) (lines : KeptLines) : Type 0 where
+  pub checks : length lines.checks.items ≡ length d.checks
+  pub questions : length lines.questions.items ≡ length d.questions
+
+-- n crates have their lines, and what is asked of them, and of `core`, is answered
+pub record KeepsAnswers (limit n : ℕ) (a : TextAnswers) : Type 0 where
+  pub parsed : IsOfText a.workspace
+  pub numbered : IsNumbered a.workspace
+  pub few : IsFew a.workspace 1048640
+  pub groups : AreGroups (length a.workspace.checks) (length a.workspace.questions) a.workspace a.groups.items
+  pub kept : KeepsLines limit a.workspace (n + 1) a.kept
+
+-- So the lines that are left are made: where one could not be, only what was given is known.
+abbrev pub HoldsLines : ℕ → Bool → LineCounts → LineSource → Type 0
+HoldsLines limit has_failed g (Fault f) = IsGivenOfFault g
+HoldsLines limit has_failed g (Answers a) = IsGivenInOrder a.workspace g × (has_failed ≡ false → KeepsAnswers limit g.crates a)

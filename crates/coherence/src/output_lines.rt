@@ -1,0 +1,388 @@
+//! The output for a text in memory, line by line.
+
+ghost use Rattle.std.specs.Prelude.{◌≡◌, ◌≢◌, ◌+◌, ◌-◌, ◌<◌, ℕ, true, false, None, Ok, length, IfOk, IfErr, IfSome, OnOk, OnErr};
+ghost use Rattle.name_resolution.specs.FaultNumbers.{fault_number};
+ghost use Rattle.text_definitions.specs.Output.{fault, output_text};
+ghost use Rattle.text_definitions.specs.Text.{TextGives};
+ghost use Rattle.workspace.specs.Numbered.{IsNumbered, IsFew};
+ghost use Rattle.sessions.specs.Subjects.{IsOfText};
+ghost use Rattle.coherence.specs.Groups.{IsGroup};
+ghost use Rattle.coherence.specs.LineByLine.{CountsLine, HasNoMore, IsAfterFault, IsAfterLine, IsLineAt, IsVerdictLine, line_count, status_of};
+ghost use Rattle.coherence.specs.LineSources.{HasRoom, HoldsLines, IsGivenInOrder, IsGivenOfFault, IsNoneGiven, KeepsAnswers, lines_given, text_of};
+ghost use Rattle.coherence.specs.KeptLines.{KeepsLines};
+ghost use Rattle.coherence.specs.declared.output_lines.LineCounts.{LineCounts};
+
+use crate::groups::{Group, groups_by_crate};
+use crate::kept::{KeptLines, keep_answers, next_line, no_lines};
+use crate::lines::verdict_line;
+use crate::status::{RunFault, Status};
+use answer_lines::{Answer, print_line};
+use sessions::{Limits, Session};
+use std::alloc::{AllocError, Global};
+use std::marker::Model;
+use text_reader::{TextError, TextFault, parse};
+use type_terms::CrateId;
+use workspace::{ENTRY_LIMIT, Workspace};
+
+/// The crate at a place of the text.
+fn crate_at(workspace: &Workspace, place: usize) -> CrateId
+    requires { place < length workspace.now.crates }
+    ensures { result.index ≡ place }
+{
+    workspace.crates()[place]
+}
+
+/// How many crates have a line of their own: all but `core`.
+fn crates_with_lines(workspace: &Workspace) -> usize
+    requires { IsNumbered workspace.now }
+    ensures { result ≡ length workspace.now.crates - 1 }
+{
+    workspace.crates().len() - 1
+}
+
+/// Judges the session's crate, and keeps the lines of its checks and questions.
+fn judge_by(
+    alloc: Global,
+    session: &mut Session<'_>,
+    workspace: &Workspace,
+    id: CrateId,
+    group: &Group,
+    lines: &mut KeptLines,
+) -> Result<Vec<u8>, RunFault>
+    requires parsed { IsOfText workspace.now }
+    requires on { session.old.declarations ≡ workspace.now }
+    requires of_crate { session.old.of_crate ≡ id.index }
+    requires numbered { IsNumbered workspace.now }
+    requires few { IsFew workspace.now ENTRY_LIMIT }
+    requires declared { id.index < length workspace.now.crates }
+    requires group { IsGroup (length workspace.now.checks) (length workspace.now.questions) workspace.now id.index group.now }
+    requires kept { KeepsLines session.old.depth workspace.now id.index lines.old }
+    ensures line { IfOk result (λ text. IsVerdictLine session.old.depth workspace.now id.index text.items) }
+    ensures kept { OnOk result (KeepsLines session.old.depth workspace.now (id.index + 1) lines.new) }
+    ensures unread { IfErr result (λ fault. fault ≢ RunFault.Read) }
+    ensures unwritten { IfErr result (λ fault. fault ≢ RunFault.Write) }
+{
+    let verdict = session.check_crate()?;
+    let line = verdict_line(alloc, session.interner(), workspace, id, &verdict)?;
+    keep_answers(alloc, session, workspace, group, lines)?;
+    Ok(line)
+}
+
+/// The line of a crate; keeps the lines of its checks and questions: by one session, which sees the crate's view.
+fn judge_crate(
+    alloc: Global,
+    workspace: &Workspace,
+    id: CrateId,
+    limits: Limits,
+    group: &Group,
+    lines: &mut KeptLines,
+) -> Result<Vec<u8>, RunFault>
+    requires parsed { IsOfText workspace.now }
+    requires numbered { IsNumbered workspace.now }
+    requires few { IsFew workspace.now ENTRY_LIMIT }
+    requires declared { id.index < length workspace.now.crates }
+    requires group { IsGroup (length workspace.now.checks) (length workspace.now.questions) workspace.now id.index group.now }
+    requires kept { KeepsLines limits.depth workspace.now id.index lines.old }
+    ensures line { IfOk result (λ text. IsVerdictLine limits.depth workspace.now id.index text.items) }
+    ensures kept { OnOk result (KeepsLines limits.depth workspace.now (id.index + 1) lines.new) }
+    ensures unread { IfErr result (λ fault. fault ≢ RunFault.Read) }
+    ensures unwritten { IfErr result (λ fault. fault ≢ RunFault.Write) }
+{
+    let mut session = Session::new(alloc, workspace, id, limits)?;
+    judge_by(alloc, &mut session, workspace, id, group, lines)
+}
+
+/// Keeps the lines of what is checked of `core`, and of questions that ask in it. It has no line of its own.
+fn answer_core(
+    alloc: Global,
+    workspace: &Workspace,
+    limits: Limits,
+    group: &Group,
+    lines: &mut KeptLines,
+) -> Result<(), RunFault>
+    requires parsed { IsOfText workspace.now }
+    requires numbered { IsNumbered workspace.now }
+    requires few { IsFew workspace.now ENTRY_LIMIT }
+    requires group { IsGroup (length workspace.now.checks) (length workspace.now.questions) workspace.now 0 group.now }
+    requires kept { KeepsLines limits.depth workspace.now 0 lines.old }
+    ensures kept { OnOk result (KeepsLines limits.depth workspace.now 1 lines.new) }
+    ensures unread { IfErr result (λ fault. fault ≢ RunFault.Read) }
+    ensures unwritten { IfErr result (λ fault. fault ≢ RunFault.Write) }
+{
+    if group.is_empty() {
+        return Ok(());
+    }
+    let mut session = Session::new(alloc, workspace, crate_at(workspace, 0), limits)?;
+    keep_answers(alloc, &mut session, workspace, group, lines)
+}
+
+/// What a text without a fault declares and asks, and what of it is of each crate; and the lines that are kept until all crates are judged.
+#[derive(Drop)]
+struct TextAnswers {
+    workspace: Workspace,
+    groups: Vec<Group>,
+    kept: KeptLines,
+}
+
+/// What the lines of a text are made of.
+#[derive(Drop)]
+enum LineSource {
+    Fault(TextFault),
+    Answers(TextAnswers),
+}
+
+/// How many lines of each kind have been given.
+#[derive(Drop)]
+struct LineCounts {
+    faults: usize,
+    crates: usize,
+    checks: usize,
+    questions: usize,
+}
+
+/// What is needed for the lines of a text without a fault, with what is asked of `core` answered.
+fn text_answers(
+    alloc: Global,
+    workspace: Workspace,
+    limits: Limits,
+) -> Result<TextAnswers, RunFault>
+    requires { IsOfText workspace }
+    ensures keeps { IfOk result (λ answers. KeepsAnswers limits.depth 0 answers) }
+    ensures same { IfOk result (λ answers. answers.workspace ≡ workspace) }
+    ensures unread { IfErr result (λ fault. fault ≢ RunFault.Read) }
+    ensures unwritten { IfErr result (λ fault. fault ≢ RunFault.Write) }
+{
+    let _crates = workspace.crates();
+    let mut kept = no_lines(alloc, &workspace)?;
+    let groups = groups_by_crate(alloc, &workspace)?;
+    answer_core(alloc, &workspace, limits, &groups[0], &mut kept)?;
+    Ok(TextAnswers {
+        workspace,
+        groups,
+        kept,
+    })
+}
+
+/// The line of the crate behind so many others that have lines of their own.
+fn crate_line(
+    alloc: Global,
+    limits: Limits,
+    answers: &mut TextAnswers,
+    place: usize,
+) -> Result<Vec<u8>, RunFault>
+    requires keeps { KeepsAnswers limits.depth place answers.old }
+    requires there { place < length answers.old.workspace.crates - 1 }
+    ensures line { IfOk result (λ text. IsVerdictLine limits.depth answers.old.workspace (place + 1) text.items) }
+    ensures keeps { OnOk result (KeepsAnswers limits.depth (place + 1) answers.new) }
+    ensures same { answers.new.workspace ≡ answers.old.workspace }
+    ensures unread { IfErr result (λ fault. fault ≢ RunFault.Read) }
+    ensures unwritten { IfErr result (λ fault. fault ≢ RunFault.Write) }
+{
+    let id = crate_at(&answers.workspace, place + 1);
+    judge_crate(
+        alloc,
+        &answers.workspace,
+        id,
+        limits,
+        &answers.groups[place + 1],
+        &mut answers.kept,
+    )
+}
+
+/// The line of a text's fault.
+fn fault_line(alloc: Global, found: &TextFault) -> Result<Vec<u8>, AllocError>
+    ensures { IfOk result (λ text. text.items ≡ output_text (fault found.now.line (fault_number found.now.kind))) }
+{
+    let line = found.line;
+    let number = u32::from(found.kind.number());
+    print_line(alloc, &Answer::Fault { line, number })
+}
+
+/// The next line of a text with a fault: that of the fault, once.
+fn next_of_fault(
+    alloc: Global,
+    found: &TextFault,
+    given: &mut LineCounts,
+) -> Result<Option<Vec<u8>>, AllocError>
+    requires { IsGivenOfFault given.old }
+    ensures line { IfOk result (λ next. IfSome next (λ line. line.items ≡ output_text (fault found.now.line (fault_number found.now.kind)))) }
+    ensures counts { CountsLine 1 (lines_given given.old) (lines_given given.new) result }
+    ensures holds { IsGivenOfFault given.new }
+{
+    if given.faults > 0 {
+        return Ok(None);
+    }
+    let line = fault_line(alloc, found)?;
+    given.faults = 1;
+    Ok(Some(line))
+}
+
+/// The next line that is kept, once all crates are judged: that of a check, and behind these that of a question.
+fn next_kept(
+    alloc: Global,
+    answers: &TextAnswers,
+    given: &mut LineCounts,
+) -> Result<Option<Vec<u8>>, AllocError>
+    requires order { IsGivenInOrder answers.now.workspace given.old }
+    requires judged { given.old.crates ≡ length answers.now.workspace.crates - 1 }
+    requires numbered { IsNumbered answers.now.workspace }
+    requires room { HasRoom answers.now.workspace answers.now.kept }
+    ensures line { (limit : ℕ) → KeepsLines limit answers.now.workspace (length answers.now.workspace.crates) answers.now.kept
+        → IfOk result (λ next. IfSome next (λ line. IsLineAt limit (Ok answers.now.workspace) (lines_given given.old) line.items)) }
+    ensures counts { CountsLine (line_count (Ok answers.now.workspace)) (lines_given given.old) (lines_given given.new) result }
+    ensures order { IsGivenInOrder answers.now.workspace given.new }
+    ensures judged { given.new.crates ≡ given.old.crates }
+{
+    if let Some(line) = next_line(alloc, &answers.kept.checks, &mut given.checks)? {
+        return Ok(Some(line));
+    }
+    next_line(alloc, &answers.kept.questions, &mut given.questions)
+}
+
+/// The next line of a text without a fault.
+fn next_of_answers(
+    alloc: Global,
+    limits: Limits,
+    answers: &mut TextAnswers,
+    given: &mut LineCounts,
+) -> Result<Option<Vec<u8>>, RunFault>
+    requires order { IsGivenInOrder answers.old.workspace given.old }
+    requires keeps { KeepsAnswers limits.depth given.old.crates answers.old }
+    ensures line { IfOk result (λ next. IfSome next (λ line. IsLineAt limits.depth (Ok answers.old.workspace) (lines_given given.old) line.items)) }
+    ensures counts { CountsLine (line_count (Ok answers.old.workspace)) (lines_given given.old) (lines_given given.new) result }
+    ensures order { IsGivenInOrder answers.old.workspace given.new }
+    ensures keeps { OnOk result (KeepsAnswers limits.depth given.new.crates answers.new) }
+    ensures same { answers.new.workspace ≡ answers.old.workspace }
+    ensures unread { IfErr result (λ fault. fault ≢ RunFault.Read) }
+    ensures unwritten { IfErr result (λ fault. fault ≢ RunFault.Write) }
+{
+    if given.crates < crates_with_lines(&answers.workspace) {
+        let line = crate_line(alloc, limits, answers, given.crates)?;
+        given.crates += 1;
+        return Ok(Some(line));
+    }
+    let next = next_kept(alloc, answers, given)?;
+    Ok(next)
+}
+
+/// The next line of a text.
+fn next_of(
+    alloc: Global,
+    limits: Limits,
+    source: &mut LineSource,
+    given: &mut LineCounts,
+) -> Result<Option<Vec<u8>>, RunFault>
+    requires { HoldsLines limits.depth false given.old source.old }
+    ensures line { IfOk result (λ next. IfSome next (λ line. IsLineAt limits.depth (text_of source.old) (lines_given given.old) line.items)) }
+    ensures counts { CountsLine (line_count (text_of source.old)) (lines_given given.old) (lines_given given.new) result }
+    ensures holds { OnOk result (HoldsLines limits.depth false given.new source.new) }
+    ensures failed { OnErr result (HoldsLines limits.depth true given.new source.new) }
+    ensures same { text_of source.new ≡ text_of source.old }
+    ensures unread { IfErr result (λ fault. fault ≢ RunFault.Read) }
+    ensures unwritten { IfErr result (λ fault. fault ≢ RunFault.Write) }
+{
+    match source {
+        LineSource::Fault(found) => Ok(next_of_fault(alloc, found, given)?),
+        LineSource::Answers(answers) => next_of_answers(alloc, limits, answers, given),
+    }
+}
+
+/// The source of the lines of a text: it is read whole.
+fn line_source(alloc: Global, text: &[u8], limits: Limits) -> Result<LineSource, RunFault>
+    ensures text { IfOk result (λ source. TextGives text.now (text_of source)) }
+    ensures holds { (given : LineCounts) → IsNoneGiven given → IfOk result (HoldsLines limits.depth false given) }
+    ensures unread { IfErr result (λ fault. fault ≢ RunFault.Read) }
+    ensures unwritten { IfErr result (λ fault. fault ≢ RunFault.Write) }
+{
+    match parse(alloc, text) {
+        Err(TextError::Memory) => Err(RunFault::Memory),
+        Err(TextError::Text(found)) => Ok(LineSource::Fault(found)),
+        Ok(workspace) => Ok(LineSource::Answers(text_answers(alloc, workspace, limits)?)),
+    }
+}
+
+/// The output for a text in memory, line by line: the line of its first fault, or a line for each crate but `core`, then one for each
+/// later version and each check of supertraits, and then one for each question.
+///
+/// Each crate is judged, and asked all that is asked of it, when its line is.
+#[derive(Drop)]
+pub struct OutputLines {
+    alloc: Global,
+    limits: Limits,
+    source: LineSource,
+    given: LineCounts,
+    has_failed: bool,
+}
+
+impl Model for OutputLines {
+    ghost use Rattle.coherence.specs.LineByLine.{OutputProgress, progress_code};
+    ghost use Rattle.coherence.specs.LineSources.{HoldsLines, lines_given, text_of};
+
+    ghost Value = { OutputProgress };
+
+    ghost coded = { progress_code };
+
+    ghost view = { λ s. record { text = text_of s.source; depth = s.limits.depth; given = lines_given s.given; has_failed = s.has_failed } };
+
+    ghost invariant = { λ s. HoldsLines s.limits.depth s.has_failed s.given s.source };
+}
+
+impl OutputLines {
+    /// The lines of the output for a text. It is read whole, and what it asks of `core` is answered.
+    pub fn new(alloc: Global, text: &[u8], limits: Limits) -> Result<Self, RunFault>
+        ensures text { IfOk result (λ lines. TextGives text.now lines.text) }
+        ensures depth { IfOk result (λ lines. lines.depth ≡ limits.depth) }
+        ensures given { IfOk result (λ lines. lines.given ≡ 0) }
+        ensures has_failed { IfOk result (λ lines. lines.has_failed ≡ false) }
+        ensures unread { IfErr result (λ fault. fault ≢ RunFault.Read) }
+        ensures unwritten { IfErr result (λ fault. fault ≢ RunFault.Write) }
+    {
+        let source = line_source(alloc, text, limits)?;
+        let given = LineCounts {
+            faults: 0,
+            crates: 0,
+            checks: 0,
+            questions: 0,
+        };
+        Ok(OutputLines {
+            alloc,
+            limits,
+            source,
+            given,
+            has_failed: false,
+        })
+    }
+
+    /// Whether the lines are answers, or the line of the text's first fault.
+    pub fn status(&self) -> Status
+        ensures { result ≡ status_of self.now.text }
+    {
+        match self.source {
+            LineSource::Fault(_) => Status::TextFault,
+            LineSource::Answers(_) => Status::Done,
+        }
+    }
+
+    /// The next line, with its end; or a refused request for memory, or that a table of terms was full, after which there are no more.
+    pub fn next(&mut self) -> Option<Result<Vec<u8>, RunFault>>
+        ensures line { IfSome result (λ next. IfOk next (λ line. IsLineAt self.old.depth self.old.text self.old.given line.items)) }
+        ensures given { IfSome result (λ next. OnOk next (IsAfterLine self.old self.new)) }
+        ensures failed { IfSome result (λ next. OnErr next (IsAfterFault self.old self.new)) }
+        ensures end { result ≡ None → (self.new ≡ self.old) × HasNoMore self.old }
+        ensures over { self.old.has_failed ≡ true → result ≡ None }
+        ensures unread { IfSome result (λ next. IfErr next (λ fault. fault ≢ RunFault.Read)) }
+        ensures unwritten { IfSome result (λ next. IfErr next (λ fault. fault ≢ RunFault.Write)) }
+    {
+        if self.has_failed {
+            return None;
+        }
+        match next_of(self.alloc, self.limits, &mut self.source, &mut self.given) {
+            Ok(None) => None,
+            Ok(Some(line)) => Some(Ok(line)),
+            Err(fault) => {
+                self.has_failed = true;
+                Some(Err(fault))
+            }
+        }
+    }
+}
