@@ -14,11 +14,11 @@ mod printed;
 mod words;
 
 use crate::input::read_text;
-use crate::printed::{Shown, Told, write_answers, write_note};
+use crate::printed::{Lack, Shown, Told, write_answers, write_note};
 use crate::words::{ColorConfig, Options, read_words};
 use coherence::{Limits, RunFault, Status, run};
 use diagnostics::{Diagnostic, SourceFile};
-use refusal_texts::explain_refusals;
+use refusal_texts::{Fault, explain_refusals};
 use std::alloc::Global;
 use std::fs::File;
 use std::io::IsTerminal;
@@ -93,20 +93,37 @@ fn has_colors(rt: &HostRuntime, options: Options<'_>) -> bool {
     }
 }
 
-/// What is found for the lines of the answer, each at its place, and whether that is all: a refused request for memory or a full table
-/// ends it.
+/// What was missing where explaining ended so.
+fn lack_of(ended: Result<(), Fault>) -> Option<Lack> {
+    match ended {
+        Ok(()) => None,
+        Err(Fault::Memory) => Some(Lack::Memory),
+        Err(Fault::Full) => Some(Lack::Full),
+    }
+}
+
+/// What is found for the lines of the answer, each at its place, and what was missing if that is not all.
 fn explanations_of(
     alloc: Global,
     file: Option<&SourceFile<'_>>,
     text: &[u8],
     limits: Limits,
-) -> (Vec<Option<Diagnostic>>, bool) {
+) -> (Vec<Option<Diagnostic>>, Option<Lack>) {
     let mut found = Vec::new(alloc);
-    let is_whole = match file {
-        None => false,
-        Some(file) => explain_refusals(alloc, file, text, limits, &mut found).is_ok(),
+    let lack = match file {
+        None => Some(Lack::Memory),
+        Some(file) => lack_of(explain_refusals(alloc, file, text, limits, &mut found)),
     };
-    (found, is_whole)
+    (found, lack)
+}
+
+/// What was missing: memory for what was to be said of a line, or else what ended the explaining.
+fn first_lack(told: Told, lack: Option<Lack>) -> Option<Lack> {
+    if told.is_cut {
+        Some(Lack::Memory)
+    } else {
+        lack
+    }
 }
 
 /// Writes the lines of the answer, each with what is said of it.
@@ -124,11 +141,11 @@ fn tell(
     let alloc = rt.alloc();
     let name = options.name.or(options.file).unwrap_or("<stdin>");
     let file = SourceFile::new(alloc, name, text).ok();
-    let (found, is_whole) = explanations_of(alloc, file.as_ref(), text, limits);
+    let (found, lack) = explanations_of(alloc, file.as_ref(), text, limits);
     let mut writer = rt.stdout();
     let told = write_answers(alloc, &mut writer, shown, file.as_ref(), lines, &found)?;
-    if told.is_cut || !is_whole {
-        write_note(&mut writer, shown)?;
+    if let Some(lack) = first_lack(told, lack) {
+        write_note(&mut writer, shown, lack)?;
     }
     Ok(told)
 }

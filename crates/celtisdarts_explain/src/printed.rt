@@ -117,13 +117,38 @@ pub fn write_answers<W: Write>(
     Ok(told)
 }
 
-/// Writes that not all is explained.
-pub fn write_note<W: Write>(writer: &mut W, shown: Shown) -> io::Result<()> {
-    if shown.is_json {
-        writer.write_all(
-            b"{\"$message_type\":\"diagnostic\",\"answer\":\"\",\"children\":[],\"code\":null,\"level\":\"note\",\"message\":\"no explanation: out of memory\",\"rendered\":\"note: no explanation: out of memory\\n\",\"spans\":[]}\n",
-        )
-    } else {
-        writer.write_all(b"note: no explanation: out of memory\n")
+/// Why not all is explained.
+#[derive(Clone, Copy)]
+pub enum Lack {
+    /// A request for memory was refused.
+    Memory,
+    /// A table of a session is full.
+    Full,
+}
+
+impl Lack {
+    /// What is printed of it.
+    fn message(self) -> &'static str {
+        match self {
+            Lack::Memory => "no explanation: out of memory",
+            Lack::Full => "no explanation: a table is full",
+        }
     }
+}
+
+/// Writes that not all is explained. This takes no memory.
+pub fn write_note<W: Write>(writer: &mut W, shown: Shown, lack: Lack) -> io::Result<()> {
+    let message = lack.message().as_bytes();
+    if !shown.is_json {
+        writer.write_all(b"note: ")?;
+        writer.write_all(message)?;
+        return writer.write_all(b"\n");
+    }
+    writer.write_all(
+        b"{\"$message_type\":\"diagnostic\",\"answer\":\"\",\"children\":[],\"code\":null,\"level\":\"note\",\"message\":\"",
+    )?;
+    writer.write_all(message)?;
+    writer.write_all(b"\",\"rendered\":\"note: ")?;
+    writer.write_all(message)?;
+    writer.write_all(b"\\n\",\"spans\":[]}\n")
 }

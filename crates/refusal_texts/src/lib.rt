@@ -15,3 +15,4 @@ mod similar;
 mod words;
 
 pub use explaining::explain_refusals;
+pub use type_terms::Fault;
