@@ -38,9 +38,9 @@ pub mod values;
 mod view;
 mod written;
 
+pub use answers::{LaterAnswer, ProveAnswer, RefuteAnswer, SupersAnswer, Verdict};
 pub use applying::clauses_apply;
 pub use asked::{lower_in, rest_laws};
-pub use answers::{LaterAnswer, ProveAnswer, RefuteAnswer, SupersAnswer, Verdict};
 pub use checked::intersection_at;
 pub use impossible::is_impossible;
 pub use later::{added_impls, added_impls_break_no_user, trait_is_relied_on};
@@ -48,13 +48,13 @@ pub use limits::Limits;
 pub use obligations::has_impossible_obligation;
 pub use orphan_check::errors::{OrphanCheckErr, UncoveredTyParams};
 pub use pair_laws::{open_pair_goals_are_possible, pair_goals_are_formed};
+pub use proving::{elaborate_in, goal_under, question_table_in};
 pub use question_laws::{
     SolverSearch, decided_are_answered, formed_questions_are_goals,
     questions_are_answered_as_written, questions_are_answered_exactly, questions_are_elaborated,
     questions_are_formed, references_are_goals, refusals_are_exact, sorts_tell_fits,
     texts_are_formed,
 };
-pub use proving::{elaborate_in, goal_under, question_table_in};
 pub use session::Session;
 pub use supertrait_laws::impls_apply;
 pub use supertraits::{SupertraitGoals, own_goals_in};

@@ -174,7 +174,10 @@ fn ask_for<H: GoalHandler>(
 }
 
 /// The references with their supertraits through all levels, over the interner of a solver's context.
-pub fn elaborate_in(cx: &mut SolverCx<Solver>, references: &[TraitRef]) -> Result<Vec<TraitRef>, Fault>
+pub fn elaborate_in(
+    cx: &mut SolverCx<Solver>,
+    references: &[TraitRef],
+) -> Result<Vec<TraitRef>, Fault>
     requires ready { SolverIsReady cx.old }
     requires held { TraitRefsHeld cx.old.interner.entries references.now }
     requires applied { AreApplied cx.old.interner.entries cx.old.handler.declarations references.now }
