@@ -1,0 +1,6 @@
+mod LaterImpls
+mod LaterProofs
+mod Rests
+mod ShownSteps
+mod Staying
+mod UnseenCrates

@@ -1,0 +1,26 @@
+use Rattle.std.proofs.Common.{[], sym, subst}
+use Rattle.type_terms.specs.Kept.{has-later}
+use Rattle.type_terms.specs.Terms.{Has, args_lists}
+use Rattle.term_folds.specs.declared.predicate.TraitRef.{TraitRef}
+use Rattle.sessions.proofs.Posing.{goal-held}
+use Rattle.session_walks.proofs.Rests.{rests-advanced, rests-further}
+use Rattle.session_walks.proofs.questions.refute_lowered.Goals as goal
+
+pub question_table_in-requires : goal.question_table_in-requires
+question_table_in-requires c = c.requires.rest.ready
+
+pub returns-in_err-table-clause-rests : goal.returns-in_err-table-clause-rests
+returns-in_err-table-clause-rests c = rests-advanced c.args.graph.now.root_depth c.args.cx.now c.question_table_in.new.cx c.args.graph.now c.args.cache.now c.requires.rest c.question_table_in.ensures.advances
+
+pub walk_alone-requires-clause-rest : goal.walk_alone-requires-clause-rest
+walk_alone-requires-clause-rest c = (rests-advanced c.args.graph.now.root_depth c.args.cx.now c.question_table_in.new.cx c.args.graph.now c.args.cache.now c.requires.rest c.question_table_in.ensures.advances).rest
+
+pub walk_alone-requires-clause-goal : goal.walk_alone-requires-clause-goal
+walk_alone-requires-clause-goal c =
+    let old = c.args.cx.now.interner.entries in
+    let new = c.question_table_in.new.cx.interner.entries in
+    goal-held new c.bare_goal-goal.result [] tt c.bare_goal-goal.ensures.clauses
+    (subst (λ (r : TraitRef). Has new args_lists r.args.0) (sym c.bare_goal-goal.ensures.asked) (has-later old new c.question_table_in.ensures.advances.entries args_lists c.args.lowered.now.asked.args.0 c.requires.lowered.1.asked_held))
+
+pub returns-clause-rests : goal.returns-clause-rests
+returns-clause-rests c = rests-further c.args.graph.now.root_depth c.args.cx.now c.question_table_in.new.cx c.walk_alone.new.cx c.args.graph.now c.walk_alone.new.graph c.args.cache.now c.walk_alone.new.cache (rests-advanced c.args.graph.now.root_depth c.args.cx.now c.question_table_in.new.cx c.args.graph.now c.args.cache.now c.requires.rest c.question_table_in.ensures.advances) (c.walk_alone.ensures.rests)

@@ -1,0 +1,52 @@
+use Rattle.std.proofs.Common.{◌+◌, [], ◌∙◌, refl, sym, ap, subst, Some, take}
+use Rattle.std.specs.Prelude.{IfSome}
+use Rattle.std.proofs.lemmas.Option.{slice_get-get_or}
+use Rattle.declarations.specs.Merges.{Each}
+use Rattle.declarations.proofs.Growth.{references-kept}
+use Rattle.goal_walk.proofs.Walks.{references-later}
+use Rattle.proof_checker.specs.Steps.{StepHeld}
+use Rattle.proof_checker.proofs.Later.{steps-kept}
+use Rattle.session_walks.specs.Shown.{StepIsShown, StepsAreShown}
+use Rattle.session_walks.proofs.ShownSteps.{each-push, shown-push}
+use Rattle.session_walks.proofs.Rests.{advanced-further, unchanged}
+use Rattle.session_walks.proofs.steps.steps_of.Goals as goal
+
+pub loop-next-init : goal.loop-next-init
+loop-next-init c = record { advances = unchanged c.args.cx.now c.requires.ready; table = c.requires.table; held = subst (Each (StepHeld c.args.cx.now.interner.entries)) (sym c.new-steps.ensures.items) tt; shown = subst (λ ss. StepsAreShown c.args.walk.now.references.items ss []) (sym c.new-steps.ensures.items) tt }
+
+pub step_of-requires-clause-ready : goal.step_of-requires-clause-ready
+step_of-requires-clause-ready c = c.loop-next.invariant.advances.ready
+
+pub step_of-requires-clause-clauses : goal.step_of-requires-clause-clauses
+step_of-requires-clause-clauses c = references-kept c.args.cx.now.interner.entries c.loop-next.cx.interner.entries c.loop-next.invariant.advances.entries c.args.clauses.now c.requires.clauses
+
+pub step_of-requires-clause-walked : goal.step_of-requires-clause-walked
+step_of-requires-clause-walked c = references-later c.args.cx.now.interner.entries c.loop-next.cx.interner.entries c.loop-next.invariant.advances.entries c.args.walk.now.references.items c.requires.walked
+
+pub returns-in_err-step-clause-advances : goal.returns-in_err-step-clause-advances
+returns-in_err-step-clause-advances c = (advanced-further c.args.cx.now c.loop-next.cx c.step_of.new.cx c.loop-next.invariant.advances c.step_of.ensures.advances)
+
+pub returns-in_err-push-in-Some-clause-advances : goal.returns-in_err-push-in-Some-clause-advances
+returns-in_err-push-in-Some-clause-advances c = (advanced-further c.args.cx.now c.loop-next.cx c.step_of.new.cx c.loop-next.invariant.advances c.step_of.ensures.advances)
+
+pub returns-in-None-clause-advances : goal.returns-in-None-clause-advances
+returns-in-None-clause-advances c = (advanced-further c.args.cx.now c.loop-next.cx c.step_of.new.cx c.loop-next.invariant.advances c.step_of.ensures.advances)
+
+pub loop-next-preserved : goal.loop-next-preserved
+loop-next-preserved c =
+    let es = c.loop-next.cx.interner.entries in
+    let new = c.step_of.new.cx.interner.entries in
+    let rs = c.args.walk.now.references.items in
+    let ss = c.loop-next.steps.items in
+    let i = c.loop-next.next-index in
+    let x = c.next-item.result in
+    let s = c.in-Some.step in
+    let inv = c.loop-next.invariant in
+    let put = c.in_ok-push-in-Some.ensures.items in
+    let there = slice_get-get_or c.args.shown.now i x c.loop-next-test.true ∙ ap Some (sym c.next-item.is) in
+    record {
+      advances = (advanced-further c.args.cx.now c.loop-next.cx c.step_of.new.cx c.loop-next.invariant.advances c.step_of.ensures.advances);
+      table = c.step_of.ensures.table;
+      held = subst (Each (StepHeld new)) (sym put) (each-push new ss s (steps-kept es new c.step_of.ensures.advances.entries ss inv.held) (subst (λ o. IfSome o (StepHeld new)) c.in-Some.is c.in_ok-step.ensures.held));
+      shown = subst (λ l. StepsAreShown rs l (take (i + 1) c.args.shown.now)) (sym put) (shown-push rs ss s c.args.shown.now i (i + 1) x refl inv.shown there (subst (λ o. IfSome o (λ y. StepIsShown rs y x)) c.in-Some.is c.in_ok-step.ensures.shown));
+    }

@@ -1,0 +1,14 @@
+use Rattle.std.proofs.Common.{sym, subst}
+use Rattle.type_terms.specs.Kept.{has-later}
+use Rattle.type_terms.specs.Terms.{Has, args_lists}
+use Rattle.term_folds.specs.declared.predicate.TraitRef.{TraitRef}
+use Rattle.declarations.specs.Applied.{TraitRefsHeld}
+use Rattle.sessions.proofs.Posing.{goal-held}
+use Rattle.session_walks.proofs.walking.elaborated_goal.Goals as goal
+
+pub returns-clause-held : goal.returns-clause-held
+returns-clause-held c =
+    let old = c.args.cx.now.interner.entries in
+    let new = c.elaborate_in.new.cx.interner.entries in
+    goal-held new c.in_ok-goal.goal c.deref.result.now (subst (TraitRefsHeld new) (sym c.deref.ensures.value) c.in_ok-elaborated.ensures.held) c.in_ok-goal.ensures.clauses
+    (subst (λ (r : TraitRef). Has new args_lists r.args.0) (sym c.in_ok-goal.ensures.asked) (has-later old new c.elaborate_in.ensures.advances.entries args_lists c.args.asked.args.0 c.requires.asked))

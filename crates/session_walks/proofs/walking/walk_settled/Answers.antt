@@ -1,0 +1,15 @@
+use Rattle.session_walks.proofs.Rests.{rests-asked, rests-further, rests-here}
+use Rattle.infer_table.proofs.Numbers.{goal-held-later}
+use Rattle.session_walks.proofs.walking.walk_settled.Goals as goal
+
+pub returns-in_err-settle-clause-rests : goal.returns-in_err-settle-clause-rests
+returns-in_err-settle-clause-rests c = rests-asked c.args.graph.now.root_depth c.args.cx.now c.settle.new.cx c.args.graph.now c.settle.new.graph c.args.cache.now c.settle.new.cache c.requires.rest c.settle.ensures.again c.settle.ensures.asked
+
+pub walk_alone-requires-clause-rest : goal.walk_alone-requires-clause-rest
+walk_alone-requires-clause-rest c = rests-here c.args.graph.now.root_depth c.settle.new.cx c.settle.new.graph c.settle.new.cache (rests-asked c.args.graph.now.root_depth c.args.cx.now c.settle.new.cx c.args.graph.now c.settle.new.graph c.args.cache.now c.settle.new.cache c.requires.rest c.settle.ensures.again c.settle.ensures.asked).rest
+
+pub walk_alone-requires-clause-goal : goal.walk_alone-requires-clause-goal
+walk_alone-requires-clause-goal c = goal-held-later c.args.cx.now.interner.entries c.settle.new.cx.interner.entries c.settle.ensures.asked.entries c.args.goal.now c.requires.goal
+
+pub returns-clause-rests : goal.returns-clause-rests
+returns-clause-rests c = rests-further c.args.graph.now.root_depth c.args.cx.now c.settle.new.cx c.walk_alone.new.cx c.settle.new.graph c.walk_alone.new.graph c.settle.new.cache c.walk_alone.new.cache (rests-asked c.args.graph.now.root_depth c.args.cx.now c.settle.new.cx c.args.graph.now c.settle.new.graph c.args.cache.now c.settle.new.cache c.requires.rest c.settle.ensures.again c.settle.ensures.asked) (c.walk_alone.ensures.rests)

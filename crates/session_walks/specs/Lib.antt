@@ -1,0 +1,4 @@
+pub mod Causes
+pub mod Shown
+pub mod Unseen
+pub mod Walked

@@ -1,0 +1,33 @@
+-- What walks of a session keep, and what they hold.
+use Rattle.std.specs.Prelude.{ℕ, List}
+use Rattle.type_terms.specs.Terms.{Entry, Keeps}
+use Rattle.declarations.specs.Held.{ReferenceHeld}
+use Rattle.declarations.specs.Merges.{Each}
+use Rattle.search_graph.specs.SearchState.{SearchState}
+use Rattle.solver_context.specs.Contexts.{entries_of, KeepsLimits}
+use Rattle.solver_context.specs.declared.context.SolverCx.{SolverCx}
+use Rattle.candidate_assembly.specs.declared.solver.Solver.{Solver}
+use Rattle.goal_walk.specs.Walking.{ReferencesHeld}
+use Rattle.proof_checker.specs.Steps.{StepHeld}
+use Rattle.sessions.specs.Proving.{SolvesTheSame}
+use Rattle.sessions.specs.Resting.{Cached}
+use Rattle.sessions.specs.Sessions.{SolverRests}
+use Rattle.session_walks.specs.declared.walks.PairWalk.{PairWalk}
+use Rattle.session_walks.specs.declared.walks.ProofWalk.{ProofWalk}
+
+-- All is at rest after a call, and solves by the same declarations, within the same limits; each handle keeps its term.
+pub record RestsAfter (depth : ℕ) (old new : SolverCx Solver) (graph : SearchState) (cache : Cached) : Type 0 where
+  pub rest : SolverRests depth new graph cache
+  pub solving : SolvesTheSame old new
+  pub keeps : Keeps (entries_of old) (entries_of new)
+  pub limits : KeepsLimits old new
+
+-- The references of a proof's walk and its steps are the interner's.
+pub record ProofWalkHeld (es : List Entry) (p : ProofWalk) : Type 0 where
+  pub walked : ReferencesHeld es p.walk.references.items
+  pub steps : Each (StepHeld es) p.steps.items
+
+-- So are those of a pair's walk.
+pub record PairWalkHeld (es : List Entry) (p : PairWalk) : Type 0 where
+  pub common : ReferenceHeld es p.common
+  pub walked : ReferencesHeld es p.walk.references.items

@@ -1,0 +1,166 @@
+//! What a session asked, walked.
+
+ghost use Rattle.std.specs.Prelude.{◌≡◌, true, IfOk, IfSome};
+ghost use Rattle.type_terms.specs.Kinds.{ArgsHeld};
+ghost use Rattle.text_definitions.specs.Declarations.{Question};
+ghost use Rattle.goal_walk.specs.Walking.{ReferencesHeld};
+ghost use Rattle.sessions.specs.Later.{section_headers};
+ghost use Rattle.sessions.specs.Promises.{view_in};
+ghost use Rattle.sessions.specs.Releases.{IsSectionOf};
+ghost use Rattle.sessions.specs.Shown.{AreProofOfQuestion};
+ghost use Rattle.sessions.specs.Subjects.{AsksProof, AsksRefutation, StaysOn};
+ghost use Rattle.session_walks.specs.Causes.{IsCauseAt};
+ghost use Rattle.session_walks.specs.Shown.{ShowsItsSteps};
+ghost use Rattle.session_walks.specs.Walked.{PairWalkHeld, ProofWalkHeld};
+
+use crate::breaking::{BreakingCause, breaking_cause};
+use crate::pairs::walk_pair;
+use crate::questions::{walk_proof, walk_question, walk_refutation};
+use crate::supertraits::walk_supertrait;
+use crate::walks::{PairWalk, ProofWalk};
+use candidate_assembly::solver::Solver;
+use goal_walk::GoalWalk;
+use sessions::{Session, clauses_apply, impls_apply};
+use type_terms::kinds::GenericArgKind;
+use type_terms::{Fault, ImplId};
+
+/// Walks the goal of a `prove` question of the session's crate as it is asked first: why it was not proved, or is not settled.
+/// Questions count from 1.
+///
+/// The fault is `Memory` where memory is refused, or `Full` where a table of the session is full.
+pub fn explain_question(session: &mut Session<'_>, number: u32) -> Result<GoalWalk, Fault>
+    requires { (q : Question) × AsksProof session.old.declarations session.old.of_crate number q }
+    ensures held { IfOk result (λ w. ReferencesHeld session.new.terms w.references.items) }
+    ensures stays { StaysOn session.old session.new }
+{
+    clauses_apply();
+    walk_question(
+        &mut session.graph,
+        &mut session.cache,
+        &mut session.cx,
+        session.workspace,
+        number,
+        session.limits.depth,
+    )
+}
+
+/// Walks the goal of a `prove` question of the session's crate with the values of its answer, and finds the steps of its proof. They are
+/// not checked.
+fn find_proof(session: &mut Session<'_>, number: u32) -> Result<ProofWalk, Fault>
+    requires { (q : Question) × AsksProof session.old.declarations session.old.of_crate number q }
+    ensures held { IfOk result (ProofWalkHeld session.new.terms) }
+    ensures shown { IfOk result ShowsItsSteps }
+    ensures stays { StaysOn session.old session.new }
+{
+    clauses_apply();
+    walk_proof(
+        &mut session.graph,
+        &mut session.cache,
+        &mut session.cx,
+        session.workspace,
+        number,
+        session.limits.depth,
+    )
+}
+
+/// Walks the goal of a `prove` question of the session's crate that was answered `Yes`, and has the proof that the walk finds checked, with
+/// the values of the answer. Questions count from 1.
+///
+/// The fault is `Memory` where memory is refused, or `Full` where a table of the session is full.
+pub fn explain_proof(
+    session: &mut Session<'_>,
+    number: u32,
+    values: &[GenericArgKind],
+) -> Result<ProofWalk, Fault>
+    requires question { (q : Question) × AsksProof session.old.declarations session.old.of_crate number q }
+    requires values { ArgsHeld session.old.terms values.now }
+    ensures proof { (q : Question) → AsksProof session.old.declarations session.old.of_crate number q
+        → IfOk result (λ p. p.is_checked ≡ true → AreProofOfQuestion session.old.declarations q session.new.terms p.steps.items) }
+    ensures held { IfOk result (ProofWalkHeld session.new.terms) }
+    ensures shown { IfOk result ShowsItsSteps }
+    ensures stays { StaysOn session.old session.new }
+{
+    let mut found = find_proof(session, number)?;
+    found.is_checked = session.is_proof_of(number, values, &found.steps)?;
+    Ok(found)
+}
+
+/// Walks the goal of a `refute` question of the session's crate in coherence. Questions count from 1.
+///
+/// The fault is `Memory` where memory is refused, or `Full` where a table of the session is full.
+pub fn explain_refutation(session: &mut Session<'_>, number: u32) -> Result<GoalWalk, Fault>
+    requires { (q : Question) × AsksRefutation session.old.declarations session.old.of_crate number q }
+    ensures held { IfOk result (λ w. ReferencesHeld session.new.terms w.references.items) }
+    ensures stays { StaysOn session.old session.new }
+{
+    walk_refutation(
+        &mut session.graph,
+        &mut session.cache,
+        &mut session.cx,
+        session.workspace,
+        number,
+        session.limits.depth,
+    )
+}
+
+/// Walks a supertrait of the header of an impl of the session's crate, by its number from 1, as `check_supertraits` asks for it; none
+/// where there is no such.
+///
+/// The fault is `Memory` where memory is refused, or `Full` where a table of the session is full.
+pub fn explain_supertrait(
+    session: &mut Session<'_>,
+    id: ImplId,
+    number: u32,
+) -> Result<Option<GoalWalk>, Fault>
+    ensures held { IfOk result (λ o. IfSome o (λ w. ReferencesHeld session.new.terms w.references.items)) }
+    ensures stays { StaysOn session.old session.new }
+{
+    impls_apply();
+    walk_supertrait(
+        &mut session.graph,
+        &mut session.cache,
+        &mut session.cx,
+        id,
+        number,
+        session.limits.depth,
+    )
+}
+
+/// Walks the where-clauses of two impls where their headers are equal, as the session's crate compares them; none where it does not, or
+/// their headers have no common instance.
+///
+/// The fault is `Memory` where memory is refused, or `Full` where a table of the session is full.
+pub fn explain_overlap(
+    session: &mut Session<'_>,
+    later: ImplId,
+    earlier: ImplId,
+) -> Result<Option<PairWalk>, Fault>
+    ensures held { IfOk result (λ o. IfSome o (PairWalkHeld session.new.terms)) }
+    ensures stays { StaysOn session.old session.new }
+{
+    let _ = session.workspace.crates();
+    walk_pair(
+        &mut session.graph,
+        &mut session.cache,
+        &mut session.cx,
+        later,
+        earlier,
+        session.limits.depth,
+    )
+}
+
+/// Why a later version of the session's crate may not add the impl of a section with a number, from 1; none where it may, or there is no
+/// such. Sections count from 0.
+///
+/// The fault is `Memory` where memory is refused, or `Full` where a table of the session is full.
+pub fn explain_breaking(
+    session: &mut Session<'_>,
+    section: u32,
+    number: u32,
+) -> Result<Option<BreakingCause>, Fault>
+    requires { IsSectionOf session.old.declarations session.old.of_crate section }
+    ensures cause { IfOk result (IsCauseAt (view_in session.old.declarations session.old.of_crate) session.old.of_crate (section_headers session.old.declarations section) number) }
+    ensures stays { StaysOn session.old session.new }
+{
+    breaking_cause(&mut session.cx, session.workspace, section, number)
+}

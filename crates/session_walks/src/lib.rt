@@ -1,0 +1,25 @@
+//! Why a session answers as it does: walks of the goals that it asked, over its own search.
+//!
+//! What a walk shows is how the search answers each goal, and no more is proved of it than that its terms are the session's. But the
+//! steps of a proof that it finds go through the checker (`Session::is_proof_of`), so what is shown as checked is a proof.
+#![tactic(auto)]
+
+mod breaking;
+mod explained;
+mod pairs;
+mod places;
+mod questions;
+mod shown;
+mod steps;
+mod supertraits;
+mod unseen;
+mod walking;
+mod walks;
+
+pub use breaking::BreakingCause;
+pub use explained::{
+    explain_breaking, explain_overlap, explain_proof, explain_question, explain_refutation,
+    explain_supertrait,
+};
+pub use unseen::{impl_header, unseen_at, unseen_crates};
+pub use walks::{PairWalk, ProofWalk, ShownStep};

@@ -1,0 +1,198 @@
+//! The where-clauses of two impls, walked where their headers are equal.
+
+ghost use Rattle.std.specs.Prelude.{◌≡◌, IfOk, IfSome};
+ghost use Rattle.type_terms.specs.Terms.{Keeps};
+ghost use Rattle.declarations.specs.Applied.{TraitRefsHeld};
+ghost use Rattle.declarations.specs.Held.{ImplHeld, ReferenceHeld};
+ghost use Rattle.infer_table.specs.Content.{Ready};
+ghost use Rattle.overlap_check.specs.Written.{IsWrittenWell};
+ghost use Rattle.goal_walk.specs.Walking.{ReferencesHeld};
+ghost use Rattle.sessions.specs.Checking.{HaveOwnNumbers, rules_in};
+ghost use Rattle.sessions.specs.Proving.{SolverAdvances, SolverIsReady};
+ghost use Rattle.sessions.specs.Sessions.{SolverRests};
+ghost use Rattle.session_walks.specs.Walked.{PairWalkHeld, RestsAfter};
+
+use crate::walks::PairWalk;
+use candidate_assembly::solver::Solver;
+use declarations::items::ImplDef;
+use evaluation::TypingMode;
+use goal_walk::{GoalWalk, walk_goal};
+use infer_table::certainty::EqError;
+use infer_table::infer_ctxt::InferCtxt;
+use overlap_check::equate::equate_impl_headers;
+use overlap_check::header::fresh_impl_header;
+use overlap_check::intersection::ImplIntersection;
+use overlap_check::partners::pair_at;
+use search_graph::{GlobalCache, SearchGraph};
+use sessions::{goal_under, intersection_at, ready_impls_are_written_well};
+use solver_context::{SolverCx, SolverGraph};
+use std::alloc::Global;
+use term_folds::predicate::TraitRef;
+use type_terms::interner::Interner;
+use type_terms::{Fault, ImplId};
+
+/// What the headers of two impls are where they are equal; none where they cannot be.
+fn common_header(
+    alloc: Global,
+    cx: &mut Interner,
+    left: &ImplDef,
+    right: &ImplDef,
+) -> Result<Option<TraitRef>, Fault>
+    requires left_held { ImplHeld cx.old.entries left.now }
+    requires right_held { ImplHeld cx.old.entries right.now }
+    requires left_written { IsWrittenWell cx.old.entries left.now }
+    requires right_written { IsWrittenWell cx.old.entries right.now }
+    ensures keeps { Keeps cx.old.entries cx.new.entries }
+    ensures limit { cx.new.limit ≡ cx.old.limit }
+    ensures held { IfOk result (λ o. IfSome o (ReferenceHeld cx.new.entries)) }
+{
+    cx.lawful();
+    let mut table = InferCtxt::new(alloc);
+    let left_header = fresh_impl_header(alloc, cx, &mut table, left)?;
+    let right_header = fresh_impl_header(alloc, cx, &mut table, right)?;
+    match equate_impl_headers(alloc, cx, &mut table, left_header, right_header) {
+        Ok(()) => {
+            let args = table.eager_resolve_vars(cx, left_header.trait_ref.args)?;
+            Ok(Some(TraitRef {
+                def_id: left_header.trait_ref.def_id,
+                args,
+            }))
+        }
+        Err(EqError::NoSolution) => Ok(None),
+        Err(EqError::Fault(fault)) => Err(fault),
+    }
+}
+
+/// The same of the impls of two numbers, where the crate that asks has to compare them.
+fn common_header_at(
+    cx: &mut SolverCx<Solver>,
+    later: ImplId,
+    earlier: ImplId,
+) -> Result<Option<TraitRef>, Fault>
+    requires ready { SolverIsReady cx.old }
+    ensures advances { SolverAdvances cx.old cx.new }
+    ensures held { IfOk result (λ o. IfSome o (ReferenceHeld cx.new.interner.entries)) }
+{
+    ready_impls_are_written_well();
+    let Some((left, right)) = pair_at(&cx.handler.declarations, later, earlier) else {
+        return Ok(None);
+    };
+    let common = common_header(cx.alloc, &mut cx.interner, left, right);
+    cx.interner.lawful();
+    common
+}
+
+/// Walks a where-clause in coherence, alone over the table, and answers its place.
+fn walk_clause(
+    graph: &mut SearchGraph<SolverGraph<Solver>>,
+    cache: &mut GlobalCache<SolverGraph<Solver>>,
+    cx: &mut SolverCx<Solver>,
+    table: &mut InferCtxt,
+    walk: &mut GoalWalk,
+    clause: TraitRef,
+    depth: u32,
+) -> Result<usize, Fault>
+    requires rest { SolverRests graph.old.root_depth cx.old graph.old cache.old }
+    requires table { Ready cx.old.interner.entries table.old }
+    requires walked { ReferencesHeld cx.old.interner.entries walk.old.references.items }
+    requires clause { ReferenceHeld cx.old.interner.entries clause }
+    ensures rests { RestsAfter graph.old.root_depth cx.old cx.new graph.new cache.new }
+    ensures table { Ready cx.new.interner.entries table.new }
+    ensures walked { ReferencesHeld cx.new.interner.entries walk.new.references.items }
+{
+    let goal = goal_under(cx.alloc, &[], clause)?;
+    walk_goal(
+        graph,
+        cache,
+        cx,
+        table,
+        walk,
+        TypingMode::Coherence,
+        &goal,
+        depth,
+    )
+}
+
+/// Walks where-clauses in coherence, each alone over the table, and answers their places.
+fn walk_clauses(
+    graph: &mut SearchGraph<SolverGraph<Solver>>,
+    cache: &mut GlobalCache<SolverGraph<Solver>>,
+    cx: &mut SolverCx<Solver>,
+    table: &mut InferCtxt,
+    walk: &mut GoalWalk,
+    clauses: &[TraitRef],
+    depth: u32,
+) -> Result<Vec<usize>, Fault>
+    requires rest { SolverRests graph.old.root_depth cx.old graph.old cache.old }
+    requires table { Ready cx.old.interner.entries table.old }
+    requires walked { ReferencesHeld cx.old.interner.entries walk.old.references.items }
+    requires clauses { TraitRefsHeld cx.old.interner.entries clauses.now }
+    ensures rests { RestsAfter graph.old.root_depth cx.old cx.new graph.new cache.new }
+    ensures table { Ready cx.new.interner.entries table.new }
+    ensures walked { ReferencesHeld cx.new.interner.entries walk.new.references.items }
+{
+    let mut places = Vec::new(cx.alloc);
+    let mut left = clauses;
+    'clauses: while let Some((clause, others)) = left.split_first() {
+        let place = walk_clause(graph, cache, cx, table, walk, *clause, depth)?;
+        places.push(place)?;
+        left = others;
+    }
+    Ok(places)
+}
+
+/// Walks the where-clauses of two impls over the table in which their headers are equal.
+fn walk_intersection(
+    graph: &mut SearchGraph<SolverGraph<Solver>>,
+    cache: &mut GlobalCache<SolverGraph<Solver>>,
+    cx: &mut SolverCx<Solver>,
+    found: &mut ImplIntersection,
+    common: TraitRef,
+    depth: u32,
+) -> Result<PairWalk, Fault>
+    requires rest { SolverRests graph.old.root_depth cx.old graph.old cache.old }
+    requires table { Ready cx.old.interner.entries found.old.table }
+    requires left { TraitRefsHeld cx.old.interner.entries found.old.left.items }
+    requires right { TraitRefsHeld cx.old.interner.entries found.old.right.items }
+    requires common { ReferenceHeld cx.old.interner.entries common }
+    ensures rests { RestsAfter graph.old.root_depth cx.old cx.new graph.new cache.new }
+    ensures held { IfOk result (PairWalkHeld cx.new.interner.entries) }
+{
+    let mut walk = GoalWalk::new(cx.alloc);
+    let table = &mut found.table;
+    let left = walk_clauses(graph, cache, cx, table, &mut walk, &found.left, depth)?;
+    let right = walk_clauses(graph, cache, cx, table, &mut walk, &found.right, depth)?;
+    Ok(PairWalk {
+        common,
+        walk,
+        left,
+        right,
+    })
+}
+
+/// Walks the where-clauses of two impls where their headers are equal, as the crate that asks compares them; none where it does not, or
+/// their headers have no common instance.
+///
+/// All stays at rest, after a fault too. The fault is a refusal of memory, or `Full`.
+pub(crate) fn walk_pair(
+    graph: &mut SearchGraph<SolverGraph<Solver>>,
+    cache: &mut GlobalCache<SolverGraph<Solver>>,
+    cx: &mut SolverCx<Solver>,
+    later: ImplId,
+    earlier: ImplId,
+    depth: u32,
+) -> Result<Option<PairWalk>, Fault>
+    requires rest { SolverRests graph.old.root_depth cx.old graph.old cache.old }
+    requires numbers { HaveOwnNumbers (rules_in cx.old) }
+    ensures rests { RestsAfter graph.old.root_depth cx.old cx.new graph.new cache.new }
+    ensures held { IfOk result (λ o. IfSome o (PairWalkHeld cx.new.interner.entries)) }
+{
+    let Some(common) = common_header_at(cx, later, earlier)? else {
+        return Ok(None);
+    };
+    let Some(mut found) = intersection_at(cx, later, earlier)? else {
+        return Ok(None);
+    };
+    let pair = walk_intersection(graph, cache, cx, &mut found, common, depth)?;
+    Ok(Some(pair))
+}

@@ -1,0 +1,366 @@
+//! The steps of a proof that a walk found.
+
+ghost use Rattle.std.specs.Prelude.{◌≡◌, IfOk, IfSome};
+ghost use Rattle.type_terms.specs.Terms.{Has, Keeps, args_lists};
+ghost use Rattle.declarations.specs.Applied.{TraitRefsHeld, HaveBounds};
+ghost use Rattle.declarations.specs.Held.{AreHeld, ImplHeld, ReferenceHeld};
+ghost use Rattle.declarations.specs.Merges.{Each};
+ghost use Rattle.infer_table.specs.Content.{Ready};
+ghost use Rattle.overlap_check.specs.Written.{IsWrittenWell};
+ghost use Rattle.proof_checker.specs.Steps.{StepHeld, WayHeld};
+ghost use Rattle.goal_walk.specs.Walking.{ReferencesHeld};
+ghost use Rattle.sessions.specs.Proving.{SolverAdvances, SolverIsReady};
+ghost use Rattle.session_walks.specs.Shown.{AreShownPremises, ShowsItsSteps, StepIsShown, StepsAreShown};
+ghost use Rattle.session_walks.specs.Walked.{ProofWalkHeld};
+
+use crate::places::reference_at;
+use crate::shown::shown_steps;
+use crate::walks::{ProofWalk, ShownStep};
+use candidate_assembly::solver::Solver;
+use declarations::declarations::Declarations;
+use declarations::items::ImplDef;
+use evaluation::CandidateSource;
+use goal_walk::GoalWalk;
+use infer_table::certainty::EqError;
+use infer_table::infer_ctxt::InferCtxt;
+use overlap_check::equate::equate_impl_headers;
+use overlap_check::header::{ImplHeader, fresh_impl_header};
+use proof_checker::rows::by_built_in;
+use proof_checker::rules::by_clause;
+use proof_checker::steps::{Step, Way};
+use proof_checker::supertraits::by_supertrait;
+use sessions::ready_impls_are_written_well;
+use solver_context::SolverCx;
+use std::alloc::Global;
+use term_folds::predicate::TraitRef;
+use type_terms::interner::Interner;
+use type_terms::kinds::GenericArgs;
+use type_terms::{Fault, ImplId};
+
+/// Arguments with which the header of an impl is the reference; none where there are none.
+fn impl_args(
+    alloc: Global,
+    cx: &mut Interner,
+    table: &mut InferCtxt,
+    def: &ImplDef,
+    reference: TraitRef,
+) -> Result<Option<GenericArgs>, Fault>
+    requires table { Ready cx.old.entries table.old }
+    requires held { ImplHeld cx.old.entries def.now }
+    requires written { IsWrittenWell cx.old.entries def.now }
+    requires reference { ReferenceHeld cx.old.entries reference }
+    ensures table { Ready cx.new.entries table.new }
+    ensures keeps { Keeps cx.old.entries cx.new.entries }
+    ensures limit { cx.new.limit ≡ cx.old.limit }
+    ensures held { IfOk result (λ o. IfSome o (λ a. Has cx.new.entries args_lists a.0)) }
+{
+    let header = fresh_impl_header(alloc, cx, table, def)?;
+    let asked = ImplHeader {
+        impl_args: header.impl_args,
+        trait_ref: reference,
+    };
+    match equate_impl_headers(alloc, cx, table, header, asked) {
+        Ok(()) => {
+            let args = table.eager_resolve_vars(cx, header.impl_args)?;
+            Ok(Some(args))
+        }
+        Err(EqError::NoSolution) => Ok(None),
+        Err(EqError::Fault(fault)) => Err(fault),
+    }
+}
+
+/// The way by an impl, where its header can be the reference.
+fn impl_way(
+    cx: &mut SolverCx<Solver>,
+    table: &mut InferCtxt,
+    id: ImplId,
+    reference: TraitRef,
+) -> Result<Way, Fault>
+    requires ready { SolverIsReady cx.old }
+    requires table { Ready cx.old.interner.entries table.old }
+    requires reference { ReferenceHeld cx.old.interner.entries reference }
+    ensures advances { SolverAdvances cx.old cx.new }
+    ensures table { Ready cx.new.interner.entries table.new }
+    ensures held { IfOk result (WayHeld cx.new.interner.entries) }
+{
+    ready_impls_are_written_well();
+    let Some(def) = cx.handler.declarations.impl_def(id) else {
+        return Ok(Way::Assumed);
+    };
+    let found = impl_args(cx.alloc, &mut cx.interner, table, def, reference);
+    cx.interner.lawful();
+    match found {
+        Ok(Some(args)) => Ok(Way::Impl(id, args)),
+        Ok(None) => Ok(Way::Assumed),
+        Err(fault) => Err(fault),
+    }
+}
+
+/// The first where-clause that is the reference, by its place.
+fn clause_place(
+    alloc: Global,
+    cx: &mut Interner,
+    clauses: &[TraitRef],
+    reference: TraitRef,
+) -> Result<Option<usize>, Fault>
+    requires clauses { TraitRefsHeld cx.old.entries clauses.now }
+    requires reference { ReferenceHeld cx.old.entries reference }
+    ensures keeps { Keeps cx.old.entries cx.new.entries }
+    ensures limit { cx.new.limit ≡ cx.old.limit }
+{
+    for place in 0..clauses.len() {
+        if by_clause(alloc, cx, clauses, reference, place)? {
+            return Ok(Some(place));
+        }
+    }
+    Ok(None)
+}
+
+/// The first where-clause of which the reference is a supertrait, by its place.
+fn supertrait_place(
+    alloc: Global,
+    cx: &mut Interner,
+    declarations: &Declarations,
+    clauses: &[TraitRef],
+    reference: TraitRef,
+) -> Result<Option<usize>, Fault>
+    requires declared { AreHeld cx.old.entries declarations.now }
+    requires bounds { HaveBounds cx.old.entries declarations.now }
+    requires clauses { TraitRefsHeld cx.old.entries clauses.now }
+    requires reference { ReferenceHeld cx.old.entries reference }
+    ensures keeps { Keeps cx.old.entries cx.new.entries }
+    ensures limit { cx.new.limit ≡ cx.old.limit }
+{
+    for place in 0..clauses.len() {
+        if by_supertrait(alloc, cx, declarations, clauses, reference, place)? {
+            return Ok(Some(place));
+        }
+    }
+    Ok(None)
+}
+
+/// The way by a where-clause, where the reference is one, or a supertrait of one.
+fn clause_way(
+    alloc: Global,
+    cx: &mut Interner,
+    declarations: &Declarations,
+    clauses: &[TraitRef],
+    reference: TraitRef,
+) -> Result<Way, Fault>
+    requires declared { AreHeld cx.old.entries declarations.now }
+    requires bounds { HaveBounds cx.old.entries declarations.now }
+    requires clauses { TraitRefsHeld cx.old.entries clauses.now }
+    requires reference { ReferenceHeld cx.old.entries reference }
+    ensures keeps { Keeps cx.old.entries cx.new.entries }
+    ensures limit { cx.new.limit ≡ cx.old.limit }
+    ensures held { IfOk result (WayHeld cx.new.entries) }
+{
+    if let Some(place) = clause_place(alloc, cx, clauses, reference)? {
+        return Ok(Way::Clause(place));
+    }
+    match supertrait_place(alloc, cx, declarations, clauses, reference)? {
+        Some(place) => Ok(Way::Supertrait(place)),
+        None => Ok(Way::Assumed),
+    }
+}
+
+/// The same over the interner of a context.
+fn clause_way_in(
+    cx: &mut SolverCx<Solver>,
+    clauses: &[TraitRef],
+    reference: TraitRef,
+) -> Result<Way, Fault>
+    requires ready { SolverIsReady cx.old }
+    requires clauses { TraitRefsHeld cx.old.interner.entries clauses.now }
+    requires reference { ReferenceHeld cx.old.interner.entries reference }
+    ensures advances { SolverAdvances cx.old cx.new }
+    ensures held { IfOk result (WayHeld cx.new.interner.entries) }
+{
+    let declarations = &cx.handler.declarations;
+    let way = clause_way(cx.alloc, &mut cx.interner, declarations, clauses, reference);
+    cx.interner.lawful();
+    way
+}
+
+/// The way by a built-in rule, where one that is checked concludes the reference.
+fn row_way(alloc: Global, cx: &mut Interner, reference: TraitRef) -> Result<Way, Fault>
+    requires reference { ReferenceHeld cx.old.entries reference }
+    ensures keeps { Keeps cx.old.entries cx.new.entries }
+    ensures limit { cx.new.limit ≡ cx.old.limit }
+    ensures held { IfOk result (WayHeld cx.new.entries) }
+{
+    match by_built_in(alloc, cx, reference)? {
+        Some(_) => Ok(Way::BuiltIn),
+        None => Ok(Way::Assumed),
+    }
+}
+
+/// The same over the interner of a context.
+fn row_way_in(cx: &mut SolverCx<Solver>, reference: TraitRef) -> Result<Way, Fault>
+    requires ready { SolverIsReady cx.old }
+    requires reference { ReferenceHeld cx.old.interner.entries reference }
+    ensures advances { SolverAdvances cx.old cx.new }
+    ensures held { IfOk result (WayHeld cx.new.interner.entries) }
+{
+    let way = row_way(cx.alloc, &mut cx.interner, reference);
+    cx.interner.lawful();
+    way
+}
+
+/// By what a candidate concludes a reference; what no rule of the checker concludes is taken for granted.
+fn way_by(
+    cx: &mut SolverCx<Solver>,
+    table: &mut InferCtxt,
+    clauses: &[TraitRef],
+    reference: TraitRef,
+    source: CandidateSource,
+) -> Result<Way, Fault>
+    requires ready { SolverIsReady cx.old }
+    requires table { Ready cx.old.interner.entries table.old }
+    requires clauses { TraitRefsHeld cx.old.interner.entries clauses.now }
+    requires reference { ReferenceHeld cx.old.interner.entries reference }
+    ensures advances { SolverAdvances cx.old cx.new }
+    ensures table { Ready cx.new.interner.entries table.new }
+    ensures held { IfOk result (WayHeld cx.new.interner.entries) }
+{
+    match source {
+        CandidateSource::Impl(id) => impl_way(cx, table, id, reference),
+        CandidateSource::ParamEnv(_) => clause_way_in(cx, clauses, reference),
+        CandidateSource::BuiltinImpl(_) => row_way_in(cx, reference),
+        CandidateSource::CoherenceUnknowable => Ok(Way::Assumed),
+    }
+}
+
+/// Where the first candidate of the goal at a place comes from; none where its proof is not shown.
+fn source_at(walk: &GoalWalk, place: usize) -> Option<CandidateSource> {
+    match walk.node(place) {
+        Some(node) => match node.candidates.first() {
+            Some(candidate) => Some(candidate.source),
+            None => None,
+        },
+        None => None,
+    }
+}
+
+/// By what the goal at a place is concluded.
+fn way_at(
+    cx: &mut SolverCx<Solver>,
+    table: &mut InferCtxt,
+    clauses: &[TraitRef],
+    walk: &GoalWalk,
+    reference: TraitRef,
+    place: usize,
+) -> Result<Way, Fault>
+    requires ready { SolverIsReady cx.old }
+    requires table { Ready cx.old.interner.entries table.old }
+    requires clauses { TraitRefsHeld cx.old.interner.entries clauses.now }
+    requires reference { ReferenceHeld cx.old.interner.entries reference }
+    ensures advances { SolverAdvances cx.old cx.new }
+    ensures table { Ready cx.new.interner.entries table.new }
+    ensures held { IfOk result (WayHeld cx.new.interner.entries) }
+{
+    match source_at(walk, place) {
+        Some(source) => way_by(cx, table, clauses, reference, source),
+        None => Ok(Way::Assumed),
+    }
+}
+
+/// The premises of a step by a way: the checker asks those of impls and of built-in rules alone.
+fn premises_by(alloc: Global, way: Way, shown: &ShownStep) -> Result<Vec<usize>, Fault>
+    ensures { IfOk result (λ ps. AreShownPremises way ps.items shown.now.premises.items) }
+{
+    match way {
+        Way::Impl(_, _) => Ok(Vec::from_slice(alloc, &shown.premises)?),
+        Way::BuiltIn => Ok(Vec::from_slice(alloc, &shown.premises)?),
+        Way::Clause(_) => Ok(Vec::new(alloc)),
+        Way::Supertrait(_) => Ok(Vec::new(alloc)),
+        Way::Assumed => Ok(Vec::new(alloc)),
+    }
+}
+
+/// The step that is shown so; none where the walk has no such place.
+fn step_of(
+    cx: &mut SolverCx<Solver>,
+    table: &mut InferCtxt,
+    clauses: &[TraitRef],
+    walk: &GoalWalk,
+    shown: &ShownStep,
+) -> Result<Option<Step>, Fault>
+    requires ready { SolverIsReady cx.old }
+    requires table { Ready cx.old.interner.entries table.old }
+    requires clauses { TraitRefsHeld cx.old.interner.entries clauses.now }
+    requires walked { ReferencesHeld cx.old.interner.entries walk.now.references.items }
+    ensures advances { SolverAdvances cx.old cx.new }
+    ensures table { Ready cx.new.interner.entries table.new }
+    ensures held { IfOk result (λ o. IfSome o (StepHeld cx.new.interner.entries)) }
+    ensures shown { IfOk result (λ o. IfSome o (λ s. StepIsShown walk.now.references.items s shown.now)) }
+{
+    let Some(reference) = reference_at(&walk.references, shown.place) else {
+        return Ok(None);
+    };
+    let way = way_at(cx, table, clauses, walk, reference, shown.place)?;
+    let premises = premises_by(cx.alloc, way, shown)?;
+    Ok(Some(Step {
+        reference,
+        way,
+        premises,
+    }))
+}
+
+/// The steps that are shown so, in order; none where the walk has not all places.
+fn steps_of(
+    cx: &mut SolverCx<Solver>,
+    table: &mut InferCtxt,
+    clauses: &[TraitRef],
+    walk: &GoalWalk,
+    shown: &[ShownStep],
+) -> Result<Option<Vec<Step>>, Fault>
+    requires ready { SolverIsReady cx.old }
+    requires table { Ready cx.old.interner.entries table.old }
+    requires clauses { TraitRefsHeld cx.old.interner.entries clauses.now }
+    requires walked { ReferencesHeld cx.old.interner.entries walk.now.references.items }
+    ensures advances { SolverAdvances cx.old cx.new }
+    ensures held { IfOk result (λ o. IfSome o (λ v. Each (StepHeld cx.new.interner.entries) v.items)) }
+    ensures shown { IfOk result (λ o. IfSome o (λ v. StepsAreShown walk.now.references.items v.items shown.now)) }
+{
+    let mut steps = Vec::new(cx.alloc);
+    for next in shown {
+        match step_of(cx, table, clauses, walk, next)? {
+            Some(step) => steps.push(step)?,
+            None => return Ok(None),
+        }
+    }
+    Ok(Some(steps))
+}
+
+/// A walk with the steps of the proof that it found. They are not checked.
+pub(crate) fn with_steps(
+    cx: &mut SolverCx<Solver>,
+    table: &mut InferCtxt,
+    clauses: &[TraitRef],
+    walk: GoalWalk,
+) -> Result<ProofWalk, Fault>
+    requires ready { SolverIsReady cx.old }
+    requires table { Ready cx.old.interner.entries table.old }
+    requires clauses { TraitRefsHeld cx.old.interner.entries clauses.now }
+    requires walked { ReferencesHeld cx.old.interner.entries walk.references.items }
+    ensures advances { SolverAdvances cx.old cx.new }
+    ensures held { IfOk result (ProofWalkHeld cx.new.interner.entries) }
+    ensures shown { IfOk result ShowsItsSteps }
+{
+    let shown = shown_steps(cx.alloc, &walk)?;
+    match steps_of(cx, table, clauses, &walk, &shown)? {
+        Some(steps) => Ok(ProofWalk {
+            walk,
+            steps,
+            shown,
+            is_checked: false,
+        }),
+        None => Ok(ProofWalk {
+            walk,
+            steps: Vec::new(cx.alloc),
+            shown: Vec::new(cx.alloc),
+            is_checked: false,
+        }),
+    }
+}
