@@ -16,9 +16,9 @@ mod words;
 use crate::input::read_text;
 use crate::printed::{Lack, Shown, Told, write_answers, write_note};
 use crate::words::{ColorConfig, Options, read_words};
+use answer_explanations::{Fault, explain};
 use coherence::{Limits, RunFault, Status, run};
 use diagnostics::{Diagnostic, SourceFile};
-use refusal_texts::{Fault, explain_refusals};
 use std::alloc::Global;
 use std::fs::File;
 use std::io::IsTerminal;
@@ -112,7 +112,7 @@ fn explanations_of(
     let mut found = Vec::new(alloc);
     let lack = match file {
         None => Some(Lack::Memory),
-        Some(file) => lack_of(explain_refusals(alloc, file, text, limits, &mut found)),
+        Some(file) => lack_of(explain(alloc, file, text, limits, &mut found)),
     };
     (found, lack)
 }

@@ -118,7 +118,7 @@ pub fn write_answers<W: Write>(
 }
 
 /// Why not all is explained.
-#[derive(Clone, Copy)]
+#[derive(Clone, Copy, PartialEq, Eq)]
 pub enum Lack {
     /// A request for memory was refused.
     Memory,

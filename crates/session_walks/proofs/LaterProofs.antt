@@ -1,5 +1,5 @@
 -- Proofs over the terms of an interner that has grown.
-use Rattle.std.proofs.Common.{◌≡◌, ◌∙◌, List, [], ◌∷◌, ◌++◌, sym, subst}
+use Rattle.std.proofs.Common.{◌∙◌, List, [], ◌∷◌, ◌++◌, sym, subst}
 use Rattle.type_terms.specs.Worlds.{World, Reference}
 use Rattle.type_terms.specs.Proofs.{ProofEntry, IsProof}
 use Rattle.type_terms.specs.Terms.{Entry, Keeps}

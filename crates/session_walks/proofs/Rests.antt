@@ -1,11 +1,10 @@
 -- What walks keep, one call after the other.
 use Rattle.std.proofs.Common.{◌≡◌, ◌∙◌, ap, refl, ℕ}
-use Rattle.type_terms.specs.Terms.{Keeps, Lawful}
 use Rattle.search_graph.specs.SearchState.{SearchState}
 use Rattle.declarations.specs.Items.{declared}
 use Rattle.declarations.proofs.Growth.{all-declared}
 use Rattle.goal_frames.specs.Stores.{limit_of}
-use Rattle.solver_context.specs.Contexts.{entries_of, InternerGrows, KeepsLimits}
+use Rattle.solver_context.specs.Contexts.{entries_of, InternerGrows}
 use Rattle.solver_context.specs.Searching.{solver_meaning, of_limits}
 use Rattle.solver_context.specs.declared.context.SolverCx.{SolverCx}
 use Rattle.solver_context.proofs.Caches.{justified-later}

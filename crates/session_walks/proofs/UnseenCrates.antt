@@ -1,5 +1,5 @@
 -- What the walks tell of crates that are not seen.
-use Rattle.std.proofs.Common.{◌≡◌, ◌<◌, ◌∙◌, ℕ, true, false, ap, subst, arith, List, [], Option, Some, None, Result, Ok, Err}
+use Rattle.std.proofs.Common.{◌≡◌, ◌<◌, ◌∙◌, ℕ, ap, subst, arith, List, [], Some, None, Result, Ok, Err}
 use Rattle.type_terms.specs.Terms.{Entry, trees_at}
 use Rattle.type_terms.specs.Trees.{depth}
 use Rattle.type_terms.specs.Worlds.{World, Reference}

@@ -1,5 +1,5 @@
 -- Why a later version of a crate may not add an impl.
-use Rattle.std.specs.Prelude.{◌≡◌, ◌-◌, ℕ, true, false, Bool, ◌||◌, List, Option, Some, None, slice_get}
+use Rattle.std.specs.Prelude.{◌≡◌, ◌-◌, ℕ, true, false, ◌||◌, List, Option, Some, None, slice_get}
 use Rattle.type_terms.specs.Versions.{is_addable, open_walk_meets_param}
 use Rattle.type_terms.specs.Walks.{keeps_orphan_rule, trait_is}
 use Rattle.type_terms.specs.Worlds.{World, Reference}

@@ -5,7 +5,6 @@ use Rattle.proof_checker.proofs.Later.{steps-kept}
 use Rattle.sessions.specs.Shown.{AreProofOfQuestion}
 use Rattle.sessions.specs.Subjects.{AsksProof}
 use Rattle.session_walks.proofs.LaterProofs.{proof-later}
-use Rattle.session_walks.proofs.Staying.{stays-further}
 use Rattle.session_walks.proofs.explained.explain_proof.Goals as goal
 
 pub is_proof_of-requires-clause-values : goal.is_proof_of-requires-clause-values

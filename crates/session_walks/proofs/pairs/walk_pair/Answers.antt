@@ -3,7 +3,6 @@ use Rattle.std.specs.Prelude.{IfSome}
 use Rattle.type_terms.specs.Kept.{has-later}
 use Rattle.type_terms.specs.Terms.{args_lists}
 use Rattle.declarations.specs.Held.{ReferenceHeld}
-use Rattle.declarations.proofs.Growth.{all-declared}
 use Rattle.sessions.specs.Checking.{HaveOwnNumbers, IsFoundAt}
 use Rattle.session_walks.proofs.Rests.{advanced-further, rests-advanced, rests-further, rules-grown}
 use Rattle.session_walks.proofs.pairs.walk_pair.Goals as goal

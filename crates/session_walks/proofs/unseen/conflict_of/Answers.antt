@@ -1,5 +1,4 @@
-use Rattle.std.proofs.Common.{◌≡◌, [], refl, ap, subst}
-use Rattle.type_terms.specs.Terms.{Entry}
+use Rattle.std.proofs.Common.{refl, ap, subst}
 use Rattle.infer_table.specs.Content.{Table}
 use Rattle.declarations.specs.Items.{declared, reference_in}
 use Rattle.orphan_check.specs.Exact.{WalkTellsKnown}

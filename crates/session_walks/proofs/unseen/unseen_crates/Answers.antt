@@ -1,4 +1,4 @@
-use Rattle.std.proofs.Common.{◌≡◌, sym, subst}
+use Rattle.std.proofs.Common.{sym, subst}
 use Rattle.std.specs.Prelude.{IfOk, ℕ}
 use Rattle.type_terms.specs.Worlds.{World}
 use Rattle.declarations.specs.Held.{ReferenceHeld}

@@ -1,0 +1,10 @@
+use Rattle.text_definitions.specs.Declarations.{of_later}
+use Rattle.workspace.specs.declared.declared.Check.TheVariants.{Later}
+use Rattle.answer_explanations.proofs.TextPlaces.{check-at}
+use Rattle.answer_explanations.proofs.places.check_at.Goals as goal
+
+pub returns-in-Later : goal.returns-in-Later
+returns-in-Later c =
+    let d = c.args.workspace.now in
+    let at = check-at d c.checks.result.now c.checks.ensures c.args.place c.requires _ (Later c.in-Later.section c.in-Later.changed) c.in-Later.is in
+    c.crates-crates.ensures.numbered.checks c.args.place (of_later c.in-Later.section c.in-Later.changed.index) at

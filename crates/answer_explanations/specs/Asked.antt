@@ -1,0 +1,19 @@
+-- What is checked and asked of a crate, as its session takes it.
+use Rattle.std.specs.Prelude.{ℕ}
+use Rattle.text_definitions.specs.Declarations.{Declarations, Question}
+use Rattle.sessions.specs.Releases.{IsSectionOf}
+use Rattle.sessions.specs.Subjects.{AsksProof, AsksRefutation}
+use Rattle.workspace.specs.declared.declared.Asked.{Asked}
+use Rattle.workspace.specs.declared.declared.Asked.TheVariants.{Prove, Refute}
+use Rattle.workspace.specs.declared.declared.Check.{Check}
+use Rattle.workspace.specs.declared.declared.Check.TheVariants.{Later, Supers}
+
+-- A check is of crate c: a section is one of c.
+abbrev pub IsCheckOf : Declarations → ℕ → Check → Type 0
+IsCheckOf d c (Later k changed) = IsSectionOf d c k
+IsCheckOf d c (Supers asked) = Unit {0}
+
+-- Question number n, counted from 1, asks this in crate c.
+abbrev pub IsAskedOf : Declarations → ℕ → ℕ → Asked → Type 0
+IsAskedOf d c n (Prove asker) = (q : Question) × AsksProof d c n q
+IsAskedOf d c n (Refute asker) = (q : Question) × AsksRefutation d c n q

@@ -1,0 +1,73 @@
+//! Why what is checked of a crate is answered as it is.
+
+ghost use Rattle.answer_explanations.specs.Asked.{IsCheckOf};
+ghost use Rattle.sessions.specs.Releases.{IsSectionOf};
+ghost use Rattle.sessions.specs.Subjects.{StaysOn};
+
+use crate::breaking::breaking;
+use crate::supertraits::supertraits;
+use diagnostics::Diagnostic;
+use explanation_texts::Texts;
+use session_walks::explain_breaking;
+use sessions::{LaterAnswer, Session};
+use std::alloc::Global;
+use type_terms::{CrateId, Fault, ImplId};
+use workspace::Check;
+
+/// Why the impl of a section with a number may not be added.
+fn explain_added(
+    alloc: Global,
+    texts: Texts<'_>,
+    session: &mut Session<'_>,
+    section: u32,
+    number: u32,
+    changed: CrateId,
+) -> Result<Option<Diagnostic>, Fault>
+    requires { IsSectionOf session.old.declarations session.old.of_crate section }
+    ensures { StaysOn session.old session.new }
+{
+    match explain_breaking(session, section, number)? {
+        None => Ok(None),
+        Some(cause) => {
+            let told = breaking(alloc, texts, changed, section, number, cause)?;
+            Ok(Some(told))
+        }
+    }
+}
+
+/// Why a later version of a crate is answered as it is; nothing where it is compatible.
+fn explain_later(
+    alloc: Global,
+    texts: Texts<'_>,
+    session: &mut Session<'_>,
+    section: u32,
+    changed: CrateId,
+) -> Result<Option<Diagnostic>, Fault>
+    requires { IsSectionOf session.old.declarations session.old.of_crate section }
+    ensures { StaysOn session.old session.new }
+{
+    match session.check_later(section)? {
+        LaterAnswer::Compatible => Ok(None),
+        LaterAnswer::Breaking(number) => {
+            explain_added(alloc, texts, session, section, number, changed)
+        }
+    }
+}
+
+/// Why what is checked of the session's crate is answered as it is.
+pub(crate) fn explain_checked(
+    alloc: Global,
+    texts: Texts<'_>,
+    session: &mut Session<'_>,
+    check: Check,
+    depth: u32,
+    seen: &[ImplId],
+) -> Result<Option<Diagnostic>, Fault>
+    requires { IsCheckOf session.old.declarations session.old.of_crate check }
+    ensures { StaysOn session.old session.new }
+{
+    match check {
+        Check::Later(section, changed) => explain_later(alloc, texts, session, section, changed),
+        Check::Supers(_) => supertraits(alloc, texts, session, depth, seen),
+    }
+}

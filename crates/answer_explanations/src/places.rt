@@ -1,0 +1,74 @@
+//! The crates, checks and questions of a text, by their places.
+
+ghost use Rattle.std.specs.Prelude.{◌≡◌, ◌+◌, ◌<◌, length};
+ghost use Rattle.answer_explanations.specs.Asked.{IsAskedOf, IsCheckOf};
+
+use type_terms::CrateId;
+use workspace::{Asked, Check, Workspace};
+
+/// How many crates a text has, with `core`.
+pub(crate) fn crate_count(workspace: &Workspace) -> usize
+    ensures { result ≡ length workspace.now.crates }
+{
+    workspace.crates().len()
+}
+
+/// The crate at a place of the text.
+pub(crate) fn crate_at(workspace: &Workspace, place: usize) -> CrateId
+    requires { place < length workspace.now.crates }
+    ensures { result.index ≡ place }
+{
+    workspace.crates()[place]
+}
+
+/// How many checks a text has.
+pub(crate) fn check_count(workspace: &Workspace) -> usize
+    ensures { result ≡ length workspace.now.checks }
+{
+    workspace.checks().len()
+}
+
+/// What is checked at a place of the text, and of which crate.
+pub(crate) fn check_at(workspace: &Workspace, place: usize) -> (CrateId, Check)
+    requires { place < length workspace.now.checks }
+    ensures { IsCheckOf workspace.now result.0.index result.1 }
+{
+    let _crates = workspace.crates();
+    match workspace.checks()[place] {
+        Check::Later(section, changed) => (changed, Check::Later(section, changed)),
+        Check::Supers(asked) => (asked, Check::Supers(asked)),
+    }
+}
+
+/// How many questions a text has.
+pub(crate) fn question_count(workspace: &Workspace) -> usize
+    ensures { result ≡ length workspace.now.questions }
+{
+    workspace.questions().len()
+}
+
+/// What is asked at a place of the text, and in which crate.
+pub(crate) fn question_at(workspace: &Workspace, place: usize) -> (CrateId, Asked)
+    requires { place < length workspace.now.questions }
+    ensures { IsAskedOf workspace.now result.0.index (place + 1) result.1 }
+{
+    match workspace.questions()[place] {
+        Asked::Prove(asker) => (asker, Asked::Prove(asker)),
+        Asked::Refute(asker) => (asker, Asked::Refute(asker)),
+    }
+}
+
+/// Whether something is checked of a crate, or a question asks in it.
+pub(crate) fn is_asked(workspace: &Workspace, id: CrateId) -> bool {
+    for place in 0..check_count(workspace) {
+        if check_at(workspace, place).0.index == id.index {
+            return true;
+        }
+    }
+    for place in 0..question_count(workspace) {
+        if question_at(workspace, place).0.index == id.index {
+            return true;
+        }
+    }
+    false
+}

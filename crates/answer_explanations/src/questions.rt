@@ -1,0 +1,296 @@
+//! Why a question is answered as it is.
+
+ghost use Rattle.std.specs.Prelude.{◌≡◌, IfOk};
+ghost use Rattle.answer_explanations.specs.Asked.{IsAskedOf};
+ghost use Rattle.goal_walk.specs.Walking.{ReferencesHeld};
+ghost use Rattle.session_walks.specs.Walked.{ProofWalkHeld};
+ghost use Rattle.sessions.specs.Given.{AnswerValuesHeld};
+ghost use Rattle.sessions.specs.Subjects.{AsksProof, AsksRefutation, StaysOn};
+ghost use Rattle.text_definitions.specs.Declarations.{Question};
+ghost use Rattle.type_terms.specs.Kinds.{ArgsHeld};
+
+use crate::proofs::{proved, tell_proof};
+use crate::spending::{Next, Spending, too_long};
+use answer_lines::ShownNames;
+use diagnostics::{Diagnostic, Span};
+use explanation_texts::{Asking, Texts, left_open, refuted, tell, unproved, unsettled};
+use goal_walk::GoalWalk;
+use session_walks::{ProofWalk, explain_proof, explain_question, explain_refutation, unseen_at};
+use sessions::{ProveAnswer, RefuteAnswer, Session};
+use std::alloc::{AllocError, Global};
+use type_terms::kinds::GenericArgKind;
+use type_terms::{Fault, ImplId};
+use workspace::{Asked, Param};
+
+/// A question of a text, by its place there.
+#[derive(Clone, Copy)]
+pub(crate) struct Questioned<'s> {
+    pub texts: Texts<'s>,
+    pub place: usize,
+    pub depth: u32,
+    /// The impls that its crate sees.
+    pub seen: &'s [ImplId],
+}
+
+/// How a `prove` question is answered where it is not proved.
+#[derive(Clone, Copy)]
+enum NotProved {
+    Unproved,
+    Maybe,
+}
+
+impl<'s> Questioned<'s> {
+    /// The parameters of the question.
+    fn params(self) -> &'s [Param] {
+        match self.texts.workspace.question_entries().get(self.place) {
+            Some(entry) => &entry.params,
+            None => &[],
+        }
+    }
+
+    /// The variables of the question.
+    fn variables(self) -> &'s [Param] {
+        match self.texts.workspace.question_entries().get(self.place) {
+            Some(entry) => &entry.variables,
+            None => &[],
+        }
+    }
+
+    /// What its parameters and its variables are called.
+    fn names(self) -> ShownNames<'s> {
+        ShownNames {
+            workspace: self.texts.workspace,
+            params: self.params(),
+            variables: self.variables(),
+        }
+    }
+
+    /// What it asks, in its line.
+    fn span(self) -> Span {
+        let none = Span {
+            line: 0,
+            start: 0,
+            end: 0,
+        };
+        let questions = &self.texts.lines.questions;
+        questions.get(self.place).copied().unwrap_or(none)
+    }
+}
+
+/// What is said of a question that was proved.
+fn tell_proved(
+    alloc: Global,
+    question: Questioned<'_>,
+    session: &Session<'_>,
+    proof: &ProofWalk,
+) -> Result<Diagnostic, AllocError>
+    requires { ProofWalkHeld session.now.terms proof.now }
+{
+    let told = tell_proof(alloc, session.interner(), &question.names(), proof)?;
+    let span = question.span();
+    proved(alloc, question.texts, &told, span)
+}
+
+/// Why a question is answered yes, with these values.
+fn explain_yes(
+    alloc: Global,
+    question: Questioned<'_>,
+    session: &mut Session<'_>,
+    number: u32,
+    values: &[GenericArgKind],
+    spending: &mut Spending,
+) -> Result<Diagnostic, Fault>
+    requires asked { (q : Question) × AsksProof session.old.declarations session.old.of_crate number q }
+    requires values { ArgsHeld session.old.terms values.now }
+    ensures { StaysOn session.old session.new }
+{
+    let before = session.frames();
+    let proof = explain_proof(session, number, values)?;
+    spending.add_explanation(before, session.frames(), proof.walk.nodes.len());
+    Ok(tell_proved(alloc, question, session, &proof)?)
+}
+
+/// What is said of a question that was not proved.
+fn tell_not_proved(
+    alloc: Global,
+    question: Questioned<'_>,
+    session: &Session<'_>,
+    walk: &GoalWalk,
+    answer: NotProved,
+) -> Result<Diagnostic, AllocError>
+    requires { ReferencesHeld session.now.terms walk.now.references.items }
+{
+    let story = tell(alloc, session.interner(), &question.names(), walk)?;
+    let span = question.span();
+    match answer {
+        NotProved::Unproved => {
+            let asking = Asking {
+                seen: question.seen,
+                is_impl: false,
+            };
+            unproved(alloc, question.texts, &story, span, asking)
+        }
+        NotProved::Maybe => unsettled(alloc, question.texts, &story, span, question.depth),
+    }
+}
+
+/// Why a question is not proved.
+fn explain_not_proved(
+    alloc: Global,
+    question: Questioned<'_>,
+    session: &mut Session<'_>,
+    number: u32,
+    answer: NotProved,
+    spending: &mut Spending,
+) -> Result<Diagnostic, Fault>
+    requires { (q : Question) × AsksProof session.old.declarations session.old.of_crate number q }
+    ensures { StaysOn session.old session.new }
+{
+    let before = session.frames();
+    let walk = explain_question(session, number)?;
+    spending.add_explanation(before, session.frames(), walk.nodes.len());
+    Ok(tell_not_proved(alloc, question, session, &walk, answer)?)
+}
+
+/// The answer to a `prove` question.
+fn prove(
+    session: &mut Session<'_>,
+    number: u32,
+    spending: &mut Spending,
+) -> Result<ProveAnswer, Fault>
+    requires { (q : Question) × AsksProof session.old.declarations session.old.of_crate number q }
+    ensures held { IfOk result (AnswerValuesHeld session.new.terms) }
+    ensures stays { StaysOn session.old session.new }
+{
+    let before = session.frames();
+    let answer = session.prove(number);
+    spending.add_answer(before, session.frames());
+    answer
+}
+
+/// Why a `prove` question is answered as it is.
+fn explain_proving(
+    alloc: Global,
+    question: Questioned<'_>,
+    session: &mut Session<'_>,
+    number: u32,
+    spending: &mut Spending,
+) -> Result<Diagnostic, Fault>
+    requires { (q : Question) × AsksProof session.old.declarations session.old.of_crate number q }
+    ensures { StaysOn session.old session.new }
+{
+    match prove(session, number, spending)? {
+        ProveAnswer::Yes(values) => {
+            explain_yes(alloc, question, session, number, &values, spending)
+        }
+        ProveAnswer::Maybe => {
+            explain_not_proved(alloc, question, session, number, NotProved::Maybe, spending)
+        }
+        ProveAnswer::Unproved => {
+            explain_not_proved(
+                alloc,
+                question,
+                session,
+                number,
+                NotProved::Unproved,
+                spending,
+            )
+        }
+    }
+}
+
+/// What is said of a `refute` question.
+fn tell_refutation(
+    alloc: Global,
+    question: Questioned<'_>,
+    session: &Session<'_>,
+    walk: &GoalWalk,
+    answer: RefuteAnswer,
+) -> Result<Diagnostic, Fault>
+    requires { ReferencesHeld session.now.terms walk.now.references.items }
+{
+    let unseen = unseen_at(session, walk, 0)?;
+    let story = tell(alloc, session.interner(), &question.names(), walk)?;
+    let span = question.span();
+    let told = match answer {
+        RefuteAnswer::No => refuted(alloc, question.texts, &story, span, unseen)?,
+        RefuteAnswer::Open => left_open(alloc, question.texts, &story, span, unseen)?,
+    };
+    Ok(told)
+}
+
+/// The answer to a `refute` question.
+fn refute(
+    session: &mut Session<'_>,
+    number: u32,
+    spending: &mut Spending,
+) -> Result<RefuteAnswer, Fault>
+    requires { (q : Question) × AsksRefutation session.old.declarations session.old.of_crate number q }
+    ensures { StaysOn session.old session.new }
+{
+    let before = session.frames();
+    let answer = session.refute(number);
+    spending.add_answer(before, session.frames());
+    answer
+}
+
+/// Why a `refute` question is answered as it is.
+fn explain_refuting(
+    alloc: Global,
+    question: Questioned<'_>,
+    session: &mut Session<'_>,
+    number: u32,
+    spending: &mut Spending,
+) -> Result<Diagnostic, Fault>
+    requires { (q : Question) × AsksRefutation session.old.declarations session.old.of_crate number q }
+    ensures { StaysOn session.old session.new }
+{
+    let answer = refute(session, number, spending)?;
+    let before = session.frames();
+    let walk = explain_refutation(session, number)?;
+    spending.add_explanation(before, session.frames(), walk.nodes.len());
+    tell_refutation(alloc, question, session, &walk, answer)
+}
+
+/// Why a question of the session's crate is answered as it is.
+fn explain_now(
+    alloc: Global,
+    question: Questioned<'_>,
+    session: &mut Session<'_>,
+    number: u32,
+    asked: Asked,
+    spending: &mut Spending,
+) -> Result<Diagnostic, Fault>
+    requires { IsAskedOf session.old.declarations session.old.of_crate number asked }
+    ensures { StaysOn session.old session.new }
+{
+    match asked {
+        Asked::Prove(_) => explain_proving(alloc, question, session, number, spending),
+        Asked::Refute(_) => explain_refuting(alloc, question, session, number, spending),
+    }
+}
+
+/// Why a question of the session's crate is answered as it is, unless explanations took as long as they may. Questions count from 1.
+pub(crate) fn explain_asked(
+    alloc: Global,
+    question: Questioned<'_>,
+    session: &mut Session<'_>,
+    number: u32,
+    asked: Asked,
+    spending: &mut Spending,
+) -> Result<Option<Diagnostic>, Fault>
+    requires { IsAskedOf session.old.declarations session.old.of_crate number asked }
+    ensures { StaysOn session.old session.new }
+{
+    match spending.next() {
+        Next::Silent => Ok(None),
+        Next::Told => {
+            let told = too_long(alloc)?;
+            Ok(Some(told))
+        }
+        Next::Explained => {
+            let told = explain_now(alloc, question, session, number, asked, spending)?;
+            Ok(Some(told))
+        }
+    }
+}

@@ -1,0 +1,75 @@
+//! How much is spent on explanations.
+
+use diagnostics::{Diagnostic, Level};
+use std::alloc::{AllocError, Global};
+
+/// So many frames may explanations take in any case.
+const FREE: u64 = 4096;
+
+/// How many frames the answers of a text took, and how many its explanations.
+#[derive(Clone, Copy)]
+pub(crate) struct Spending {
+    answering: u64,
+    explaining: u64,
+    /// Whether it was said that nothing more is explained.
+    is_told: bool,
+}
+
+impl Spending {
+    /// Nothing was spent.
+    pub(crate) fn new() -> Spending {
+        Spending {
+            answering: 0,
+            explaining: 0,
+            is_told: false,
+        }
+    }
+
+    /// Adds what an answer took, from one count of frames to another.
+    pub(crate) fn add_answer(&mut self, from: u64, to: u64) {
+        self.answering = self.answering.saturating_add(to.saturating_sub(from));
+    }
+
+    /// Adds what an explanation took, and the goals that it walked.
+    pub(crate) fn add_explanation(&mut self, from: u64, to: u64, goals: usize) {
+        let frames = to.saturating_sub(from).saturating_add(goals as u64);
+        self.explaining = self.explaining.saturating_add(frames);
+    }
+
+    /// Whether explanations took as much as they may: twice what the answers took, and what is free.
+    fn is_over(&self) -> bool {
+        self.explaining > self.answering.saturating_mul(2).saturating_add(FREE)
+    }
+
+    /// How it stands with a question that is to be explained next.
+    pub(crate) fn next(&mut self) -> Next {
+        if !self.is_over() {
+            return Next::Explained;
+        }
+        if self.is_told {
+            return Next::Silent;
+        }
+        self.is_told = true;
+        Next::Told
+    }
+}
+
+/// How it stands with a question that is to be explained.
+#[derive(Clone, Copy)]
+pub(crate) enum Next {
+    /// It is explained.
+    Explained,
+    /// It is said that it is not, nor are those behind it.
+    Told,
+    /// Nothing is said.
+    Silent,
+}
+
+/// What is said of the first question that is not explained, since that would take too long.
+pub(crate) fn too_long(alloc: Global) -> Result<Diagnostic, AllocError> {
+    let message = String::from_str(
+        alloc,
+        "no explanation of this question and those behind it: those before took as long as they may",
+    )?;
+    Ok(Diagnostic::new(alloc, Level::Note, None, message))
+}

@@ -1,0 +1,138 @@
+//! What is said of a supertrait that is not held.
+
+ghost use Rattle.std.specs.Prelude.{◌≡◌};
+ghost use Rattle.goal_walk.specs.Walking.{ReferencesHeld};
+ghost use Rattle.sessions.specs.Subjects.{StaysOn};
+
+use answer_lines::ShownNames;
+use diagnostics::{Diagnostic, Place, Span, on_line};
+use explanation_texts::{Asking, Story, Texts, impl_line, note, tell, unproved, unsettled};
+use goal_walk::GoalWalk;
+use session_walks::explain_supertrait;
+use sessions::{Session, SupersAnswer};
+use std::alloc::{AllocError, Global};
+use type_terms::{Fault, ImplId};
+use workspace::Param;
+
+/// A supertrait of the header of an impl, by its number from 1, of which no proof was found, or which is not settled.
+#[derive(Clone, Copy)]
+struct Unheld {
+    id: ImplId,
+    number: u32,
+    is_missing: bool,
+}
+
+/// What an answer names; none where all are held.
+fn unheld_of(answer: SupersAnswer) -> Option<Unheld> {
+    match answer {
+        SupersAnswer::Held => None,
+        SupersAnswer::Missing(id, number) => Some(Unheld {
+            id,
+            number,
+            is_missing: true,
+        }),
+        SupersAnswer::Undecided(id, number) => Some(Unheld {
+            id,
+            number,
+            is_missing: false,
+        }),
+    }
+}
+
+/// The parameters of an impl.
+fn params_of(texts: Texts<'_>, id: ImplId) -> &[Param] {
+    match texts.workspace.impls().get(id.index as usize) {
+        Some(entry) => &entry.params,
+        None => &[],
+    }
+}
+
+/// The span of the header of an impl; an empty one where it has no line.
+fn header_span(texts: Texts<'_>, id: ImplId) -> Span {
+    match impl_line(texts, id) {
+        Some(found) => on_line(found.line, found.parts.header),
+        None => on_line(0, Place { start: 0, end: 0 }),
+    }
+}
+
+/// What is said of a goal that was not proved, or is not settled.
+fn explain_goal(
+    alloc: Global,
+    texts: Texts<'_>,
+    story: &Story<'_>,
+    unheld: Unheld,
+    depth: u32,
+    seen: &[ImplId],
+) -> Result<Diagnostic, AllocError> {
+    let span = header_span(texts, unheld.id);
+    if unheld.is_missing {
+        let asking = Asking {
+            seen,
+            is_impl: true,
+        };
+        unproved(alloc, texts, story, span, asking)
+    } else {
+        unsettled(alloc, texts, story, span, depth)
+    }
+}
+
+/// What is said of the supertrait.
+fn diagnose(
+    alloc: Global,
+    texts: Texts<'_>,
+    story: &Story<'_>,
+    unheld: Unheld,
+    depth: u32,
+    seen: &[ImplId],
+) -> Result<Diagnostic, AllocError> {
+    let mut told = explain_goal(alloc, texts, story, unheld, depth, seen)?;
+    let number = unheld.number;
+    let reference = story.reference(0);
+    let said = format!(in alloc;
+        "`{reference}` is supertrait {number} of the header: an impl of the trait needs an impl of each of its supertraits"
+    )?;
+    told.children.push(note(alloc, said))?;
+    Ok(told)
+}
+
+/// What is said of a supertrait that was walked.
+fn explain_walk(
+    alloc: Global,
+    texts: Texts<'_>,
+    session: &Session<'_>,
+    walk: &GoalWalk,
+    unheld: Unheld,
+    depth: u32,
+    seen: &[ImplId],
+) -> Result<Diagnostic, AllocError>
+    requires { ReferencesHeld session.now.terms walk.now.references.items }
+{
+    let names = ShownNames {
+        workspace: texts.workspace,
+        params: params_of(texts, unheld.id),
+        variables: &[],
+    };
+    let story = tell(alloc, session.interner(), &names, walk)?;
+    diagnose(alloc, texts, &story, unheld, depth, seen)
+}
+
+/// What is said of a crate whose headers' supertraits were checked; nothing where all are held.
+pub(crate) fn supertraits(
+    alloc: Global,
+    texts: Texts<'_>,
+    session: &mut Session<'_>,
+    depth: u32,
+    seen: &[ImplId],
+) -> Result<Option<Diagnostic>, Fault>
+    ensures { StaysOn session.old session.new }
+{
+    let answer = session.check_supertraits()?;
+    let Some(unheld) = unheld_of(answer) else {
+        return Ok(None);
+    };
+    let Some(walk) = explain_supertrait(session, unheld.id, unheld.number)? else {
+        return Ok(None);
+    };
+    let told = explain_walk(alloc, texts, session, &walk, unheld, depth, seen)?;
+    Ok(Some(told))
+}

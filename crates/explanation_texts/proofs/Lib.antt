@@ -1,0 +1,2 @@
+pub mod HeldArgs
+pub mod MetTypes

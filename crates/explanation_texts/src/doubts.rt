@@ -1,0 +1,226 @@
+//! What is said of a goal that is not settled: several ways, an unknown, the depth, or a cycle.
+
+use crate::items::{Texts, header_marks, help, impl_line, note};
+use crate::links::{last_of, push_links};
+use crate::sources::source_name;
+use crate::story::{Story, unsure_premise};
+use diagnostics::{Diagnostic, ErrCode, LIST_LIMIT, Level, Span, SpanLabel, Subdiagnostic};
+use evaluation::{CandidateSource, MaybeCause};
+use goal_walk::{Answer, CandidateNode};
+use std::alloc::{AllocError, Global};
+
+/// Why a goal is not settled.
+#[derive(Clone, Copy, PartialEq, Eq)]
+enum Doubt {
+    /// The search met its depth limit.
+    Depth,
+    /// A goal needs itself.
+    Cycle,
+    /// More than one candidate is left.
+    Ways,
+    /// The self type is not known.
+    Open,
+    /// None of these is seen.
+    Other,
+}
+
+/// The first goal that a candidate asks with this answer.
+fn premise_answered(story: &Story<'_>, candidate: &CandidateNode, answer: Answer) -> Option<usize> {
+    for premise in &candidate.premises {
+        if story.answer(*premise) == answer {
+            return Some(*premise);
+        }
+    }
+    None
+}
+
+/// The goal for which a goal is not settled: one that its candidates ask, and that is not settled for the same cause if there is such.
+fn doubtful_premise(story: &Story<'_>, place: usize) -> Option<usize> {
+    let answer = story.answer(place);
+    if story.candidates(place).len() > 1 && answer == Answer::Maybe(MaybeCause::Ambiguity) {
+        return None;
+    }
+    for candidate in story.candidates(place) {
+        if let Some(premise) = premise_answered(story, candidate, answer) {
+            return Some(premise);
+        }
+    }
+    for candidate in story.candidates(place) {
+        if let Some(premise) = unsure_premise(story, candidate) {
+            return Some(premise);
+        }
+    }
+    None
+}
+
+/// The goals from place 0 down, each one for which the one above is not settled, to the first that is not settled by itself: with more
+/// than one way left, an unknown, or as deep as goals are looked at.
+fn doubtful_path(alloc: Global, story: &Story<'_>) -> Result<Vec<usize>, AllocError> {
+    let mut path = Vec::new(alloc);
+    let mut at = 0usize;
+    for _goal in 0..story.len() {
+        path.push(at)?;
+        match doubtful_premise(story, at) {
+            Some(premise) => at = premise,
+            None => return Ok(path),
+        }
+    }
+    Ok(path)
+}
+
+/// Why the goal at place 0 is not settled, where its path of goals ends here.
+fn doubt_of(story: &Story<'_>, leaf: usize) -> Doubt {
+    if story.is_cycle(leaf) {
+        Doubt::Cycle
+    } else if story.answer(0) == Answer::Maybe(MaybeCause::Overflow) {
+        Doubt::Depth
+    } else if story.candidates(leaf).len() > 1 {
+        Doubt::Ways
+    } else if story.is_unknown(leaf) {
+        Doubt::Open
+    } else {
+        Doubt::Other
+    }
+}
+
+/// The code and the message.
+fn message_of(
+    alloc: Global,
+    story: &Story<'_>,
+    doubt: Doubt,
+    leaf: usize,
+) -> Result<(ErrCode, String), AllocError> {
+    let reference = story.reference(leaf);
+    let first = story.reference(0);
+    match doubt {
+        Doubt::Depth => {
+            let message = format!(in alloc; "overflow evaluating the requirement `{first}`")?;
+            Ok((ErrCode::E0275, message))
+        }
+        Doubt::Cycle => {
+            let message = format!(in alloc; "overflow evaluating the requirement `{reference}`")?;
+            Ok((ErrCode::E0275, message))
+        }
+        Doubt::Ways | Doubt::Open | Doubt::Other => {
+            let message = format!(in alloc;
+                "type annotations needed: cannot satisfy `{reference}`"
+            )?;
+            Ok((ErrCode::E0283, message))
+        }
+    }
+}
+
+/// What is said at the question.
+fn said_at(
+    alloc: Global,
+    story: &Story<'_>,
+    doubt: Doubt,
+    leaf: usize,
+    depth: u32,
+) -> Result<String, AllocError> {
+    let reference = story.reference(leaf);
+    let subject = story.subject(leaf);
+    match doubt {
+        Doubt::Depth => format!(in alloc; "not settled within the depth limit {depth}"),
+        Doubt::Cycle => {
+            format!(in alloc;
+                "`{reference}` needs itself: such a cycle proves nothing and refuses nothing"
+            )
+        }
+        Doubt::Ways => String::from_str(alloc, "more than one way is left"),
+        Doubt::Open => format!(in alloc; "it is not known what `{subject}` is"),
+        Doubt::Other => format!(in alloc; "whether `{reference}` holds is not settled"),
+    }
+}
+
+/// Adds a way that is left: a candidate that may apply.
+fn push_way(
+    alloc: Global,
+    texts: Texts<'_>,
+    source: CandidateSource,
+    children: &mut Vec<Subdiagnostic>,
+) -> Result<(), AllocError> {
+    let name = source_name(alloc, texts, source)?;
+    let name = name.as_str();
+    let message = format!(in alloc; "the {name} may apply")?;
+    let mut told = note(alloc, message);
+    if let CandidateSource::Impl(id) = source {
+        if let Some(found) = impl_line(texts, id) {
+            told.spans = header_marks(alloc, found)?;
+        }
+    }
+    children.push(told)?;
+    Ok(())
+}
+
+/// Adds the ways that are left of the goal at a place.
+fn push_ways(
+    alloc: Global,
+    texts: Texts<'_>,
+    story: &Story<'_>,
+    place: usize,
+    children: &mut Vec<Subdiagnostic>,
+) -> Result<(), AllocError> {
+    for (index, candidate) in story.candidates(place).iter().enumerate() {
+        if index == LIST_LIMIT {
+            let message = String::from_str(alloc, "others may apply too")?;
+            children.push(note(alloc, message))?;
+            return Ok(());
+        }
+        push_way(alloc, texts, candidate.source, children)?;
+    }
+    Ok(())
+}
+
+/// Adds the advice to ask with a greater depth limit, where there is one.
+fn push_deeper(
+    alloc: Global,
+    depth: u32,
+    children: &mut Vec<Subdiagnostic>,
+) -> Result<(), AllocError> {
+    let twice = depth.saturating_mul(2).min(255);
+    if twice > depth {
+        let message = format!(in alloc;
+            "ask with a greater depth limit: `{twice}` in place of `{depth}`"
+        )?;
+        children.push(help(alloc, message))?;
+    }
+    Ok(())
+}
+
+/// Adds what follows from why the goal is not settled.
+fn push_doubt(
+    alloc: Global,
+    texts: Texts<'_>,
+    story: &Story<'_>,
+    doubt: Doubt,
+    leaf: usize,
+    depth: u32,
+    children: &mut Vec<Subdiagnostic>,
+) -> Result<(), AllocError> {
+    match doubt {
+        Doubt::Ways => push_ways(alloc, texts, story, leaf, children),
+        Doubt::Depth => push_deeper(alloc, depth, children),
+        Doubt::Cycle | Doubt::Open | Doubt::Other => Ok(()),
+    }
+}
+
+/// What is said of a goal that is not settled, at a span.
+pub fn unsettled(
+    alloc: Global,
+    texts: Texts<'_>,
+    story: &Story<'_>,
+    span: Span,
+    depth: u32,
+) -> Result<Diagnostic, AllocError> {
+    let path = doubtful_path(alloc, story)?;
+    let leaf = last_of(&path);
+    let doubt = doubt_of(story, leaf);
+    let (code, message) = message_of(alloc, story, doubt, leaf)?;
+    let mut told = Diagnostic::new(alloc, Level::Error, Some(code), message);
+    let said = said_at(alloc, story, doubt, leaf, depth)?;
+    told.spans.push(SpanLabel::primary(span, said))?;
+    push_links(alloc, texts, story, &path, &mut told.children)?;
+    push_doubt(alloc, texts, story, doubt, leaf, depth, &mut told.children)?;
+    Ok(told)
+}

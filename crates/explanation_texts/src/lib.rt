@@ -1,0 +1,35 @@
+//! What is said of the lines of an answer: of a text with a fault, of a header that breaks the orphan rule, and of goals that were walked; what
+//! items are called, and where they stand.
+//!
+//! The token that a fault is about is looked for in its line, by what the lines above declare; what is said of a header is read off its
+//! orphan error, and what is said of a goal off its walk (`goal_walk`). Whether a sentence is true is no part of a contract here.
+#![tactic(auto)]
+
+mod doubts;
+mod failures;
+mod faults;
+mod items;
+mod lines;
+mod links;
+mod offending;
+mod open_questions;
+mod orphans;
+mod refused;
+mod refutations;
+mod similar;
+mod sources;
+mod spoken;
+mod story;
+mod words;
+
+pub use doubts::unsettled;
+pub use failures::{Asking, unproved};
+pub use faults::fault_diagnostic;
+pub use items::{Texts, crate_name, impl_line, impl_name, note};
+pub use lines::{ImplLine, ItemLines, item_lines};
+pub use open_questions::left_open;
+pub use orphans::orphan;
+pub use refutations::refuted;
+pub use sources::source_name;
+pub use spoken::{Spoken, conflict_text, speak};
+pub use story::{Story, tell};

@@ -1,0 +1,86 @@
+//! What is said of a question that was answered open.
+
+use crate::items::{Texts, note, trait_home, trait_name};
+use crate::sources::source_name;
+use crate::spoken::{Spoken, conflict_text};
+use crate::story::Story;
+use diagnostics::{Diagnostic, LIST_LIMIT, Level, Span, SpanLabel, Subdiagnostic};
+use evaluation::CandidateSource;
+use goal_walk::CandidateNode;
+use orphan_check::errors::Conflict;
+use std::alloc::{AllocError, Global};
+
+/// Which crate that is not seen may add which impl.
+fn unseen_text(
+    alloc: Global,
+    texts: Texts<'_>,
+    spoken: &Spoken,
+    conflict: Conflict,
+) -> Result<String, AllocError> {
+    let said = conflict_text(alloc, spoken, conflict)?;
+    let said = said.as_str();
+    match conflict {
+        Conflict::Upstream => {
+            let name = trait_name(alloc, texts, spoken.trait_id)?;
+            let name = name.as_str();
+            let home = trait_home(alloc, texts, spoken.trait_id)?;
+            let home = home.as_str();
+            format!(in alloc; "{said} (`{name}` is of crate `{home}`)")
+        }
+        Conflict::Downstream => format!(in alloc; "{said} (any crate that uses this one)"),
+    }
+}
+
+/// Whether a candidate is seen, and applies, or may.
+fn is_left(candidate: &CandidateNode) -> bool {
+    candidate.certainty.is_some() && candidate.source != CandidateSource::CoherenceUnknowable
+}
+
+/// Adds the candidates that apply, or may. Of a type that is not known nothing is added: the one candidate stands for all of them.
+fn push_ways(
+    alloc: Global,
+    texts: Texts<'_>,
+    story: &Story<'_>,
+    children: &mut Vec<Subdiagnostic>,
+) -> Result<(), AllocError> {
+    if story.is_unknown(0) {
+        return Ok(());
+    }
+    let mut count = 0usize;
+    for candidate in story.candidates(0) {
+        if is_left(candidate) {
+            if count == LIST_LIMIT {
+                let message = String::from_str(alloc, "others may apply too")?;
+                children.push(note(alloc, message))?;
+                return Ok(());
+            }
+            count = count.saturating_add(1);
+            let name = source_name(alloc, texts, candidate.source)?;
+            let name = name.as_str();
+            let message = format!(in alloc; "the {name} applies, or may")?;
+            children.push(note(alloc, message))?;
+        }
+    }
+    Ok(())
+}
+
+/// What is said of a question that was answered open, at a span, with which unseen crates may have an impl.
+pub fn left_open(
+    alloc: Global,
+    texts: Texts<'_>,
+    story: &Story<'_>,
+    span: Span,
+    unseen: Option<Conflict>,
+) -> Result<Diagnostic, AllocError> {
+    let reference = story.reference(0);
+    let message = format!(in alloc; "`{reference}` holds, or some crate could make it hold")?;
+    let mut told = Diagnostic::new(alloc, Level::Note, None, message);
+    told.spans
+        .push(SpanLabel::primary(span, String::new(alloc)))?;
+    if let (Some(conflict), Some(spoken)) = (unseen, story.spoken(0)) {
+        let said = unseen_text(alloc, texts, spoken, conflict)?;
+        told.children.push(note(alloc, said))?;
+    }
+    push_ways(alloc, texts, story, &mut told.children)?;
+    Ok(told)
+}

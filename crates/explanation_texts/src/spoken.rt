@@ -1,0 +1,185 @@
+//! References as text.
+
+ghost use Rattle.std.specs.Prelude.{IfSome};
+ghost use Rattle.type_terms.specs.Kinds.{ArgHeld};
+ghost use Rattle.type_terms.specs.Terms.{Has, args_lists, types};
+
+use crate::words::type_text;
+use answer_lines::{PrintNames, ShownNames, print_const, print_type_within};
+use diagnostics::{TYPE_LIMIT, cut_text};
+use orphan_check::errors::Conflict;
+use std::alloc::{AllocError, Global};
+use term_folds::predicate::TraitRef;
+use type_terms::TraitId;
+use type_terms::interner::Interner;
+use type_terms::kinds::{GenericArgKind, Ty, TyKind};
+
+/// A reference with its self type and its bound, as texts.
+pub struct Spoken {
+    /// `V<u8>: Show`
+    pub reference: String,
+    /// `V<u8>`
+    pub subject: String,
+    /// `Show`
+    pub bound: String,
+    pub trait_id: TraitId,
+    /// Whether the self type is an unknown.
+    pub is_unknown: bool,
+    /// Whether the self type is a parameter of what asks.
+    pub is_param: bool,
+}
+
+// Written, so that what owns one drops it by one call at each way out, and not field by field.
+impl Drop for Spoken {
+    fn drop(self) {
+        let Spoken {
+            reference: _,
+            subject: _,
+            bound: _,
+            trait_id: _,
+            is_unknown: _,
+            is_param: _,
+        } = self;
+    }
+}
+
+/// Appends an argument of a trait behind its self type, with what stands before it.
+fn push_arg(
+    cx: &Interner,
+    names: &ShownNames<'_>,
+    arg: GenericArgKind,
+    out: &mut Vec<u8>,
+    is_first: bool,
+) -> Result<bool, AllocError>
+    requires { ArgHeld cx.now.entries arg }
+{
+    let before: &[u8] = if is_first { b"<" } else { b", " };
+    match arg {
+        GenericArgKind::Lifetime(_) => Ok(is_first),
+        GenericArgKind::Ty(ty) => {
+            out.extend_from_slice(before)?;
+            print_type_within(cx, names, ty, TYPE_LIMIT + 1, out)?;
+            Ok(false)
+        }
+        GenericArgKind::Const(value) => {
+            out.extend_from_slice(before)?;
+            print_const(cx, names, value, out)?;
+            Ok(false)
+        }
+    }
+}
+
+/// The trait of a reference with its arguments behind the self type.
+fn bound_text(
+    alloc: Global,
+    cx: &Interner,
+    names: &ShownNames<'_>,
+    reference: TraitRef,
+) -> Result<String, AllocError>
+    requires { Has cx.now.entries args_lists reference.args.0 }
+{
+    let mut out = Vec::new(alloc);
+    names.push_trait(reference.def_id, &mut out)?;
+    let mut is_first = true;
+    for (place, arg) in cx.args(reference.args).iter().enumerate() {
+        if place > 0 && out.len() <= TYPE_LIMIT {
+            is_first = push_arg(cx, names, *arg, &mut out, is_first)?;
+        }
+    }
+    if !is_first {
+        out.push(b'>')?;
+    }
+    cut_text(alloc, &out, TYPE_LIMIT)
+}
+
+/// The self type of a reference, its first argument.
+fn self_type(cx: &Interner, reference: TraitRef) -> Option<Ty>
+    requires { Has cx.now.entries args_lists reference.args.0 }
+    ensures { IfSome result (λ ty. Has cx.now.entries types ty.0) }
+{
+    match cx.args(reference.args).first() {
+        Some(GenericArgKind::Ty(ty)) => Some(*ty),
+        _ => None,
+    }
+}
+
+/// The self type of a reference as text.
+fn subject_text(
+    alloc: Global,
+    cx: &Interner,
+    names: &ShownNames<'_>,
+    reference: TraitRef,
+) -> Result<String, AllocError>
+    requires { Has cx.now.entries args_lists reference.args.0 }
+{
+    match self_type(cx, reference) {
+        Some(ty) => type_text(alloc, cx, names, ty),
+        None => Ok(String::new(alloc)),
+    }
+}
+
+/// Whether the self type of a reference is an unknown.
+fn is_unknown(cx: &Interner, reference: TraitRef) -> bool
+    requires { Has cx.now.entries args_lists reference.args.0 }
+{
+    match self_type(cx, reference) {
+        Some(ty) => matches!(cx.kind(ty), TyKind::Infer(_)),
+        None => false,
+    }
+}
+
+/// Whether the self type of a reference is a placeholder.
+fn is_param(cx: &Interner, reference: TraitRef) -> bool
+    requires { Has cx.now.entries args_lists reference.args.0 }
+{
+    match self_type(cx, reference) {
+        Some(ty) => matches!(cx.kind(ty), TyKind::Placeholder(_)),
+        None => false,
+    }
+}
+
+/// A reference as text.
+pub fn speak(
+    alloc: Global,
+    cx: &Interner,
+    names: &ShownNames<'_>,
+    reference: TraitRef,
+) -> Result<Spoken, AllocError>
+    requires { Has cx.now.entries args_lists reference.args.0 }
+{
+    let subject = subject_text(alloc, cx, names, reference)?;
+    let bound = bound_text(alloc, cx, names, reference)?;
+    let left = subject.as_str();
+    let right = bound.as_str();
+    let whole = format!(in alloc; "{left}: {right}")?;
+    Ok(Spoken {
+        reference: whole,
+        subject,
+        bound,
+        trait_id: reference.def_id,
+        is_unknown: is_unknown(cx, reference),
+        is_param: is_param(cx, reference),
+    })
+}
+
+/// Which crates may have an impl that is not seen, as the original says it.
+pub fn conflict_text(
+    alloc: Global,
+    spoken: &Spoken,
+    conflict: Conflict,
+) -> Result<String, AllocError> {
+    let bound = spoken.bound.as_str();
+    let subject = spoken.subject.as_str();
+    match conflict {
+        Conflict::Upstream => {
+            format!(in alloc;
+                "upstream crates may add a new impl of trait `{bound}` for type `{subject}` in future versions"
+            )
+        }
+        Conflict::Downstream => {
+            format!(in alloc;
+                "downstream crates may implement trait `{bound}` for type `{subject}`"
+            )
+        }
+    }
+}

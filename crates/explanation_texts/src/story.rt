@@ -1,0 +1,175 @@
+//! A walk with its references as texts.
+
+ghost use Rattle.goal_walk.specs.Walking.{ReferencesHeld};
+
+use crate::spoken::{Spoken, speak};
+use answer_lines::ShownNames;
+use goal_walk::{Answer, CandidateNode, GoalWalk, Standing};
+use std::alloc::{AllocError, Global};
+use term_folds::predicate::TraitRef;
+use type_terms::interner::Interner;
+
+/// A walk with its references as texts. Its goals are named by their places.
+#[derive(Drop)]
+pub struct Story<'w> {
+    spoken: Vec<Spoken>,
+    walk: &'w GoalWalk,
+}
+
+/// The references as texts.
+fn speak_all(
+    alloc: Global,
+    cx: &Interner,
+    names: &ShownNames<'_>,
+    references: &[TraitRef],
+) -> Result<Vec<Spoken>, AllocError>
+    requires { ReferencesHeld cx.now.entries references.now }
+{
+    let mut spoken = Vec::new(alloc);
+    for reference in references {
+        let next = speak(alloc, cx, names, *reference)?;
+        spoken.push(next)?;
+    }
+    Ok(spoken)
+}
+
+/// A walk over the terms of an interner, told.
+pub fn tell<'w>(
+    alloc: Global,
+    cx: &Interner,
+    names: &ShownNames<'_>,
+    walk: &'w GoalWalk,
+) -> Result<Story<'w>, AllocError>
+    requires { ReferencesHeld cx.now.entries walk.now.references.items }
+{
+    let spoken = speak_all(alloc, cx, names, &walk.references)?;
+    Ok(Story { spoken, walk })
+}
+
+impl Story<'_> {
+    /// How many goals there are.
+    pub(crate) fn len(&self) -> usize {
+        self.walk.nodes.len()
+    }
+
+    /// The reference of a goal.
+    pub fn spoken(&self, place: usize) -> Option<&Spoken> {
+        self.spoken.get(place)
+    }
+
+    /// The reference of a goal as text.
+    pub fn reference(&self, place: usize) -> &str {
+        match self.spoken.get(place) {
+            Some(spoken) => spoken.reference.as_str(),
+            None => "",
+        }
+    }
+
+    /// The self type of a goal.
+    pub(crate) fn subject(&self, place: usize) -> &str {
+        match self.spoken.get(place) {
+            Some(spoken) => spoken.subject.as_str(),
+            None => "",
+        }
+    }
+
+    /// The bound of a goal.
+    pub(crate) fn bound(&self, place: usize) -> &str {
+        match self.spoken.get(place) {
+            Some(spoken) => spoken.bound.as_str(),
+            None => "",
+        }
+    }
+
+    /// Whether the self type of a goal is an unknown.
+    pub(crate) fn is_unknown(&self, place: usize) -> bool {
+        match self.spoken.get(place) {
+            Some(spoken) => spoken.is_unknown,
+            None => false,
+        }
+    }
+
+    /// How a goal is answered.
+    pub fn answer(&self, place: usize) -> Answer {
+        match self.walk.node(place) {
+            Some(node) => node.answer,
+            None => Answer::Nothing,
+        }
+    }
+
+    pub(crate) fn is_refused(&self, place: usize) -> bool {
+        self.answer(place) == Answer::Refused
+    }
+
+    pub(crate) fn is_unsure(&self, place: usize) -> bool {
+        matches!(self.answer(place), Answer::Maybe(_))
+    }
+
+    /// How a goal stands to the others.
+    pub(crate) fn standing(&self, place: usize) -> Standing {
+        match self.walk.node(place) {
+            Some(node) => node.standing,
+            None => Standing::Cut,
+        }
+    }
+
+    /// Whether a goal is asked in the course of itself.
+    pub(crate) fn is_cycle(&self, place: usize) -> bool {
+        matches!(self.standing(place), Standing::Cycle(_))
+    }
+
+    /// Whether a goal is deeper, or one more, than is shown.
+    pub(crate) fn is_cut(&self, place: usize) -> bool {
+        self.standing(place) == Standing::Cut
+    }
+
+    /// Whether all candidates of a goal were looked at.
+    pub(crate) fn is_whole(&self, place: usize) -> bool {
+        match self.walk.node(self.shown_at(place)) {
+            Some(node) => node.is_whole,
+            None => false,
+        }
+    }
+
+    /// The place at which the candidates of a goal stand: another one, where the same goal is shown already.
+    pub(crate) fn shown_at(&self, place: usize) -> usize {
+        match self.standing(place) {
+            Standing::Same(earlier) => earlier,
+            _ => place,
+        }
+    }
+
+    /// The candidates of a goal that tell why it is answered so.
+    pub fn candidates(&self, place: usize) -> &[CandidateNode] {
+        match self.walk.node(self.shown_at(place)) {
+            Some(node) => &node.candidates,
+            None => &[],
+        }
+    }
+
+    /// The candidate of a goal, if there is just one.
+    pub(crate) fn only_candidate(&self, place: usize) -> Option<&CandidateNode> {
+        match self.candidates(place) {
+            [candidate] => Some(candidate),
+            _ => None,
+        }
+    }
+}
+
+/// The last goal that a candidate asks, if it is refused.
+pub(crate) fn refused_premise(story: &Story<'_>, candidate: &CandidateNode) -> Option<usize> {
+    match candidate.premises.last() {
+        Some(premise) if story.is_refused(*premise) => Some(*premise),
+        _ => None,
+    }
+}
+
+/// The first goal that a candidate asks of which it is not known whether it holds.
+pub(crate) fn unsure_premise(story: &Story<'_>, candidate: &CandidateNode) -> Option<usize> {
+    for premise in &candidate.premises {
+        if story.is_unsure(*premise) {
+            return Some(*premise);
+        }
+    }
+    None
+}
