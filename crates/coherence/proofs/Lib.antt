@@ -16,3 +16,4 @@ pub mod CrateNames
 pub mod HeldLines
 pub mod FirstLines
 pub mod SourceLines
+pub mod FullTables

@@ -3,6 +3,7 @@
 ghost use Rattle.std.specs.Prelude.{◌≡◌, ◌≢◌, ◌+◌, ◌<◌, ◌≤◌, ℕ, length, IfOk, IfErr, IfSome, OnOk};
 ghost use Rattle.workspace.specs.Numbered.{IsNumbered, IsFew};
 ghost use Rattle.sessions.specs.Subjects.{IsOfText, StaysOn};
+ghost use Rattle.coherence.specs.Faults.{IsFullAtLimit};
 ghost use Rattle.coherence.specs.Groups.{IsAskedIn, IsCheckedIn, ArePlacesWhere, IsGroup};
 ghost use Rattle.coherence.specs.LineByLine.{CountsLine};
 ghost use Rattle.coherence.specs.KeptLines.{KeepsChecks, KeepsQuestions, KeepsLines, HasKeptLineAt};
@@ -91,6 +92,7 @@ fn keep_checks(
     requires kept { KeepsChecks session.old.depth workspace.now session.old.of_crate lines.old.items }
     ensures kept { OnOk result (KeepsChecks session.old.depth workspace.now (session.old.of_crate + 1) lines.new.items) }
     ensures stays { StaysOn session.old session.new }
+    ensures full { IfErr result (IsFullAtLimit session.new) }
     ensures unread { IfErr result (λ fault. fault ≢ RunFault.Read) }
     ensures unwritten { IfErr result (λ fault. fault ≢ RunFault.Write) }
 {
@@ -115,6 +117,7 @@ fn keep_questions(
     requires places { ArePlacesWhere (length workspace.now.questions) (IsAskedIn workspace.now session.old.of_crate) places.now }
     requires kept { KeepsQuestions session.old.depth workspace.now session.old.of_crate lines.old.items }
     ensures kept { OnOk result (KeepsQuestions session.old.depth workspace.now (session.old.of_crate + 1) lines.new.items) }
+    ensures full { IfErr result (IsFullAtLimit session.new) }
     ensures unread { IfErr result (λ fault. fault ≢ RunFault.Read) }
     ensures unwritten { IfErr result (λ fault. fault ≢ RunFault.Write) }
 {
@@ -140,6 +143,7 @@ pub fn keep_answers(
     requires group { IsGroup (length workspace.now.checks) (length workspace.now.questions) workspace.now session.old.of_crate group.now }
     requires kept { KeepsLines session.old.depth workspace.now session.old.of_crate lines.old }
     ensures kept { OnOk result (KeepsLines session.old.depth workspace.now (session.old.of_crate + 1) lines.new) }
+    ensures full { IfErr result (IsFullAtLimit session.new) }
     ensures unread { IfErr result (λ fault. fault ≢ RunFault.Read) }
     ensures unwritten { IfErr result (λ fault. fault ≢ RunFault.Write) }
 {

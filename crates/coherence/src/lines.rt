@@ -16,6 +16,7 @@ ghost use Rattle.sessions.specs.Given.{verdict_in, VerdictHeld};
 ghost use Rattle.sessions.specs.Releases.{IsSectionOf};
 ghost use Rattle.sessions.specs.Subjects.{IsOfText, AsksProof, AsksRefutation, StaysOn};
 ghost use Rattle.sessions.specs.TextQuestions.{IsQuestion};
+ghost use Rattle.coherence.specs.Faults.{IsFullAtLimit};
 ghost use Rattle.coherence.specs.Groups.{IsAskedIn, IsCheckedIn};
 ghost use Rattle.coherence.specs.Lines.{crate_text, impl_home, number_in_crate, header_text, orphan_line, verdict_line};
 ghost use Rattle.coherence.specs.KeptLines.{NamesImpls, HasCheckLine, IsCheckLineOf, HasLine, IsLineOf};
@@ -220,6 +221,7 @@ fn later_line(
     requires section { IsSectionOf workspace.now changed.index section }
     ensures line { IfOk result (λ text. HasCheckLine session.old.depth workspace.now (of_later section changed.index) text.items) }
     ensures stays { StaysOn session.old session.new }
+    ensures full { IfErr result (IsFullAtLimit session.new) }
     ensures unread { IfErr result (λ fault. fault ≢ RunFault.Read) }
     ensures unwritten { IfErr result (λ fault. fault ≢ RunFault.Write) }
 {
@@ -245,6 +247,7 @@ fn supers_line(
     requires declared { asked.index < length workspace.now.crates }
     ensures line { IfOk result (λ text. HasCheckLine session.old.depth workspace.now (of_supers asked.index) text.items) }
     ensures stays { StaysOn session.old session.new }
+    ensures full { IfErr result (IsFullAtLimit session.new) }
     ensures unread { IfErr result (λ fault. fault ≢ RunFault.Read) }
     ensures unwritten { IfErr result (λ fault. fault ≢ RunFault.Write) }
 {
@@ -290,6 +293,7 @@ pub fn check_line(
     requires checked { IsCheckedIn workspace.now session.old.of_crate place }
     ensures line { IfOk result (λ text. IsCheckLineOf session.old.depth workspace.now place text.items) }
     ensures stays { StaysOn session.old session.new }
+    ensures full { IfErr result (IsFullAtLimit session.new) }
     ensures unread { IfErr result (λ fault. fault ≢ RunFault.Read) }
     ensures unwritten { IfErr result (λ fault. fault ≢ RunFault.Write) }
 {
@@ -315,6 +319,7 @@ fn prove_line(
     ensures line { (q : Question) → AsksProof workspace.now session.old.of_crate number q
         → IfOk result (λ text. HasLine session.old.depth workspace.now number q text.items) }
     ensures stays { StaysOn session.old session.new }
+    ensures full { IfErr result (IsFullAtLimit session.new) }
     ensures unread { IfErr result (λ fault. fault ≢ RunFault.Read) }
     ensures unwritten { IfErr result (λ fault. fault ≢ RunFault.Write) }
 {
@@ -341,6 +346,7 @@ fn refute_line(
     ensures line { (q : Question) → AsksRefutation workspace.now session.old.of_crate number q
         → IfOk result (λ text. HasLine session.old.depth workspace.now number q text.items) }
     ensures stays { StaysOn session.old session.new }
+    ensures full { IfErr result (IsFullAtLimit session.new) }
     ensures unread { IfErr result (λ fault. fault ≢ RunFault.Read) }
     ensures unwritten { IfErr result (λ fault. fault ≢ RunFault.Write) }
 {
@@ -365,6 +371,7 @@ pub fn question_line(
     requires asked { IsAskedIn workspace.now session.old.of_crate place }
     ensures line { IfOk result (λ text. IsLineOf session.old.depth workspace.now place text.items) }
     ensures stays { StaysOn session.old session.new }
+    ensures full { IfErr result (IsFullAtLimit session.new) }
     ensures unread { IfErr result (λ fault. fault ≢ RunFault.Read) }
     ensures unwritten { IfErr result (λ fault. fault ≢ RunFault.Write) }
 {

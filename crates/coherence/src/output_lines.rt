@@ -6,6 +6,7 @@ ghost use Rattle.text_definitions.specs.Output.{fault, output_text};
 ghost use Rattle.text_definitions.specs.Text.{TextGives};
 ghost use Rattle.workspace.specs.Numbered.{IsNumbered, IsFew};
 ghost use Rattle.sessions.specs.Subjects.{IsOfText};
+ghost use Rattle.coherence.specs.Faults.{IsFullAtLimit};
 ghost use Rattle.coherence.specs.Groups.{IsGroup};
 ghost use Rattle.coherence.specs.LineByLine.{CountsLine, HasNoMore, IsAfterFault, IsAfterLine, IsLineAt, IsVerdictLine, line_count, status_of};
 ghost use Rattle.coherence.specs.LineSources.{HasRoom, HoldsLines, IsGivenInOrder, IsGivenOfFault, IsNoneGiven, KeepsAnswers, lines_given, text_of};
@@ -59,6 +60,7 @@ fn judge_by(
     requires kept { KeepsLines session.old.depth workspace.now id.index lines.old }
     ensures line { IfOk result (λ text. IsVerdictLine session.old.depth workspace.now id.index text.items) }
     ensures kept { OnOk result (KeepsLines session.old.depth workspace.now (id.index + 1) lines.new) }
+    ensures full { IfErr result (IsFullAtLimit session.new) }
     ensures unread { IfErr result (λ fault. fault ≢ RunFault.Read) }
     ensures unwritten { IfErr result (λ fault. fault ≢ RunFault.Write) }
 {

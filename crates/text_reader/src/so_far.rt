@@ -36,6 +36,7 @@ impl<'w> Model for SoFar<'w> {
 impl<'w> SoFar<'w> {
     ghost use Rattle.workspace.specs.Tables.{declared, IsConsistent};
 
+    /// What tables that hold no more than a text may declare say so far.
     pub fn new(tables: &'w Tables) -> Self
         requires agrees { IsConsistent tables.now }
         requires few { IsFew (declared tables.now) ENTRY_LIMIT }
@@ -44,12 +45,14 @@ impl<'w> SoFar<'w> {
         SoFar { tables }
     }
 
+    /// What a name stands for so far: a crate, a struct or a trait; none where it was not declared.
     pub fn known(&self, name: &[u8]) -> Option<Known<'_>>
         ensures { option_map known_of result ≡ known self.now name.now }
     {
         self.tables.known(name)
     }
 
+    /// Whether a crate sees another: itself, `core`, and what it uses, itself or through crates that it uses.
     pub fn sees(&self, seeing: CrateId, seen: CrateId) -> bool
         requires { seeing.index < length self.now.crates }
         ensures { result ≡ sees (world_of self.now) seeing.index seen.index }
@@ -65,6 +68,7 @@ impl<'w> SoFar<'w> {
         self.tables.last_crate()
     }
 
+    /// The crate of a name, where a crate of that name was declared.
     pub fn crate_named(&self, name: &[u8]) -> Option<CrateId>
         ensures number { option_map (λ c. c.index) result ≡ option_and_then number_of_crate (known self.now name.now) }
         ensures there { IfSome result (λ c. c.index < length self.now.crates) }
@@ -101,18 +105,21 @@ impl<'w> SoFar<'w> {
         }
     }
 
+    /// How many crates there are so far, `core` among them.
     pub fn crate_count(&self) -> usize
         ensures { result ≡ length self.now.crates }
     {
         self.tables.crate_count()
     }
 
+    /// How many questions there are so far, of both kinds.
     pub fn question_count(&self) -> usize
         ensures { result ≡ length self.now.questions }
     {
         self.tables.question_count()
     }
 
+    /// Whether the line stands in the section of a later version.
     pub fn is_in_section(&self) -> bool
         ensures { result ≡ self.now.in_section }
     {
@@ -127,12 +134,14 @@ impl<'w> SoFar<'w> {
         self.tables.impl_owner()
     }
 
+    /// How many impls the last section of a later version adds so far.
     pub fn last_later(&self) -> u32
         ensures { result ≡ last_later self.now }
     {
         self.tables.last_later()
     }
 
+    /// How many structs, traits and impls the last crate declares so far.
     pub fn last_items(&self) -> u32
         ensures { result ≡ last_items self.now }
     {

@@ -5,6 +5,10 @@ use Rattle.coherence.specs.Lines.{of_version}
 use Rattle.coherence.proofs.Answered.{section-of, later-of, named-line}
 use Rattle.coherence.proofs.lines.later_line.Goals as goal
 use Rattle.coherence.proofs.lines.later_line.Goals.{in-Compatible+in_ok-line-in-Compatible, in-Breaking+in_ok-line-in-Breaking}
+use Rattle.std.proofs.Common.{ap, inl}
+use Rattle.std.specs.Prelude.{Err}
+use Rattle.sessions.specs.Shortages.{terms}
+use Rattle.coherence.proofs.FullTables.{handed-on}
 
 pub check_later-requires : goal.check_later-requires
 check_later-requires c = section-of c.args.session.now c.args.workspace.now c.args.changed.index c.args.section c.requires.on c.requires.of_crate c.requires.section
@@ -22,3 +26,8 @@ returns-clause-line c =
       | in-Breaking+in_ok-line-in-Breaking w ↦
           (_, of_version c.args.section crate (later_of (Breaking w.in-Breaking.number)) (rw w.in-Breaking.is at right), rw w.line-is (named-line (λ n. breaking n w.in-Breaking.number) d crate _ _ name w.in_ok-line-in-Breaking.ensures))
     ]
+
+pub returns-in_err-answer-clause-full : goal.returns-in_err-answer-clause-full
+returns-in_err-answer-clause-full c =
+    handed-on c.check_later.new.self c.from_residual.result c.in_err-answer.field-0.0 c.from_residual.ensures.1
+    (λ p. inl (terms (c.in_err-answer.ensures.full (ap Err p))))

@@ -4,6 +4,10 @@ use Rattle.coherence.specs.Lines.{of_refute}
 use Rattle.coherence.proofs.Answered.{refuted-of}
 use Rattle.coherence.proofs.lines.refute_line.Goals as goal
 use Rattle.coherence.proofs.lines.refute_line.Goals.{in-No+in_ok-line-in-No, in-Open+in_ok-line-in-Open}
+use Rattle.std.proofs.Common.{ap, sym, subst, ◌∙◌}
+use Rattle.std.specs.Prelude.{Err}
+use Rattle.sessions.specs.Subjects.{AsksRefutation}
+use Rattle.coherence.proofs.FullTables.{handed-on, of-question}
 
 pub returns-clause-line : goal.returns-clause-line
 returns-clause-line c q asks =
@@ -14,3 +18,14 @@ returns-clause-line c q asks =
       | in-No+in_ok-line-in-No w ↦ (_, of_refute (refutation_of No) asks.refutes (rw w.in-No.is at refuted), rw w.line-is w.in_ok-line-in-No.ensures)
       | in-Open+in_ok-line-in-Open w ↦ (_, of_refute (refutation_of Open) asks.refutes (rw w.in-Open.is at refuted), rw w.line-is w.in_ok-line-in-Open.ensures)
     ]
+
+pub returns-in_err-answer-clause-full : goal.returns-in_err-answer-clause-full
+returns-in_err-answer-clause-full c =
+    let s = c.args.session.now in
+    let n = c.args.number in
+    let q = c.requires.asked.0 in
+    let asks = c.requires.asked.1 in
+    let failed = c.in_err-answer.ensures in
+    handed-on c.refute.new.self c.from_residual.result c.in_err-answer.field-0.0 c.from_residual.ensures.1
+    (λ p. of-question c.refute.new.self c.args.workspace.now (failed.stays.declarations ∙ c.requires.on) s.of_crate n q asks.asks
+    (failed.full q (subst (λ d. AsksRefutation d s.of_crate n q) (sym c.requires.on) asks) (ap Err p)))
