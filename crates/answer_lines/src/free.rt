@@ -53,7 +53,8 @@ fn add_unknown(
     kind: TermKind,
     index: u32,
 ) -> Result<(), AllocError>
-    ensures { OnOk result (unknowns_of free.new.items ≡ with_free (question_of question.now) (leaf (infer (sort_of_kind kind) index)) (unknowns_of free.old.items)) }
+    ensures { OnOk result (unknowns_of free.new.items
+        ≡ with_free (question_of question.now) (leaf (infer (sort_of_kind kind) index)) (unknowns_of free.old.items)) }
 {
     if is_own(question, kind, index) {
         return Ok(());
@@ -138,7 +139,8 @@ fn list_value(
 ) -> Result<(), AllocError>
     requires { ArgHeld cx.now.entries value }
     ensures question { lists.new.question.now ≡ lists.old.question.now }
-    ensures listed { OnOk result (unknowns_of lists.new.free.items ≡ with_free (question_of lists.old.question.now) (arg_trees cx.now.entries value) (unknowns_of lists.old.free.items)) }
+    ensures listed { OnOk result (unknowns_of lists.new.free.items
+        ≡ with_free (question_of lists.old.question.now) (arg_trees cx.now.entries value) (unknowns_of lists.old.free.items)) }
 {
     match value {
         GenericArgKind::Lifetime(_) => Ok(()),

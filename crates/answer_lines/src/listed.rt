@@ -90,7 +90,8 @@ fn list_one<'w>(
     requires value { ArgHeld cx.now.entries value }
     requires held { ListHeld cx.now.entries listed.old.items }
     ensures held { OnOk result (ListHeld cx.now.entries listed.new.items) }
-    ensures listed { OnOk result (map (listed_of cx.now.entries) listed.new.items ≡ map (listed_of cx.now.entries) listed.old.items ++ valued_one cx.now.entries variable.now value number) }
+    ensures listed { OnOk result (map (listed_of cx.now.entries) listed.new.items
+        ≡ map (listed_of cx.now.entries) listed.old.items ++ valued_one cx.now.entries variable.now value number) }
 {
     if !is_unknown(cx, value, variable.kind, number) {
         listed.push(Listed { variable, value })?;

@@ -88,7 +88,8 @@ pub fn answer_values(
     values: &[GenericArgKind],
 ) -> Result<Vec<ValueText>, AllocError>
     requires { ArgsHeld cx.now.entries values.now }
-    ensures { IfOk result (λ texts. map value_of texts.items ≡ names.answer_values workspace.now (question_of question.now) (map (arg_trees cx.now.entries) values.now)) }
+    ensures { IfOk result (λ texts. map value_of texts.items
+        ≡ names.answer_values workspace.now (question_of question.now) (map (arg_trees cx.now.entries) values.now)) }
 {
     let listed = listed_values(alloc, cx, &question.variables, values)?;
     let free = free_unknowns(alloc, cx, question, &listed)?;

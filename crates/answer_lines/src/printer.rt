@@ -121,7 +121,8 @@ fn start_ref<'i, N: PrintNames>(
     out: &mut Vec<u8>,
 ) -> Result<(), AllocError>
     requires { Has interner.now.entries types ty.0 }
-    ensures { OnOk result (PrintsKind (N.names names.now) interner.now.entries (TyKind.Ref region ty mutability) stack.old.items stack.new.items out.old.items out.new.items) }
+    ensures { OnOk result
+        (PrintsKind (N.names names.now) interner.now.entries (TyKind.Ref region ty mutability) stack.old.items stack.new.items out.old.items out.new.items) }
 {
     out.extend_from_slice(ref_sign(mutability))?;
     stack.push(Piece::Ty(ty))?;
@@ -137,7 +138,8 @@ fn start_raw_ptr<'i, N: PrintNames>(
     out: &mut Vec<u8>,
 ) -> Result<(), AllocError>
     requires { Has interner.now.entries types ty.0 }
-    ensures { OnOk result (PrintsKind (N.names names.now) interner.now.entries (TyKind.RawPtr ty mutability) stack.old.items stack.new.items out.old.items out.new.items) }
+    ensures { OnOk result
+        (PrintsKind (N.names names.now) interner.now.entries (TyKind.RawPtr ty mutability) stack.old.items stack.new.items out.old.items out.new.items) }
 {
     out.extend_from_slice(raw_ptr_sign(mutability))?;
     stack.push(Piece::Ty(ty))?;
@@ -171,7 +173,8 @@ fn start_array<'i, N: PrintNames>(
     requires lawful { Lawful interner.now.entries }
     requires ty { Has interner.now.entries types ty.0 }
     requires len { Has interner.now.entries consts len.0 }
-    ensures { OnOk result (PrintsKind (N.names names.now) interner.now.entries (TyKind.Array ty len) stack.old.items stack.new.items out.old.items out.new.items) }
+    ensures { OnOk result
+        (PrintsKind (N.names names.now) interner.now.entries (TyKind.Array ty len) stack.old.items stack.new.items out.old.items out.new.items) }
 {
     out.extend_from_slice(b"[")?;
     stack.extend_from_slice(&[
@@ -297,7 +300,8 @@ fn start_principal<'i, N: PrintNames>(
     out: &mut Vec<u8>,
 ) -> Result<(), AllocError>
     requires { ArgsHeld interner.now.entries args.now }
-    ensures { OnOk result (PrintsPrincipalOf (N.names names.now) interner.now.entries def_id.index args.now autos.now stack.old.items stack.new.items out.old.items out.new.items) }
+    ensures { OnOk result (PrintsPrincipalOf (N.names names.now) interner.now.entries
+        def_id.index args.now autos.now stack.old.items stack.new.items out.old.items out.new.items) }
 {
     out.extend_from_slice(b"dyn ")?;
     names.push_trait(def_id, out)?;
@@ -317,7 +321,8 @@ fn start_autos<'i, N: PrintNames>(
     stack: &mut Vec<Piece<'i>>,
     out: &mut Vec<u8>,
 ) -> Result<(), AllocError>
-    ensures { OnOk result (PrintsAutos (N.names names.now) interner.now.entries (autos_trees autos.now) stack.old.items stack.new.items out.old.items out.new.items) }
+    ensures { OnOk result
+        (PrintsAutos (N.names names.now) interner.now.entries (autos_trees autos.now) stack.old.items stack.new.items out.old.items out.new.items) }
 {
     out.extend_from_slice(b"dyn ")?;
     match autos.split_first() {
@@ -339,7 +344,8 @@ fn start_dyn<'i, N: PrintNames>(
     out: &mut Vec<u8>,
 ) -> Result<(), AllocError>
     requires { Has interner.now.entries bounds_lists bounds.0 }
-    ensures { OnOk result (PrintsKind (N.names names.now) interner.now.entries (TyKind.Dynamic bounds region) stack.old.items stack.new.items out.old.items out.new.items) }
+    ensures { OnOk result
+        (PrintsKind (N.names names.now) interner.now.entries (TyKind.Dynamic bounds region) stack.old.items stack.new.items out.old.items out.new.items) }
 {
     let data = interner.bounds(bounds);
     match data.principal {
@@ -415,7 +421,8 @@ fn start_type<'i, N: PrintNames>(
 ) -> Result<(), AllocError>
     requires lawful { Lawful interner.now.entries }
     requires held { Has interner.now.entries types ty.0 }
-    ensures { OnOk result (PrintsTrees (N.names names.now) interner.now.entries (trees_at interner.now.entries ty.0) stack.old.items stack.new.items out.old.items out.new.items) }
+    ensures { OnOk result (PrintsTrees (N.names names.now) interner.now.entries
+        (trees_at interner.now.entries ty.0) stack.old.items stack.new.items out.old.items out.new.items) }
 {
     start_kind(interner, names, interner.kind(ty), stack, out)?;
     Ok(())
@@ -431,7 +438,8 @@ fn start_const<'i, N: PrintNames>(
 ) -> Result<(), AllocError>
     requires lawful { Lawful interner.now.entries }
     requires held { Has interner.now.entries consts value.0 }
-    ensures { OnOk result (PrintsTrees (N.names names.now) interner.now.entries (trees_at interner.now.entries value.0) stack.old.items stack.new.items out.old.items out.new.items) }
+    ensures { OnOk result (PrintsTrees (N.names names.now) interner.now.entries
+        (trees_at interner.now.entries value.0) stack.old.items stack.new.items out.old.items out.new.items) }
 {
     print_const(interner, names, value, out)?;
     Ok(())
@@ -447,7 +455,8 @@ fn next_type<'i, N: PrintNames>(
 ) -> Result<(), AllocError>
     requires lawful { Lawful interner.now.entries }
     requires held { TysHeld interner.now.entries list.now }
-    ensures { OnOk result (PrintsTypes (N.names names.now) interner.now.entries (tys_trees interner.now.entries list.now) stack.old.items stack.new.items out.old.items out.new.items) }
+    ensures { OnOk result (PrintsTypes (N.names names.now) interner.now.entries
+        (tys_trees interner.now.entries list.now) stack.old.items stack.new.items out.old.items out.new.items) }
 {
     match list.split_first() {
         None => Ok(()),
@@ -479,7 +488,8 @@ fn next_type_arg<'i, N: PrintNames>(
     requires lawful { Lawful interner.now.entries }
     requires held { Has interner.now.entries types ty.0 }
     requires rest { ArgsHeld interner.now.entries rest.now }
-    ensures { OnOk result (PrintsArg (N.names names.now) interner.now.entries is_open (trees_at interner.now.entries ty.0) rest.now stack.old.items stack.new.items out.old.items out.new.items) }
+    ensures { OnOk result (PrintsArg (N.names names.now) interner.now.entries is_open
+        (trees_at interner.now.entries ty.0) rest.now stack.old.items stack.new.items out.old.items out.new.items) }
 {
     out.extend_from_slice(arg_sign(is_open))?;
     stack.push(Piece::Args {
@@ -502,7 +512,8 @@ fn next_const_arg<'i, N: PrintNames>(
     requires lawful { Lawful interner.now.entries }
     requires held { Has interner.now.entries consts value.0 }
     requires rest { ArgsHeld interner.now.entries rest.now }
-    ensures { OnOk result (PrintsArg (N.names names.now) interner.now.entries is_open (trees_at interner.now.entries value.0) rest.now stack.old.items stack.new.items out.old.items out.new.items) }
+    ensures { OnOk result (PrintsArg (N.names names.now) interner.now.entries is_open
+        (trees_at interner.now.entries value.0) rest.now stack.old.items stack.new.items out.old.items out.new.items) }
 {
     out.extend_from_slice(arg_sign(is_open))?;
     stack.push(Piece::Args {
@@ -532,7 +543,8 @@ fn next_arg<'i, N: PrintNames>(
 ) -> Result<(), AllocError>
     requires lawful { Lawful interner.now.entries }
     requires held { ArgsHeld interner.now.entries list.now }
-    ensures { OnOk result (PrintsArgs (N.names names.now) interner.now.entries is_open (args_trees interner.now.entries list.now) stack.old.items stack.new.items out.old.items out.new.items) }
+    ensures { OnOk result (PrintsArgs (N.names names.now) interner.now.entries is_open
+        (args_trees interner.now.entries list.now) stack.old.items stack.new.items out.old.items out.new.items) }
 {
     match list.split_first() {
         None => {
@@ -564,7 +576,8 @@ fn next_auto<'i, N: PrintNames>(
     stack: &mut Vec<Piece<'i>>,
     out: &mut Vec<u8>,
 ) -> Result<(), AllocError>
-    ensures { OnOk result (PrintsMoreAutos (N.names names.now) interner.now.entries (autos_trees list.now) stack.old.items stack.new.items out.old.items out.new.items) }
+    ensures { OnOk result
+        (PrintsMoreAutos (N.names names.now) interner.now.entries (autos_trees list.now) stack.old.items stack.new.items out.old.items out.new.items) }
 {
     match list.split_first() {
         None => Ok(()),

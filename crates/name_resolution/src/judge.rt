@@ -81,7 +81,8 @@ fn is_trait(statement: &Statement<'_>) -> bool
 
 /// Whether there is a variable outside what a question asks, or one of two kinds.
 fn has_stray_variable(alloc: Global, found: &LineFound<'_>) -> Result<bool, AllocError>
-    ensures { IfOk result (λ b. b ≡ (is_any (map variable_in found.now.others.variables.items) || have_two_kinds (map variable_in found.now.asked.variables.items))) }
+    ensures { IfOk result (λ b. b ≡ (is_any (map variable_in found.now.others.variables.items)
+        || have_two_kinds (map variable_in found.now.asked.variables.items))) }
 {
     if !found.others.variables.is_empty() {
         return Ok(true);
@@ -96,7 +97,8 @@ fn tests_of<N: LineNames>(
     found: &LineFound<'_>,
 ) -> Result<Tests, AllocError>
     requires { Speaks (N.sight names.now).line (statement_of read.now.statement) }
-    ensures { IfOk result (λ t. (l : Line) → ReadsLine l read.now → IsLineFound (N.sight names.now) l found.now → numbered t ≡ tests (N.sight names.now).before l) }
+    ensures { IfOk result (λ t. (l : Line) → ReadsLine l read.now → IsLineFound (N.sight names.now) l found.now
+        → numbered t ≡ tests (N.sight names.now).before l) }
 {
     let faults = found.faults();
     let takes_own = takes_names(names, alloc, &read.statement)?;
@@ -143,7 +145,8 @@ pub fn judge_line<'a, N: LineNames>(
     read: &LineRead<'a>,
 ) -> Result<JudgedLine<'a>, AllocError>
     requires { Speaks (N.sight names.now).line (statement_of read.now.statement) }
-    ensures fault { IfOk result (λ judged. (l : Line) → ReadsLine l read.now → option_map fault_number (fault_in judged) ≡ fault_of (N.sight names.now).before l) }
+    ensures fault { IfOk result (λ judged. (l : Line) → ReadsLine l read.now
+        → option_map fault_number (fault_in judged) ≡ fault_of (N.sight names.now).before l) }
     ensures found { IfOk result (HandsOn (N.sight names.now) read.now) }
 {
     let found = find_line(names, alloc, read)?;

@@ -43,7 +43,15 @@ const MISFIT: Findings = Findings {
 };
 
 fn limit(is_passed: bool) -> Findings
-    ensures { result ≡ record { takes_names = false; uses_unknown = false; uses_hidden = false; uses_other_sort = false; uses_own = false; has_bad_dyn = false; passes_limit = is_passed } }
+    ensures { result ≡ record {
+      takes_names = false;
+      uses_unknown = false;
+      uses_hidden = false;
+      uses_other_sort = false;
+      uses_own = false;
+      has_bad_dyn = false;
+      passes_limit = is_passed;
+    } }
 {
     Findings {
         takes_names: false,
@@ -234,7 +242,8 @@ fn is_unknown<N: Names>(names: &N, name: &[u8], meaning: Option<Known<'_>>) -> b
 /// Whether the line's crate doesn't see what a name stands for, which is no parameter.
 fn is_hidden_known<N: Names>(names: &N, name: &[u8], meaning: Option<Known<'_>>) -> bool
     requires { option_map known_of meaning ≡ known (items (N.sight names.now)) name.now }
-    ensures { result ≡ option_map_or (λ c. is_hidden_name (N.sight names.now).before (N.sight names.now).line c name.now) (looking_crate (N.sight names.now).before (N.sight names.now).line) false }
+    ensures { result ≡ option_map_or (λ c. is_hidden_name (N.sight names.now).before (N.sight names.now).line c name.now)
+        (looking_crate (N.sight names.now).before (N.sight names.now).line) false }
 {
     if is_param(names, name) {
         return false;

@@ -76,7 +76,8 @@ pub(crate) fn passes_limit<N: LineNames>(
     found: &LineFound<'_>,
 ) -> Result<bool, AllocError>
     requires { Speaks (N.sight names.now).line (statement_of read.now.statement) }
-    ensures { IfOk result (λ b. (l : Line) → ReadsLine l read.now → IsLineFound (N.sight names.now) l found.now → b ≡ passes_limit (N.sight names.now).before l) }
+    ensures { IfOk result (λ b. (l : Line) → ReadsLine l read.now → IsLineFound (N.sight names.now) l found.now
+        → b ≡ passes_limit (N.sight names.now).before l) }
 {
     if is_large(names, &read.statement) {
         return Ok(true);

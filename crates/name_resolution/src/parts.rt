@@ -59,7 +59,8 @@ impl<'a> PartsFound<'a> {
     /// What was found of one more, behind the others; of a bound with the number of its trait.
     fn join(&mut self, found: Resolved<'a>, trait_number: usize) -> Result<(), AllocError>
         ensures faults { OnOk result (self.new.faults ≡ either self.old.faults found.entry.faults) }
-        ensures variables { OnOk result (map variable_in self.new.variables.items ≡ map variable_in self.old.variables.items ++ map variable_in found.entry.variables.items) }
+        ensures variables { OnOk result (map variable_in self.new.variables.items
+            ≡ map variable_in self.old.variables.items ++ map variable_in found.entry.variables.items) }
         ensures deep { OnOk result (self.new.is_deep ≡ (self.old.is_deep || found.entry.is_deep)) }
         ensures parts { OnOk result (self.new.parts.items ≡ self.old.parts.items ++ record { trait_number = trait_number; cells = found.entry.cells } ∷ []) }
     {

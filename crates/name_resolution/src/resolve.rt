@@ -77,7 +77,8 @@ fn run_bound<'n, 'c, 'a, N: Names>(
     requires found { walk.old.found ≡ nothing_found }
     ensures number { IfOk result (λ n. n ≡ trait_number (known (items (N.sight names.now)) name.now)) }
     // Whichever bound it is, before whichever cells.
-    ensures found { OnOk result ((b : Bound) (r : List cell.Cell) → name.now ≡ b.trait → start ≡ length r → walk.old.rest ≡ args_back b.args r → walk.new.found ≡ bound_found (N.sight names.now) b) }
+    ensures found { OnOk result ((b : Bound) (r : List cell.Cell) → name.now ≡ b.trait → start ≡ length r → walk.old.rest ≡ args_back b.args r
+        → walk.new.found ≡ bound_found (N.sight names.now) b) }
 {
     let count = walk.rest.count_above(start);
     let meaning = names.known(name);

@@ -30,7 +30,8 @@ impl<'c, 'a> Model for Rest<'c, 'a> {
 
 /// From where on what stands before a cell is inside it, if so many stand before it; `None` if that is the one part before it.
 fn inside_from(last: Cell<'_>, before: usize) -> Option<usize>
-    ensures { (r : List cell.Cell) → before ≡ length r → MatchOption result (begins (cell_of last.entry ∷ r) ≡ begins r) (λ start. begins (cell_of last.entry ∷ r) ≡ min start (length r)) }
+    ensures { (r : List cell.Cell) → before ≡ length r
+        → MatchOption result (begins (cell_of last.entry ∷ r) ≡ begins r) (λ start. begins (cell_of last.entry ∷ r) ≡ min start (length r)) }
 {
     match last {
         Cell::Reference { .. } => None,

@@ -56,7 +56,8 @@ impl<'n, 'c, 'a> Walk<'n, 'c, 'a> {
         kinds: &'n [ParamKind],
         left: usize,
     ) -> Result<Next, AllocError>
-        ensures { (v : Sight) → WalkSteps result (λ fs s r a. inside_step v (args_inside (sorts_of kinds.now) left) (frame_of frame.entry) fs s r a) self.old self.new }
+        ensures { (v : Sight)
+            → WalkSteps result (λ fs s r a. inside_step v (args_inside (sorts_of kinds.now) left) (frame_of frame.entry) fs s r a) self.old self.new }
     {
         if left == 0 {
             return Ok(Next::Finished);
@@ -105,7 +106,8 @@ impl<'n, 'c, 'a> Walk<'n, 'c, 'a> {
         alloc: Global,
         frame: Frame<'n>,
     ) -> Result<Next, AllocError>
-        ensures { WalkSteps result (λ fs s r a. inside_step (N.sight names.now) (inside_of frame.entry.holds) (frame_of frame.entry) fs s r a) self.old self.new }
+        ensures { WalkSteps result
+            (λ fs s r a. inside_step (N.sight names.now) (inside_of frame.entry.holds) (frame_of frame.entry) fs s r a) self.old self.new }
     {
         match frame.holds {
             Inside::Types => self.type_inside(frame),
@@ -204,7 +206,8 @@ impl<'n, 'c, 'a> Walk<'n, 'c, 'a> {
         alloc: Global,
         frame: Frame<'n>,
     ) -> Result<(), AllocError>
-        ensures { WalkEnds result (N.sight names.now) (going (frame_of frame.entry ∷ frames_in self.old.frames.items) self.old.binders self.old.rest self.old.found) self.new }
+        ensures { WalkEnds result (N.sight names.now)
+            (going (frame_of frame.entry ∷ frames_in self.old.frames.items) self.old.binders self.old.rest self.old.found) self.new }
     {
         self.push(frame)?;
         self.run(names, alloc, Next::Going)

@@ -76,7 +76,8 @@ impl<'a> OtherKinds<'a> {
 }
 
 fn any_in(others: &OtherKinds<'_>, variables: &[Variable<'_>]) -> bool
-    ensures { (vs : List (List ℕ × label.Sort)) → HoldsKinds others.now vs → result ≡ list_any (λ v. list_any (is_of_other_kind v) vs) (map variable_in variables.now) }
+    ensures { (vs : List (List ℕ × label.Sort)) → HoldsKinds others.now vs
+        → result ≡ list_any (λ v. list_any (is_of_other_kind v) vs) (map variable_in variables.now) }
 {
     for variable in variables {
         if others.have(*variable) {

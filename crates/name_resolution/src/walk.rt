@@ -136,7 +136,8 @@ impl<'n, 'c, 'a> Walk<'n, 'c, 'a> {
 
     /// Closes what was opened last.
     pub fn pop(&mut self) -> Option<Frame<'n>>
-        ensures frames { MatchOption result (frames_in self.old.frames.items ≡ []) (λ f. frames_in self.old.frames.items ≡ frame_of f ∷ frames_in self.new.frames.items) }
+        ensures frames { MatchOption result (frames_in self.old.frames.items ≡ [])
+            (λ f. frames_in self.old.frames.items ≡ frame_of f ∷ frames_in self.new.frames.items) }
         ensures rest { self.new.rest ≡ self.old.rest }
         ensures binders { self.new.binders ≡ self.old.binders }
         ensures found { self.new.found ≡ self.old.found }
@@ -259,7 +260,8 @@ impl<'n, 'c, 'a> Walk<'n, 'c, 'a> {
 
     /// A pointer or a slice over the type that comes next.
     pub fn wrapped(&mut self, place: Place, label: NodeLabel<'a>) -> Result<Next, AllocError>
-        ensures { (v : Sight) → WalkSteps result (λ fs s r a. wrapped_step v (place_of place) fs s [] (λ cs. node_cell (label_in label.entry) 1 ∷ cs) r a) self.old self.new }
+        ensures { (v : Sight)
+            → WalkSteps result (λ fs s r a. wrapped_step v (place_of place) fs s [] (λ cs. node_cell (label_in label.entry) 1 ∷ cs) r a) self.old self.new }
     {
         let cell = ResolvedCell::Node { label, inside: 1 };
         self.found.add(place, judge_use::misfits(place.sort), cell)?;
@@ -274,7 +276,8 @@ impl<'n, 'c, 'a> Walk<'n, 'c, 'a> {
         lifetime: Option<&'a [u8]>,
         is_mut: bool,
     ) -> Result<Next, AllocError>
-        ensures { WalkSteps result (λ fs s r a. reference_step (N.sight names.now) (place_of place) fs s (option_map text_of lifetime.entry) is_mut r a) self.old self.new }
+        ensures { WalkSteps result
+            (λ fs s r a. reference_step (N.sight names.now) (place_of place) fs s (option_map text_of lifetime.entry) is_mut r a) self.old self.new }
     {
         let region = judge_use::optional_region(names, &self.binders, lifetime);
         let unknown = judge_use::optional_lifetime(names, &self.binders, lifetime);
@@ -383,7 +386,8 @@ impl<'n, 'c, 'a> Walk<'n, 'c, 'a> {
         outer: Frame<'n>,
         name: &'a [u8],
     ) -> Result<Next, AllocError>
-        ensures { WalkSteps result (λ fs s r a. going (frame_of outer.entry ∷ fs) s r (using (N.sight names.now) (lifetime_use s name.now ∷ []) a)) self.old self.new }
+        ensures { WalkSteps result
+            (λ fs s r a. going (frame_of outer.entry ∷ fs) s r (using (N.sight names.now) (lifetime_use s name.now ∷ []) a)) self.old self.new }
     {
         let faults = judge_use::lifetime(names, &self.binders, name);
         self.found.note(faults);

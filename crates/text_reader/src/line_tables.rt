@@ -70,7 +70,8 @@ impl<'w, 's, 'a> LineTables<'w, 's, 'a> {
 
     /// The line's own struct, if the name is its.
     fn own_struct(&self, is_own: bool) -> Option<Known<'_>>
-        ensures { option_map known_of result ≡ (if is_own then Some (a_struct (length self.now.before.structs) (last_crate self.now.before) (sorts_of self.now.kinds.items)) else None) }
+        ensures { option_map known_of result
+            ≡ (if is_own then Some (a_struct (length self.now.before.structs) (last_crate self.now.before) (sorts_of self.now.kinds.items)) else None) }
     {
         if is_own {
             return Some(Known::Struct {
@@ -84,7 +85,8 @@ impl<'w, 's, 'a> LineTables<'w, 's, 'a> {
 
     /// The line's own trait, if the name is its.
     fn own_trait(&self, is_own: bool, is_auto: bool) -> Option<Known<'_>>
-        ensures { option_map known_of result ≡ (if is_own then Some (a_trait (length self.now.before.traits) (last_crate self.now.before) is_auto (sorts_of self.now.kinds.items)) else None) }
+        ensures { option_map known_of result
+            ≡ (if is_own then Some (a_trait (length self.now.before.traits) (last_crate self.now.before) is_auto (sorts_of self.now.kinds.items)) else None) }
     {
         if is_own {
             return Some(Known::Trait {

@@ -74,7 +74,8 @@ pub(crate) fn named_variables(
 }
 
 fn name_of_sort<'a>(param: &Param<'a>, sort: ParamKind) -> Option<&'a [u8]>
-    ensures { MatchOption result (name_of_sort (sort_of_kind sort) (param_of param.now) ≡ []) (λ n. name_of_sort (sort_of_kind sort) (param_of param.now) ≡ n.now ∷ []) }
+    ensures { MatchOption result (name_of_sort (sort_of_kind sort) (param_of param.now) ≡ [])
+        (λ n. name_of_sort (sort_of_kind sort) (param_of param.now) ≡ n.now ∷ []) }
 {
     match param {
         Param::Lifetime(name) => match sort {
