@@ -9,16 +9,13 @@ use std::alloc::Global;
 #[derive(Clone, Copy, PartialEq, Eq)]
 pub enum Level {
     Error,
-    Warning,
     Note,
     Help,
 }
 
 /// A code of rustc that says by what rule something is refused. `rustc --explain CODE` tells of it.
-#[derive(Clone, Copy, PartialEq, Eq)]
+#[derive(Clone, Copy)]
 pub enum ErrCode {
-    /// A wrong number of arguments.
-    E0107,
     /// An impl of a foreign trait for foreign types.
     E0117,
     /// Two impls that apply to one type.
@@ -35,20 +32,9 @@ pub enum ErrCode {
     E0283,
     /// A cycle among supertraits.
     E0391,
-    /// A name that is declared twice among parameters.
-    E0403,
-    /// A trait that is not known.
-    E0405,
-    /// A type that is not known.
-    E0412,
-    /// A name that is declared twice.
-    E0428,
-    /// A crate that is not known.
-    E0463,
 }
 
 /// What is said of a part of the text, after rustc's `SpanLabel`.
-#[derive(Drop)]
 pub struct SpanLabel {
     pub span: Span,
     /// Whether this is what the message is about: it is marked by `^`, others by `-`.
@@ -58,7 +44,6 @@ pub struct SpanLabel {
 }
 
 /// What follows a message: a note, or a help, which advises and claims nothing. After rustc's `Subdiag`.
-#[derive(Drop)]
 pub struct Subdiagnostic {
     pub level: Level,
     pub message: String,
@@ -66,7 +51,6 @@ pub struct Subdiagnostic {
 }
 
 /// A row of a proof: what holds, how deep below the first row it stands, and by what it holds.
-#[derive(Drop)]
 pub struct ProofRow {
     pub depth: usize,
     pub goal: String,
@@ -82,6 +66,37 @@ pub struct Diagnostic {
     /// Empty where no proof is shown.
     pub proof: Vec<ProofRow>,
     pub children: Vec<Subdiagnostic>,
+}
+
+// Written, so that what owns one drops it by one call at each way out, and not field by field.
+impl Drop for SpanLabel {
+    fn drop(self) {
+        let SpanLabel {
+            span: _,
+            is_primary: _,
+            label: _,
+        } = self;
+    }
+}
+
+impl Drop for Subdiagnostic {
+    fn drop(self) {
+        let Subdiagnostic {
+            level: _,
+            message: _,
+            spans: _,
+        } = self;
+    }
+}
+
+impl Drop for ProofRow {
+    fn drop(self) {
+        let ProofRow {
+            depth: _,
+            goal: _,
+            reason: _,
+        } = self;
+    }
 }
 
 impl Drop for Diagnostic {
@@ -161,7 +176,6 @@ impl Level {
     pub(crate) fn name(self) -> &'static str {
         match self {
             Level::Error => "error",
-            Level::Warning => "warning",
             Level::Note => "note",
             Level::Help => "help",
         }
@@ -172,7 +186,6 @@ impl ErrCode {
     /// As rustc writes it.
     pub fn name(self) -> &'static str {
         match self {
-            ErrCode::E0107 => "E0107",
             ErrCode::E0117 => "E0117",
             ErrCode::E0119 => "E0119",
             ErrCode::E0207 => "E0207",
@@ -181,11 +194,6 @@ impl ErrCode {
             ErrCode::E0277 => "E0277",
             ErrCode::E0283 => "E0283",
             ErrCode::E0391 => "E0391",
-            ErrCode::E0403 => "E0403",
-            ErrCode::E0405 => "E0405",
-            ErrCode::E0412 => "E0412",
-            ErrCode::E0428 => "E0428",
-            ErrCode::E0463 => "E0463",
         }
     }
 }

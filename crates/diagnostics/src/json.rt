@@ -10,30 +10,147 @@ use crate::row::push_shown;
 use crate::source::SourceFile;
 use crate::span::{Place, place_in};
 use crate::window::window;
-use serde_json::{Value, json};
+use serde_json::{Map, Value, put};
 use std::alloc::{AllocError, Global};
 
 /// How many bytes of a line stand beside a span.
 const LINE_BYTES: usize = 1000;
 
-/// The line that a span is of, and where in it the span is; of a long line the part around the span.
-fn line_value(alloc: Global, line: &[u8], place: Place) -> Result<Value, AllocError>
+/// The members of an object that is being made. Who adds some owns nothing at its ways out.
+type Members = Map<String, Value>;
+
+/// Adds a text.
+fn put_text(alloc: Global, object: &mut Members, key: &str, text: &str) -> Result<(), AllocError> {
+    let value = Value::try_from_str(alloc, text)?;
+    put(object, alloc, key, value)
+}
+
+/// Adds a text, or null where it is empty.
+fn put_text_or_null(
+    alloc: Global,
+    object: &mut Members,
+    key: &str,
+    text: &str,
+) -> Result<(), AllocError> {
+    if text.is_empty() {
+        put(object, alloc, key, Value::Null)
+    } else {
+        put_text(alloc, object, key, text)
+    }
+}
+
+/// Adds numbers by their keys.
+fn put_numbers(
+    alloc: Global,
+    object: &mut Members,
+    numbers: &[(&str, usize)],
+) -> Result<(), AllocError> {
+    for member in numbers {
+        put(object, alloc, member.0, Value::from(member.1))?;
+    }
+    Ok(())
+}
+
+/// Adds keys without a value.
+fn put_nulls(alloc: Global, object: &mut Members, keys: &[&str]) -> Result<(), AllocError> {
+    for key in keys {
+        put(object, alloc, *key, Value::Null)?;
+    }
+    Ok(())
+}
+
+/// Adds the line that a span is of, and where in it the span is; of a long line the part around the span.
+fn put_line(
+    alloc: Global,
+    object: &mut Members,
+    line: &[u8],
+    place: Place,
+) -> Result<(), AllocError>
     requires { IsPartOf (length line.now) place }
 {
     let view = window(line.len(), LINE_BYTES, place);
     let mut text = String::new(alloc);
     push_shown(&mut text, &line[view.start..view.end])?;
-    let start = place.start.saturating_sub(view.start).saturating_add(1) as u64;
-    let end = place.end.saturating_sub(view.start).saturating_add(1) as u64;
-    json!(in alloc; {"text": &text, "highlight_start": start, "highlight_end": end})
+    put(object, alloc, "text", Value::String(text))?;
+    let start = place.start.saturating_sub(view.start).saturating_add(1);
+    let end = place.end.saturating_sub(view.start).saturating_add(1);
+    put_numbers(
+        alloc,
+        object,
+        &[("highlight_start", start), ("highlight_end", end)],
+    )
 }
 
-/// A text, or null where it is empty.
-fn text_or_null(alloc: Global, text: &str) -> Result<Value, AllocError> {
-    if text.is_empty() {
-        return Ok(Value::Null);
-    }
-    json!(in alloc; text)
+/// The same as an object.
+fn line_value(alloc: Global, line: &[u8], place: Place) -> Result<Value, AllocError>
+    requires { IsPartOf (length line.now) place }
+{
+    let mut object = Map::new(alloc);
+    put_line(alloc, &mut object, line, place)?;
+    Ok(Value::Object(object))
+}
+
+/// Adds that line as the one line of a span.
+fn put_lines(
+    alloc: Global,
+    object: &mut Members,
+    line: &[u8],
+    place: Place,
+) -> Result<(), AllocError>
+    requires { IsPartOf (length line.now) place }
+{
+    let value = line_value(alloc, line, place)?;
+    let mut lines = Vec::new(alloc);
+    lines.push(value)?;
+    put(object, alloc, "text", Value::Array(lines))
+}
+
+/// Adds where a part of a line stands, behind so many bytes of the text.
+fn put_place(
+    alloc: Global,
+    object: &mut Members,
+    number: u32,
+    before: usize,
+    place: Place,
+) -> Result<(), AllocError> {
+    put_numbers(
+        alloc,
+        object,
+        &[
+            ("byte_start", before.saturating_add(place.start)),
+            ("byte_end", before.saturating_add(place.end)),
+            ("line_start", number as usize),
+            ("line_end", number as usize),
+            ("column_start", place.start.saturating_add(1)),
+            ("column_end", place.end.saturating_add(1)),
+        ],
+    )
+}
+
+/// Adds what there is of a span with its label.
+fn put_span(
+    alloc: Global,
+    object: &mut Members,
+    file: &SourceFile<'_>,
+    label: &SpanLabel,
+) -> Result<(), AllocError> {
+    let number = label.span.line;
+    let line = file.line(number);
+    let place = place_in(&label.span, line.len());
+    put_text(alloc, object, "file_name", file.name())?;
+    put_place(alloc, object, number, file.line_start(number), place)?;
+    put_lines(alloc, object, line, place)?;
+    put(object, alloc, "is_primary", Value::Bool(label.is_primary))?;
+    put_text_or_null(alloc, object, "label", label.label.as_str())?;
+    put_nulls(
+        alloc,
+        object,
+        &[
+            "suggested_replacement",
+            "suggestion_applicability",
+            "expansion",
+        ],
+    )
 }
 
 /// A span with its label.
@@ -42,27 +159,9 @@ fn span_value(
     file: &SourceFile<'_>,
     label: &SpanLabel,
 ) -> Result<Value, AllocError> {
-    let number = label.span.line;
-    let line = file.line(number);
-    let place = place_in(&label.span, line.len());
-    let before = file.line_start(number);
-    let text = line_value(alloc, line, place)?;
-    let said = text_or_null(alloc, label.label.as_str())?;
-    json!(in alloc; {
-        "file_name": file.name(),
-        "byte_start": before.saturating_add(place.start) as u64,
-        "byte_end": before.saturating_add(place.end) as u64,
-        "line_start": number as u64,
-        "line_end": number as u64,
-        "column_start": place.start.saturating_add(1) as u64,
-        "column_end": place.end.saturating_add(1) as u64,
-        "is_primary": label.is_primary,
-        "text": [text],
-        "label": said,
-        "suggested_replacement": null,
-        "suggestion_applicability": null,
-        "expansion": null
-    })
+    let mut object = Map::new(alloc);
+    put_span(alloc, &mut object, file, label)?;
+    Ok(Value::Object(object))
 }
 
 fn span_values(
@@ -80,10 +179,24 @@ fn span_values(
 
 /// The code, or null.
 fn code_value(alloc: Global, code: Option<ErrCode>) -> Result<Value, AllocError> {
-    match code {
-        None => Ok(Value::Null),
-        Some(code) => json!(in alloc; {"code": code.name(), "explanation": null}),
-    }
+    let Some(code) = code else {
+        return Ok(Value::Null);
+    };
+    let mut object = Map::new(alloc);
+    put_text(alloc, &mut object, "code", code.name())?;
+    put(&mut object, alloc, "explanation", Value::Null)?;
+    Ok(Value::Object(object))
+}
+
+/// Adds a message with its level.
+fn put_message(
+    alloc: Global,
+    object: &mut Members,
+    level: Level,
+    message: &str,
+) -> Result<(), AllocError> {
+    put_text(alloc, object, "level", level.name())?;
+    put_text(alloc, object, "message", message)
 }
 
 /// What follows a message.
@@ -93,11 +206,18 @@ fn child_value(
     message: &str,
     spans: Value,
 ) -> Result<Value, AllocError> {
-    json!(in alloc; {
-        "message": message, "code": null, "level": level.name(), "spans": spans, "children": [], "rendered": null
-    })
+    let mut object = Map::new(alloc);
+    put(&mut object, alloc, "spans", spans)?;
+    put(
+        &mut object,
+        alloc,
+        "children",
+        Value::Array(Vec::new(alloc)),
+    )?;
+    put_message(alloc, &mut object, level, message)?;
+    put_nulls(alloc, &mut object, &["code", "rendered"])?;
+    Ok(Value::Object(object))
 }
-
 /// A proof as one note, a row a line.
 fn proof_value(alloc: Global, rows: &[ProofRow]) -> Result<Value, AllocError> {
     let mut message = String::from_str(alloc, "proof:")?;
@@ -141,9 +261,33 @@ fn child_values(
     Ok(Value::Array(values))
 }
 
-/// A line of the answer of which nothing is said, as a line of JSON without its end.
-pub fn answer_object(alloc: Global, answer: &str) -> Result<String, AllocError> {
-    json!(in alloc; {"$message_type": "answer", "answer": answer})?.to_string(alloc)
+/// Adds the text for people, with an empty line behind it.
+fn put_rendered(
+    alloc: Global,
+    object: &mut Members,
+    file: &SourceFile<'_>,
+    diagnostic: &Diagnostic,
+) -> Result<(), AllocError> {
+    let mut rendered = render(alloc, file, diagnostic, false)?;
+    rendered.push_str("\n")?;
+    put(object, alloc, "rendered", Value::String(rendered))
+}
+
+/// Adds the parts of a diagnostic.
+fn put_diagnostic(
+    alloc: Global,
+    object: &mut Members,
+    file: &SourceFile<'_>,
+    diagnostic: &Diagnostic,
+) -> Result<(), AllocError> {
+    let code = code_value(alloc, diagnostic.code)?;
+    put(object, alloc, "code", code)?;
+    let spans = span_values(alloc, file, &diagnostic.spans)?;
+    put(object, alloc, "spans", spans)?;
+    let children = child_values(alloc, file, diagnostic)?;
+    put(object, alloc, "children", children)?;
+    put_message(alloc, object, diagnostic.level, diagnostic.message.as_str())?;
+    put_rendered(alloc, object, file, diagnostic)
 }
 
 /// A line of the answer with its diagnostic, as a line of JSON without its end: the keys that rustc writes, and `answer`.
@@ -155,20 +299,9 @@ pub fn json_line(
     answer: &str,
     diagnostic: &Diagnostic,
 ) -> Result<String, AllocError> {
-    let code = code_value(alloc, diagnostic.code)?;
-    let spans = span_values(alloc, file, &diagnostic.spans)?;
-    let children = child_values(alloc, file, diagnostic)?;
-    let mut rendered = render(alloc, file, diagnostic, false)?;
-    rendered.push_str("\n")?;
-    json!(in alloc; {
-        "$message_type": "diagnostic",
-        "answer": answer,
-        "message": &diagnostic.message,
-        "code": code,
-        "level": diagnostic.level.name(),
-        "spans": spans,
-        "children": children,
-        "rendered": &rendered
-    })?
-    .to_string(alloc)
+    let mut object = Map::new(alloc);
+    put_text(alloc, &mut object, "$message_type", "diagnostic")?;
+    put_text(alloc, &mut object, "answer", answer)?;
+    put_diagnostic(alloc, &mut object, file, diagnostic)?;
+    Value::Object(object).to_string(alloc)
 }

@@ -22,7 +22,7 @@ mod window;
 
 pub use cut::{LIST_LIMIT, TYPE_LIMIT, cut_list, cut_text};
 pub use diagnostic::{Diagnostic, ErrCode, Level, ProofRow, SpanLabel, Subdiagnostic};
-pub use json::{answer_object, json_line};
+pub use json::json_line;
 pub use parts::{LineParts, parts_of_impl, parts_of_question};
 pub use rendering::render;
 pub use source::SourceFile;

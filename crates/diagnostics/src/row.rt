@@ -29,7 +29,6 @@ impl Ink {
             Ink::Bold => "\x1b[1m",
             Ink::Frame => "\x1b[1m\x1b[94m",
             Ink::OfLevel(Level::Error) => "\x1b[1m\x1b[91m",
-            Ink::OfLevel(Level::Warning) => "\x1b[1m\x1b[33m",
             Ink::OfLevel(Level::Note) => "\x1b[1m\x1b[92m",
             Ink::OfLevel(Level::Help) => "\x1b[1m\x1b[96m",
         }
