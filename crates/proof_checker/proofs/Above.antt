@@ -1,6 +1,5 @@
 -- Supertraits of a reference, without lifetimes.
-use Rattle.std.proofs.Common.{◌≡◌, ◌==◌, ℕ, zero, suc, ◌<◌, List, [], ◌∷◌, ◌++◌, refl, ap, sym, ◌∙◌, subst, map, None, true, ◌⊎◌, inl, inr}
-use Rattle.std.specs.List.{flat_map}
+use Rattle.std.proofs.Common.{◌≡◌, ◌==◌, ℕ, zero, ◌<◌, List, [], ◌∷◌, ◌++◌, ap, sym, subst, map, None, true}
 use Rattle.type_terms.specs.Trees.{Trees, Fits, erase}
 use Rattle.type_terms.specs.Worlds.{World, Reference, TraitDecl, traits_named, with_args, all_with_args}
 use Rattle.type_terms.specs.Erased.{erased_reference, erased_trait, erased_world}

@@ -11,3 +11,4 @@ pub mod Ends
 pub mod Above
 pub mod Moved
 pub mod TypeRows
+pub mod PartRows

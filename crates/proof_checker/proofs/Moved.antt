@@ -7,7 +7,7 @@ use Rattle.type_terms.specs.Terms.{Entry, Keeps}
 use Rattle.type_terms.proofs.Members.{here, there}
 use Rattle.declarations.specs.Merges.{Each}
 use Rattle.proof_checker.specs.declared.steps.Step.{Step}
-use Rattle.proof_checker.specs.Steps.{term_of, steps_say, at_places, assumed_in, StepHeld, IsEntryOf, AreEntriesOf, AreProof, AreProofOf}
+use Rattle.proof_checker.specs.Steps.{term_of, steps_say, at_places, StepHeld, AreEntriesOf, AreProof, AreProofOf}
 use Rattle.proof_checker.proofs.Later.{term-same, say-same, assumed-same}
 
 -- ---- what entries conclude

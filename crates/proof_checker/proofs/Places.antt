@@ -1,5 +1,5 @@
 -- References at places.
-use Rattle.std.proofs.Common.{◌≡◌, ◌<◌, ℕ, zero, suc, List, [], ◌∷◌, ◌++◌, take, refl, ap, sym, ◌∙◌, subst, Some, None, arith}
+use Rattle.std.proofs.Common.{◌≡◌, ◌<◌, ℕ, zero, suc, List, [], ◌∷◌, ◌++◌, take, ap, ◌∙◌, subst, Some, arith}
 use Rattle.std.specs.List.{slice_get}
 use Rattle.type_terms.specs.Worlds.{Reference}
 use Rattle.declarations.specs.Merges.{Each}

@@ -2,7 +2,7 @@
 use Rattle.std.proofs.Common.{◌≡◌, ℕ, Bool, true, false, cond, refl, ap, ◌∙◌, List, [], ◌∷◌}
 use Rattle.std.specs.Prelude.{Result, Ok, Err, IfOk}
 use Rattle.type_terms.specs.declared.Fault.{Fault}
-use Rattle.type_terms.specs.Label.{Label, Sort, static, param, placeholder, infer, canonical, bound, of_type, of_const, of_lifetime, inside, fn_ptr, principal}
+use Rattle.type_terms.specs.Label.{Label, static, param, placeholder, infer, canonical, bound, of_type, of_const, of_lifetime, inside}
 use Rattle.type_terms.specs.Trees.{Trees, none, tree, erase, erase_label}
 use Rattle.term_folds.specs.Regions.{is_free_lifetime, region_replaced, regions_replaced}
 use Rattle.type_terms.specs.Worlds.{Reference}

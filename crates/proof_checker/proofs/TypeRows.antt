@@ -6,7 +6,7 @@ use Rattle.type_terms.specs.Label.{of_type}
 use Rattle.type_terms.specs.Trees.{Trees, none, tree, ◌+++◌, IsA, erase, erase_label}
 use Rattle.type_terms.specs.Worlds.{World, Reference}
 use Rattle.type_terms.specs.Proofs.{In}
-use Rattle.type_terms.specs.Rules.{Rule, Way, BuiltIn, built_in, by_impl, by_clause, by_super, asked, each_asked, last_asked, sized, copy, clone, tuple_trait, fn_ptr_trait, is_fn_trait, unsize, is_auto, sized_rules, copy_rules, tuple_rules, fn_ptr_rules, call_rules, plain_rules, auto_rules, unsize_rules, object_rules, built_in_rules, clause_rules, impl_rules}
+use Rattle.type_terms.specs.Rules.{Rule, Way, BuiltIn, built_in, by_impl, by_clause, by_super, asked, each_asked, last_asked, sized, copy, clone, tuple_trait, fn_ptr_trait, is_fn_trait, unsize, is_auto, sized_rules, copy_rules, tuple_rules, fn_ptr_rules, call_rules, plain_rules, auto_rules, auto_rules_plain, unsize_rules, object_rules, built_in_rules, clause_rules, impl_rules}
 use Rattle.type_terms.specs.Kept.{trees-is}
 use Rattle.type_terms.specs.Kinds.{TysHeld, tys_trees}
 use Rattle.type_terms.specs.Terms.{Entry, Has, Keeps, Lawful, types, trees_at}
@@ -18,7 +18,7 @@ use Rattle.declarations.specs.Applied.{TraitRefsHeld}
 use Rattle.proof_checker.specs.Checked.{IsBuiltInRule}
 use Rattle.proof_checker.specs.Steps.{term_of, terms_of}
 use Rattle.proof_checker.proofs.Later.{term-same}
-use Rattle.proof_checker.specs.Rows.{each_asked_of, IsBuiltInWay, IsOneRow, HasRow, last_type}
+use Rattle.proof_checker.specs.Rows.{each_asked_of, IsBuiltInWay, IsOneRow, HasOwnRule, HasRow, last_type}
 
 -- ---- types in a row
 pub empty-of : {A : Type 0} (xs : List A) → (length xs == 0) ≡ true → xs ≡ []
@@ -28,7 +28,7 @@ empty-of (x ∷ xs) h = grind (arith, nat_tests)
 pub type-is : (es : List Entry) → Lawful es → (i : ℕ) → Has es types i → IsA of_type (trees_at es i)
 type-is es law i h = subst (IsA of_type) (sym (trees-is es types i h.0 h.1)) ((law.sorted i _ h.1).as_type refl)
 
-erase-append : (x y : Trees) → erase (x +++ y) ≡ erase x +++ erase y
+pub erase-append : (x y : Trees) → erase (x +++ y) ≡ erase x +++ erase y
 erase-append none y = refl
 erase-append (tree l c o) y = ap (λ z. tree (erase_label l) (erase c) z) (erase-append o y)
 
@@ -124,6 +124,18 @@ module _ (V : World) (s : Trees) (ps : List Reference) where
         u.0,
         in-right (rule_of (built_in u.0) ps) (plain_rules r) (of_sized V r ++ (of_auto V r ++ (of_unsize V r ++ object_rules V r s)))
             (in-left (rule_of (built_in u.0) ps) (of_sized V r) (of_auto V r ++ (of_unsize V r ++ object_rules V r s)) u.1),
+      )
+
+  -- the trait is an auto trait, and its own rule stands
+  pub auto-row : (t : ℕ) → HasOwnRule V t s → IsOneRow (auto_rules_plain V t s) ps → HasRow V t s ps
+  auto-row t own h =
+      let r = asked t s in
+      let stands : of_auto V r ≡ auto_rules_plain V t s = ap (λ b. if b then auto_rules V t s else []) own.0 ∙ own.1 in
+      let u = one-row (of_auto V r) ps (subst (λ us. IsOneRow us ps) (sym stands) h) in (
+        u.0,
+        in-right (rule_of (built_in u.0) ps) (plain_rules r) (of_sized V r ++ (of_auto V r ++ (of_unsize V r ++ object_rules V r s)))
+            (in-right (rule_of (built_in u.0) ps) (of_sized V r) (of_auto V r ++ (of_unsize V r ++ object_rules V r s))
+            (in-left (rule_of (built_in u.0) ps) (of_auto V r) (of_unsize V r ++ object_rules V r s) u.1)),
       )
 
   plain-row : (r : Reference) → r.args ≡ s → (b : BuiltIn) × In (rule_of (built_in b) ps) (plain_rules r) → (b : BuiltIn) × In (rule_of (built_in b) ps) (built_in_rules V r)

@@ -1,5 +1,5 @@
 -- Rules by where-clauses, and by more of them.
-use Rattle.std.proofs.Common.{◌≡◌, ◌⊎◌, inl, inr, ℕ, zero, suc, ◌+◌, List, [], ◌∷◌, ◌++◌, refl, ap, sym, ◌∙◌, subst, Bool, true, false, if◌then◌else◌, map, Option, Some, None, arith, ◌<◌, length, get_or}
+use Rattle.std.proofs.Common.{◌≡◌, ◌⊎◌, inl, inr, ℕ, zero, suc, ◌+◌, List, [], ◌∷◌, ◌++◌, refl, sym, ◌∙◌, subst, Bool, true, false, if◌then◌else◌, map, Some, arith, ◌<◌, length, get_or}
 use Rattle.std.specs.List.{slice_get, flat_map}
 use Rattle.type_terms.specs.Worlds.{World, Reference}
 use Rattle.type_terms.specs.Rules.{Rule, Way, by_clause, by_super, rules, impl_rules, built_in_rules, clause_rules, super_rules, strict_supertraits, same_reference}

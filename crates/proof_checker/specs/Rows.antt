@@ -1,10 +1,10 @@
 -- What built-in rows ask of types, without lifetimes.
-use Rattle.std.specs.Prelude.{◌≡◌, ℕ, List, [], ◌∷◌, map}
+use Rattle.std.specs.Prelude.{◌≡◌, ℕ, true, List, [], ◌∷◌, map}
 use Rattle.type_terms.specs.Proofs.{In}
-use Rattle.type_terms.specs.Rules.{Rule, Way, BuiltIn, built_in, asked, built_in_rules}
+use Rattle.type_terms.specs.Rules.{Rule, Way, BuiltIn, built_in, asked, built_in_rules, is_auto, auto_rules, auto_rules_plain, fields_of}
 use Rattle.type_terms.specs.Terms.{Entry, trees_at}
 use Rattle.type_terms.specs.Trees.{Trees, erase}
-use Rattle.type_terms.specs.Worlds.{World, Reference}
+use Rattle.type_terms.specs.Worlds.{World, Reference, StructDecl, structs_named}
 use Rattle.type_terms.specs.declared.kinds.Ty.{Ty}
 
 -- Each of the types asked for the trait.
@@ -24,6 +24,14 @@ IsOneRow us ps = ⊥
 -- A built-in row concludes the trait of the type from the premises.
 abbrev pub HasRow : World → ℕ → Trees → List Reference → Type 0
 HasRow V t s ps = (b : BuiltIn) × In (let u : Rule = record { way = built_in b; premises = ps } in u) (built_in_rules V (asked t s))
+
+-- The struct of the number is declared, and has these types as its fields, with the arguments.
+abbrev pub AreFields : World → ℕ → Trees → Trees → Type 0
+AreFields V s A ts = (x : StructDecl) × (structs_named V s ≡ x ∷ []) × (fields_of x A ≡ ts)
+
+-- The trait is an auto trait, and no impl of it is written for the type: its own rule stands.
+abbrev pub HasOwnRule : World → ℕ → Trees → Type 0
+HasOwnRule V t s = (is_auto V t ≡ true) × (auto_rules V t s ≡ auto_rules_plain V t s)
 
 -- The last type alone.
 abbrev pub last_type : List Ty → List Ty

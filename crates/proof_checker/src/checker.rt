@@ -126,7 +126,7 @@ fn is_step(
             let found = by_supertrait(alloc, cx, declarations, clauses, step.reference, place)?;
             Ok(found && leaf)
         }
-        Way::BuiltIn => match by_built_in(alloc, cx, step.reference)? {
+        Way::BuiltIn => match by_built_in(alloc, cx, declarations, step.reference)? {
             Some(premises) => {
                 premises_stand(alloc, cx, steps, allowed, &step.premises, &premises)
             }

@@ -2,7 +2,9 @@
 #![tactic(auto)]
 
 pub mod checker;
+mod fields;
 mod lifetimes;
+mod parts;
 pub mod rows;
 pub mod rules;
 pub mod steps;

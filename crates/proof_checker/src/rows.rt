@@ -8,11 +8,14 @@ ghost use Rattle.type_terms.specs.Trees.{erase};
 ghost use Rattle.type_terms.specs.Worlds.{World, Reference};
 ghost use Rattle.type_terms.specs.declared.Fault.TheVariants.{Memory};
 ghost use Rattle.declarations.specs.Applied.{TraitRefsHeld};
-ghost use Rattle.declarations.specs.Held.{ReferenceHeld};
+ghost use Rattle.declarations.specs.Held.{AreHeld, ReferenceHeld};
+ghost use Rattle.declarations.specs.Items.{declared};
 ghost use Rattle.proof_checker.specs.Checked.{IsBuiltInRule};
 ghost use Rattle.proof_checker.specs.Rows.{HasRow, IsOneRow, each_asked_of, last_type};
 ghost use Rattle.proof_checker.specs.Steps.{term_of, terms_of};
 
+use crate::parts::parts_asked;
+use declarations::declarations::Declarations;
 use std::alloc::Global;
 use term_folds::predicate::TraitRef;
 use type_terms::interner::Interner;
@@ -35,7 +38,7 @@ const TUPLE: u32 = 3;
 const FN_PTR: u32 = 4;
 
 /// The last of the types alone. The error is `Memory`.
-fn last_alone(alloc: Global, tys: &[Ty]) -> Result<Vec<Ty>, Fault>
+pub(crate) fn last_alone(alloc: Global, tys: &[Ty]) -> Result<Vec<Ty>, Fault>
     ensures is { IfOk result (λ v. v.items ≡ last_type tys.now) }
     ensures memory { IfErr result (λ fault. fault ≡ Memory) }
 {
@@ -223,18 +226,47 @@ fn only_type(cx: &Interner, args: GenericArgs) -> Option<Ty>
     }
 }
 
-/// The premises by which a built-in rule concludes the reference, if one does that is checked: those of `Sized`, but for structs, and those of
-/// `Copy`, `Clone`, `Tuple` and `FnPtr`.
-pub fn by_built_in(
+/// The premises by which a built-in rule that reads the declarations concludes a trait of a type, if one does that is checked.
+fn by_parts(
     alloc: Global,
     cx: &mut Interner,
-    reference: TraitRef,
+    declarations: &Declarations,
+    id: TraitId,
+    self_ty: Ty,
 ) -> Result<Option<Vec<TraitRef>>, Fault>
-    requires { ReferenceHeld cx.old.entries reference }
+    requires declared { AreHeld cx.old.entries declarations.now }
+    requires self_held { Has cx.old.entries types self_ty.0 }
     ensures keeps { Keeps cx.old.entries cx.new.entries }
     ensures limit { cx.new.limit ≡ cx.old.limit }
     ensures held { IfOk result (λ o. IfSome o (λ v. TraitRefsHeld cx.new.entries v.items)) }
-    ensures rule { IfOk result (λ o. IfSome o (λ v. (W : World) (E : List Reference) → IsBuiltInRule W E (term_of cx.old.entries reference) (terms_of cx.new.entries v.items))) }
+    ensures rule { IfOk result (λ o. IfSome o (λ v. (E : List Reference)
+        → IsBuiltInRule (declared cx.old.entries declarations.now) E (asked id.index (erase (trees_at cx.old.entries self_ty.0))) (terms_of cx.new.entries v.items))) }
+    ensures full { result ≡ Err Fault.Full → SomeKindIsFull cx.new.entries cx.new.limit }
+{
+    match parts_asked(alloc, cx, declarations, id, self_ty)? {
+        Some(tys) => {
+            let premises = all_asked(alloc, cx, id, &tys)?;
+            Ok(Some(premises))
+        }
+        None => Ok(None),
+    }
+}
+
+/// The premises by which a built-in rule concludes the reference, if one does that is checked: those of `Sized`, `Copy`, `Clone`, `Tuple`
+/// and `FnPtr`, and those of auto traits.
+pub fn by_built_in(
+    alloc: Global,
+    cx: &mut Interner,
+    declarations: &Declarations,
+    reference: TraitRef,
+) -> Result<Option<Vec<TraitRef>>, Fault>
+    requires declared { AreHeld cx.old.entries declarations.now }
+    requires reference { ReferenceHeld cx.old.entries reference }
+    ensures keeps { Keeps cx.old.entries cx.new.entries }
+    ensures limit { cx.new.limit ≡ cx.old.limit }
+    ensures held { IfOk result (λ o. IfSome o (λ v. TraitRefsHeld cx.new.entries v.items)) }
+    ensures rule { IfOk result (λ o. IfSome o (λ v. (E : List Reference)
+        → IsBuiltInRule (declared cx.old.entries declarations.now) E (term_of cx.old.entries reference) (terms_of cx.new.entries v.items))) }
     ensures full { result ≡ Err Fault.Full → SomeKindIsFull cx.new.entries cx.new.limit }
 {
     let Some(self_ty) = only_type(cx, reference.args) else {
@@ -245,6 +277,6 @@ pub fn by_built_in(
             let premises = all_asked(alloc, cx, reference.def_id, &tys)?;
             Ok(Some(premises))
         }
-        None => Ok(None),
+        None => by_parts(alloc, cx, declarations, reference.def_id, self_ty),
     }
 }

@@ -13,7 +13,7 @@ pub enum Way {
     Clause(usize),
     /// A supertrait of the where-clause at this place, through any number of levels.
     Supertrait(usize),
-    /// A built-in rule: of `Sized`, but for structs, of `Copy`, `Clone`, `Tuple` or `FnPtr`.
+    /// A built-in rule: of `Sized`, `Copy`, `Clone`, `Tuple` or `FnPtr`, or an auto trait's own.
     BuiltIn,
     /// Nothing: the reference is taken for granted, and the proof is one under it as a further where-clause. So stands what no
     /// rule of this list concludes, as another built-in rule.

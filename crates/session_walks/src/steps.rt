@@ -183,13 +183,19 @@ fn clause_way_in(
 }
 
 /// The way by a built-in rule, where one that is checked concludes the reference.
-fn row_way(alloc: Global, cx: &mut Interner, reference: TraitRef) -> Result<Way, Fault>
+fn row_way(
+    alloc: Global,
+    cx: &mut Interner,
+    declarations: &Declarations,
+    reference: TraitRef,
+) -> Result<Way, Fault>
+    requires declared { AreHeld cx.old.entries declarations.now }
     requires reference { ReferenceHeld cx.old.entries reference }
     ensures keeps { Keeps cx.old.entries cx.new.entries }
     ensures limit { cx.new.limit ≡ cx.old.limit }
     ensures held { IfOk result (WayHeld cx.new.entries) }
 {
-    match by_built_in(alloc, cx, reference)? {
+    match by_built_in(alloc, cx, declarations, reference)? {
         Some(_) => Ok(Way::BuiltIn),
         None => Ok(Way::Assumed),
     }
@@ -202,7 +208,8 @@ fn row_way_in(cx: &mut SolverCx<Solver>, reference: TraitRef) -> Result<Way, Fau
     ensures advances { SolverAdvances cx.old cx.new }
     ensures held { IfOk result (WayHeld cx.new.interner.entries) }
 {
-    let way = row_way(cx.alloc, &mut cx.interner, reference);
+    let declarations = &cx.handler.declarations;
+    let way = row_way(cx.alloc, &mut cx.interner, declarations, reference);
     cx.interner.lawful();
     way
 }

@@ -1,14 +1,12 @@
-use Rattle.std.proofs.Common.{◌≡◌, ◌<◌, ◌⊎◌, ◌++◌, inl, inr, ap, sym, ◌∙◌, subst, Some, Err, arith}
+use Rattle.std.proofs.Common.{◌≡◌, ◌<◌, ◌++◌, inl, inr, ap, sym, ◌∙◌, subst, Some, Err, arith}
 use Rattle.std.specs.List.{slice_get}
-use Rattle.type_terms.specs.Worlds.{ImplDecl, Reference}
-use Rattle.type_terms.specs.Erased.{IsCovered, erased_impl}
 use Rattle.type_terms.specs.Proofs.{In}
-use Rattle.declarations.specs.Items.{declared, written}
+use Rattle.declarations.specs.Items.{declared}
 use Rattle.declarations.specs.Held.{ReferenceHeld}
 use Rattle.declarations.proofs.Bounded.{handed-on}
 use Rattle.declarations.proofs.Growth.{reference-kept, each-kept}
 use Rattle.proof_checker.specs.declared.steps.Step.{Step}
-use Rattle.proof_checker.specs.Steps.{term_of, terms_of, steps_say, assumed_in, StepHeld}
+use Rattle.proof_checker.specs.Steps.{terms_of, steps_say, assumed_in, StepHeld}
 use Rattle.proof_checker.proofs.Ways.{get-at}
 use Rattle.proof_checker.proofs.Places.{each-at}
 use Rattle.proof_checker.proofs.Later.{steps-kept, say-same, term-same, terms-same, assumed-same}

@@ -1,4 +1,4 @@
-use Rattle.std.proofs.Common.{◌≡◌, ap, sym, ◌∙◌, subst, Err}
+use Rattle.std.proofs.Common.{ap, sym, ◌∙◌, subst, Err}
 use Rattle.type_terms.specs.Proofs.{In}
 use Rattle.declarations.specs.Items.{declared}
 use Rattle.declarations.specs.Merges.{Each}

@@ -1,6 +1,6 @@
 use Rattle.std.proofs.Common.{◌≡◌, ◌++◌, [], refl, ap, sym, ◌∙◌, subst, take, Err}
 use Rattle.std.specs.Prelude.{IfSome, List}
-use Rattle.type_terms.specs.Worlds.{World, Reference}
+use Rattle.type_terms.specs.Worlds.{Reference}
 use Rattle.type_terms.specs.Rules as rule
 use Rattle.type_terms.specs.Rules.{is_coinductive}
 use Rattle.type_terms.specs.Proofs.{In, Every}
@@ -91,8 +91,8 @@ returns-in_err-premises-in-BuiltIn-clause-full c = λ q.
 pub premises_stand-requires-in-Some-2-clause-steps : goal.premises_stand-requires-in-Some-2-clause-steps
 premises_stand-requires-in-Some-2-clause-steps c = steps-kept c.args.cx.now.entries c.by_built_in.new.cx.entries c.by_built_in.ensures.keeps c.args.steps.now c.requires.steps
 
-pub by_built_in-requires : goal.by_built_in-requires
-by_built_in-requires c = (each-at (StepHeld c.args.cx.now.entries) c.args.steps.now c.args.place c.args.step.now c.requires.steps c.requires.step).0
+pub by_built_in-requires-clause-reference : goal.by_built_in-requires-clause-reference
+by_built_in-requires-clause-reference c = (each-at (StepHeld c.args.cx.now.entries) c.args.steps.now c.args.place c.args.step.now c.requires.steps c.requires.step).0
 
 pub returns-in-Some-2-clause-rule : goal.returns-in-Some-2-clause-rule
 returns-in-Some-2-clause-rule c =
@@ -105,7 +105,7 @@ returns-in-Some-2-clause-rule c =
     let rs = steps_say es ss in
     let ps = c.args.step.now.premises.items in
     let same = say-same es fs c.by_built_in.ensures.keeps ss c.requires.steps in
-    let found = subst (λ o. IfSome o (λ v. (V : World) (F : List Reference) → IsBuiltInRule V F r (terms_of fs v.items))) c.in-Some-2.is c.in_ok-premises-in-BuiltIn.ensures.rule W E in
+    let found = subst (λ o. IfSome o (λ v. (F : List Reference) → IsBuiltInRule W F r (terms_of fs v.items))) c.in-Some-2.is c.in_ok-premises-in-BuiltIn.ensures.rule E in
     let way = rule.built_in found.0 in
     mapped _ _ c.premises_stand-in-Some-2.result
     (λ b are q.

@@ -1,4 +1,4 @@
-use Rattle.std.proofs.Common.{◌≡◌, true, ap, sym, ◌∙◌, subst, take, ◌∷◌, Err}
+use Rattle.std.proofs.Common.{◌≡◌, ap, sym, ◌∙◌, subst, take, ◌∷◌, Err}
 use Rattle.type_terms.specs.Worlds.{Reference}
 use Rattle.type_terms.specs.Erased.{erased_reference}
 use Rattle.type_terms.specs.Proofs.{In, Every}

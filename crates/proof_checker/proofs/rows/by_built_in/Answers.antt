@@ -4,9 +4,12 @@ use Rattle.type_terms.specs.Rules.{asked}
 use Rattle.type_terms.specs.Terms.{trees_at}
 use Rattle.type_terms.specs.Trees.{erase}
 use Rattle.type_terms.specs.Worlds.{World}
+use Rattle.declarations.specs.Items.{declared}
 use Rattle.declarations.proofs.Bounded.{handed-on}
 use Rattle.proof_checker.specs.Checked.{IsBuiltInRule}
 use Rattle.proof_checker.specs.Rows.{HasRow, each_asked_of}
+use Rattle.proof_checker.specs.Steps.{terms_of}
+use Rattle.proof_checker.proofs.Results.{mapped-some}
 use Rattle.proof_checker.proofs.TypeRows.{built-in-rule}
 use Rattle.proof_checker.proofs.rows.by_built_in.Goals as goal
 
@@ -16,11 +19,20 @@ returns-in_err-premises-in-Some-2-clause-full c = λ q.
     handed-on handed.result handed.ensures.1 (λ p. c.in_err-premises-in-Some-2.ensures.full (ap Err p)) q
 
 pub returns-in_ok-premises-in-Some-2-clause-rule : goal.returns-in_ok-premises-in-Some-2-clause-rule
-returns-in_ok-premises-in-Some-2-clause-rule c = λ W E.
+returns-in_ok-premises-in-Some-2-clause-rule c = λ E.
     let es = c.args.cx.now.entries in
+    let W = declared es c.args.declarations.now in
     let t = c.args.reference.def_id.index in
     let s = erase (trees_at es c.in-Some.self_ty.0) in
     let row = subst (λ o. IfSome o (λ v. (V : World) → HasRow V t s (each_asked_of es t v.items))) c.in-Some-2.is c.in_ok-tys.ensures.row in
     let by = built-in-rule W E t s (each_asked_of es t c.in-Some-2.tys.items) (row W) in
     subst (IsBuiltInRule W E (asked t (erase (trees_at es c.args.reference.args.0)))) (sym (c.in_ok-premises-in-Some-2.ensures.are ∙ ap (each_asked_of es t) c.deref.ensures.value))
     (subst (λ z. IsBuiltInRule W E (asked t (erase z)) (each_asked_of es t c.in-Some-2.tys.items)) (sym c.in-Some.ensures.is) by)
+
+pub returns-in-None-clause-rule : goal.returns-in-None-clause-rule
+returns-in-None-clause-rule c =
+    let es = c.args.cx.now.entries in
+    let new = c.by_parts.new.cx.entries in
+    let W = declared es c.args.declarations.now in
+    let t = c.args.reference.def_id.index in
+    mapped-some _ _ c.by_parts.result (λ v rule E. subst (λ z. IsBuiltInRule W E (asked t (erase z)) (terms_of new v.items)) (sym c.in-Some.ensures.is) (rule E)) c.by_parts.ensures.rule

@@ -1,4 +1,4 @@
-use Rattle.std.proofs.Common.{◌≡◌, ◌++◌, ap, sym, ◌∙◌, subst, None, Some, Err}
+use Rattle.std.proofs.Common.{◌≡◌, ◌++◌, ap, sym, ◌∙◌, subst, None, Err}
 use Rattle.std.specs.Prelude.{IfSome}
 use Rattle.type_terms.specs.Worlds.{with_args, all_with_args}
 use Rattle.type_terms.specs.Terms.{args_lists, trees_at}

@@ -1,4 +1,4 @@
-use Rattle.std.proofs.Common.{◌≡◌, ◌==◌, true, [], ap, sym, ◌∙◌, subst, map, None, Err}
+use Rattle.std.proofs.Common.{◌≡◌, ◌==◌, [], ap, sym, ◌∙◌, subst, map, None, Err}
 use Rattle.std.specs.Prelude.{IfSome}
 use Rattle.type_terms.specs.Worlds.{ImplDecl, with_args, all_with_args}
 use Rattle.type_terms.specs.Erased.{erased_reference}

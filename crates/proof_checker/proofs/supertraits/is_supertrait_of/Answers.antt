@@ -1,4 +1,4 @@
-use Rattle.std.proofs.Common.{◌≡◌, ◌++◌, ap, ◌∙◌, sym, subst, Err}
+use Rattle.std.proofs.Common.{ap, ◌∙◌, sym, subst, Err}
 use Rattle.type_terms.specs.Worlds.{World, Reference}
 use Rattle.type_terms.specs.Rules.{strict_supertraits, written_supertraits}
 use Rattle.type_terms.specs.Proofs.{In}

@@ -1,0 +1,91 @@
+use Rattle.std.proofs.Common.{◌≡◌, [], ◌∷◌, List, sym, ap, ◌∙◌, subst, Err}
+use Rattle.type_terms.specs.Kept.{trees-is}
+use Rattle.type_terms.specs.Kinds.{TysHeld}
+use Rattle.type_terms.specs.Label.{slice, uint}
+use Rattle.type_terms.specs.Rules.{asked, auto_rules_plain, each_asked}
+use Rattle.type_terms.specs.Terms.{types, type_lists, trees_at}
+use Rattle.type_terms.specs.Trees.{erase, leaf, none, tree}
+use Rattle.type_terms.specs.declared.kinds.Ty.{Ty}
+use Rattle.declarations.specs.Items.{declared}
+use Rattle.declarations.proofs.Bounded.{handed-on}
+use Rattle.proof_checker.specs.Rows.{IsOneRow, each_asked_of}
+use Rattle.proof_checker.proofs.PartRows.{pointee-row, referent-row, item-row, element-row, struct-row}
+use Rattle.proof_checker.proofs.Results.{both-some}
+use Rattle.proof_checker.proofs.TypeRows.{type-is, tys-asked}
+use Rattle.proof_checker.proofs.parts.auto_parts.Goals as goal
+
+pub returns-in_ok-tys-in-RawPtr-clause-asks : goal.returns-in_ok-tys-in-RawPtr-clause-asks
+returns-in_ok-tys-in-RawPtr-clause-asks c = λ t.
+    let es = c.args.cx.now.entries in
+    let V = declared es c.args.declarations.now in
+    let s = trees_at es c.args.self_ty.0 in
+    let x = c.in-RawPtr.pointee.0 in
+    subst (λ (l : List Ty). IsOneRow (auto_rules_plain V t (erase s)) (each_asked_of es t l)) (sym c.in_ok-tys-in-RawPtr.ensures.items)
+    (pointee-row V t s (trees_at es x) (trees-is es types c.args.self_ty.0 _ c.in-RawPtr.ensures.is) (type-is es c.lawful.ensures x c.in-RawPtr.ensures.held))
+
+pub returns-in_ok-tys-in-Ref-clause-asks : goal.returns-in_ok-tys-in-Ref-clause-asks
+returns-in_ok-tys-in-Ref-clause-asks c = λ t.
+    let es = c.args.cx.now.entries in
+    let V = declared es c.args.declarations.now in
+    let s = trees_at es c.args.self_ty.0 in
+    let x = c.in-Ref.referent.0 in
+    subst (λ (l : List Ty). IsOneRow (auto_rules_plain V t (erase s)) (each_asked_of es t l)) (sym c.in_ok-tys-in-Ref.ensures.items)
+    (referent-row V t s (trees_at es x) (trees-is es types c.args.self_ty.0 _ c.in-Ref.ensures.is) (type-is es c.lawful.ensures x c.in-Ref.ensures.held.1))
+
+pub returns-in_ok-tys-in-Array-clause-asks : goal.returns-in_ok-tys-in-Array-clause-asks
+returns-in_ok-tys-in-Array-clause-asks c = λ t.
+    let es = c.args.cx.now.entries in
+    let V = declared es c.args.declarations.now in
+    let s = trees_at es c.args.self_ty.0 in
+    let x = c.in-Array.element.0 in
+    subst (λ (l : List Ty). IsOneRow (auto_rules_plain V t (erase s)) (each_asked_of es t l)) (sym c.in_ok-tys-in-Array.ensures.items)
+    (item-row V t s (trees_at es x) (trees_at es c.in-Array.field-1.0) (trees-is es types c.args.self_ty.0 _ c.in-Array.ensures.is) (type-is es c.lawful.ensures x c.in-Array.ensures.held.0))
+
+pub returns-in_ok-tys-in-Slice-clause-asks : goal.returns-in_ok-tys-in-Slice-clause-asks
+returns-in_ok-tys-in-Slice-clause-asks c = λ t.
+    let es = c.args.cx.now.entries in
+    let V = declared es c.args.declarations.now in
+    let s = trees_at es c.args.self_ty.0 in
+    let x = c.in-Slice.element.0 in
+    subst (λ (l : List Ty). IsOneRow (auto_rules_plain V t (erase s)) (each_asked_of es t l)) (sym c.in_ok-tys-in-Slice.ensures.items)
+    (element-row V t s (trees_at es x) (trees-is es types c.args.self_ty.0 _ c.in-Slice.ensures.is) (type-is es c.lawful.ensures x c.in-Slice.ensures.held))
+
+pub returns-in_ok-tys-in-Tuple-clause-asks : goal.returns-in_ok-tys-in-Tuple-clause-asks
+returns-in_ok-tys-in-Tuple-clause-asks c = λ t.
+    let es = c.args.cx.now.entries in
+    let V = declared es c.args.declarations.now in
+    let self = trees-is es types c.args.self_ty.0 _ c.in-Tuple.ensures.is in
+    let list = trees-is es type_lists c.in-Tuple.tys.0 _ c.tys.ensures.is in
+    let items = c.in_ok-tys-in-Tuple.tys.items in
+    let asks : each_asked t (erase (trees_at es c.in-Tuple.tys.0)) ≡ each_asked_of es t items =
+    ap (λ l. each_asked t (erase l)) list ∙ tys-asked es c.lawful.ensures t c.tys.result.now c.tys.ensures.held ∙ ap (each_asked_of es t) (sym c.in_ok-tys-in-Tuple.ensures.items) in
+    subst (λ s. IsOneRow (auto_rules_plain V t (erase s)) (each_asked_of es t items)) (sym self) (tt, asks)
+
+pub returns-in-Adt-clause-asks : goal.returns-in-Adt-clause-asks
+returns-in-Adt-clause-asks c =
+    let es = c.args.cx.now.entries in
+    let new = c.struct_fields-found.new.cx.entries in
+    let V = declared es c.args.declarations.now in
+    let self = trees-is es types c.args.self_ty.0 _ c.in-Adt.ensures.is in
+    both-some _ _ _ c.struct_fields-found.result
+    (λ v held are t.
+    subst (λ s. IsOneRow (auto_rules_plain V t (erase s)) (each_asked_of new t v.items)) (sym self)
+    (struct-row V c.in-Adt.def_id.index (erase (trees_at es c.in-Adt.args.0)) new t v.items c.lawful-in-Adt.ensures held are))
+    c.struct_fields-found.ensures.held c.struct_fields-found.ensures.are
+
+pub returns-in_err-bytes-in-Str-clause-full : goal.returns-in_err-bytes-in-Str-clause-full
+returns-in_err-bytes-in-Str-clause-full c = λ q. handed-on c.from_residual.result c.from_residual.ensures.1 (λ p. c.in_err-bytes-in-Str.ensures.full (ap Err p)) q
+
+pub returns-in_ok-tys-in-Str-clause-asks : goal.returns-in_ok-tys-in-Str-clause-asks
+returns-in_ok-tys-in-Str-clause-asks c = λ t.
+    let es = c.args.cx.now.entries in
+    let new = c.str_bytes.new.cx.entries in
+    let V = declared es c.args.declarations.now in
+    let s = trees_at es c.args.self_ty.0 in
+    let self = trees-is es types c.args.self_ty.0 _ c.in-Str.ensures.is in
+    let asks : each_asked_of new t (c.in_ok-bytes-in-Str.bytes ∷ []) ≡ asked t (tree slice (leaf (uint 0)) none) ∷ [] = ap (λ z. asked t (erase z) ∷ []) c.in_ok-bytes-in-Str.ensures.is in
+    subst (λ (l : List Ty). IsOneRow (auto_rules_plain V t (erase s)) (each_asked_of new t l)) (sym c.in_ok-tys-in-Str.ensures.items)
+    (subst (λ z. IsOneRow (auto_rules_plain V t (erase z)) (each_asked_of new t (c.in_ok-bytes-in-Str.bytes ∷ []))) (sym self) (tt, sym asks))
+
+pub returns-in_ok-tys-in-Str-clause-held : goal.returns-in_ok-tys-in-Str-clause-held
+returns-in_ok-tys-in-Str-clause-held c = subst (TysHeld c.str_bytes.new.cx.entries) (sym c.in_ok-tys-in-Str.ensures.items) (c.in_ok-bytes-in-Str.ensures.held, tt)

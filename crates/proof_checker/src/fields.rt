@@ -1,0 +1,106 @@
+//! The fields of structs, with arguments in the place of parameters.
+ghost use Rattle.std.specs.Prelude.{◌≡◌, map, Err, IfOk, IfSome, None};
+ghost use Rattle.type_terms.specs.Failures.{SomeKindIsFull};
+ghost use Rattle.type_terms.specs.Kinds.{TysHeld, tys_trees};
+ghost use Rattle.type_terms.specs.Terms.{Keeps, Has, types, args_lists, trees_at};
+ghost use Rattle.type_terms.specs.Trees.{erase, instantiate, outer_binder};
+ghost use Rattle.term_folds.specs.Arguments.{first_misfit};
+ghost use Rattle.declarations.specs.Held.{AreHeld};
+ghost use Rattle.declarations.specs.Items.{declared};
+ghost use Rattle.declarations.specs.Merges.{Each};
+ghost use Rattle.declarations.specs.Unsizing.{field_trees};
+ghost use Rattle.proof_checker.specs.Rows.{AreFields};
+
+use declarations::declarations::Declarations;
+use std::alloc::Global;
+use term_folds::binder::EarlyBinder;
+use term_folds::instantiate::InstantiateError;
+use term_folds::laws::closed_arguments_are_in_range;
+use type_terms::interner::Interner;
+use type_terms::kinds::{GenericArgs, Ty};
+use type_terms::{AdtId, Fault};
+
+/// A field with arguments in the place of its struct's parameters, if they fit.
+fn field_with(
+    alloc: Global,
+    cx: &mut Interner,
+    field: Ty,
+    args: GenericArgs,
+) -> Result<Option<Ty>, Fault>
+    requires field { Has cx.old.entries types field.0 }
+    requires args { Has cx.old.entries args_lists args.0 }
+    requires closed { outer_binder (trees_at cx.old.entries args.0) ≡ 0 }
+    ensures keeps { Keeps cx.old.entries cx.new.entries }
+    ensures limit { cx.new.limit ≡ cx.old.limit }
+    ensures held { IfOk result (λ o. IfSome o (λ r. Has cx.new.entries types r.0)) }
+    ensures is { IfOk result (λ o. IfSome o (λ r. trees_at cx.new.entries r.0 ≡ instantiate 0 (trees_at cx.old.entries args.0) (trees_at cx.old.entries field.0))) }
+    ensures fits { IfOk result (λ o. IfSome o (λ _. first_misfit (trees_at cx.old.entries args.0) (trees_at cx.old.entries field.0) ≡ None)) }
+    ensures full { result ≡ Err Fault.Full → SomeKindIsFull cx.new.entries cx.new.limit }
+{
+    closed_arguments_are_in_range();
+    match EarlyBinder::bind(field).instantiate(alloc, cx, args) {
+        Ok(ty) => Ok(Some(ty)),
+        Err(InstantiateError::Fault(fault)) => Err(fault),
+        Err(InstantiateError::ParamOutOfRange) => Ok(None),
+        Err(InstantiateError::ParamKind) => Ok(None),
+    }
+}
+
+/// Fields with arguments in the place of their struct's parameters, if they fit all of them.
+fn fields_with(
+    alloc: Global,
+    cx: &mut Interner,
+    fields: &[Ty],
+    args: GenericArgs,
+) -> Result<Option<Vec<Ty>>, Fault>
+    requires fields { TysHeld cx.old.entries fields.now }
+    requires args { Has cx.old.entries args_lists args.0 }
+    requires closed { outer_binder (trees_at cx.old.entries args.0) ≡ 0 }
+    ensures keeps { Keeps cx.old.entries cx.new.entries }
+    ensures limit { cx.new.limit ≡ cx.old.limit }
+    ensures held { IfOk result (λ o. IfSome o (λ v. TysHeld cx.new.entries v.items)) }
+    ensures are { IfOk result (λ o. IfSome o (λ v. field_trees cx.new.entries v.items ≡ map (instantiate 0 (trees_at cx.old.entries args.0)) (field_trees cx.old.entries fields.now))) }
+    ensures fits { IfOk result (λ o. IfSome o (λ _. Each (λ f. first_misfit (trees_at cx.old.entries args.0) (trees_at cx.old.entries f.0) ≡ None) fields.now)) }
+    ensures full { result ≡ Err Fault.Full → SomeKindIsFull cx.new.entries cx.new.limit }
+{
+    let mut found = Vec::new(alloc);
+    let mut left = fields;
+    'fields: while let Some((next, others)) = left.split_first() {
+        match field_with(alloc, cx, *next, args)? {
+            Some(ty) => {
+                found.push(ty)?;
+                left = others;
+            }
+            None => return Ok(None),
+        }
+    }
+    Ok(Some(found))
+}
+
+/// The fields of a struct with arguments in the place of its parameters, if it is declared and they fit.
+pub(crate) fn struct_fields(
+    alloc: Global,
+    cx: &mut Interner,
+    declarations: &Declarations,
+    def_id: AdtId,
+    args: GenericArgs,
+) -> Result<Option<Vec<Ty>>, Fault>
+    requires declared { AreHeld cx.old.entries declarations.now }
+    requires args { Has cx.old.entries args_lists args.0 }
+    ensures keeps { Keeps cx.old.entries cx.new.entries }
+    ensures limit { cx.new.limit ≡ cx.old.limit }
+    ensures held { IfOk result (λ o. IfSome o (λ v. TysHeld cx.new.entries v.items)) }
+    ensures are { IfOk result (λ o. IfSome o (λ v. AreFields (declared cx.old.entries declarations.now) def_id.index
+        (erase (trees_at cx.old.entries args.0)) (erase (tys_trees cx.new.entries v.items)))) }
+    ensures full { result ≡ Err Fault.Full → SomeKindIsFull cx.new.entries cx.new.limit }
+{
+    cx.lawful();
+    let def = match declarations.adt_def(def_id) {
+        Some(def) => def,
+        None => return Ok(None),
+    };
+    if cx.outer_exclusive_binder(args).index != 0 {
+        return Ok(None);
+    }
+    fields_with(alloc, cx, &def.fields, args)
+}
