@@ -9,7 +9,7 @@ use Rattle.type_terms.proofs.Applies.{same-complete}
 use Rattle.infer_table.proofs.ClosedFacts.{or-left, or-right}
 use Rattle.evaluation.specs.Instances.{read_with}
 use Rattle.evaluation.specs.Content.{given}
-use Rattle.assembly_laws.specs.Apart.{is_fixed, are_apart}
+use Rattle.declarations.specs.Apart.{is_fixed, are_apart}
 use Rattle.assembly_laws.proofs.Reading.{true-false}
 
 -- no flag is set

@@ -12,7 +12,7 @@ use Rattle.type_terms.proofs.Members.{here, there, same-number}
 use Rattle.type_terms.proofs.Fitting.{no-left}
 use Rattle.type_terms.proofs.Walking.{left, right}
 use Rattle.declarations.specs.Heads.{begins_declared}
-use Rattle.assembly_laws.specs.Apart.{are_apart}
+use Rattle.declarations.specs.Apart.{are_apart}
 use Rattle.evaluation.specs.Lists.{Every, SomeOf}
 use Rattle.evaluation.specs.declared.candidate.CandidateSource.{CandidateSource}
 use Rattle.evaluation.specs.declared.candidate.CandidateSource.TheVariants.{BuiltinImpl}

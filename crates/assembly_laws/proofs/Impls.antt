@@ -24,7 +24,7 @@ use Rattle.assembly_laws.specs.Declared.{is_declared, is_counted, IsDeclared, ar
 use Rattle.assembly_laws.specs.Slots.{as_slots}
 use Rattle.assembly_laws.specs.Determined.{ImplsAreDetermined}
 use Rattle.assembly_laws.specs.Asking.{GoalOverKinds, self_of}
-use Rattle.assembly_laws.specs.Apart.{are_apart}
+use Rattle.declarations.specs.Apart.{are_apart}
 use Rattle.assembly_laws.proofs.Apart.{instances-meet}
 use Rattle.evaluation.specs.Variables.{is_variable_over}
 use Rattle.assembly_laws.specs.Candidates.{Candidate, premise, all_equal, is_param, kind_of_param, kinds_of_params, moved, rules_behind, by_the_impl, is_relevant_to, can_match, by_impls}

@@ -27,7 +27,7 @@ use Rattle.type_terms.specs.declared.ImplId.{ImplId}
 use Rattle.type_terms.specs.declared.TheConstants.{MAX_INDEX}
 use Rattle.assembly_laws.specs.Facts.{tree_of_reference}
 use Rattle.declarations.specs.Elaboration.{elaborate, supertraits}
-use Rattle.assembly_laws.specs.Apart.{are_apart}
+use Rattle.declarations.specs.Apart.{are_apart}
 use Rattle.assembly_laws.specs.Asking.{GoalOverKinds, self_of, next_of, begins_unknown, with_plain_head}
 
 -- The handle of the impl of a number; numbers of impls are in range.

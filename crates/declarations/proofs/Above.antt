@@ -1,15 +1,19 @@
--- Numbers above the last one considered, in rising lists and in merges of them.
-use Rattle.std.proofs.Common.{◌≡◌, ℕ, zero, suc, ◌<◌, ◌≤◌, leb, Bool, true, false, cond, List, [], ◌∷◌, length, drop, get_or, Option, Some, None, refl, sym, ap, ◌∙◌, arith, inl, inr, subst}
+-- Numbers above the last one considered, in rising lists.
+use Rattle.std.proofs.Common.{◌≡◌, ℕ, zero, suc, ◌<◌, ◌≤◌, leb, Bool, true, false, cond, ◌&&◌, ◌||◌, List, [], ◌∷◌, length, drop, get_or, Option, Some, None, refl, sym, ap, ◌∙◌, arith, subst}
 use Rattle.std.proofs.lemmas.Bool.Decides.{nat_tests}
-use Rattle.std.specs.Prelude.{map, filter, not, nat_lt}
+use Rattle.std.specs.Prelude.{map, filter, not, nat_lt, ◌==◌}
+use Rattle.std.specs.Option.{option_map}
+use Rattle.std.specs.List.{slice_get}
 use Rattle.std.specs.List.Sorted.{IsNonDecreasingBy}
 use Rattle.type_terms.specs.Label.{Label}
 use Rattle.type_terms.specs.declared.ImplId.{ImplId}
+use Rattle.declarations.specs.Heads.{same_self}
 use Rattle.declarations.specs.Items.{HeldImpl, ids_with, ids_headed}
-use Rattle.declarations.specs.Merges.{Each, Rises, IsMerge}
-use Rattle.declarations.specs.Relevant.{is_above, next_above, names_of}
+use Rattle.declarations.specs.Index.{ids_of}
+use Rattle.declarations.specs.Merges.{Each, Rises}
+use Rattle.declarations.specs.Relevant.{is_above, next_above, names_of, smaller_of}
 use Rattle.declarations.proofs.Merging.{rises-filtered}
-use Rattle.declarations.proofs.Relevance.{rel, two-keys}
+use Rattle.declarations.proofs.Relevance.{rel, spread}
 
 -- ---- what a search leaves
 each-at : (P : ImplId → Type 0) (xs : List ImplId) (j : ℕ) (d : ImplId) → Each P xs → j < length xs → P (get_or xs j d)
@@ -56,38 +60,7 @@ pub all-above : (ids : List ImplId) → ids ≡ filter (λ i. is_above None i.in
 all-above [] = refl
 all-above (i ∷ ids) = ap (λ r. i ∷ r) (all-above ids)
 
--- ---- what is kept of merges, and of what rises
-pub merge-kept : (t : ImplId → Bool) (xs ys zs : List ImplId) → IsMerge xs ys zs → IsMerge (filter t xs) (filter t ys) (filter t zs)
-merge-kept t xs ys [] m = (ap (filter t) m.0, ap (filter t) m.1)
-merge-kept t xs ys (z ∷ zs) (inl m) =
-    subst (λ l. IsMerge (filter t l) (filter t ys) (filter t (z ∷ zs))) (sym m.1) (by (t z) (merge-kept t m.0 ys zs m.2))
-  where
-    by : (b : Bool) → IsMerge (filter t m.0) (filter t ys) (filter t zs) → IsMerge (cond b (z ∷ filter t m.0) (filter t m.0)) (filter t ys) (cond b (z ∷ filter t zs) (filter t zs))
-    by true r = inl (filter t m.0, refl, r)
-    by false r = r
-merge-kept t xs ys (z ∷ zs) (inr m) =
-    subst (λ l. IsMerge (filter t xs) (filter t l) (filter t (z ∷ zs))) (sym m.1) (by (t z) (merge-kept t xs m.0 zs m.2))
-  where
-    by : (b : Bool) → IsMerge (filter t xs) (filter t m.0) (filter t zs) → IsMerge (filter t xs) (cond b (z ∷ filter t m.0) (filter t m.0)) (cond b (z ∷ filter t zs) (filter t zs))
-    by true r = inr (filter t m.0, refl, r)
-    by false r = r
-
-each-kept : (P : ImplId → Type 0) (t : ImplId → Bool) (xs : List ImplId) → Each P xs → Each P (filter t xs)
-each-kept P t [] h = tt
-each-kept P t (x ∷ xs) h = by (t x) (each-kept P t xs h.1)
-  where
-    by : (b : Bool) → Each P (filter t xs) → Each P (cond b (x ∷ filter t xs) (filter t xs))
-    by true r = (h.0, r)
-    by false r = r
-
-pub rises-kept : (t : ImplId → Bool) (xs : List ImplId) → Rises xs → Rises (filter t xs)
-rises-kept t [] h = tt
-rises-kept t (x ∷ xs) h = by (t x) (rises-kept t xs h.1)
-  where
-    by : (b : Bool) → Rises (filter t xs) → Rises (cond b (x ∷ filter t xs) (filter t xs))
-    by true r = (each-kept (λ y. x.index < y.index) t xs h.0, r)
-    by false r = r
-
+-- ---- what is listed rises
 pub rises-with : (t : ℕ) (h : Option Label) (is : List HeldImpl) → Rises (map (λ i. i.id) is) → Rises (ids_with t h is)
 rises-with t h is r = rises-filtered (λ (i : HeldImpl). i.id) _ is r
 
@@ -95,44 +68,93 @@ pub rises-headed : (t : ℕ) (h : Option Label) (is : List HeldImpl) → Rises (
 rises-headed t None is r = tt
 rises-headed t (Some l) is r = rises-with t (Some l) is r
 
--- ---- the impls that can match, under their two keys
-module _ (last : Option ImplId) (t : ℕ) (h : Option Label) (is : List HeldImpl) where
-  abbrev above : ImplId → Bool
-  above i = is_above last i.index
-
-  abbrev pub matching : List ImplId
-  matching = map (λ i. i.id) (filter (rel t h) is)
-
-  pub merged-above : (xs ys : List ImplId) → xs ≡ filter above (ids_with t None is) → ys ≡ filter above (ids_headed t h is) → IsMerge xs ys (filter above matching)
-  merged-above xs ys e f =
-      subst (λ l. IsMerge l ys (filter above matching)) (sym e)
-      (subst (λ l. IsMerge (filter above (ids_with t None is)) l (filter above matching)) (sym f) (merge-kept above (ids_with t None is) (ids_headed t h is) matching (two-keys t h is)))
-
-  pub rises-above : Rises (map (λ i. i.id) is) → Rises (filter above matching)
-  rises-above r = rises-kept above matching (rises-filtered (λ (i : HeldImpl). i.id) (rel t h) is r)
-
 -- ---- the first of them
-pub names-kept : (last : Option ImplId) (ids : List ImplId) → names_of (filter (λ i. is_above last i.index) ids) ≡ filter (is_above last) (names_of ids)
-names-kept last [] = refl
-names-kept last (i ∷ ids) = by (is_above last i.index) (names-kept last ids)
+pub first-kept : (last : Option ImplId) (ids : List ImplId) → option_map (λ i. i.index) (slice_get (filter (λ i. is_above last i.index) ids) 0) ≡ next_above last (names_of ids)
+first-kept last [] = refl
+first-kept last (i ∷ ids) = by (is_above last i.index) (first-kept last ids)
   where
-    by : (b : Bool) → names_of (filter (λ i. is_above last i.index) ids) ≡ filter (is_above last) (names_of ids)
-        → names_of (cond b (i ∷ filter (λ i. is_above last i.index) ids) (filter (λ i. is_above last i.index) ids)) ≡ cond b (i.index ∷ filter (is_above last) (names_of ids)) (filter (is_above last) (names_of ids))
-    by true h = ap (λ r. i.index ∷ r) h
+    by : (b : Bool) → option_map (λ i. i.index) (slice_get (filter (λ i. is_above last i.index) ids) 0) ≡ next_above last (names_of ids)
+        → option_map (λ i. i.index) (slice_get (cond b (i ∷ filter (λ i. is_above last i.index) ids) (filter (λ i. is_above last i.index) ids)) 0) ≡ cond b (Some i.index) (next_above last (names_of ids))
+    by true h = refl
     by false h = h
 
-pub none-above : (last : Option ImplId) (ns : List ℕ) → [] ≡ filter (is_above last) ns → None ≡ next_above last ns
-none-above last [] h = refl
-none-above last (n ∷ ns) h = by (is_above last n) h (none-above last ns)
-  where
-    by : (b : Bool) → [] ≡ cond b (n ∷ filter (is_above last) ns) (filter (is_above last) ns) → ([] ≡ filter (is_above last) ns → None ≡ next_above last ns) → None ≡ cond b (Some n) (next_above last ns)
-    by true h rest = absurd cc
-    by false h rest = rest h
+-- ---- the first of two lists together
+-- what is there is above n
+abbrev IsLater : ℕ → Option ℕ → Type 0
+IsLater n None = Unit {0}
+IsLater n (Some m) = n < m
 
-pub first-above : (last : Option ImplId) (ns : List ℕ) (x : ℕ) (others : List ℕ) → x ∷ others ≡ filter (is_above last) ns → Some x ≡ next_above last ns
-first-above last [] x others h = absurd cc
-first-above last (n ∷ ns) x others h = by (is_above last n) h (first-above last ns x others)
+below-later : (n m : ℕ) → n < m → nat_lt n m ≡ true
+below-later n m h = grind (arith, nat_tests)
+
+later-not-below : (n m : ℕ) → n < m → nat_lt m n ≡ false
+later-not-below n m h = grind (arith, nat_tests)
+
+first-smaller : (n : ℕ) (o : Option ℕ) → IsLater n o → Some n ≡ smaller_of (Some n) o
+first-smaller n None h = refl
+first-smaller n (Some m) h = ap (λ b. cond b (Some n) (Some m)) (sym (below-later n m h))
+
+second-smaller : (n : ℕ) (o : Option ℕ) → IsLater n o → Some n ≡ smaller_of o (Some n)
+second-smaller n None h = refl
+second-smaller n (Some m) h = ap (λ b. cond b (Some m) (Some n)) (sym (later-not-below n m h))
+
+same-smaller : (n : ℕ) → Some n ≡ smaller_of (Some n) (Some n)
+same-smaller n = by (nat_lt n n)
   where
-    by : (b : Bool) → x ∷ others ≡ cond b (n ∷ filter (is_above last) ns) (filter (is_above last) ns) → (x ∷ others ≡ filter (is_above last) ns → Some x ≡ next_above last ns) → Some x ≡ cond b (Some n) (next_above last ns)
-    by true h rest = cc
-    by false h rest = rest h
+    by : (b : Bool) → Some n ≡ cond b (Some n) (Some n)
+    by true = refl
+    by false = refl
+
+pub alone-smaller : (o : Option ℕ) → o ≡ smaller_of o None
+alone-smaller None = refl
+alone-smaller (Some m) = refl
+
+module _ (last : Option ImplId) where
+  abbrev pub first : (HeldImpl → Bool) → List HeldImpl → Option ℕ
+  first t is = next_above last (names_of (ids_of t is))
+
+  in-front : (t : HeldImpl → Bool) (b u : Bool) (i : HeldImpl) (is : List HeldImpl) → t i ≡ b → is_above last i.id.index ≡ u
+      → first t (i ∷ is) ≡ cond b (cond u (Some i.id.index) (first t is)) (first t is)
+  in-front t b u i is e g =
+      ap (λ c. next_above last (names_of (map (λ (j : HeldImpl). j.id) (cond c (i ∷ filter t is) (filter t is))))) e ∙ by b
+      ∙ ap (λ v. cond b (cond v (Some i.id.index) (first t is)) (first t is)) g
+    where
+      by : (c : Bool) → next_above last (names_of (map (λ (j : HeldImpl). j.id) (cond c (i ∷ filter t is) (filter t is)))) ≡ cond c (cond (is_above last i.id.index) (Some i.id.index) (first t is)) (first t is)
+      by true = refl
+      by false = refl
+
+  later : (t : HeldImpl → Bool) (n : ℕ) (is : List HeldImpl) → Each (λ (j : ImplId). n < j.index) (map (λ i. i.id) is) → IsLater n (first t is)
+  later t n [] h = tt
+  later t n (i ∷ is) h = subst (IsLater n) (sym (in-front t (t i) (is_above last i.id.index) i is refl refl)) (by (t i) (is_above last i.id.index) (later t n is h.1))
+    where
+      by : (b u : Bool) → IsLater n (first t is) → IsLater n (cond b (cond u (Some i.id.index) (first t is)) (first t is))
+      by true true r = h.0
+      by true false r = r
+      by false u r = r
+
+  pub next-either : (p q r : HeldImpl → Bool) → ((i : HeldImpl) → r i ≡ (p i || q i)) → (is : List HeldImpl) → Rises (map (λ i. i.id) is) → first r is ≡ smaller_of (first p is) (first q is)
+  next-either p q r either [] h = refl
+  next-either p q r either (i ∷ is) h =
+      in-front r (p i || q i) (is_above last i.id.index) i is (either i) refl
+      ∙ by (p i) (q i) (is_above last i.id.index) (next-either p q r either is h.1)
+      ∙ ap (λ o. smaller_of o (cond (q i) (cond (is_above last i.id.index) (Some i.id.index) (first q is)) (first q is))) (sym (in-front p (p i) (is_above last i.id.index) i is refl refl))
+      ∙ ap (smaller_of (first p (i ∷ is))) (sym (in-front q (q i) (is_above last i.id.index) i is refl refl))
+    where
+      by : (a b u : Bool) → first r is ≡ smaller_of (first p is) (first q is)
+          → cond (a || b) (cond u (Some i.id.index) (first r is)) (first r is)
+          ≡ smaller_of (cond a (cond u (Some i.id.index) (first p is)) (first p is)) (cond b (cond u (Some i.id.index) (first q is)) (first q is))
+      by true true true e = same-smaller i.id.index
+      by true false true e = first-smaller i.id.index (first q is) (later q i.id.index is h.0)
+      by false true true e = second-smaller i.id.index (first p is) (later p i.id.index is h.0)
+      by true true false e = e
+      by true false false e = e
+      by false true false e = e
+      by false false u e = e
+
+-- those that can match a type, by their heads
+pub next-headed : (last : Option ImplId) (t : ℕ) (h : Option Label) (is : List HeldImpl) → Rises (map (λ i. i.id) is)
+    → next_above last (names_of (ids_of (rel t h) is)) ≡ smaller_of (next_above last (names_of (ids_with t None is))) (next_above last (names_of (ids_headed t h is)))
+next-headed last t None is r = alone-smaller (next_above last (names_of (ids_with t None is)))
+next-headed last t (Some l) is r =
+    next-either last (λ i. (i.def.header.def_id.index == t) && same_self None i.self_head) (λ i. (i.def.header.def_id.index == t) && same_self (Some l) i.self_head) (rel t (Some l))
+    (λ i. spread (i.def.header.def_id.index == t) (same_self None i.self_head) (same_self (Some l) i.self_head)) is r

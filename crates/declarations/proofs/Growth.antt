@@ -12,6 +12,7 @@ use Rattle.type_terms.specs.declared.kinds.Ty.{Ty}
 use Rattle.declarations.specs.declared.items.AdtDef.{AdtDef}
 use Rattle.declarations.specs.declared.items.TraitDef.{TraitDef}
 use Rattle.declarations.specs.declared.items.ImplDef.{ImplDef}
+use Rattle.declarations.specs.Apart.{is_fixed}
 use Rattle.declarations.specs.Heads.{head_of, begins_declared}
 use Rattle.declarations.specs.Merges.{Each}
 use Rattle.declarations.specs.Unsizing.{field_trees, unsizing_flags}
@@ -94,6 +95,11 @@ module _ (old new : List Entry) (k : Keeps old new) where
   heads-kept [] h e = tt
   heads-kept (i ∷ is) h e = (e.0 ∙ ap head_of (sym (args-same i.def.header h.0.header)), heads-kept is h.1 e.1)
 
+  fixed-kept : (is : List HeldImpl) → Each (λ i. ImplHeld old i.def) is → Each (λ (i : HeldImpl). i.is_fixed ≡ is_fixed (trees_at old i.def.header.args.0)) is
+      → Each (λ (i : HeldImpl). i.is_fixed ≡ is_fixed (trees_at new i.def.header.args.0)) is
+  fixed-kept [] h e = tt
+  fixed-kept (i ∷ is) h e = (e.0 ∙ ap is_fixed (sym (args-same i.def.header h.0.header)), fixed-kept is h.1 e.1)
+
   pub all-held : (d : Items) → AreHeld old d → AreHeld new d
   all-held d h =
       record {
@@ -101,6 +107,7 @@ module _ (old new : List Entry) (k : Keeps old new) where
         traits = each-kept (λ (x : TraitId × TraitDef). TraitHeld old x.1) (λ x. TraitHeld new x.1) (λ x g. references-kept x.1.bounds.items g) d.traits h.traits;
         impls = each-kept (λ (i : HeldImpl). ImplHeld old i.def) (λ i. ImplHeld new i.def) (λ i g. impl-kept i.def g) d.impls h.impls;
         heads = heads-kept d.impls h.impls h.heads;
+        fixed = fixed-kept d.impls h.impls h.fixed;
       }
 
   pub all-written : (d : Items) → AreHeld old d → written new d ≡ written old d

@@ -1,12 +1,13 @@
 -- The derived equality of keys, and what a map of keys lists.
-use Rattle.std.proofs.Common.{◌≡◌, Bool, true, false, cond, ◌&&◌, [], ◌∷◌, ◌++◌, Option, Some, None, refl, sym, ap, ◌∙◌, if◌then◌else◌}
+use Rattle.std.proofs.Common.{◌≡◌, Bool, true, false, cond, ◌&&◌, List, [], ◌∷◌, ◌++◌, Option, Some, None, refl, sym, ap, ◌∙◌, if◌then◌else◌}
 use Rattle.std.specs.Prelude.{◌==◌}
 use Rattle.std.specs.Option.{option_map, option_map_or, option_eq}
 use Rattle.std.specs.HashMap.{HashMap, get_by}
-use Rattle.std.specs.declared.vec.Vec.{Vec}
 use Rattle.type_terms.specs.Label.{Label}
 use Rattle.type_terms.specs.Codes.{same_label}
+use Rattle.type_terms.proofs.Applies.{same-label-itself}
 use Rattle.type_terms.proofs.Matching.{same-label-sound}
+use Rattle.type_terms.proofs.Members.{self-number}
 use Rattle.type_terms.specs.Kinds.{int_number, uint_number}
 use Rattle.type_terms.specs.declared.ImplId.{ImplId}
 use Rattle.type_terms.specs.declared.kinds.IntTy.{IntTy}
@@ -20,11 +21,15 @@ use Rattle.type_terms.specs.contracts.kinds.UintTyPartialEq.TheImpl.{ghosts as u
 use Rattle.type_terms.specs.contracts.kinds.MutabilityPartialEq.TheImpl.{ghosts as mutability}
 use Rattle.declarations.specs.contracts.simplify.SimplifiedTypePartialEq.TheImpl.{ghosts as head}
 use Rattle.declarations.specs.contracts.heads.ImplHeadPartialEq.TheImpl.{ghosts as key}
+use Rattle.declarations.specs.contracts.heads.ImplKeyPartialEq.TheImpl.{ghosts as index}
 use Rattle.declarations.specs.declared.simplify.SimplifiedType.{SimplifiedType}
 use Rattle.declarations.specs.declared.simplify.SimplifiedType.TheVariants.{Bool as SBool, Char as SChar, Int as SInt, Uint as SUint, Adt as SAdt, Str as SStr, Array as SArray, Slice as SSlice, Ref as SRef, Ptr as SPtr, Never as SNever, Tuple as STuple, Dynamic as SDynamic, Function as SFunction}
 use Rattle.declarations.specs.declared.heads.ImplHead.{ImplHead}
+use Rattle.declarations.specs.declared.heads.ImplIds.{ImplIds}
+use Rattle.declarations.specs.declared.heads.ImplKey.{ImplKey}
+use Rattle.declarations.specs.declared.heads.ImplKey.TheVariants.{Headed, Open, Fixed}
 use Rattle.declarations.specs.Heads.{label_of, same_self}
-use Rattle.declarations.specs.Index.{is_head, listed}
+use Rattle.declarations.specs.Index.{ids_in, is_head, is_key, listed}
 use Rattle.declarations.proofs.Lookups.{lookup-agree, one-number}
 
 and-true : (b : Bool) → b ≡ (b && true)
@@ -121,44 +126,117 @@ same-self-sound None (Some m) h = absurd cc
 same-self-sound (Some l) None h = absurd cc
 same-self-sound (Some l) (Some m) h = ap Some (same-label-sound l m h)
 
-pub key-parts : (h k : ImplHead) → is_head h k ≡ true → (h.trait_id.index ≡ k.trait_id.index) × (option_map label_of h.self_ty ≡ option_map label_of k.self_ty)
+key-parts : (h k : ImplHead) → is_head h k ≡ true → (h.trait_id.index ≡ k.trait_id.index) × (option_map label_of h.self_ty ≡ option_map label_of k.self_ty)
 key-parts h k e =
     let p = and-both (h.trait_id.index == k.trait_id.index) _ e in
     (one-number h.trait_id.index k.trait_id.index p.0, same-self-sound _ _ p.1)
 
-module _ {A S : Type 0} where
-  same-listed : (m : HashMap ImplHead (Vec ImplId A) S) (h k : ImplHead) → is_head h k ≡ true → listed m h ≡ listed m k
-  same-listed m h k e =
-      let p = key-parts h k e in
-      ap (λ t. option_map_or (λ v. v.items) (get_by (λ j. (t == j.trait_id.index) && same_self (option_map label_of h.self_ty) (option_map label_of j.self_ty)) m) []) p.0
-      ∙ ap (λ s. option_map_or (λ v. v.items) (get_by (λ j. (k.trait_id.index == j.trait_id.index) && same_self s (option_map label_of j.self_ty)) m) []) p.1
+-- two equal heads are equal to the same ones
+heads-agree : (h k : ImplHead) → is_head h k ≡ true → (j : ImplHead) → is_head h j ≡ is_head k j
+heads-agree h k e j =
+    let p = key-parts h k e in
+    ap (λ n. (n == j.trait_id.index) && same_self (option_map label_of h.self_ty) (option_map label_of j.self_ty)) p.0
+    ∙ ap (λ s. (k.trait_id.index == j.trait_id.index) && same_self s (option_map label_of j.self_ty)) p.1
 
-  pub listed-by : (m : HashMap ImplHead (Vec ImplId A) S) (h : ImplHead) → listed m h ≡ option_map_or (λ v. v.items) (get_by (key.eq h) m) []
-  listed-by m h = ap (λ o. option_map_or (λ v. v.items) o []) (sym (lookup-agree (key.eq h) (is_head h) m.entries (key-tells h)))
+index-tells : (h k : ImplKey) → index.eq h k ≡ is_key h k
+index-tells (Headed h) (Headed k) = key-tells h k
+index-tells (Headed h) (Open k) = refl
+index-tells (Headed h) (Fixed s) = refl
+index-tells (Open h) (Headed k) = refl
+index-tells (Open h) (Open k) = key-tells h k
+index-tells (Open h) (Fixed s) = refl
+index-tells (Fixed r) (Headed k) = refl
+index-tells (Fixed r) (Open k) = refl
+index-tells (Fixed r) (Fixed s) = refl
 
-  abbrev pub Changes : HashMap ImplHead (Vec ImplId A) S → HashMap ImplHead (Vec ImplId A) S → ImplHead → Vec ImplId A → Type 0
-  Changes m n h w = (q : ImplHead) → get_by (key.eq q) n ≡ cond (key.eq h q) (Some w) (get_by (key.eq q) m)
+-- and so are two equal keys
+keys-agree : (h k : ImplKey) → is_key h k ≡ true → (j : ImplKey) → is_key h j ≡ is_key k j
+keys-agree (Headed h) (Headed k) e (Headed j) = heads-agree h k e j
+keys-agree (Headed h) (Headed k) e (Open j) = refl
+keys-agree (Headed h) (Headed k) e (Fixed q) = refl
+keys-agree (Headed h) (Open k) e j = absurd cc
+keys-agree (Headed h) (Fixed s) e j = absurd cc
+keys-agree (Open h) (Headed k) e j = absurd cc
+keys-agree (Open h) (Open k) e (Headed j) = refl
+keys-agree (Open h) (Open k) e (Open j) = heads-agree h k e j
+keys-agree (Open h) (Open k) e (Fixed q) = refl
+keys-agree (Open h) (Fixed s) e j = absurd cc
+keys-agree (Fixed r) (Headed k) e j = absurd cc
+keys-agree (Fixed r) (Open k) e j = absurd cc
+keys-agree (Fixed r) (Fixed s) e (Headed j) = refl
+keys-agree (Fixed r) (Fixed s) e (Open j) = refl
+keys-agree (Fixed r) (Fixed s) e (Fixed q) =
+    let p = and-both (r.def_id.index == s.def_id.index) _ e in
+    ap (λ n. (n == q.def_id.index) && (r.args.0 == q.args.0)) (one-number r.def_id.index s.def_id.index p.0)
+    ∙ ap (λ n. (s.def_id.index == q.def_id.index) && (n == q.args.0)) (one-number r.args.0 s.args.0 p.1)
 
-  changed : (m n : HashMap ImplHead (Vec ImplId A) S) (h : ImplHead) (w : Vec ImplId A) → Changes m n h w → (k : ImplHead) → listed n k ≡ cond (is_head h k) w.items (listed m k)
+pub same-self-itself : (a : Option Label) → same_self a a ≡ true
+same-self-itself None = refl
+same-self-itself (Some l) = same-label-itself l
+
+head-itself : (h : ImplHead) → is_head h h ≡ true
+head-itself h = ap (λ b. b && same_self (option_map label_of h.self_ty) (option_map label_of h.self_ty)) (self-number h.trait_id.index) ∙ same-self-itself (option_map label_of h.self_ty)
+
+key-itself : (k : ImplKey) → is_key k k ≡ true
+key-itself (Headed h) = head-itself h
+key-itself (Open h) = head-itself h
+key-itself (Fixed r) = ap (λ b. b && (r.args.0 == r.args.0)) (self-number r.def_id.index) ∙ self-number r.args.0
+
+module _ {S : Type 0} where
+  pub same-listed : (m : HashMap ImplKey ImplIds S) (h k : ImplKey) → is_key h k ≡ true → listed m h ≡ listed m k
+  same-listed m h k e = ap (λ o. option_map_or ids_in o []) (lookup-agree (is_key h) (is_key k) m.entries (keys-agree h k e))
+
+  pub listed-by : (m : HashMap ImplKey ImplIds S) (h : ImplKey) → listed m h ≡ option_map_or ids_in (get_by (index.eq h) m) []
+  listed-by m h = ap (λ o. option_map_or ids_in o []) (sym (lookup-agree (index.eq h) (is_key h) m.entries (index-tells h)))
+
+  abbrev pub Changes : HashMap ImplKey ImplIds S → HashMap ImplKey ImplIds S → ImplKey → ImplIds → Type 0
+  Changes m n h w = (q : ImplKey) → get_by (index.eq q) n ≡ cond (index.eq h q) (Some w) (get_by (index.eq q) m)
+
+  pub changed : (m n : HashMap ImplKey ImplIds S) (h : ImplKey) (w : ImplIds) → Changes m n h w → (k : ImplKey) → listed n k ≡ cond (is_key h k) (ids_in w) (listed m k)
   changed m n h w u k =
-      listed-by n k ∙ ap (λ o. option_map_or (λ v. v.items) o []) (u k) ∙ by (key.eq h k)
-      ∙ ap (λ t. cond t w.items (listed m k)) (key-tells h k)
+      listed-by n k ∙ ap (λ o. option_map_or ids_in o []) (u k) ∙ by (index.eq h k)
+      ∙ ap (λ t. cond t (ids_in w) (listed m k)) (index-tells h k)
     where
-      by : (b : Bool) → option_map_or (λ v. v.items) (cond b (Some w) (get_by (key.eq k) m)) [] ≡ cond b w.items (listed m k)
+      by : (b : Bool) → option_map_or ids_in (cond b (Some w) (get_by (index.eq k) m)) [] ≡ cond b (ids_in w) (listed m k)
       by true = refl
       by false = sym (listed-by m k)
 
-  pub listed-more : (m n : HashMap ImplHead (Vec ImplId A) S) (h : ImplHead) (w : Vec ImplId A) (i : ImplId) → Changes m n h w → w.items ≡ listed m h ++ i ∷ []
-      → (k : ImplHead) → listed n k ≡ (if is_head h k then listed m k ++ i ∷ [] else listed m k)
-  listed-more m n h w i u more k = changed m n h w u k ∙ by (is_head h k) refl
+  pub listed-more : (m n : HashMap ImplKey ImplIds S) (h : ImplKey) (w : ImplIds) (i : ImplId) → Changes m n h w → ids_in w ≡ listed m h ++ i ∷ []
+      → (k : ImplKey) → listed n k ≡ (if is_key h k then listed m k ++ i ∷ [] else listed m k)
+  listed-more m n h w i u more k = changed m n h w u k ∙ by (is_key h k) refl
     where
-      by : (b : Bool) → is_head h k ≡ b → cond b w.items (listed m k) ≡ cond b (listed m k ++ i ∷ []) (listed m k)
+      by : (b : Bool) → is_key h k ≡ b → cond b (ids_in w) (listed m k) ≡ cond b (listed m k ++ i ∷ []) (listed m k)
       by true e = more ∙ ap (λ l. l ++ i ∷ []) (same-listed m h k e)
       by false e = refl
 
-  pub listed-same : (m n : HashMap ImplHead (Vec ImplId A) S) (h : ImplHead) (w : Vec ImplId A) → Changes m n h w → w.items ≡ listed m h → (k : ImplHead) → listed n k ≡ listed m k
-  listed-same m n h w u stays k = changed m n h w u k ∙ by (is_head h k) refl
+  pub listed-same : (m n : HashMap ImplKey ImplIds S) (h : ImplKey) (w : ImplIds) → Changes m n h w → ids_in w ≡ listed m h → (k : ImplKey) → listed n k ≡ listed m k
+  listed-same m n h w u stays k = changed m n h w u k ∙ by (is_key h k) refl
     where
-      by : (b : Bool) → is_head h k ≡ b → cond b w.items (listed m k) ≡ listed m k
+      by : (b : Bool) → is_key h k ≡ b → cond b (ids_in w) (listed m k) ≡ listed m k
       by true e = stays ∙ same-listed m h k e
       by false e = refl
+
+  -- what is listed where the last one is taken away
+  pub listed-fewer : (m n : HashMap ImplKey ImplIds S) (h : ImplKey) (w : ImplIds) → Changes m n h w → (k : ImplKey) → is_key h k ≡ false → listed n k ≡ listed m k
+  listed-fewer m n h w u k e = changed m n h w u k ∙ ap (λ b. cond b (ids_in w) (listed m k)) e
+
+  pub listed-itself : (m n : HashMap ImplKey ImplIds S) (h : ImplKey) (w : ImplIds) → Changes m n h w → listed n h ≡ ids_in w
+  listed-itself m n h w u = changed m n h w u h ∙ ap (λ b. cond b (ids_in w) (listed m h)) (key-itself h)
+
+  -- the key has again what it had, once what was put under it is taken away
+  pub taken-back : (m n q : HashMap ImplKey ImplIds S) (h : ImplKey) (i : ImplId) → ((k : ImplKey) → listed n k ≡ (if is_key h k then listed m k ++ i ∷ [] else listed m k))
+      → ((ids : List ImplId) (j : ImplId) → listed n h ≡ ids ++ j ∷ [] → listed q h ≡ ids) → ((k : ImplKey) → is_key h k ≡ false → listed q k ≡ listed n k)
+      → (k : ImplKey) → listed q k ≡ listed m k
+  taken-back m n q h i added taken others k = by (is_key h k) refl
+    where
+      by : (b : Bool) → is_key h k ≡ b → listed q k ≡ listed m k
+      by true e =
+          sym (same-listed q h k e)
+          ∙ taken (listed m h) i (added h ∙ ap (λ b. if b then listed m h ++ i ∷ [] else listed m h) (key-itself h))
+          ∙ same-listed m h k e
+      by false e = others k e ∙ added k ∙ ap (λ b. if b then listed m k ++ i ∷ [] else listed m k) e
+
+-- ---- what ends is not empty
+pub no-end : (ids : List ImplId) (id : ImplId) → [] ≡ ids ++ id ∷ [] → ⊥
+no-end [] id e = absurd cc
+no-end (i ∷ ids) id e = absurd cc

@@ -14,3 +14,5 @@ pub mod Stacks
 pub mod Extending
 pub mod Elaborating
 pub mod Above
+pub mod Matched
+pub mod Sound

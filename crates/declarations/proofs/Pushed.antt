@@ -1,5 +1,5 @@
 -- One more impl, behind the others.
-use Rattle.std.proofs.Common.{◌≡◌, ℕ, ◌<◌, Bool, true, false, cond, ◌&&◌, List, [], ◌∷◌, ◌++◌, Option, Some, None, refl, sym, ap, ◌∙◌, subst, arith, if◌then◌else◌}
+use Rattle.std.proofs.Common.{◌≡◌, ℕ, ◌<◌, Bool, true, false, cond, ◌&&◌, ◌||◌, List, [], ◌∷◌, ◌++◌, Option, Some, None, refl, sym, ap, ◌∙◌, subst, arith, if◌then◌else◌}
 use Rattle.std.proofs.lemmas.List.{map_push}
 use Rattle.std.specs.Prelude.{◌==◌, map, filter}
 use Rattle.std.specs.Option.{option_map}
@@ -15,11 +15,15 @@ use Rattle.declarations.specs.declared.items.AdtDef.{AdtDef}
 use Rattle.declarations.specs.declared.items.TraitDef.{TraitDef}
 use Rattle.declarations.specs.declared.items.ImplDef.{ImplDef}
 use Rattle.declarations.specs.declared.heads.ImplHead.{ImplHead}
+use Rattle.declarations.specs.declared.heads.ImplKey.{ImplKey}
+use Rattle.declarations.specs.declared.heads.ImplKey.TheVariants.{Headed, Open, Fixed}
+use Rattle.declarations.specs.declared.simplify.SimplifiedType.{SimplifiedType}
 use Rattle.declarations.specs.declared.declarations.ImplEntry.{ImplEntry}
+use Rattle.declarations.specs.Apart.{is_fixed}
 use Rattle.declarations.specs.Heads.{label_of, same_self, head_of, begins_declared}
-use Rattle.declarations.specs.Index.{is_head}
+use Rattle.declarations.specs.Index.{is_head, is_key, has_head, has_key, ids_of, head_with}
 use Rattle.declarations.specs.Merges.{Each, Rises}
-use Rattle.declarations.specs.Items.{Items, HeldImpl, ids_with, with_struct, with_trait, with_impl, struct_in, trait_in, impl_in, held_impl, declared}
+use Rattle.declarations.specs.Items.{Items, HeldImpl, with_struct, with_trait, with_impl, struct_in, trait_in, impl_in, held_impl, declared}
 use Rattle.declarations.specs.Held.{AreHeld, StructHeld, TraitHeld, ImplHeld}
 use Rattle.type_terms.specs.Terms.{Entry, trees_at}
 use Rattle.type_terms.specs.Erased.{erased_struct, erased_trait, erased_impl}
@@ -38,39 +42,70 @@ self-turned None (Some m) = refl
 self-turned (Some l) None = refl
 self-turned (Some l) (Some m) = numbers-turned (numbers l) (numbers m)
 
-abbrev pub has : ℕ → Option Label → HeldImpl → Bool
-has t s i = (i.def.header.def_id.index == t) && same_self s i.self_head
-
-ids-pushed : (t : ℕ) (s : Option Label) (xs : List HeldImpl) (x : HeldImpl) → ids_with t s (xs ++ x ∷ []) ≡ (if has t s x then ids_with t s xs ++ x.id ∷ [] else ids_with t s xs)
-ids-pushed t s [] x = by (has t s x)
+ids-pushed : (p : HeldImpl → Bool) (xs : List HeldImpl) (x : HeldImpl) → ids_of p (xs ++ x ∷ []) ≡ (if p x then ids_of p xs ++ x.id ∷ [] else ids_of p xs)
+ids-pushed p [] x = by (p x)
   where
     by : (b : Bool) → map (λ i. i.id) (cond b (x ∷ []) []) ≡ (if b then x.id ∷ [] else [])
     by true = refl
     by false = refl
-ids-pushed t s (y ∷ ys) x = by (has t s y) (has t s x) (ids-pushed t s ys x)
+ids-pushed p (y ∷ ys) x = by (p y) (p x) (ids-pushed p ys x)
   where
-    by : (a b : Bool) → ids_with t s (ys ++ x ∷ []) ≡ (if b then ids_with t s ys ++ x.id ∷ [] else ids_with t s ys)
-        → map (λ i. i.id) (cond a (y ∷ filter (has t s) (ys ++ x ∷ [])) (filter (has t s) (ys ++ x ∷ [])))
-        ≡ (if b then map (λ i. i.id) (cond a (y ∷ filter (has t s) ys) (filter (has t s) ys)) ++ x.id ∷ [] else map (λ i. i.id) (cond a (y ∷ filter (has t s) ys) (filter (has t s) ys)))
+    by : (a b : Bool) → ids_of p (ys ++ x ∷ []) ≡ (if b then ids_of p ys ++ x.id ∷ [] else ids_of p ys)
+        → map (λ i. i.id) (cond a (y ∷ filter p (ys ++ x ∷ [])) (filter p (ys ++ x ∷ [])))
+        ≡ (if b then map (λ i. i.id) (cond a (y ∷ filter p ys) (filter p ys)) ++ x.id ∷ [] else map (λ i. i.id) (cond a (y ∷ filter p ys) (filter p ys)))
     by true true r = ap (λ l. y.id ∷ l) r
     by true false r = ap (λ l. y.id ∷ l) r
     by false true r = r
     by false false r = r
 
--- the list under each key, once the impl is put under its own
-pub pushed-under : (xs : List HeldImpl) (x : HeldImpl) (own h : ImplHead) (old new : List ImplId) → own.trait_id.index ≡ x.def.header.def_id.index → option_map label_of own.self_ty ≡ x.self_head
-    → old ≡ ids_with h.trait_id.index (option_map label_of h.self_ty) xs → new ≡ (if is_head own h then old ++ x.id ∷ [] else old)
-    → new ≡ ids_with h.trait_id.index (option_map label_of h.self_ty) (xs ++ x ∷ [])
-pushed-under xs x own h old new trait self before after =
-    after ∙ ap (λ l. if is_head own h then l ++ x.id ∷ [] else l) before
-    ∙ ap (λ b. if b then ids_with h.trait_id.index (option_map label_of h.self_ty) xs ++ x.id ∷ [] else ids_with h.trait_id.index (option_map label_of h.self_ty) xs) test
-    ∙ sym (ids-pushed h.trait_id.index (option_map label_of h.self_ty) xs x)
-  where
-    test : is_head own h ≡ has h.trait_id.index (option_map label_of h.self_ty) x
-    test =
-        ap (λ n. (n == h.trait_id.index) && same_self (option_map label_of own.self_ty) (option_map label_of h.self_ty)) trait
-        ∙ ap (λ s. (x.def.header.def_id.index == h.trait_id.index) && same_self s (option_map label_of h.self_ty)) self
-        ∙ ap (λ b. (x.def.header.def_id.index == h.trait_id.index) && b) (self-turned x.self_head (option_map label_of h.self_ty))
+-- ---- the keys of an impl
+or-false : (b : Bool) → (b || false) ≡ b
+or-false true = refl
+or-false false = refl
+
+and-false : (b : Bool) → false ≡ (b && false)
+and-false true = refl
+and-false false = refl
+
+and-true : (b : Bool) → b ≡ (b && true)
+and-true true = refl
+and-true false = refl
+
+module _ (i : ImplId) (def : ImplDef) (s : Option SimplifiedType) where
+  abbrev entry : Bool → HeldImpl
+  entry f = impl_of (i, record { def = def; self_ty = s; is_fixed = f })
+
+  abbrev own : Bool → ImplKey
+  own f = if f then Fixed def.header else Open (head_with def.header s)
+
+  turned-head : (f : Bool) (k : ImplHead) → is_head (head_with def.header s) k ≡ has_head k (entry f)
+  turned-head f k = ap (λ b. (def.header.def_id.index == k.trait_id.index) && b) (self-turned (option_map label_of s) (option_map label_of k.self_ty))
+
+  has-keys : (f : Bool) (k : ImplKey) → (is_key (Headed (head_with def.header s)) k || is_key (own f) k) ≡ has_key k (entry f)
+  has-keys true (Headed k) = or-false (is_head (head_with def.header s) k) ∙ turned-head true k
+  has-keys false (Headed k) = or-false (is_head (head_with def.header s) k) ∙ turned-head false k
+  has-keys true (Open k) = and-false (has_head k (entry true))
+  has-keys false (Open k) = turned-head false k ∙ and-true (has_head k (entry false))
+  has-keys true (Fixed q) = refl
+  has-keys false (Fixed q) = refl
+
+  -- no key is both that of its head and its own
+  pub apart-keys : (f : Bool) (o : ImplKey) → o ≡ own f → (k : ImplKey) → is_key (Headed (head_with def.header s)) k ≡ true → is_key o k ≡ false
+  apart-keys f o e k h = ap (λ x. is_key x k) e ∙ by f k h
+    where
+      by : (f : Bool) (k : ImplKey) → is_key (Headed (head_with def.header s)) k ≡ true → is_key (own f) k ≡ false
+      by true (Headed k) h = refl
+      by false (Headed k) h = refl
+      by f (Open k) h = absurd cc
+      by f (Fixed q) h = absurd cc
+
+  -- the list under each key, once the impl is put under both
+  pub pushed-under : (f : Bool) (o : ImplKey) → o ≡ own f → (xs : List HeldImpl) (k : ImplKey) (old new : List ImplId) → old ≡ ids_of (has_key k) xs
+      → new ≡ (if is_key (Headed (head_with def.header s)) k || is_key o k then old ++ i ∷ [] else old) → new ≡ ids_of (has_key k) (xs ++ entry f ∷ [])
+  pushed-under f o e xs k old new before after =
+      after ∙ ap (λ l. if is_key (Headed (head_with def.header s)) k || is_key o k then l ++ i ∷ [] else l) before
+      ∙ ap (λ b. if b then ids_of (has_key k) xs ++ i ∷ [] else ids_of (has_key k) xs) (ap (λ x. is_key (Headed (head_with def.header s)) k || is_key x k) e ∙ has-keys f k)
+      ∙ sym (ids-pushed (has_key k) xs (entry f))
 
 pub rises-more : (xs : List HeldImpl) (x : HeldImpl) → Rises (map (λ i. i.id) xs) → Each (λ i. i.id.index < x.id.index) xs → Rises (map (λ i. i.id) (xs ++ x ∷ []))
 rises-more xs x r h = subst Rises (sym (map_push (λ i. i.id) xs x)) (rises-pushed (λ (i : HeldImpl). i.id) xs x.id r h)
@@ -93,10 +128,13 @@ more-structs a now x l v e = ap (λ s. let d : Items = record a { structs = s } 
 pub more-traits : (a now : Items) (x : TraitId × TraitDef) (l : List (TraitId × TraitDef)) → a ≡ now → l ≡ a.traits ++ x ∷ [] → record a { traits = l } ≡ with_trait now x
 more-traits a now x l v e = ap (λ s. let d : Items = record a { traits = s } in d) e ∙ ap (λ d. with_trait d x) v
 
-pub more-impls : (a now : Items) (i : ImplId) (def : ImplDef) (s t : Option Label) (l : List HeldImpl) → a ≡ now → l ≡ a.impls ++ record { id = i; def = def; self_head = s } ∷ [] → s ≡ t
-    → record a { impls = l } ≡ with_impl now (record { id = i; def = def; self_head = t })
-more-impls a now i def s t l v e h =
-    ap (λ s. let d : Items = record a { impls = s } in d) e ∙ ap (λ o. with_impl a (record { id = i; def = def; self_head = o })) h ∙ ap (λ d. with_impl d (record { id = i; def = def; self_head = t })) v
+pub more-impls : (a now : Items) (i : ImplId) (def : ImplDef) (s t : Option Label) (f g : Bool) (l : List HeldImpl) → a ≡ now
+    → l ≡ a.impls ++ record { id = i; def = def; self_head = s; is_fixed = f } ∷ [] → s ≡ t → f ≡ g
+    → record a { impls = l } ≡ with_impl now (record { id = i; def = def; self_head = t; is_fixed = g })
+more-impls a now i def s t f g l v e h k =
+    ap (λ s. let d : Items = record a { impls = s } in d) e ∙ ap (λ o. with_impl a (record { id = i; def = def; self_head = o; is_fixed = f })) h
+    ∙ ap (λ b. with_impl a (record { id = i; def = def; self_head = t; is_fixed = b })) k
+    ∙ ap (λ d. with_impl d (record { id = i; def = def; self_head = t; is_fixed = g })) v
 
 pub head-of-first : (A : Trees) → begins_declared A ≡ true → head_of (nth A 0) ≡ head_of A
 head-of-first none h = absurd cc
@@ -122,11 +160,11 @@ each-more P (x ∷ xs) y h p = (h.0, each-more P xs y h.1 p)
 
 pub struct-held : (es : List Entry) (d n : Items) (i : AdtId) (def : AdtDef) → AreHeld es d → StructHeld es def → n ≡ with_struct d (i, def) → AreHeld es n
 struct-held es d n i def h x e =
-    subst (AreHeld es) (sym e) (record { structs = each-more (λ y. StructHeld es y.1) d.structs (i, def) h.structs x; traits = h.traits; impls = h.impls; heads = h.heads })
+    subst (AreHeld es) (sym e) (record { structs = each-more (λ y. StructHeld es y.1) d.structs (i, def) h.structs x; traits = h.traits; impls = h.impls; heads = h.heads; fixed = h.fixed })
 
 pub trait-held : (es : List Entry) (d n : Items) (i : TraitId) (def : TraitDef) → AreHeld es d → TraitHeld es def → n ≡ with_trait d (i, def) → AreHeld es n
 trait-held es d n i def h x e =
-    subst (AreHeld es) (sym e) (record { structs = h.structs; traits = each-more (λ y. TraitHeld es y.1) d.traits (i, def) h.traits x; impls = h.impls; heads = h.heads })
+    subst (AreHeld es) (sym e) (record { structs = h.structs; traits = each-more (λ y. TraitHeld es y.1) d.traits (i, def) h.traits x; impls = h.impls; heads = h.heads; fixed = h.fixed })
 
 pub impl-held : (es : List Entry) (d n : Items) (i : ImplId) (def : ImplDef) → AreHeld es d → ImplHeld es def → n ≡ with_impl d (held_impl es i def) → AreHeld es n
 impl-held es d n i def h x e =
@@ -136,4 +174,5 @@ impl-held es d n i def h x e =
       traits = h.traits;
       impls = each-more (λ (y : HeldImpl). ImplHeld es y.def) d.impls (held_impl es i def) h.impls x;
       heads = each-more (λ (y : HeldImpl). y.self_head ≡ head_of (trees_at es y.def.header.args.0)) d.impls (held_impl es i def) h.heads refl;
+      fixed = each-more (λ (y : HeldImpl). y.is_fixed ≡ is_fixed (trees_at es y.def.header.args.0)) d.impls (held_impl es i def) h.fixed refl;
     })

@@ -80,12 +80,12 @@ relevant-at l (param of_const i) c o d q h = absurd cc
 relevant-at l (param of_lifetime i) c o d q h = absurd cc
 relevant-at l m c o d q h = rigid-at l m c o d q h
 
-relevant-one : (l : Label) (c o A : Trees) → begins_declared A ≡ true → is_relevant_to (erase (tree l c o)) (erase A) ≡ wanted (head_of (tree l c o)) (head_of A)
+pub relevant-one : (l : Label) (c o A : Trees) → begins_declared A ≡ true → is_relevant_to (erase (tree l c o)) (erase A) ≡ wanted (head_of (tree l c o)) (head_of A)
 relevant-one l c o none h = absurd cc
 relevant-one l c o (tree m d q) h = relevant-at l m c o d q h
 
 -- ---- lists
-one-more : (a b : Bool) (i : HeldImpl) (j : ImplDecl) (is : List HeldImpl) (js : List ImplDecl) → i.id.index ≡ j.name → a ≡ b
+pub one-more : (a b : Bool) (i : HeldImpl) (j : ImplDecl) (is : List HeldImpl) (js : List ImplDecl) → i.id.index ≡ j.name → a ≡ b
     → names_of (map (λ i. i.id) is) ≡ map (λ j. j.name) js → names_of (map (λ i. i.id) (cond a (i ∷ is) is)) ≡ map (λ j. j.name) (cond b (j ∷ js) js)
 one-more true true i j is js n e r = cc
 one-more true false i j is js n e r = absurd cc
@@ -107,7 +107,7 @@ pub all-relevant : (es : List Entry) (d : Items) (t : ℕ) (S : Trees) → IsA o
 all-relevant es d t none s h = absurd s
 all-relevant es d t (tree l c o) s h = names-relevant es d.impls t l c o h.impls h.heads
 
-spread : (a b c : Bool) → (a && (b || c)) ≡ ((a && b) || (a && c))
+pub spread : (a b c : Bool) → (a && (b || c)) ≡ ((a && b) || (a && c))
 spread true b c = refl
 spread false b c = refl
 

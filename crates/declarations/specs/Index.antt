@@ -1,16 +1,57 @@
--- Impls by their trait and the head of their self type.
-use Rattle.std.specs.Prelude.{Bool, ◌==◌, ◌&&◌, List, []}
+-- Impls by their keys: the trait and the head of their self type, or their header.
+use Rattle.std.specs.Prelude.{Bool, false, ◌==◌, ◌&&◌, ◌||◌, not, List, [], ◌∷◌, map, filter, Option, None}
 use Rattle.std.specs.Option.{option_map, option_map_or}
 use Rattle.std.specs.HashMap.{HashMap, get_by}
-use Rattle.std.specs.declared.vec.Vec.{Vec}
 use Rattle.type_terms.specs.declared.ImplId.{ImplId}
+use Rattle.term_folds.specs.declared.predicate.TraitRef.{TraitRef}
 use Rattle.declarations.specs.declared.heads.ImplHead.{ImplHead}
+use Rattle.declarations.specs.declared.heads.ImplIds.{ImplIds}
+use Rattle.declarations.specs.declared.heads.ImplIds.TheVariants.{Empty, One, More}
+use Rattle.declarations.specs.declared.heads.ImplKey.{ImplKey}
+use Rattle.declarations.specs.declared.heads.ImplKey.TheVariants.{Headed, Open, Fixed}
+use Rattle.declarations.specs.declared.simplify.SimplifiedType.{SimplifiedType}
 use Rattle.declarations.specs.Heads.{label_of, same_self}
+use Rattle.declarations.specs.Items.{HeldImpl}
 
--- Two keys are one.
+-- Two heads are one.
 abbrev pub is_head : ImplHead → ImplHead → Bool
 is_head h k = (h.trait_id.index == k.trait_id.index) && same_self (option_map label_of h.self_ty) (option_map label_of k.self_ty)
 
--- The impls under a key.
-abbrev pub listed : {A S : Type 0} → HashMap ImplHead (Vec ImplId A) S → ImplHead → List ImplId
-listed m h = option_map_or (λ v. v.items) (get_by (is_head h) m) []
+-- Two keys are one.
+abbrev pub is_key : ImplKey → ImplKey → Bool
+is_key (Headed h) (Headed k) = is_head h k
+is_key (Open h) (Open k) = is_head h k
+is_key (Fixed r) (Fixed s) = (r.def_id.index == s.def_id.index) && (r.args.0 == s.args.0)
+is_key _ _ = false
+
+-- The impls that are kept under a key.
+abbrev pub ids_in : ImplIds → List ImplId
+ids_in Empty = []
+ids_in (One i) = i ∷ []
+ids_in (More v) = v.items
+
+-- The impls that are listed under a key.
+abbrev pub listed : {S : Type 0} → HashMap ImplKey ImplIds S → ImplKey → List ImplId
+listed m k = option_map_or ids_in (get_by (is_key k) m) []
+
+-- The impl is of this trait, and its self type has this head; no head for one whose self type is a parameter.
+abbrev pub has_head : ImplHead → HeldImpl → Bool
+has_head h i = (i.def.header.def_id.index == h.trait_id.index) && same_self (option_map label_of h.self_ty) i.self_head
+
+-- The impl has the key.
+abbrev pub has_key : ImplKey → HeldImpl → Bool
+has_key (Headed h) i = has_head h i
+has_key (Open h) i = has_head h i && not i.is_fixed
+has_key (Fixed r) i = i.is_fixed && ((i.def.header.def_id.index == r.def_id.index) && (i.def.header.args.0 == r.args.0))
+
+-- The numbers of the impls that are so.
+abbrev pub ids_of : (HeldImpl → Bool) → List HeldImpl → List ImplId
+ids_of p is = map (λ i. i.id) (filter p is)
+
+-- The trait of a reference with the head of a self type.
+abbrev pub head_with : TraitRef → Option SimplifiedType → ImplHead
+head_with r s = record { trait_id = r.def_id; self_ty = s }
+
+-- A fixed reference whose self type has this head can match the impl: its header is the reference, or is not fixed.
+abbrev pub can_meet : TraitRef → Option SimplifiedType → HeldImpl → Bool
+can_meet r s i = (has_key (Open (head_with r None)) i || has_key (Open (head_with r s)) i) || has_key (Fixed r) i

@@ -3,16 +3,16 @@ use Rattle.std.specs.Prelude.{◌≡◌, map}
 use Rattle.std.specs.Option.{option_map}
 use Rattle.type_terms.specs.declared.ImplId.{ImplId}
 use Rattle.declarations.specs.Heads.{label_of}
-use Rattle.declarations.specs.Index.{listed}
+use Rattle.declarations.specs.Index.{listed, has_key, ids_of}
 use Rattle.declarations.specs.Merges.{Rises}
-use Rattle.declarations.specs.Items.{Items, HeldImpl, ids_with}
-use Rattle.declarations.specs.declared.heads.ImplHead.{ImplHead}
+use Rattle.declarations.specs.Items.{Items, HeldImpl}
+use Rattle.declarations.specs.declared.heads.ImplKey.{ImplKey}
 use Rattle.declarations.specs.declared.declarations.ImplEntry.{ImplEntry}
 use Rattle.declarations.specs.declared.declarations.Declarations.TheInside.{Inside}
 
 -- An impl of the table.
 abbrev pub impl_of : ImplId × ImplEntry → HeldImpl
-impl_of x = record { id = x.0; def = x.1.def; self_head = option_map label_of x.1.self_ty }
+impl_of x = record { id = x.0; def = x.1.def; self_head = option_map label_of x.1.self_ty; is_fixed = x.1.is_fixed }
 
 -- The lists that the tables hold.
 abbrev pub items_of : Inside → Items
@@ -21,4 +21,4 @@ items_of a = record { local = a.local.index; structs = a.adts.entries; traits = 
 -- Numbers of impls rise, and under each key are the impls that have it.
 pub record IndexIsSound (a : Inside) : Type 0 where
   pub rises : Rises (map (λ i. i.id) (items_of a).impls)
-  pub indexed : (h : ImplHead) → listed a.heads h ≡ ids_with h.trait_id.index (option_map label_of h.self_ty) (items_of a).impls
+  pub indexed : (k : ImplKey) → listed a.keys k ≡ ids_of (has_key k) (items_of a).impls

@@ -1,5 +1,5 @@
 -- What a contract sees of declarations, and the world that they are.
-use Rattle.std.specs.Prelude.{◌≡◌, ℕ, ◌<◌, ◌==◌, ◌&&◌, if◌then◌else◌, List, [], ◌∷◌, ◌++◌, map, filter, length, Option, None, Some}
+use Rattle.std.specs.Prelude.{◌≡◌, ℕ, Bool, ◌<◌, ◌==◌, ◌&&◌, if◌then◌else◌, List, [], ◌∷◌, ◌++◌, map, filter, length, Option, None, Some}
 use Rattle.type_terms.specs.Label.{Label}
 use Rattle.type_terms.specs.Worlds.{World, Reference, StructDecl, TraitDecl, ImplDecl}
 use Rattle.type_terms.specs.Erased.{erased_world}
@@ -11,14 +11,16 @@ use Rattle.term_folds.specs.declared.predicate.TraitRef.{TraitRef}
 use Rattle.declarations.specs.declared.items.AdtDef.{AdtDef}
 use Rattle.declarations.specs.declared.items.TraitDef.{TraitDef}
 use Rattle.declarations.specs.declared.items.ImplDef.{ImplDef}
+use Rattle.declarations.specs.Apart.{is_fixed}
 use Rattle.declarations.specs.Heads.{head_of, same_self}
 use Rattle.declarations.specs.Merges.{Each}
 
--- An impl with its number and the head of its self type, if that is no parameter.
+-- An impl with its number, the head of its self type, if that is no parameter, and whether its header is fixed.
 pub record HeldImpl : Type 0 where
   pub id : ImplId
   pub def : ImplDef
   pub self_head : Option Label
+  pub is_fixed : Bool
 
 -- The crate that asks, and the structs, traits and impls that it sees, in the order in which they were added.
 pub record Items : Type 0 where
@@ -41,7 +43,7 @@ with_impl d x = record d { impls = d.impls ++ x ∷ [] }
 
 -- An impl with the head that its self type has among the terms of an interner.
 abbrev pub held_impl : List Entry → ImplId → ImplDef → HeldImpl
-held_impl es i def = record { id = i; def = def; self_head = head_of (trees_at es def.header.args.0) }
+held_impl es i def = let args = trees_at es def.header.args.0 in record { id = i; def = def; self_head = head_of args; is_fixed = is_fixed args }
 
 -- The number is above those of all impls.
 abbrev pub IsAbove : ℕ → Items → Type 0

@@ -1,3 +1,4 @@
+pub mod Apart
 pub mod Heads
 pub mod Index
 pub mod Merges
@@ -6,7 +7,6 @@ pub mod Unsizing
 pub mod Elaboration
 pub mod Held
 pub mod Relevant
-pub mod TwoLists
 pub mod Applied
 pub mod Stacked
 pub mod Inside

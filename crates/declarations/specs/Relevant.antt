@@ -1,12 +1,13 @@
 -- Impls by number, and those that can match a self type.
-use Rattle.std.specs.Prelude.{◌≡◌, ℕ, Bool, true, false, ◌==◌, ◌&&◌, nat_lt, if◌then◌else◌, List, [], ◌∷◌, map, filter, Option, Some, None}
+use Rattle.std.specs.Prelude.{◌≡◌, ℕ, Bool, true, false, ◌==◌, ◌&&◌, nat_lt, not, if◌then◌else◌, List, [], ◌∷◌, map, filter, Option, Some, None}
 use Rattle.type_terms.specs.Trees.{Trees, none, tree, erase}
-use Rattle.type_terms.specs.Worlds.{World, ImplDecl}
+use Rattle.type_terms.specs.Worlds.{World, Reference, ImplDecl}
 use Rattle.type_terms.specs.Rules.{same_head}
 use Rattle.std.specs.List.{FoldsTo}
 use Rattle.type_terms.specs.Terms.{Entry}
 use Rattle.type_terms.specs.declared.ImplId.{ImplId}
-use Rattle.declarations.specs.Items.{Items, declared}
+use Rattle.declarations.specs.Apart.{are_apart}
+use Rattle.declarations.specs.Items.{Items, declared, written}
 
 -- The impls of a number.
 abbrev pub impls_named : World → ℕ → List ImplDecl
@@ -29,6 +30,14 @@ names_of ids = map (λ i. i.index) ids
 abbrev pub relevant_in : List Entry → Items → ℕ → Trees → List ℕ
 relevant_in es d t S = map (λ i. i.name) (relevant_impls (declared es d) t (erase S))
 
+-- The impl is of the trait, its self type can match the first of the arguments, and its own are not apart from them.
+abbrev pub is_match : ℕ → Trees → ImplDecl → Bool
+is_match t args i = (i.header.trait == t) && (is_relevant_to (erase args) (erase i.header.args) && not (are_apart args i.header.args))
+
+-- The numbers of the impls that can match the reference, as heads tell, and whether both are fixed.
+abbrev pub matches_in : List Entry → Items → Reference → List ℕ
+matches_in es d r = map (λ i. i.name) (filter (is_match r.trait r.args) (written es d).impls)
+
 -- The number is above the last one considered, if there is one.
 abbrev pub is_above : Option ImplId → ℕ → Bool
 is_above None n = true
@@ -38,6 +47,12 @@ is_above (Some last) n = nat_lt last.index n
 abbrev pub next_above : Option ImplId → List ℕ → Option ℕ
 next_above last [] = None
 next_above last (n ∷ ns) = if is_above last n then Some n else next_above last ns
+
+-- The smaller of two numbers, where both are there; else the one that is.
+abbrev pub smaller_of : Option ℕ → Option ℕ → Option ℕ
+smaller_of None n = n
+smaller_of (Some m) None = Some m
+smaller_of (Some m) (Some n) = if nat_lt m n then Some m else Some n
 
 -- Steps of a closure, one at each impl of these numbers, in their order.
 abbrev pub CallsAtEach : {F : Type 0} → (F → ImplId → F → Type 0) → F → List ℕ → Type 0

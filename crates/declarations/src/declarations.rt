@@ -1,40 +1,63 @@
 //! The table of declarations.
-ghost use Rattle.std.specs.Prelude.{◌≡◌, ◌==◌, ◌||◌, List, [], ◌∷◌, ◌++◌, map, filter, IfSome, IfErr, OnOk, OnErr};
+ghost use Rattle.std.specs.Prelude.{◌≡◌, ◌==◌, ◌||◌, List, [], ◌∷◌, ◌++◌, map, if◌then◌else◌, IfSome, IfErr, OnOk, OnErr};
 ghost use Rattle.std.specs.Option.{option_map};
-ghost use Rattle.type_terms.specs.Terms.{Entry, Has, types, trees_at};
+ghost use Rattle.type_terms.specs.Terms.{Entry, Has, types, args_lists, trees_at};
 ghost use Rattle.type_terms.specs.declared.Fault.TheVariants.{Memory};
 ghost use Rattle.type_terms.specs.Erased.{erased_struct, erased_trait, erased_impl};
 ghost use Rattle.type_terms.specs.Worlds.{structs_named, traits_named};
 ghost use Rattle.type_terms.specs.Walks.{trait_is};
+ghost use Rattle.term_folds.specs.Signatures.{StartsWithType};
+ghost use Rattle.declarations.specs.Apart.{is_fixed};
 ghost use Rattle.declarations.specs.Heads.{label_of};
-ghost use Rattle.declarations.specs.Items.{IsOnly, ids_with, ids_headed, with_struct, with_trait, with_impl, struct_in, trait_in, impl_in, struct_at, trait_at, impl_at, written, declared, held_impl, IsAbove};
+ghost use Rattle.declarations.specs.Index.{has_key, ids_of, can_meet};
+ghost use Rattle.declarations.specs.Items.{IsOnly, ids_with, ids_headed, reference_in, with_struct, with_trait, with_impl, struct_in, trait_in, impl_in, struct_at, trait_at, impl_at, written, declared, held_impl, IsAbove};
 ghost use Rattle.declarations.specs.Merges.{Rises};
-ghost use Rattle.declarations.specs.Held.{AreHeld, StructHeld, TraitHeld, ImplHeld};
+ghost use Rattle.declarations.specs.Held.{AreHeld, ReferenceHeld, StructHeld, TraitHeld, ImplHeld};
 ghost use Rattle.declarations.specs.Unsizing.{TellUnsizing};
-ghost use Rattle.declarations.specs.Relevant.{impls_named, relevant_in, is_above, next_above, CallsAtEach};
-ghost use Rattle.declarations.specs.TwoLists.{AreTogether};
+ghost use Rattle.declarations.specs.Relevant.{impls_named, relevant_in, matches_in, names_of, next_above, CallsAtEach};
 
-use crate::heads::{ImplHead, add_head, impls_with_head};
+use crate::heads::{ImplHead, ImplIds, ImplKey, add_keys, impls_with_key};
 use crate::items::{AdtDef, ImplDef, TraitDef};
-use crate::merge::{for_each_merged, ids_above, split_smaller};
+use crate::merge::{first_above, for_each_merged, smaller};
 use crate::simplify::{SimplifiedType, simplify_type};
 use indexmap::IndexMap;
 use std::alloc::Global;
 use std::marker::Model;
 use term_folds::predicate::TraitRef;
 use type_terms::interner::Interner;
-use type_terms::kinds::Ty;
+use type_terms::kinds::{GenericArgs, Ty};
 use type_terms::{AdtId, CrateId, Fault, ImplId, TraitId};
 
-/// An impl with the head of its self type.
+/// An impl with the head of its self type, and whether its header is fixed.
 #[derive(Drop)]
 struct ImplEntry {
     def: ImplDef,
     self_ty: Option<SimplifiedType>,
+    is_fixed: bool,
+}
+
+/// Whether nothing is open in the arguments, and no lifetime stands in them. Their flags tell, and no type is walked.
+fn is_fixed(cx: &Interner, args: GenericArgs) -> bool
+    requires { Has cx.now.entries args_lists args.0 }
+    ensures { result ≡ is_fixed (trees_at cx.now.entries args.0) }
+{
+    cx.flags(args).0 == 0
+}
+
+/// What an impl is found by beside its trait and head: its header if that is fixed, so that others with this trait and head are not
+/// looked at; else both as one that is not fixed.
+fn own_key(head: ImplHead, header: TraitRef, is_fixed: bool) -> ImplKey
+    ensures { result ≡ (if is_fixed then ImplKey.Fixed header else ImplKey.Open head) }
+{
+    if is_fixed {
+        ImplKey::Fixed(header)
+    } else {
+        ImplKey::Open(head)
+    }
 }
 
 /// The structs, traits and impls that one crate sees, each found by its number, and the impls of a trait by the heads of their
-/// self types, as `TraitImpls` of the original.
+/// self types, as `TraitImpls` of the original; those whose headers are fixed also by their headers.
 ///
 /// A contract sees them as lists in the order in which they were added; `declared` is the world that these are, without
 /// lifetimes, over the terms of an interner. It has no list of crates: which of them are seen was decided when the declarations
@@ -44,7 +67,7 @@ pub struct Declarations {
     adts: IndexMap<AdtId, AdtDef>,
     traits: IndexMap<TraitId, TraitDef>,
     impls: IndexMap<ImplId, ImplEntry>,
-    heads: IndexMap<ImplHead, Vec<ImplId>>,
+    keys: IndexMap<ImplKey, ImplIds>,
     alloc: Global,
 }
 
@@ -56,7 +79,7 @@ impl Drop for Declarations {
             adts: _,
             traits: _,
             impls: _,
-            heads: _,
+            keys: _,
             alloc: _,
         } = self;
     }
@@ -84,9 +107,23 @@ impl Declarations {
             adts: IndexMap::new(alloc),
             traits: IndexMap::new(alloc),
             impls: IndexMap::new(alloc),
-            heads: IndexMap::new(alloc),
+            keys: IndexMap::new(alloc),
             alloc,
         }
+    }
+
+    /// Room for so many further structs, traits and impls, so that the tables do not grow step by step. The error is `Memory`.
+    pub fn reserve(&mut self, adts: usize, traits: usize, impls: usize) -> Result<(), Fault>
+        ensures same { self.new ≡ self.old }
+        ensures memory { IfErr result (λ fault. fault ≡ Memory) }
+    {
+        self.adts.reserve(adts)?;
+        self.traits.reserve(traits)?;
+        self.impls.reserve(impls)?;
+
+        // An impl has two keys, and mostly no other impl has them.
+        self.keys.reserve(impls.saturating_mul(2))?;
+        Ok(())
     }
 
     /// Adds a struct, whose number is new. After an error, which is `Memory`, nothing has changed.
@@ -126,14 +163,22 @@ impl Declarations {
         ensures refused { OnErr result (self.new ≡ self.old) }
         ensures memory { IfErr result (λ fault. fault ≡ Memory) }
     {
-        let self_ty = simplify_type(cx, def.header.self_ty(cx));
+        let header = def.header;
+        let self_ty = simplify_type(cx, header.self_ty(cx));
+        let is_fixed = is_fixed(cx, header.args);
         let head = ImplHead {
-            trait_id: def.header.def_id,
+            trait_id: header.def_id,
             self_ty,
         };
+        let own = own_key(head, header, is_fixed);
         self.impls.reserve(1)?;
-        add_head(self.alloc, &mut self.heads, head, id)?;
-        match self.impls.insert(id, ImplEntry { def, self_ty }) {
+        add_keys(self.alloc, &mut self.keys, ImplKey::Headed(head), own, id)?;
+        let entry = ImplEntry {
+            def,
+            self_ty,
+            is_fixed,
+        };
+        match self.impls.insert(id, entry) {
             Ok(_) => Ok(()),
             Err(_) => unreachable!(),
         }
@@ -236,26 +281,6 @@ impl Declarations {
         for_each_merged(blanket, same_head, f);
     }
 
-    /// The impls above `last` at which `for_each_relevant_impl` calls, in two lists, both by rising number: those whose self type is
-    /// a parameter, and those whose self type has the same head.
-    pub fn relevant_impls_above(
-        &self,
-        cx: &Interner,
-        trait_id: TraitId,
-        self_ty: Ty,
-        last: Option<ImplId>,
-    ) -> (&[ImplId], &[ImplId])
-        requires held { AreHeld cx.now.entries self.now }
-        requires self_held { Has cx.now.entries types self_ty.0 }
-        ensures are { AreTogether result.0.now result.1.now (filter (is_above last) (relevant_in cx.now.entries self.now trait_id.index (trees_at cx.now.entries self_ty.0))) }
-        ensures rises { Rises (map (λ i. i.id) self.now.impls) }
-    {
-        cx.lawful();
-        let blanket = ids_above(self.impls_with(trait_id, None), last);
-        let same_head = ids_above(self.with_head(trait_id, simplify_type(cx, self_ty)), last);
-        (blanket, same_head)
-    }
-
     /// The first impl above `last` at which `for_each_relevant_impl` calls. So a walk over these impls may stop at each, and go on
     /// behind it without the others being looked at again.
     pub fn next_relevant_impl(
@@ -270,11 +295,76 @@ impl Declarations {
         ensures is { option_map (λ i. i.index) result ≡ next_above last (relevant_in cx.now.entries self.now trait_id.index (trees_at cx.now.entries self_ty.0)) }
         ensures rises { Rises (map (λ i. i.id) self.now.impls) }
     {
-        let (blanket, same_head) = self.relevant_impls_above(cx, trait_id, self_ty, last);
-        match split_smaller(blanket, same_head) {
-            Some((id, _, _)) => Some(id),
-            None => None,
+        cx.lawful();
+        let same_head = self.with_head(trait_id, simplify_type(cx, self_ty));
+        smaller(
+            first_above(self.impls_with(trait_id, None), last),
+            first_above(same_head, last),
+        )
+    }
+
+    /// The first impl above `last` that can match a reference, as heads and handles tell: those at which `for_each_relevant_impl`
+    /// calls, but for those whose arguments are apart from the reference's. So `[u8; 1]` meets `impl Show for [u8; 1]` and
+    /// `impl<T> Show for [T; 2]`, and not `impl Show for [u8; 2]` (a part of what `DeepRejectCtxt` of the original tells).
+    ///
+    /// A fixed reference finds the fixed header that it matches by its handle, so that no other is looked at.
+    pub fn next_matching_impl(
+        &self,
+        cx: &Interner,
+        trait_ref: TraitRef,
+        last: Option<ImplId>,
+    ) -> Option<ImplId>
+        requires held { AreHeld cx.now.entries self.now }
+        requires reference { ReferenceHeld cx.now.entries trait_ref }
+        requires first { StartsWithType (trees_at cx.now.entries trait_ref.args.0) }
+        ensures is { option_map (λ i. i.index) result ≡ next_above last (matches_in cx.now.entries self.now (reference_in cx.now.entries trait_ref)) }
+        ensures rises { Rises (map (λ i. i.id) self.now.impls) }
+    {
+        cx.lawful();
+        let self_ty = trait_ref.self_ty(cx);
+        if !is_fixed(cx, trait_ref.args) {
+            return self.next_relevant_impl(cx, trait_ref.def_id, self_ty, last);
         }
+        self.next_of_fixed(trait_ref, simplify_type(cx, self_ty), last)
+    }
+
+    /// The first impl above `last` whose header is this one, or is not fixed and has the trait and either that head or none.
+    fn next_of_fixed(
+        &self,
+        trait_ref: TraitRef,
+        self_ty: Option<SimplifiedType>,
+        last: Option<ImplId>,
+    ) -> Option<ImplId>
+        ensures is { option_map (λ i. i.index) result ≡ next_above last (names_of (ids_of (can_meet trait_ref self_ty) self.now.impls)) }
+        ensures rises { Rises (map (λ i. i.id) self.now.impls) }
+    {
+        let trait_id = trait_ref.def_id;
+        let blanket = ImplKey::Open(ImplHead {
+            trait_id,
+            self_ty: None,
+        });
+        let same_head = ImplKey::Open(ImplHead { trait_id, self_ty });
+        let open = smaller(
+            self.next_with(blanket, last),
+            self.next_with(same_head, last),
+        );
+        smaller(open, self.next_with(ImplKey::Fixed(trait_ref), last))
+    }
+
+    /// The first impl above `last` that has the key.
+    fn next_with(&self, key: ImplKey, last: Option<ImplId>) -> Option<ImplId>
+        ensures is { option_map (λ i. i.index) result ≡ next_above last (names_of (ids_of (has_key key) self.now.impls)) }
+        ensures rises { Rises (map (λ i. i.id) self.now.impls) }
+    {
+        first_above(self.with_key(key), last)
+    }
+
+    /// The impls that have the key.
+    fn with_key(&self, key: ImplKey) -> &[ImplId]
+        ensures is { result.now ≡ ids_of (has_key key) self.now.impls }
+        ensures rises { Rises (map (λ i. i.id) self.now.impls) }
+    {
+        impls_with_key(&self.keys, key)
     }
 
     /// The impls of a trait whose self type has that head; without a head those whose self type is a parameter.
@@ -282,7 +372,7 @@ impl Declarations {
         ensures is { result.now ≡ ids_with trait_id.index (option_map label_of self_ty) self.now.impls }
         ensures rises { Rises (map (λ i. i.id) self.now.impls) }
     {
-        impls_with_head(&self.heads, ImplHead { trait_id, self_ty })
+        self.with_key(ImplKey::Headed(ImplHead { trait_id, self_ty }))
     }
 
     /// The impls of a trait whose self type has that head; without a head none.

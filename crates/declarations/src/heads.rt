@@ -1,12 +1,14 @@
-//! Impls by their trait and the head of their self type.
-ghost use Rattle.std.specs.Prelude.{◌≡◌, ◌++◌, ◌∷◌, [], ℕ, Option, OnOk, OnErr, IfErr, if◌then◌else◌};
+//! Impls by their trait and the head of their self type, and by their header.
+ghost use Rattle.std.specs.Prelude.{◌≡◌, ◌||◌, ◌++◌, ◌∷◌, [], true, false, List, OnOk, OnErr, IfErr, if◌then◌else◌};
+ghost use Rattle.type_terms.specs.declared.ImplId.{ImplId};
 ghost use Rattle.type_terms.specs.declared.Fault.TheVariants.{Memory};
-ghost use Rattle.type_terms.specs.Label.{Label};
-ghost use Rattle.declarations.specs.Index.{listed, is_head};
+ghost use Rattle.declarations.specs.Index.{ids_in, listed, is_key};
 
 use crate::simplify::SimplifiedType;
 use indexmap::IndexMap;
-use std::alloc::Global;
+use std::alloc::{AllocError, Global};
+use std::slice::from_ref;
+use term_folds::predicate::TraitRef;
 use type_terms::{Fault, ImplId, TraitId};
 
 /// The trait of an impl and the head of its self type; no head for a blanket impl, whose self type is a parameter.
@@ -16,33 +18,127 @@ pub(crate) struct ImplHead {
     pub self_ty: Option<SimplifiedType>,
 }
 
-/// The impls of a trait with that head, in the order in which they were added.
-pub(crate) fn impls_with_head(heads: &IndexMap<ImplHead, Vec<ImplId>>, head: ImplHead) -> &[ImplId]
-    ensures { result.now ≡ listed heads.now head }
+/// What impls are found by.
+#[derive(Clone, Copy, PartialEq, Eq, Hash)]
+pub(crate) enum ImplKey {
+    /// Those with this trait and head.
+    Headed(ImplHead),
+    /// Those of them whose headers are not fixed.
+    Open(ImplHead),
+    /// Those whose header is this one, which is fixed.
+    Fixed(TraitRef),
+}
+
+/// Impls by rising number. One alone takes no memory of its own, and few keys have more.
+#[derive(Drop)]
+pub(crate) enum ImplIds {
+    Empty,
+    One(ImplId),
+    More(Vec<ImplId>),
+}
+
+impl ImplIds {
+    fn as_slice(&self) -> &[ImplId]
+        ensures { result.now ≡ ids_in self.now }
+    {
+        match self {
+            ImplIds::Empty => &[],
+            ImplIds::One(id) => from_ref(id),
+            ImplIds::More(ids) => ids,
+        }
+    }
+
+    /// Puts an impl behind them.
+    fn push(&mut self, alloc: Global, id: ImplId) -> Result<(), AllocError>
+        ensures pushed { OnOk result (ids_in self.new ≡ ids_in self.old ++ id ∷ []) }
+        ensures refused { OnErr result (ids_in self.new ≡ ids_in self.old) }
+    {
+        match self {
+            ImplIds::Empty => *self = ImplIds::One(id),
+            ImplIds::One(first) => {
+                let ids = vec![in alloc; *first, id]?;
+                *self = ImplIds::More(ids);
+            }
+            ImplIds::More(ids) => ids.push(id)?,
+        }
+        Ok(())
+    }
+
+    /// Takes the last one away.
+    fn pop(&mut self)
+        ensures { (ids : List ImplId) (id : ImplId) → ids_in self.old ≡ ids ++ id ∷ [] → ids_in self.new ≡ ids }
+    {
+        match self {
+            ImplIds::Empty => {}
+            ImplIds::One(_) => *self = ImplIds::Empty,
+            ImplIds::More(ids) => {
+                let _ = ids.pop();
+            }
+        }
+    }
+}
+
+/// The impls that have a key, in the order in which they were added.
+pub(crate) fn impls_with_key(keys: &IndexMap<ImplKey, ImplIds>, key: ImplKey) -> &[ImplId]
+    ensures { result.now ≡ listed keys.now key }
 {
-    match heads.get(&head) {
-        Some(impls) => impls,
+    match keys.get(&key) {
+        Some(impls) => impls.as_slice(),
         None => &[],
     }
 }
 
-/// Puts an impl behind those with its head.
-pub(crate) fn add_head(
+/// Puts an impl behind those that have the key.
+fn add_key(
     alloc: Global,
-    heads: &mut IndexMap<ImplHead, Vec<ImplId>>,
-    head: ImplHead,
+    keys: &mut IndexMap<ImplKey, ImplIds>,
+    key: ImplKey,
     id: ImplId,
 ) -> Result<(), Fault>
-    ensures added { OnOk result ((k : ImplHead) → listed heads.new k ≡ (if is_head head k then listed heads.old k ++ id ∷ [] else listed heads.old k)) }
-    ensures refused { OnErr result ((k : ImplHead) → listed heads.new k ≡ listed heads.old k) }
+    ensures added { OnOk result ((k : ImplKey) → listed keys.new k ≡ (if is_key key k then listed keys.old k ++ id ∷ [] else listed keys.old k)) }
+    ensures refused { OnErr result ((k : ImplKey) → listed keys.new k ≡ listed keys.old k) }
     ensures memory { IfErr result (λ fault. fault ≡ Memory) }
 {
-    match heads.get_mut(&head) {
-        Some(impls) => impls.push(id)?,
+    match keys.get_mut(&key) {
+        Some(impls) => impls.push(alloc, id)?,
         None => {
-            let impls = vec![in alloc; id]?;
-            heads.insert(head, impls)?;
+            keys.insert(key, ImplIds::One(id))?;
         }
     }
     Ok(())
+}
+
+/// Takes the last impl away from those that have the key.
+fn take_last(keys: &mut IndexMap<ImplKey, ImplIds>, key: ImplKey)
+    ensures taken { (ids : List ImplId) (id : ImplId) → listed keys.old key ≡ ids ++ id ∷ [] → listed keys.new key ≡ ids }
+    ensures others { (k : ImplKey) → is_key key k ≡ false → listed keys.new k ≡ listed keys.old k }
+{
+    match keys.get_mut(&key) {
+        Some(impls) => impls.pop(),
+        None => {}
+    }
+}
+
+/// Puts an impl behind those that have the first key, and behind those that have the second. After an error it is behind none.
+pub(crate) fn add_keys(
+    alloc: Global,
+    keys: &mut IndexMap<ImplKey, ImplIds>,
+    first: ImplKey,
+    second: ImplKey,
+    id: ImplId,
+) -> Result<(), Fault>
+    requires apart { (k : ImplKey) → is_key first k ≡ true → is_key second k ≡ false }
+    ensures added { OnOk result ((k : ImplKey) → listed keys.new k
+        ≡ (if is_key first k || is_key second k then listed keys.old k ++ id ∷ [] else listed keys.old k)) }
+    ensures refused { OnErr result ((k : ImplKey) → listed keys.new k ≡ listed keys.old k) }
+    ensures memory { IfErr result (λ fault. fault ≡ Memory) }
+{
+    add_key(alloc, keys, first, id)?;
+    match add_key(alloc, keys, second, id) {
+        Ok(()) => Ok(()),
+        Err(fault) => {
+            take_last(keys, first);
+            Err(fault)
+        }
+    }
 }

@@ -7,6 +7,6 @@ mod elaborate;
 mod heads;
 pub mod items;
 pub mod laws;
-pub mod merge;
+mod merge;
 pub mod simplify;
 mod unsizing;

@@ -2,7 +2,8 @@
 ghost use Rattle.std.specs.Prelude.{◌≡◌, ◌∷◌, [], ◌+◌, List, MatchOption, length, filter, Some, None};
 ghost use Rattle.std.specs.List.{FoldsTo};
 ghost use Rattle.declarations.specs.Merges.{IsMerge, IsNext, Rises};
-ghost use Rattle.declarations.specs.Relevant.{is_above};
+ghost use Rattle.std.specs.Option.{option_map};
+ghost use Rattle.declarations.specs.Relevant.{is_above, next_above, names_of, smaller_of};
 ghost use Rattle.type_terms.specs.declared.ImplId.{ImplId};
 
 use type_terms::ImplId;
@@ -21,8 +22,36 @@ pub(crate) fn ids_above(ids: &[ImplId], last: Option<ImplId>) -> &[ImplId]
     }
 }
 
+/// The first of rising numbers that is above `last`.
+pub(crate) fn first_above(ids: &[ImplId], last: Option<ImplId>) -> Option<ImplId>
+    requires { Rises ids.now }
+    ensures { option_map (λ i. i.index) result ≡ next_above last (names_of ids.now) }
+{
+    match ids_above(ids, last).first() {
+        Some(id) => Some(*id),
+        None => None,
+    }
+}
+
+/// The smaller of two numbers, where both are there; else the one that is.
+pub(crate) fn smaller(first: Option<ImplId>, second: Option<ImplId>) -> Option<ImplId>
+    ensures { option_map (λ i. i.index) result ≡ smaller_of (option_map (λ i. i.index) first) (option_map (λ i. i.index) second) }
+{
+    match (first, second) {
+        (Some(lower), Some(upper)) => {
+            if lower.index < upper.index {
+                first
+            } else {
+                second
+            }
+        }
+        (Some(_), None) => first,
+        (None, _) => second,
+    }
+}
+
 /// The smaller of the first of two lists, with what is left of both.
-pub fn split_smaller<'a>(
+fn split_smaller<'a>(
     first: &'a [ImplId],
     second: &'a [ImplId],
 ) -> Option<(ImplId, &'a [ImplId], &'a [ImplId])>

@@ -29,7 +29,7 @@ use Rattle.assembly_laws.specs.Facts.{is_plain, is_unerased, beside, children_of
 use Rattle.assembly_laws.specs.Declared.{is_declared, is_counted, are_terms, is_unsorted}
 use Rattle.assembly_laws.specs.DeclaredWell.{IsDeclaredWell}
 use Rattle.assembly_laws.specs.Meaning.{ViewMeaning}
-use Rattle.assembly_laws.specs.Apart.{are_apart}
+use Rattle.declarations.specs.Apart.{are_apart}
 use Rattle.assembly_laws.specs.Asking.{GoalOverKinds, goal_over_kinds, self_of, with_plain_head}
 use Rattle.assembly_laws.specs.Candidates.{Candidate, premise, is_param, kind_of_param, kinds_of_params, rules_behind, all_equal, by_the_impl, is_relevant_to, can_match, by_impls}
 use Rattle.assembly_laws.specs.Cover.{goal_fact, read_reference}
