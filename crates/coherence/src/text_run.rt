@@ -45,7 +45,8 @@ pub fn run<R: Read, W: Write>(
     limits: Limits,
 ) -> Result<Status, RunFault>
     // What is written is the output for all that the reader holds.
-    ensures whole { IfOk result (λ status. IfSome (R.remaining reader.old) (λ bytes. WritesOutput limits.depth bytes status (W.contents writer.old) (W.contents writer.new))) }
+    ensures whole { IfOk result
+        (λ status. IfSome (R.remaining reader.old) (λ bytes. WritesOutput limits.depth bytes status (W.contents writer.old) (W.contents writer.new))) }
     // Where it stops before, a prefix of that has been written.
     ensures prefix { OnErr result (IfSome (R.remaining reader.old) (λ bytes. WritesPrefix limits.depth bytes (W.contents writer.old) (W.contents writer.new))) }
     // Where reading fails, nothing has been written.

@@ -19,7 +19,7 @@ use Rattle.overlap_check.specs.Questions.{FitKinds, filled_reference}
 use Rattle.overlap_check.specs.Worked.{num_view, RefutedForAllValues}
 use Rattle.overlap_check.proofs.Filling.{over-filled-reference}
 use Rattle.type_terms.proofs.ElaboratedProofs.{bare-proof}
-use Rattle.overlap_check.proofs.WorkedAnswers.{needs-rule}
+use Rattle.type_terms.proofs.WorkedProofs.{needs-rule}
 
 abbrev goal : Reference
 goal = asked 20 (applied 10 (leaf (infer of_type 0)))

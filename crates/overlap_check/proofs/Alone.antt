@@ -20,7 +20,7 @@ use Rattle.type_terms.proofs.RenumberedRules.{over-supers}
 use Rattle.overlap_check.specs.Verdicts.{placed}
 use Rattle.overlap_check.specs.Questions.{FitKinds, filled_reference}
 use Rattle.overlap_check.specs.Worked.{alone_view, fn_of_char, fn_is_sub, ProvedAloneAndRefuted}
-use Rattle.overlap_check.proofs.WorkedAnswers.{needs-rule}
+use Rattle.type_terms.proofs.WorkedProofs.{needs-rule}
 
 no-struct : (k : Trees) → asked 21 (leaf bool) ≡ asked 21 (tree (adt 10) k none) → ⊥
 no-struct k e = apart (ap (λ (q : Reference). q.args) e)

@@ -6,7 +6,7 @@ use Rattle.type_terms.specs.Worlds.{World, ImplDecl, StructDecl, Reference, core
 use Rattle.type_terms.specs.Rules.{asked, by_impl, by_clause, rules, Rule}
 use Rattle.type_terms.specs.Proofs.{In, ProofEntry, HasProof, HasProofByImpl, Every}
 use Rattle.type_terms.specs.Answers.{is_closed, AtMostOne, IsUnambiguous}
-use Rattle.type_terms.proofs.ProofEntries.{map-in, entry-proved}
+use Rattle.type_terms.proofs.WorkedProofs.{no-rule, one-rule}
 use Rattle.type_terms.specs.Core.{core_world}
 use Rattle.type_terms.specs.Renumbering.{Renumbering, View, HoldsView, renumbered_struct}
 use Rattle.type_terms.specs.LinkedSet.{IsOfAnAnsweredCrate, LinkedSet}
@@ -96,26 +96,6 @@ pub two-texts-accepted : TwoTextsAccepted
 two-texts-accepted = (user-accepted, (two-of two-texts.0 two-texts.1 two-texts.2 two-texts.3 two-texts.4))
 
 -- ---- questions
--- what has a proof has a rule whose premises have proofs
-pub needs-rule : (W : World) (E : List Reference) (r : Reference) → HasProof W E r → (u : Rule) × In u (rules W E r) × Every (HasProof W E) u.premises
-needs-rule W E r p =
-    let m = map-in (λ (e : ProofEntry). e.of) p.0 r p.2 in
-    let a = entry-proved W E p.0 p.1 m.0 m.1 in
-    (m.0.rule, subst (λ q. In m.0.rule (rules W E q)) m.2 a.0, a.1)
-
-no-rule : (W : World) (E : List Reference) (r : Reference) → rules W E r ≡ [] → HasProof W E r → ⊥
-no-rule W E r e p = let u = needs-rule W E r p in in-nothing u.0 (subst (λ us. In u.0 us) e u.1)
-
-one-rule : (W : World) (E : List Reference) (r : Reference) (v : Rule) → rules W E r ≡ v ∷ [] → HasProof W E r → Every (HasProof W E) v.premises
-one-rule W E r v e p = by (in-cases u.0 v [] (subst (λ us. In u.0 us) e u.1))
-  where
-    u : (u : Rule) × In u (rules W E r) × Every (HasProof W E) u.premises
-    u = needs-rule W E r p
-
-    by : (v ≡ u.0) ⊎ In u.0 [] → Every (HasProof W E) v.premises
-    by (inl q) = subst (λ (w : Rule). Every (HasProof W E) w.premises) (sym q) u.2
-    by (inr q) = absurd (in-nothing u.0 q)
-
 abbrev both_kinds : World
 both_kinds = beside_core [] (trait_of 20 base [] ∷ []) (impl_of 100 base 0 (to 20 u8 (tree bool none (leaf (value 4)))) [] ∷ [])
 

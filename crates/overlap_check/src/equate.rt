@@ -34,10 +34,12 @@ fn equate_args(
     ensures grows { Grows table.old table.new }
     ensures keeps { Keeps cx.old.entries cx.new.entries }
     ensures limit { cx.new.limit ≡ cx.old.limit }
-    ensures equates { OnOk result (MakesEqual cx.old.entries table.old cx.new.entries table.new (args_trees cx.old.entries left.now) (args_trees cx.old.entries right.now)) }
-    ensures never { result ≡ Err EqError.NoSolution → HasNoSolution (content cx.old.entries table.old.values) (args_trees cx.old.entries left.now) (args_trees cx.old.entries right.now) }
-    ensures exact { OnOk result (solved_in_turn (table_trees cx.old.entries table.old) (args_trees cx.old.entries left.now) (args_trees cx.old.entries right.now)
-        ≡ Some (table_trees cx.new.entries table.new)) }
+    ensures equates { OnOk result
+        (MakesEqual cx.old.entries table.old cx.new.entries table.new (args_trees cx.old.entries left.now) (args_trees cx.old.entries right.now)) }
+    ensures never { result ≡ Err EqError.NoSolution
+        → HasNoSolution (content cx.old.entries table.old.values) (args_trees cx.old.entries left.now) (args_trees cx.old.entries right.now) }
+    ensures exact { OnOk result (solved_in_turn (table_trees cx.old.entries table.old)
+        (args_trees cx.old.entries left.now) (args_trees cx.old.entries right.now) ≡ Some (table_trees cx.new.entries table.new)) }
     ensures full { result ≡ Err (EqError.Fault Full) → SomeKindIsFull cx.new.entries cx.new.limit
         ⊎ SomeRunsOut (table_trees cx.old.entries table.old) (args_trees cx.old.entries left.now) (args_trees cx.old.entries right.now) }
 {
@@ -82,7 +84,8 @@ pub fn equate_impl_headers(
     ensures equates { OnOk result (MakesEqual cx.old.entries table.old cx.new.entries table.new (args_at cx.old.entries left) (args_at cx.old.entries right)) }
     ensures never { result ≡ Err EqError.NoSolution → (left.trait_ref.def_id.index ≢ right.trait_ref.def_id.index)
         ⊎ HasNoSolution (content cx.old.entries table.old.values) (args_at cx.old.entries left) (args_at cx.old.entries right) }
-    ensures exact { OnOk result (solved_in_turn (table_trees cx.old.entries table.old) (args_at cx.old.entries left) (args_at cx.old.entries right) ≡ Some (table_trees cx.new.entries table.new)) }
+    ensures exact { OnOk result (solved_in_turn (table_trees cx.old.entries table.old) (args_at cx.old.entries left) (args_at cx.old.entries right)
+        ≡ Some (table_trees cx.new.entries table.new)) }
     ensures refused { OnErr result (table.new ≡ table.old) }
     ensures full { result ≡ Err (EqError.Fault Full) → SomeKindIsFull cx.new.entries cx.new.limit
         ⊎ SomeRunsOut (table_trees cx.old.entries table.old) (args_at cx.old.entries left) (args_at cx.old.entries right) }

@@ -35,8 +35,8 @@ pub struct ImplHeader {
     pub trait_ref: TraitRef,
 }
 
-/// A reference with arguments in the place of its parameters.
-fn instantiate_trait_ref(
+/// A reference with arguments in the place of its parameters. The fault is a refusal of memory, or `Full`.
+pub fn instantiate_trait_ref(
     alloc: Global,
     cx: &mut Interner,
     trait_ref: TraitRef,
@@ -61,8 +61,9 @@ fn instantiate_trait_ref(
     }
 }
 
-/// Each where-clause with arguments in the place of its parameters, in order (`predicates_of`, instantiated).
-pub(crate) fn instantiate_clauses(
+/// Each where-clause with arguments in the place of its parameters, in order (`predicates_of`, instantiated). The fault is a refusal of
+/// memory, or `Full`.
+pub fn instantiate_clauses(
     alloc: Global,
     cx: &mut Interner,
     clauses: &[TraitRef],
@@ -75,7 +76,8 @@ pub(crate) fn instantiate_clauses(
     ensures keeps { Keeps cx.old.entries cx.new.entries }
     ensures limit { cx.new.limit ≡ cx.old.limit }
     ensures held { IfOk result (λ v. TraitRefsHeld cx.new.entries v.items) }
-    ensures are { IfOk result (λ v. references_in cx.new.entries v.items ≡ all_with_args (trees_at cx.old.entries args.0) (references_in cx.old.entries clauses.now)) }
+    ensures are { IfOk result (λ v. references_in cx.new.entries v.items
+        ≡ all_with_args (trees_at cx.old.entries args.0) (references_in cx.old.entries clauses.now)) }
     ensures full { result ≡ Err Fault.Full → SomeKindIsFull cx.new.entries cx.new.limit }
 {
     let mut found = Vec::new(alloc);

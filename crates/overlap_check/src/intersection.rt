@@ -72,7 +72,8 @@ pub fn impl_intersection(
     ensures solved { IfOk result (λ found. IfSome found (IsSolved cx.old.entries left.now right.now cx.new.entries)) }
 
     // Where the impls speak of no unknowns, the goals speak of the table's own.
-    ensures posed { IsWithoutVariables cx.old.entries left.now → IsWithoutVariables cx.old.entries right.now → IfOk result (λ found. IfSome found (IsPosed cx.new.entries)) }
+    ensures posed { IsWithoutVariables cx.old.entries left.now → IsWithoutVariables cx.old.entries right.now
+        → IfOk result (λ found. IfSome found (IsPosed cx.new.entries)) }
     ensures full { result ≡ Err Fault.Full → SomeKindIsFull cx.new.entries cx.new.limit ⊎ PairRunsOut cx.old.entries left.now right.now }
 {
     cx.lawful();
@@ -133,7 +134,8 @@ fn instantiate_both(
     ensures limit { cx.new.limit ≡ cx.old.limit }
     ensures left_held { IfOk result (λ v. TraitRefsHeld cx.new.entries v.0.items) }
     ensures right_held { IfOk result (λ v. TraitRefsHeld cx.new.entries v.1.items) }
-    ensures left { IfOk result (λ v. references_in cx.new.entries v.0.items ≡ all_with_args (trees_at cx.old.entries left_header.impl_args.0) (references_in cx.old.entries left.now.clauses.items)) }
+    ensures left { IfOk result (λ v. references_in cx.new.entries v.0.items
+        ≡ all_with_args (trees_at cx.old.entries left_header.impl_args.0) (references_in cx.old.entries left.now.clauses.items)) }
     ensures right { IfOk result (λ v. references_in cx.new.entries v.1.items
         ≡ all_with_args (trees_at cx.old.entries right_header.impl_args.0) (references_in cx.old.entries right.now.clauses.items)) }
     ensures full { result ≡ Err Fault.Full → SomeKindIsFull cx.new.entries cx.new.limit }

@@ -50,7 +50,8 @@ fn walk_error(
     requires held { ReferenceHeld cx.now.entries trait_ref }
     requires ready { Ready cx.now.entries table.now }
     requires unvalued { table.now.values ≡ [] }
-    ensures found { IfOk result (IsWalkError (declared cx.now.entries declarations.now) declarations.now.local (trees_at cx.now.entries trait_ref.args.0) cx.now.entries) }
+    ensures found { IfOk result
+        (IsWalkError (declared cx.now.entries declarations.now) declarations.now.local (trees_at cx.now.entries trait_ref.args.0) cx.now.entries) }
     ensures held { IfOk result (λ found. IfSome found (ErrorHeld cx.now.entries)) }
     ensures memory { IfErr result (λ fault. fault ≡ Memory) }
 {
@@ -99,7 +100,8 @@ fn fresh_header_error(
     ensures limit { cx.new.limit ≡ cx.old.limit }
     ensures held { IfOk result (λ found. IfSome found (ErrorHeld cx.new.entries)) }
     ensures found { trait_is (λ x. x.home == declarations.now.local) (declared cx.old.entries declarations.now) def.now.header.def_id.index ≡ false
-        → IfOk result (IsHeaderError (declared cx.old.entries declarations.now) declarations.now.local (erased_reference (reference_in cx.old.entries def.now.header)) cx.new.entries) }
+        → IfOk result (IsHeaderError (declared cx.old.entries declarations.now) declarations.now.local
+        (erased_reference (reference_in cx.old.entries def.now.header)) cx.new.entries) }
     ensures full { result ≡ Err Fault.Full → SomeKindIsFull cx.new.entries cx.new.limit ⊎ SomeHaveNoNumber empty_table (sorts_of_impl def.now) }
 {
     cx.lawful();
@@ -126,7 +128,8 @@ pub fn header_error(
     ensures keeps { Keeps cx.old.entries cx.new.entries }
     ensures limit { cx.new.limit ≡ cx.old.limit }
     ensures held { IfOk result (λ found. IfSome found (ErrorHeld cx.new.entries)) }
-    ensures found { IfOk result (IsHeaderError (declared cx.old.entries declarations.now) declarations.now.local (erased_reference (reference_in cx.old.entries def.now.header)) cx.new.entries) }
+    ensures found { IfOk result (IsHeaderError (declared cx.old.entries declarations.now) declarations.now.local
+        (erased_reference (reference_in cx.old.entries def.now.header)) cx.new.entries) }
     ensures full { result ≡ Err Fault.Full → SomeKindIsFull cx.new.entries cx.new.limit ⊎ SomeHaveNoNumber empty_table (sorts_of_impl def.now) }
 {
     if trait_is_local(declarations, def.header.def_id) {

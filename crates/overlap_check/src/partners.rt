@@ -38,7 +38,8 @@ pub fn pair_at<'d>(
     ensures pair { (es : List Entry) → IfSome result (λ pair. IsPairAt es declarations.now later earlier pair.0.now pair.1.now) }
     ensures none { (es : List Entry) → IfNone result (NoPairAt (declared es declarations.now) declarations.now.local later.index earlier.index) }
     ensures held { (es : List Entry) → AreHeld es declarations.now → IfSome result (λ pair. ImplHeld es pair.0.now × ImplHeld es pair.1.now) }
-    ensures written { (es : List Entry) → AreWrittenWell es declarations.now → IfSome result (λ pair. IsWrittenWell es pair.0.now × IsWrittenWell es pair.1.now) }
+    ensures written { (es : List Entry) → AreWrittenWell es declarations.now
+        → IfSome result (λ pair. IsWrittenWell es pair.0.now × IsWrittenWell es pair.1.now) }
 {
     let Some(left) = declarations.impl_def(later) else {
         return None;

@@ -15,10 +15,11 @@ use view_lowering::{LoweredQuestion, lower_question};
 use workspace::Workspace;
 
 /// A context that has grown means what it meant, and all stays at rest in it. It grows where its interner does.
-pub fn rest_laws<H: GoalHandler>()
+pub(crate) fn rest_laws<H: GoalHandler>()
     ensures rest { (depth : _) (c d : _) (s : _) (ks : _) → AreAtRest H.meaning depth c s ks → Advances H.meaning.IsReady c d
         → AreAtRest H.meaning depth d s ks }
-    ensures meaning { (c d : _) → IsReady H.meaning.IsReady c → Advances H.meaning.IsReady c d → H.meaning.world d.handler d.interner.entries ≡ H.meaning.world c.handler c.interner.entries }
+    ensures meaning { (c d : _) → IsReady H.meaning.IsReady c → Advances H.meaning.IsReady c d
+        → H.meaning.world d.handler d.interner.entries ≡ H.meaning.world c.handler c.interner.entries }
     ensures interner { (c d : _) → IsReady H.meaning.IsReady c → InternerGrows c d → Advances H.meaning.IsReady c d }
 {
     context_laws::<H>();

@@ -48,7 +48,8 @@ pub fn added_impls_break_no_user()
 
 /// Whether users may rely on what the trait is not implemented for: it is fundamental, or auto.
 pub fn trait_is_relied_on(declarations: &Declarations, id: TraitId) -> bool
-    ensures { (es : List Entry) → let V = declared es declarations.now in result ≡ (trait_is (λ x. x.is_fundamental) V id.index || trait_is (λ x. x.is_auto) V id.index) }
+    ensures { (es : List Entry) → let V = declared es declarations.now in
+        result ≡ (trait_is (λ x. x.is_fundamental) V id.index || trait_is (λ x. x.is_auto) V id.index) }
 {
     match declarations.trait_def(id) {
         Some(def) => def.is_fundamental || def.is_auto,

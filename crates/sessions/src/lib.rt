@@ -40,7 +40,7 @@ mod written;
 
 pub use answers::{LaterAnswer, ProveAnswer, RefuteAnswer, SupersAnswer, Verdict};
 pub use applying::clauses_apply;
-pub use asked::{lower_in, rest_laws};
+pub use asked::lower_in;
 pub use checked::intersection_at;
 pub use impossible::is_impossible;
 pub use later::{added_impls, added_impls_break_no_user, trait_is_relied_on};

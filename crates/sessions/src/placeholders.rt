@@ -1,27 +1,21 @@
 //! Impls with placeholders in the place of their parameters.
 
-ghost use Rattle.std.specs.Prelude.{◌≡◌, ◌≤◌, ◌⊎◌, ◌+◌, length, map, IfOk, Err, None};
+ghost use Rattle.std.specs.Prelude.{◌≡◌, ◌≤◌, ◌⊎◌, ◌+◌, length, map, IfOk, Err};
 ghost use Rattle.type_terms.specs.Failures.{SomeKindIsFull};
 ghost use Rattle.type_terms.specs.Label.{placeholder};
-ghost use Rattle.type_terms.specs.Trees.{leaf, outer_binder};
-ghost use Rattle.type_terms.specs.Worlds.{with_args, all_with_args};
+ghost use Rattle.type_terms.specs.Trees.{leaf};
 ghost use Rattle.type_terms.specs.Kinds.{ArgHeld, arg_trees};
 ghost use Rattle.type_terms.specs.Terms.{Has, Keeps, args_lists, trees_at};
 ghost use Rattle.type_terms.specs.declared.TheConstants.{MAX_INDEX};
-ghost use Rattle.term_folds.specs.Arguments.{first_misfit};
-ghost use Rattle.declarations.specs.Applied.{TraitRefsHeld, references_in, sort_of_param};
-ghost use Rattle.declarations.specs.Held.{ImplHeld, ReferenceHeld};
-ghost use Rattle.declarations.specs.Items.{reference_in};
-ghost use Rattle.declarations.specs.Merges.{Each};
+ghost use Rattle.declarations.specs.Applied.{sort_of_param};
+ghost use Rattle.declarations.specs.Held.{ImplHeld};
 ghost use Rattle.overlap_check.specs.Written.{IsWrittenWell};
 ghost use Rattle.sessions.specs.Placeholders.{IsOpaqueOf, placeholders_from};
 ghost use Rattle.sessions.specs.Shortages.{HasManyParams};
 
 use declarations::items::{GenericParamKind, ImplDef};
+use overlap_check::header::{instantiate_clauses, instantiate_trait_ref};
 use std::alloc::Global;
-use term_folds::binder::EarlyBinder;
-use term_folds::instantiate::InstantiateError;
-use term_folds::laws::closed_arguments_are_in_range;
 use term_folds::predicate::TraitRef;
 use type_terms::Fault;
 use type_terms::interner::Interner;
@@ -90,59 +84,6 @@ fn placeholders_for_item(
     cx.mk_args(placeholders)
 }
 
-/// A reference with arguments in the place of its parameters.
-fn instantiate_trait_ref(
-    alloc: Global,
-    cx: &mut Interner,
-    trait_ref: TraitRef,
-    args: GenericArgs,
-) -> Result<TraitRef, Fault>
-    requires held { ReferenceHeld cx.old.entries trait_ref }
-    requires args { Has cx.old.entries args_lists args.0 }
-    requires closed { outer_binder (trees_at cx.old.entries args.0) ≡ 0 }
-    requires fits { first_misfit (trees_at cx.old.entries args.0) (trees_at cx.old.entries trait_ref.args.0) ≡ None }
-    ensures keeps { Keeps cx.old.entries cx.new.entries }
-    ensures limit { cx.new.limit ≡ cx.old.limit }
-    ensures held { IfOk result (ReferenceHeld cx.new.entries) }
-    ensures is { IfOk result (λ r. reference_in cx.new.entries r ≡ with_args (trees_at cx.old.entries args.0) (reference_in cx.old.entries trait_ref)) }
-    ensures full { result ≡ Err Fault.Full → SomeKindIsFull cx.new.entries cx.new.limit }
-{
-    closed_arguments_are_in_range();
-    match EarlyBinder::bind(trait_ref).instantiate(alloc, cx, args) {
-        Ok(instance) => Ok(instance),
-        Err(InstantiateError::Fault(fault)) => Err(fault),
-        Err(InstantiateError::ParamOutOfRange) => unreachable!(),
-        Err(InstantiateError::ParamKind) => unreachable!(),
-    }
-}
-
-/// Each reference with arguments in the place of its parameters, in order.
-fn instantiate_trait_refs(
-    alloc: Global,
-    cx: &mut Interner,
-    references: &[TraitRef],
-    args: GenericArgs,
-) -> Result<Vec<TraitRef>, Fault>
-    requires held { TraitRefsHeld cx.old.entries references.now }
-    requires args { Has cx.old.entries args_lists args.0 }
-    requires closed { outer_binder (trees_at cx.old.entries args.0) ≡ 0 }
-    requires fits { Each (λ k. first_misfit (trees_at cx.old.entries args.0) (trees_at cx.old.entries k.args.0) ≡ None) references.now }
-    ensures keeps { Keeps cx.old.entries cx.new.entries }
-    ensures limit { cx.new.limit ≡ cx.old.limit }
-    ensures held { IfOk result (λ v. TraitRefsHeld cx.new.entries v.items) }
-    ensures are { IfOk result (λ v. references_in cx.new.entries v.items ≡ all_with_args (trees_at cx.old.entries args.0) (references_in cx.old.entries references.now)) }
-    ensures full { result ≡ Err Fault.Full → SomeKindIsFull cx.new.entries cx.new.limit }
-{
-    let mut found = Vec::new(alloc);
-    let mut left = references;
-    'references: while let Some((next, others)) = left.split_first() {
-        let instance = instantiate_trait_ref(alloc, cx, *next, args)?;
-        found.push(instance)?;
-        left = others;
-    }
-    Ok(found)
-}
-
 /// The header and the where-clauses of an impl with placeholders for its parameters: each stands for itself.
 #[derive(Drop)]
 pub(crate) struct OpaqueImpl {
@@ -169,6 +110,6 @@ pub(crate) fn opaque_impl(
     cx.lawful();
     let args = placeholders_for_item(alloc, cx, &def.params)?;
     let header = instantiate_trait_ref(alloc, cx, def.header, args)?;
-    let clauses = instantiate_trait_refs(alloc, cx, &def.clauses, args)?;
+    let clauses = instantiate_clauses(alloc, cx, &def.clauses, args)?;
     Ok(OpaqueImpl { header, clauses })
 }

@@ -112,7 +112,8 @@ fn read_values_in<H: GoalHandler>(
     requires unknowns { ArgsHeld cx.old.interner.entries unknowns.now }
     ensures advances { Advances H.meaning.IsReady cx.old cx.new }
     ensures held { IfOk result (AnswerValuesHeld cx.new.interner.entries) }
-    ensures read { IfOk result (AreReadOff cx.old.interner.entries table.now (trees_at cx.old.interner.entries asked.args.0) unknowns.now cx.new.interner.entries) }
+    ensures read { IfOk result
+        (AreReadOff cx.old.interner.entries table.now (trees_at cx.old.interner.entries asked.args.0) unknowns.now cx.new.interner.entries) }
     ensures full { result ≡ Err Fault.Full → SomeKindIsFull cx.new.interner.entries cx.new.interner.limit }
 {
     rest_laws::<H>();
@@ -160,7 +161,8 @@ fn ask_for<H: GoalHandler>(
     ensures limits { KeepsLimits cx.old cx.new }
     ensures held { IfOk result (AnswerValuesHeld cx.new.interner.entries) }
     ensures answer { IfOk result (IsAnswered H.meaning (H.meaning.world cx.old.handler cx.old.interner.entries) graph.old.root_depth
-        (map arg_sort unknowns.now) (goal_trees cx.old.interner.entries goal.now) (map (arg_trees cx.old.interner.entries) unknowns.now) cx.new.interner.entries) }
+        (map arg_sort unknowns.now) (goal_trees cx.old.interner.entries goal.now)
+        (map (arg_trees cx.old.interner.entries) unknowns.now) cx.new.interner.entries) }
     ensures frames { SettlesInFrames H.meaning (H.meaning.world cx.old.handler cx.old.interner.entries) graph.old.root_depth
         (map arg_sort unknowns.now) (goal_trees cx.old.interner.entries goal.now) graph.old graph.new }
     ensures full { result ≡ Err Fault.Full → IsShort H.meaning cx.new }
@@ -225,9 +227,12 @@ pub(crate) fn prove_under(
     ensures keeps { Keeps cx.old.interner.entries cx.new.interner.entries }
     ensures limits { KeepsLimits cx.old cx.new }
     ensures held { IfOk result (AnswerValuesHeld cx.new.interner.entries) }
-    ensures answer { IfOk result (IsGoalAnswered (solving_of cx.old.interner.entries cx.old.handler.declarations) graph.old.root_depth (map arg_sort unknowns.now)
-        (goal_of (references_in cx.old.interner.entries clauses.now) (reference_in cx.old.interner.entries asked)) (map (arg_trees cx.old.interner.entries) unknowns.now) cx.new.interner.entries) }
-    ensures frames { SettlesInFrames solver_by_view (solving_of cx.old.interner.entries cx.old.handler.declarations) graph.old.root_depth (map arg_sort unknowns.now)
+    ensures answer { IfOk result
+        (IsGoalAnswered (solving_of cx.old.interner.entries cx.old.handler.declarations) graph.old.root_depth (map arg_sort unknowns.now)
+        (goal_of (references_in cx.old.interner.entries clauses.now) (reference_in cx.old.interner.entries asked))
+        (map (arg_trees cx.old.interner.entries) unknowns.now) cx.new.interner.entries) }
+    ensures frames { SettlesInFrames solver_by_view
+        (solving_of cx.old.interner.entries cx.old.handler.declarations) graph.old.root_depth (map arg_sort unknowns.now)
         (goal_of (references_in cx.old.interner.entries clauses.now) (reference_in cx.old.interner.entries asked)) graph.old graph.new }
     ensures full { result ≡ Err Fault.Full → IsShort solver_by_view cx.new ⊎ (MAX_INDEX ≤ length unknowns.now) }
 {
@@ -257,7 +262,8 @@ fn prove_lowered(
         → IsAnsweredBySolver (solving_of cx.old.interner.entries cx.old.handler.declarations) graph.old.root_depth q cx.new.interner.entries a) }
     ensures frames { (q : Question) → IsLowered cx.old.interner.entries q lowered.now
         → QuestionInFrames (solving_of cx.old.interner.entries cx.old.handler.declarations) graph.old.root_depth q graph.old graph.new }
-    ensures full { (q : Question) → IsLowered cx.old.interner.entries q lowered.now → result ≡ Err Fault.Full → IsShort solver_by_view cx.new ⊎ HasManyVariables q }
+    ensures full { (q : Question) → IsLowered cx.old.interner.entries q lowered.now → result ≡ Err Fault.Full
+        → IsShort solver_by_view cx.new ⊎ HasManyVariables q }
 {
     rest_laws::<Solver>();
     let clauses = elaborate_in(cx, &lowered.clauses)?;

@@ -52,7 +52,8 @@ fn ask_in_coherence<H: GoalHandler>(
     ensures limits { KeepsLimits cx.old cx.new }
 
     // A reference that is refused has no proof, if it speaks of the table's variables alone.
-    ensures no { result ≡ Ok RefuteAnswer.No → let r = reference_in cx.old.interner.entries asked in HasNoCanonical r.args → AreKnown (variables_of table.old) r.args
+    ensures no { result ≡ Ok RefuteAnswer.No → let r = reference_in cx.old.interner.entries asked in HasNoCanonical r.args
+        → AreKnown (variables_of table.old) r.args
         → HasNoProof (H.meaning.goals.handled (H.meaning.world cx.old.handler cx.old.interner.entries)) (goal_alone r) }
     ensures refused { result ≡ Ok RefuteAnswer.No → (let w = H.meaning.world cx.old.handler cx.old.interner.entries in
         IsRefusedAlone H.meaning w graph.old.root_depth (reference_in cx.old.interner.entries asked)) }
@@ -60,7 +61,8 @@ fn ask_in_coherence<H: GoalHandler>(
         IsLeftOpen H.meaning w graph.old.root_depth (reference_in cx.old.interner.entries asked)) }
 
     // After a fault too.
-    ensures frames { let es = cx.old.interner.entries in StartsFramesOfOne H.meaning (H.meaning.world cx.old.handler es) (reference_in es asked) graph.old graph.new }
+    ensures frames { let es = cx.old.interner.entries in
+        StartsFramesOfOne H.meaning (H.meaning.world cx.old.handler es) (reference_in es asked) graph.old graph.new }
     ensures full { result ≡ Err Fault.Full → IsShort H.meaning cx.new }
 {
     let goal = Goal {

@@ -111,7 +111,8 @@ pub fn own_goals_in(cx: &mut SolverCx<Solver>, id: ImplId) -> Result<Option<Supe
     requires ready { SolverIsReady cx.old }
     requires applied { ImplsApply cx.old.handler.declarations (written cx.old.interner.entries cx.old.handler.declarations) }
     ensures advances { SolverAdvances cx.old cx.new }
-    ensures goals { IfOk result (AreOfOwn (written cx.old.interner.entries cx.old.handler.declarations) cx.old.handler.declarations.local id.index cx.new.interner.entries) }
+    ensures goals { IfOk result
+        (AreOfOwn (written cx.old.interner.entries cx.old.handler.declarations) cx.old.handler.declarations.local id.index cx.new.interner.entries) }
     ensures full { result ≡ Err Fault.Full → IsOutOf cx.new }
 {
     rest_laws::<Solver>();

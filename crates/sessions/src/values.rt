@@ -29,7 +29,8 @@ pub fn values_of(
     ensures keeps { Keeps cx.old.entries cx.new.entries }
     ensures limit { cx.new.limit ≡ cx.old.limit }
     ensures held { IfOk result (λ r. ArgsHeld cx.new.entries r.items) }
-    ensures are { IfOk result (λ r. map (arg_trees cx.new.entries) r.items ≡ map (λ u. resolved (content cx.old.entries table.now.values) (arg_trees cx.old.entries u)) unknowns.now) }
+    ensures are { IfOk result (λ r. map (arg_trees cx.new.entries) r.items
+        ≡ map (λ u. resolved (content cx.old.entries table.now.values) (arg_trees cx.old.entries u)) unknowns.now) }
     ensures full { result ≡ Err Fault.Full → SomeKindIsFull cx.new.entries cx.new.limit }
 {
     let mut values = Vec::new(alloc);

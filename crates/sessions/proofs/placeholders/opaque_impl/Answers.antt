@@ -30,24 +30,24 @@ instantiate_trait_ref-requires-clause-fits c =
     header-fits c.args.cx.now.entries c.placeholders_for_item.new.cx.entries c.placeholders_for_item.ensures.keeps c.args.def.now c.requires.held c.requires.written c.in_ok-args.args.0
     (c.in_ok-args.ensures.are ∙ ap (λ ps. placeholders_from 0 (map sort_of_param ps)) c.deref.ensures.value)
 
-pub instantiate_trait_refs-requires-clause-held : goal.instantiate_trait_refs-requires-clause-held
-instantiate_trait_refs-requires-clause-held c =
+pub instantiate_clauses-requires-clause-held : goal.instantiate_clauses-requires-clause-held
+instantiate_clauses-requires-clause-held c =
     let old = c.args.cx.now.entries in
     let two = c.instantiate_trait_ref.new.cx.entries in
     subst (TraitRefsHeld two) (sym c.deref-2.ensures.value)
     (references-kept old two (λ i e h. c.instantiate_trait_ref.ensures.keeps i e (c.placeholders_for_item.ensures.keeps i e h)) c.args.def.now.clauses.items c.requires.held.clauses)
 
-pub instantiate_trait_refs-requires-clause-args : goal.instantiate_trait_refs-requires-clause-args
-instantiate_trait_refs-requires-clause-args c =
+pub instantiate_clauses-requires-clause-args : goal.instantiate_clauses-requires-clause-args
+instantiate_clauses-requires-clause-args c =
     has-later c.placeholders_for_item.new.cx.entries c.instantiate_trait_ref.new.cx.entries c.instantiate_trait_ref.ensures.keeps args_lists c.in_ok-args.args.0 c.in_ok-args.ensures.held
 
-pub instantiate_trait_refs-requires-clause-closed : goal.instantiate_trait_refs-requires-clause-closed
-instantiate_trait_refs-requires-clause-closed c =
+pub instantiate_clauses-requires-clause-closed : goal.instantiate_clauses-requires-clause-closed
+instantiate_clauses-requires-clause-closed c =
     ap outer_binder (trees-later c.placeholders_for_item.new.cx.entries c.instantiate_trait_ref.new.cx.entries c.instantiate_trait_ref.ensures.keeps args_lists c.in_ok-args.args.0 c.in_ok-args.ensures.held ∙ c.in_ok-args.ensures.are)
     ∙ placeholders-closed 0 (map sort_of_param c.deref.result.now)
 
-pub instantiate_trait_refs-requires-clause-fits : goal.instantiate_trait_refs-requires-clause-fits
-instantiate_trait_refs-requires-clause-fits c =
+pub instantiate_clauses-requires-clause-fits : goal.instantiate_clauses-requires-clause-fits
+instantiate_clauses-requires-clause-fits c =
     let one = c.placeholders_for_item.new.cx.entries in
     let two = c.instantiate_trait_ref.new.cx.entries in
     let k = c.instantiate_trait_ref.ensures.keeps in
@@ -57,18 +57,18 @@ instantiate_trait_refs-requires-clause-fits c =
     c.deref-2.result.now c.deref-2.ensures.value
 
 pub returns-clause-keeps : goal.returns-clause-keeps
-returns-clause-keeps c = λ i e h. c.instantiate_trait_refs.ensures.keeps i e (c.instantiate_trait_ref.ensures.keeps i e (c.placeholders_for_item.ensures.keeps i e h))
+returns-clause-keeps c = λ i e h. c.instantiate_clauses.ensures.keeps i e (c.instantiate_trait_ref.ensures.keeps i e (c.placeholders_for_item.ensures.keeps i e h))
 
 pub returns-clause-is : goal.returns-clause-is
 returns-clause-is c =
     let old = c.args.cx.now.entries in
     let one = c.placeholders_for_item.new.cx.entries in
     let two = c.instantiate_trait_ref.new.cx.entries in
-    let new = c.instantiate_trait_refs.new.cx.entries in
+    let new = c.instantiate_clauses.new.cx.entries in
     let def = c.args.def.now in
     let k1 = c.placeholders_for_item.ensures.keeps in
     let k2 = c.instantiate_trait_ref.ensures.keeps in
-    let k3 = c.instantiate_trait_refs.ensures.keeps in
+    let k3 = c.instantiate_clauses.ensures.keeps in
     let A = c.in_ok-args.args.0 in
     let P = placeholders_from 0 (map sort_of_param def.params.items) in
     let are : trees_at one A ≡ P = c.in_ok-args.ensures.are ∙ ap (λ ps. placeholders_from 0 (map sort_of_param ps)) c.deref.ensures.value in
