@@ -1,9 +1,10 @@
 -- Why calls answer `Full`, from what their parts say.
-use Rattle.std.proofs.Common.{◌≡◌, ◌<◌, ◌≤◌, ◌⊎◌, inl, inr, ℕ, List, length, map, Result, Ok, Err, Option, refl, sym, ap, ◌∙◌, subst, arith}
+use Rattle.std.proofs.Common.{◌≡◌, ◌<◌, ◌≤◌, ◌⊎◌, inl, inr, ℕ, List, [], length, map, Result, Ok, Err, Option, refl, sym, ap, ◌∙◌, subst, arith}
 use Rattle.std.specs.Prelude.{◌==◌, IfErr, OnErr}
+use Rattle.std.proofs.Math.Nat.{le_refl}
 use Rattle.std.proofs.lemmas.List.{length-map}
 use Rattle.std.proofs.lemmas.List.Sums.{count_by-le-length}
-use Rattle.type_terms.specs.Label.{Sort}
+use Rattle.type_terms.specs.Label.{Sort, of_type}
 use Rattle.type_terms.specs.Terms.{Entry, Keeps, Lawful}
 use Rattle.type_terms.specs.Kinds.{ArgsHeld, arg_trees}
 use Rattle.type_terms.specs.Failures.{SomeKindIsFull, full}
@@ -18,6 +19,7 @@ use Rattle.infer_table.specs.declared.goal.Goal.{Goal}
 use Rattle.search_graph.specs.Cache.{KnownResult}
 use Rattle.search_graph.specs.SearchState.{SearchState}
 use Rattle.goal_frames.specs.Meanings.{HandlerMeaning}
+use Rattle.goal_frames.specs.Stores.{kept_inputs, kept_responses}
 use Rattle.goal_frames.specs.declared.store.InputId.{InputId}
 use Rattle.goal_frames.specs.declared.store.ResponseId.{ResponseId}
 use Rattle.solver_context.specs.Contexts.{entries_of}
@@ -32,7 +34,8 @@ use Rattle.candidate_assembly.specs.declared.solver.Solver.{Solver}
 use Rattle.text_definitions.specs.Declarations.{Question, Variable}
 use Rattle.text_definitions.specs.Names.{own_unknowns}
 use Rattle.sessions.specs.Settling.{SomeAskingRunsOut}
-use Rattle.sessions.specs.Shortages.{HasManyVariables, IsShort, IsOutOf, HoldsAs, IsAtLimit, terms, goals, answers, numbers, in_goal, in_frame, in_asking, at_impls}
+use Rattle.sessions.specs.Sessions.{HasLimits}
+use Rattle.sessions.specs.Shortages.{HasManyVariables, IsShort, IsOutOf, NumbersAreUsedUp, IsAtLimit, terms, goals, answers, numbers}
 use Rattle.sessions.specs.Subjects.{Subject}
 use Rattle.sessions.proofs.VariableKinds.{kinds-are}
 
@@ -81,16 +84,33 @@ full-inside e r h q = subst (λ z. IfErr z (λ fault. e ≡ Err (Root.Fault faul
 pub many-terms : (es : List Entry) (limit n : ℕ) → SomeKindIsFull es limit → length es ≤ n → limit ≤ n
 many-terms es limit n (full kind le e) few = let count = count_by-le-length (λ (x : Entry). x.kind == kind) es in omega (arith, count, e, few)
 
+-- ---- a session and its context
+-- The session holds the terms, and as many goals and answers, as the context does, and both have the limits that it was given.
+pub record HoldsAs (c : SolverCx Solver) (s : Subject) : Type 0 where
+  pub terms : s.terms ≡ entries_of c
+  pub goals : s.goals ≡ length (kept_inputs c.store)
+  pub answers : s.answers ≡ length (kept_responses c.store)
+  pub limits : HasLimits s.handles c
+
+-- a table of so many unknowns and of nothing else, whichever terms there are
+used-up : (es : List Entry) → NumbersAreUsedUp es
+used-up es = record {
+  table = record { ty_vars = MAX_INDEX; const_vars = 0; region_vars = 0; values = []; constraints = [] };
+  ready = record { held = tt; constraints_held = tt; acyclic = tt; older = tt; proper = tt };
+  sort = of_type;
+  all = le_refl MAX_INDEX;
+}
+
 -- a session whose context is short is at a limit
 pub short-at-limit : (s : Subject) (c : SolverCx Solver) → HoldsAs c s → IsShort solver_by_view c → IsAtLimit s
 short-at-limit s c h (inl (inl (interner k))) =
     terms (subst (λ es. SomeKindIsFull es s.handles) (sym h.terms) (subst (SomeKindIsFull (entries_of c)) h.limits.terms k))
 short-at-limit s c h (inl (inl (store (inl e)))) = goals (h.goals ∙ e ∙ h.limits.kept)
 short-at-limit s c h (inl (inl (store (inr e)))) = answers (h.answers ∙ e ∙ h.limits.kept)
-short-at-limit s c h (inl (inl (variables i a e m))) = numbers c h (in_goal i a e m)
-short-at-limit s c h (inl (inr f)) = numbers c h (in_frame f)
-short-at-limit s c h (inr g) = numbers c h (in_asking g)
+short-at-limit s c h (inl (inl (variables i a e m))) = numbers (used-up s.terms)
+short-at-limit s c h (inl (inr f)) = numbers (used-up s.terms)
+short-at-limit s c h (inr g) = numbers (used-up s.terms)
 
 pub at-limit : (s : Subject) (c : SolverCx Solver) → HoldsAs c s → IsOutOf c → IsAtLimit s
 at-limit s c h (inl k) = short-at-limit s c h k
-at-limit s c h (inr k) = numbers c h (at_impls k)
+at-limit s c h (inr k) = numbers (used-up s.terms)

@@ -1,5 +1,6 @@
 -- Why a call of a session answers `Full`.
-use Rattle.std.specs.Prelude.{◌≡◌, ◌⊎◌, ◌<◌, ◌≤◌, ℕ, List, length, Some}
+use Rattle.std.specs.Prelude.{◌≡◌, ◌⊎◌, ◌≤◌, ℕ, List, length, Some}
+use Rattle.type_terms.specs.Label.{Sort}
 use Rattle.type_terms.specs.Terms.{Entry, Keeps}
 use Rattle.type_terms.specs.Failures.{SomeKindIsFull}
 use Rattle.type_terms.specs.declared.ImplId.{ImplId}
@@ -7,22 +8,19 @@ use Rattle.type_terms.specs.declared.TheConstants.{MAX_INDEX}
 use Rattle.term_folds.specs.declared.predicate.TraitRef.{TraitRef}
 use Rattle.declarations.specs.Items.{Items, impl_at}
 use Rattle.declarations.specs.declared.items.ImplDef.{ImplDef}
-use Rattle.infer_table.specs.Content.{Table}
+use Rattle.infer_table.specs.Content.{Table, Ready, variables_of}
 use Rattle.infer_table.specs.Unification.{table_trees}
 use Rattle.infer_table.specs.declared.certainty.TypingMode.{TypingMode}
 use Rattle.infer_table.specs.declared.goal.Goal.{Goal}
-use Rattle.infer_table.specs.declared.input.CanonicalInput.{CanonicalInput}
 use Rattle.overlap_check.specs.Headers.{PairRunsOut}
 use Rattle.overlap_check.specs.Orphans.{SomeHeaderRunsOut}
 use Rattle.overlap_check.specs.Partners.{IsPairAt}
 use Rattle.goal_frames.specs.Meanings.{HandlerMeaning}
-use Rattle.goal_frames.specs.Stores.{input_at, kept_inputs, kept_responses}
-use Rattle.goal_frames.specs.declared.store.InputId.{InputId}
 use Rattle.search_graph.specs.SearchState.{SearchState}
 use Rattle.solver_context.specs.Contexts.{entries_of}
 use Rattle.solver_context.specs.Evaluations.{asked_in, IsFoundBySearch}
 use Rattle.solver_context.specs.Roots.{goal_in}
-use Rattle.solver_context.specs.Searching.{solver_meaning, world_of, ContextIsFull, SomeFrameRunsOut}
+use Rattle.solver_context.specs.Searching.{solver_meaning, world_of, ContextIsFull}
 use Rattle.solver_context.specs.Shortages.{RootRunsOut}
 use Rattle.solver_context.specs.declared.context.SolverCx.{SolverCx}
 use Rattle.candidate_assembly.specs.SolverMeaning.{solver_by_view}
@@ -30,7 +28,6 @@ use Rattle.candidate_assembly.specs.declared.solver.Solver.{Solver}
 use Rattle.text_definitions.specs.Declarations.{Question}
 use Rattle.sessions.specs.Checking.{solving_in}
 use Rattle.sessions.specs.Impossible.{GoalRunsOut}
-use Rattle.sessions.specs.Sessions.{HasLimits}
 use Rattle.sessions.specs.Subjects.{Subject}
 use Rattle.sessions.specs.Supertraits.{AreOfOwn}
 use Rattle.sessions.specs.declared.supertraits.SupertraitGoals.{SupertraitGoals}
@@ -62,14 +59,6 @@ module _ {Handler : Type 0} (handler : HandlerMeaning Handler) where
   abbrev pub IsShort : SolverCx Handler → Type 0
   IsShort c = ContextIsFull handler c ⊎ SomeGoalRunsOut c
 
--- ---- a session
--- It holds the terms, and as many goals and answers, as the context does, and both have the limits that it was given.
-pub record HoldsAs (c : SolverCx Solver) (s : Subject) : Type 0 where
-  pub terms : s.terms ≡ entries_of c
-  pub goals : s.goals ≡ length (kept_inputs c.store)
-  pub answers : s.answers ≡ length (kept_responses c.store)
-  pub limits : HasLimits s.handles c
-
 -- Numbers are used up at an impl of the declarations that are solved by: for unknowns of its parameters, for those of a pair, at a
 -- where-clause of one, asked alone, for placeholders of its parameters, or for the supertraits of its header.
 pub data ImplsRunOut (c : SolverCx Solver) : Type 0 where
@@ -84,13 +73,15 @@ pub data ImplsRunOut (c : SolverCx Solver) : Type 0 where
 abbrev pub IsOutOf : SolverCx Solver → Type 0
 IsOutOf c = IsShort solver_by_view c ⊎ ImplsRunOut c
 
--- Numbers of variables are used up: a goal that is kept has more than there are, or a frame needs more, or a goal that is asked does,
--- or an impl.
-pub data RunsOutOfNumbers (c : SolverCx Solver) : Type 0 where
-  in_goal : (i : InputId) (a : CanonicalInput) → input_at c.store i ≡ Some a → MAX_INDEX < length a.variables.items → RunsOutOfNumbers c
-  in_frame : SomeFrameRunsOut solver_by_view c → RunsOutOfNumbers c
-  in_asking : SomeGoalRunsOut solver_by_view c → RunsOutOfNumbers c
-  at_impls : ImplsRunOut c → RunsOutOfNumbers c
+-- ---- a session
+-- Numbers of variables are used up: a table over these terms has as many unknowns of a sort as there are numbers, as variables of a form and
+-- parameters of an impl are counted too. A session keeps no table, and some table always has as many: so nothing in a session tells when
+-- that comes, and this names the reason alone. Of their context the functions that a session calls tell it (`IsOutOf`).
+pub record NumbersAreUsedUp (es : List Entry) : Type 0 where
+  pub table : Table
+  pub ready : Ready es table
+  pub sort : Sort
+  pub all : MAX_INDEX ≤ variables_of table sort
 
 -- A session is at the limit that it was given: of some kind there are as many terms, or as many goals, or as many answers; or numbers of
 -- variables are used up.
@@ -98,4 +89,4 @@ pub data IsAtLimit (s : Subject) : Type 0 where
   terms : SomeKindIsFull s.terms s.handles → IsAtLimit s
   goals : s.goals ≡ s.handles → IsAtLimit s
   answers : s.answers ≡ s.handles → IsAtLimit s
-  numbers : (c : SolverCx Solver) → HoldsAs c s → RunsOutOfNumbers c → IsAtLimit s
+  numbers : NumbersAreUsedUp s.terms → IsAtLimit s
