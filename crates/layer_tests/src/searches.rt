@@ -1,5 +1,6 @@
 //! Small goals, with the frames that they start. What no list of rules can show is tried here too: how often a goal runs.
 
+ghost use Rattle.std.specs.Prelude.{◌≤◌};
 ghost use Rattle.search_graph.specs.Cache.{AreJustified};
 ghost use Rattle.scripted_goals.specs.Toy.{toy_meaning};
 
@@ -182,7 +183,8 @@ const GOALS: [(&[Step], Rule, u8); 42] = [
     ),
 ];
 
-/// Goals 63 to 70: each asks all others of them by coinductive steps. With each goal more they take twice the frames.
+/// Goals 63 to 70: each asks all others of them by coinductive steps. Goals 103 to 110 do so by unknown steps, 111 to 118 by forced
+/// ones, which are overflows, and 119 to 126 by coinductive ones again.
 const CLIQUE: usize = 8;
 
 /// Goals 71 to 102: two in each of so many levels, which ask both of the next level, and the last ones the first goal of all.
@@ -192,7 +194,7 @@ const LEVELS: usize = 16;
 type Found = (Result<u8, GraphFault>, u64, bool);
 
 /// A depth and a goal that are asked with a new cache, and what is found.
-const ALONE: [(usize, usize, Found); 30] = [
+const ALONE: [(usize, usize, Found); 36] = [
     (8, 7, (Ok(YES), 8, false)),
     (8, 9, (Ok(OVERFLOW), 9, true)),
     (8, 21, (Ok(YES), 1, false)),
@@ -221,9 +223,19 @@ const ALONE: [(usize, usize, Found); 30] = [
     // What was read under an ignored candidate asks for no second run.
     (8, 59, (Ok(YES), 3, false)),
     (8, 61, (Ok(YES), 5, false)),
-    (255, 63, (Ok(YES), 128, false)),
+    // Goals that each ask all others take one frame each, since results move to the next goal where one ends: 63 asks 64, and so on to
+    // 70, which reads all others; then 69 finds the result of 70, 68 those of 69 and 70, and so on.
+    (255, 63, (Ok(YES), 8, false)),
+    (16, 63, (Ok(YES), 8, false)),
+    (8, 63, (Ok(YES), 8, false)),
+    (255, 103, (Ok(OVERFLOW), 8, false)),
+    (8, 103, (Ok(OVERFLOW), 8, false)),
+    // Over forced steps none moves: with each goal more they take twice the frames.
+    (255, 111, (Ok(OVERFLOW), 128, false)),
     // With less depth fewer results serve again. It is given up at the 1,024th that is not kept, while five goals are evaluated.
-    (16, 63, (Ok(OVERFLOW), 1029, true)),
+    (16, 111, (Ok(OVERFLOW), 1029, true)),
+    // 126 asks a goal that is refused: 9 frames. Then 125 is, which runs again, and 126 with it; then 124, and 125 with it; and so on.
+    (255, 119, (Ok(NO), 23, false)),
     // Each goal takes one frame, where it would take as many as there are ways to it.
     (16, 71, (Ok(YES), 31, false)),
     (15, 71, (Ok(OVERFLOW), 16, true)),
@@ -244,9 +256,9 @@ const TOGETHER: [(usize, usize, Found); 16] = [
     (1, 44, (Ok(OVERFLOW), 2, true)),
     (1, 21, (Ok(YES), 1, false)),
     // A goal that was given up is kept for goals of its depth, and each call counts anew.
-    (16, 63, (Ok(OVERFLOW), 1029, true)),
-    (16, 63, (Ok(OVERFLOW), 0, false)),
-    (17, 63, (Ok(OVERFLOW), 1029, true)),
+    (16, 111, (Ok(OVERFLOW), 1029, true)),
+    (16, 111, (Ok(OVERFLOW), 0, false)),
+    (17, 111, (Ok(OVERFLOW), 1029, true)),
     // What used a result that rests on a goal is not kept either: it is found again.
     (8, 45, (Ok(YES), 3, false)),
     (8, 47, (Ok(YES), 3, false)),
@@ -272,19 +284,45 @@ fn add(
     Ok(())
 }
 
-/// Adds goals that each ask all others of them.
-fn add_clique(alloc: Global, scripts: &mut Scripts) -> Result<(), AllocError> {
-    let first = CHAIN + GOALS.len();
+/// Adds goals that each ask all others of them by steps of this kind, and the last one these goals after them.
+fn add_clique(
+    alloc: Global,
+    scripts: &mut Scripts,
+    first: usize,
+    kind: PathKind,
+    rule: Rule,
+    otherwise: u8,
+    last: &[Step],
+) -> Result<(), AllocError>
+    requires { first ≤ 1000 }
+{
     for goal in first..first + CLIQUE {
         let mut steps: Vec<Step> = Vec::new(alloc);
         for other in first..first + CLIQUE {
             if other != goal {
-                steps.push(Step::Ask(other, PathKind::Coinductive))?;
+                steps.push(Step::Ask(other, kind))?;
             }
         }
-        add(alloc, scripts, &steps, Rule::All, YES)?;
+        if goal + 1 == first + CLIQUE {
+            steps.extend_from_slice(last)?;
+        }
+        add(alloc, scripts, &steps, rule, otherwise)?;
     }
     Ok(())
+}
+
+/// Adds three more, by unknown steps, by forced ones, and with a goal that is refused.
+fn add_more_cliques(alloc: Global, scripts: &mut Scripts) -> Result<(), AllocError> {
+    let unknown = CHAIN + GOALS.len() + CLIQUE + 2 * LEVELS;
+    let kind = PathKind::Unknown;
+    add_clique(alloc, scripts, unknown, kind, Rule::Any, OVERFLOW, &[])?;
+    let forced = unknown + CLIQUE;
+    let kind = PathKind::ForcedAmbiguity;
+    add_clique(alloc, scripts, forced, kind, Rule::Any, OVERFLOW, &[])?;
+    let refused = forced + CLIQUE;
+    let kind = PathKind::Coinductive;
+    let last = [Step::Ask(51, PathKind::Unknown)];
+    add_clique(alloc, scripts, refused, kind, Rule::All, YES, &last)
 }
 
 /// Adds goals of levels, each of which asks the two of the next level, and the last ones the first goal.
@@ -316,8 +354,11 @@ fn all_goals(alloc: Global) -> Result<Scripts, AllocError> {
     for (steps, rule, otherwise) in GOALS {
         add(alloc, &mut scripts, steps, rule, otherwise)?;
     }
-    add_clique(alloc, &mut scripts)?;
+    let first = CHAIN + GOALS.len();
+    let kind = PathKind::Coinductive;
+    add_clique(alloc, &mut scripts, first, kind, Rule::All, YES, &[])?;
     add_levels(alloc, &mut scripts)?;
+    add_more_cliques(alloc, &mut scripts)?;
     Ok(scripts)
 }
 

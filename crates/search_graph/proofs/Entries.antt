@@ -1,6 +1,6 @@
 -- Provisional entries over the stack.
 use Rattle.std.proofs.Common.{◌≡◌, ◌<◌, ◌≤◌, ◌+◌, ℕ, suc, zero, Bool, true, false, List, [], ◌∷◌, ◌++◌, ◌⊎◌, inl, inr, Some, if◌then◌else◌, slice_get, slice_set, get_or, take, drop, length, refl, sym, ◌∙◌, ap, subst, arith}
-use Rattle.std.proofs.lemmas.List.{length-set, take-append-drop, take-append-le, length-take-le}
+use Rattle.std.proofs.lemmas.List.{length-set, take-append-drop, take-append-le, take_all, length-append, length-take-le}
 use Rattle.std.proofs.lemmas.Option.{slice_get_within, slice_get_read, same_Some, none-some}
 use Rattle.std.specs.Global.{Vec}
 use Rattle.search_graph.specs.declared.path_kind.PathKind.{PathKind}
@@ -15,14 +15,16 @@ use Rattle.search_graph.specs.declared.stack.StackEntry.{StackEntry}
 use Rattle.search_graph.specs.Heads.{RestsOn}
 use Rattle.search_graph.specs.Path.{greater}
 use Rattle.search_graph.specs.Stack.{steps_of, kind_after, IsAnswer, IsProvisional, IsWithin}
-use Rattle.search_graph.specs.Question.{AreEntriesOver}
+use Rattle.search_graph.specs.Question.{AllDescendTo, AreEntriesOver}
 use Rattle.search_graph.specs.Rests.{ShownFor}
 use Rattle.search_graph.specs.Faithful.{IsHead, HeadsDescend, IsFaithful}
-use Rattle.search_graph.specs.Provisional.{IsEntryAt, IsServingAt, AreEntriesWithin, NoneIsLeft, AddsEntry, IsProvisionalEntry, AreProvisional}
+use Rattle.search_graph.specs.Provisional.{IsEntryAt, IsServingAt, AreEntriesWithin, NoneIsLeft, AddsEntry, IsProvisionalEntry, AreProvisional, AreLeft}
 use Rattle.search_graph.proofs.Keeping.{entries_serve, entries_are_left, runs_answer}
 use Rattle.search_graph.proofs.HeadFacts.{below_head, below_more}
 use Rattle.search_graph.proofs.Graphs.{length-steps_of}
 use Rattle.search_graph.proofs.Chains.{push_cases}
+use Rattle.search_graph.proofs.Ranges.{at_end}
+use Rattle.search_graph.proofs.Faithfuls.{all_heads_descend}
 use Rattle.search_graph.proofs.Caches.{KeepsResults-push}
 
 -- what stands in a longer list stood before, or is the last
@@ -132,24 +134,38 @@ module _ {I R : Type 0} where
 
 module _ {C I R F : Type 0} (m : Meaning C I R F) where
   -- the entries that are there stay as they are where a goal without entries is put on the stack
-  pub runs_begin : (w : m.World) (c : C) (asked : List Asked) (steps : List (m.Goal × PathKind)) (s : m.Goal × PathKind) (lists : List (Vec (ProvisionalEntry I R))) (none : Vec (ProvisionalEntry I R))
-      → length lists ≡ length steps → none.items ≡ [] → AreProvisional m w c asked steps lists → AreProvisional m w c asked (steps ++ s ∷ []) (lists ++ none ∷ [])
-  runs_begin w c asked steps s lists none long empty all head place e at =
+  pub runs_begin : (w : m.World) (met : Bool) (c : C) (asked : List Asked) (steps : List (m.Goal × PathKind)) (s : m.Goal × PathKind) (lists : List (Vec (ProvisionalEntry I R))) (none : Vec (ProvisionalEntry I R))
+      → length lists ≡ length steps → none.items ≡ [] → AreProvisional m w met c asked steps lists → AreProvisional m w met c asked (steps ++ s ∷ []) (lists ++ none ∷ [])
+  runs_begin w met c asked steps s lists none long empty all head place e at =
       let old = entry_stood lists none head place e empty at in
       let inside : head + 1 ≤ length steps = let h = head_within lists head place e old in omega (arith, long, h) in
-      subst (λ l. IsProvisionalEntry m w c asked l e) (sym (take-append-le (head + 1) steps (s ∷ []) inside)) (all head place e old)
+      subst (λ l. IsProvisionalEntry m w met c asked l e) (sym (take-append-le (head + 1) steps (s ∷ []) inside)) (all head place e old)
 
   -- and where the newest goal leaves it with its list
-  pub runs_leave : (w : m.World) (c : C) (asked : List Asked) (steps : List (m.Goal × PathKind)) (s : m.Goal × PathKind) (lists : List (Vec (ProvisionalEntry I R))) (last : Vec (ProvisionalEntry I R))
-      → length lists ≡ length steps → AreProvisional m w c asked (steps ++ s ∷ []) (lists ++ last ∷ []) → AreProvisional m w c asked steps lists
-  runs_leave w c asked steps s lists last long all head place e at =
+  pub runs_leave : (w : m.World) (met : Bool) (c : C) (asked : List Asked) (steps : List (m.Goal × PathKind)) (s : m.Goal × PathKind) (lists : List (Vec (ProvisionalEntry I R))) (last : Vec (ProvisionalEntry I R))
+      → length lists ≡ length steps → AreProvisional m w met c asked (steps ++ s ∷ []) (lists ++ last ∷ []) → AreProvisional m w met c asked steps lists
+  runs_leave w met c asked steps s lists last long all head place e at =
       let inside : head + 1 ≤ length steps = let h = head_within lists head place e at in omega (arith, long, h) in
-      subst (λ l. IsProvisionalEntry m w c asked l e) (take-append-le (head + 1) steps (s ∷ []) inside) (all head place e (entry_stays lists last head place e at))
+      subst (λ l. IsProvisionalEntry m w met c asked l e) (take-append-le (head + 1) steps (s ∷ []) inside) (all head place e (entry_stays lists last head place e at))
+
+  -- its own entries stand over the stack with it
+  pub runs_left : (w : m.World) (met : Bool) (c : C) (asked : List Asked) (steps : List (m.Goal × PathKind)) (s : m.Goal × PathKind) (lists : List (Vec (ProvisionalEntry I R))) (last : Vec (ProvisionalEntry I R))
+      → length lists ≡ length steps → AreProvisional m w met c asked (steps ++ s ∷ []) (lists ++ last ∷ []) → AreLeft m w met c asked (steps ++ s ∷ []) last.items
+  runs_left w met c asked steps s lists last long all place e at =
+      let whole : take (length lists + 1) (steps ++ s ∷ []) ≡ steps ++ s ∷ [] = take_all (length lists + 1) (steps ++ s ∷ []) (let n = length-append steps (s ∷ []) in omega (arith, long, n)) in
+      subst (λ l. IsProvisionalEntry m w met c asked l e) whole (all (length lists) place e (last, at_end lists last, at))
+
+  -- where an overflow was met since, less is said
+  pub entries_met : (w : m.World) (met more : Bool) (c : C) (asked : List Asked) (steps : List (m.Goal × PathKind)) (lists : List (Vec (ProvisionalEntry I R)))
+      → (more ≡ false → met ≡ false) → AreProvisional m w met c asked steps lists → AreProvisional m w more c asked steps lists
+  entries_met w met more c asked steps lists calm all head place e at =
+      let h = all head place e at in
+      record { input = h.input; known = h.known; fair = h.fair; source = h.source; some = h.some; below = h.below; yes = h.yes; not_plain = h.not_plain; never = λ off. h.never (calm off); listed = h.listed }
 
   -- in a later context, with more listed that was asked
-  pub entries_keep : (w : m.World) (c d : C) (asked more : List Asked) (steps : List (m.Goal × PathKind)) (lists : List (Vec (ProvisionalEntry I R)))
-      → Keeps m c d → KeepsResults asked more → AreProvisional m w c asked steps lists → AreProvisional m w d more steps lists
-  entries_keep w c d asked more steps lists keeps grows all head place e at =
+  pub entries_keep : (w : m.World) (met : Bool) (c d : C) (asked more : List Asked) (steps : List (m.Goal × PathKind)) (lists : List (Vec (ProvisionalEntry I R)))
+      → Keeps m c d → KeepsResults asked more → AreProvisional m w met c asked steps lists → AreProvisional m w met d more steps lists
+  entries_keep w met c d asked more steps lists keeps grows all head place e at =
       let h = all head place e at in
       let input = keeps.inputs e.input h.input in
       let result = keeps.results e.result h.known in
@@ -162,17 +178,18 @@ module _ {C I R F : Type 0} (m : Meaning C I R F) where
         below = h.below;
         yes = λ y. rw input.1 (h.yes (rw result.1 at y));
         not_plain = rw input.1 h.not_plain;
+        never = λ calm. rw input.1 (h.never calm);
         listed = (h.listed.0, grows e.asked h.listed.0 h.listed.1);
       }
 
   -- where lists and what was asked are the same
-  pub entries_same : (w : m.World) (c d : C) (asked more : List Asked) (steps : List (m.Goal × PathKind)) (lists new : List (Vec (ProvisionalEntry I R)))
-      → Keeps m c d → more ≡ asked → new ≡ lists → AreProvisional m w c asked steps lists → AreProvisional m w d more steps new
-  entries_same w c d asked more steps lists new keeps same is all = rw (same, is) (entries_keep w c d asked asked steps lists keeps (λ place x at. at) all)
+  pub entries_same : (w : m.World) (met : Bool) (c d : C) (asked more : List Asked) (steps : List (m.Goal × PathKind)) (lists new : List (Vec (ProvisionalEntry I R)))
+      → Keeps m c d → more ≡ asked → new ≡ lists → AreProvisional m w met c asked steps lists → AreProvisional m w met d more steps new
+  entries_same w met c d asked more steps lists new keeps same is all = rw (same, is) (entries_keep w met c d asked asked steps lists keeps (λ place x at. at) all)
 
-  pub entries_within_keep : (w v : m.World) (before : List (m.Goal × m.Answer)) (c d : C) (asked : List Asked) (steps : List (m.Goal × PathKind)) (lists : List (Vec (ProvisionalEntry I R)))
-      → Keeps m c d → AreProvisional m v c asked steps lists → AreEntriesWithin m w before c lists → AreEntriesWithin m w before d lists
-  entries_within_keep w v before c d asked steps lists keeps all stay head place e at =
+  pub entries_within_keep : (w v : m.World) (met : Bool) (before : List (m.Goal × m.Answer)) (c d : C) (asked : List Asked) (steps : List (m.Goal × PathKind)) (lists : List (Vec (ProvisionalEntry I R)))
+      → Keeps m c d → AreProvisional m v met c asked steps lists → AreEntriesWithin m w before c lists → AreEntriesWithin m w before d lists
+  entries_within_keep w v met before c d asked steps lists keeps all stay head place e at =
       let h = all head place e at in
       rw ((keeps.inputs e.input h.input).1, (keeps.results e.result h.known).1) (stay head place e at)
 
@@ -194,14 +211,14 @@ module _ {C I R F : Type 0} (m : Meaning C I R F) where
   ]
 
   -- and where one was added
-  pub entries_left : (w : m.World) (c : C) (asked : List Asked) (steps : List (m.Goal × PathKind)) (old new : List (Vec (ProvisionalEntry I R))) (added : ℕ) (entry : ProvisionalEntry I R)
-      → AddsEntry old new added entry → added < length old → IsProvisionalEntry m w c asked (take (added + 1) steps) entry → AreProvisional m w c asked steps old → AreProvisional m w c asked steps new
-  entries_left w c asked steps old new added entry adds inside is all head place e at = elim (entry_added old new added entry head place e adds inside at) [
+  pub entries_left : (w : m.World) (met : Bool) (c : C) (asked : List Asked) (steps : List (m.Goal × PathKind)) (old new : List (Vec (ProvisionalEntry I R))) (added : ℕ) (entry : ProvisionalEntry I R)
+      → AddsEntry old new added entry → added < length old → IsProvisionalEntry m w met c asked (take (added + 1) steps) entry → AreProvisional m w met c asked steps old → AreProvisional m w met c asked steps new
+  entries_left w met c asked steps old new added entry adds inside is all head place e at = elim (entry_added old new added entry head place e adds inside at) [
     | inl stood_there ↦ all head place e stood_there
-    | inr own ↦ subst (λ n. IsProvisionalEntry m w c asked (take (n + 1) steps) e) (sym own.0) (subst (λ z. IsProvisionalEntry m w c asked (take (added + 1) steps) z) own.1 is)
+    | inr own ↦ subst (λ n. IsProvisionalEntry m w met c asked (take (n + 1) steps) e) (sym own.0) (subst (λ z. IsProvisionalEntry m w met c asked (take (added + 1) steps) z) own.1 is)
   ]
 
-  module _ (w : m.World) (c : C) (asked : List Asked) (steps : List (m.Goal × PathKind)) (lists : List (Vec (ProvisionalEntry I R))) (all : AreProvisional m w c asked steps lists) (head place : ℕ) (e : ProvisionalEntry I R) (at : IsEntryAt lists head place e) where
+  module _ (w : m.World) (met : Bool) (c : C) (asked : List Asked) (steps : List (m.Goal × PathKind)) (lists : List (Vec (ProvisionalEntry I R))) (all : AreProvisional m w met c asked steps lists) (head place : ℕ) (e : ProvisionalEntry I R) (at : IsEntryAt lists head place e) where
     -- a yes of an entry is shown as the reply to a question over the whole stack, where the path from its head is of its kind
     pub entry_shown : (k : PathKind) → e.kind ≡ kind_of (drop (head + 1) steps) k → m.is_yes (m.answer_of c e.result) ≡ true
         → ShownFor m.Goal (m.Follows w) (indices e.heads.items) steps (m.goal_of c e.input) k
@@ -218,13 +235,13 @@ module _ {C I R F : Type 0} (m : Meaning C I R F) where
         down i s is (sym (slice_get-take (head + 1) steps i low) ∙ there))
 
   -- the kind of the steps to the goals of a stack
-  kind_steps : (c : C) (n : ℕ) (es : List (StackEntry I R)) (k : PathKind) → kind_of (drop n (steps_of m c es)) k ≡ kind_after (drop n es) k
+  pub kind_steps : (c : C) (n : ℕ) (es : List (StackEntry I R)) (k : PathKind) → kind_of (drop n (steps_of m c es)) k ≡ kind_after (drop n es) k
   kind_steps c zero [] k = refl
   kind_steps c zero (e ∷ es) k = ap (greater e.step_kind) (kind_steps c zero es k)
   kind_steps c (suc n) [] k = refl
   kind_steps c (suc n) (e ∷ es) k = kind_steps c n es k
 
-  module _ (c : C) (es : List (StackEntry I R)) (asked : List Asked) (lists : List (Vec (ProvisionalEntry I R))) (all : AreEntriesOver m c es asked lists)
+  module _ (c : C) (es : List (StackEntry I R)) (asked : List Asked) (met : Bool) (lists : List (Vec (ProvisionalEntry I R))) (all : AreEntriesOver m c es asked met lists)
       (number : ℕ) (input : I) (k : PathKind) (depth head place : ℕ) (at : IsServingAt lists es number input k depth head place) where
     -- an entry that serves a question is the reply to it
     pub entry_answers : IsAnswer m (m.world c) (steps_of m c es) (m.goal_of c input, k) (indices at.0.heads.items) c at.0.result
@@ -239,7 +256,7 @@ module _ {C I R F : Type 0} (m : Meaning C I R F) where
           fair = entry.fair;
           source = entry.source;
           below = below_more (length (take (head + 1) (steps_of m c es))) (length (steps_of m c es)) (indices e.heads.items) low entry.below;
-          yes = entry_shown (m.world c) c asked (steps_of m c es) lists all head place e at.1 k kind;
+          yes = entry_shown (m.world c) met c asked (steps_of m c es) lists all head place e at.1 k kind;
         })
 
     pub entry_faithful : (reach : ℕ) (overflowed : Bool) → IsFaithful m (m.world c) reach (steps_of m c es) (m.goal_of c input) (m.answer_of c at.0.result) overflowed (indices at.0.heads.items)
@@ -247,7 +264,7 @@ module _ {C I R F : Type 0} (m : Meaning C I R F) where
         let e : ProvisionalEntry I R = at.0 in
         let never : HeadsDescend m (m.world c) limit (indices e.heads.items) (steps_of m c es) (m.goal_of c input) → IsNotPlain m (m.world c) limit (m.goal_of c input) =
         subst (λ i. HeadsDescend m (m.world c) limit (indices e.heads.items) (steps_of m c es) (m.goal_of c i) → IsNotPlain m (m.world c) limit (m.goal_of c i)) at.2.same
-        (entry_not_plain (m.world c) c asked (steps_of m c es) lists all head place e at.1 limit)
+        (entry_not_plain (m.world c) met c asked (steps_of m c es) lists all head place e at.1 limit)
         in
         absurd (never down n b within p)
 
@@ -257,12 +274,13 @@ module _ {C I R F : Type 0} (m : Meaning C I R F) where
 
   module _ (c : C) (es : List (StackEntry I R)) (k : PathKind) (nearest : ℕ) (heads : List CycleHead) (inside : nearest < length es) (rests : RestsOn heads nearest) (low : AreBelow (nearest + 1) (indices heads)) where
     -- a result over the stack leaves an entry in the list of its nearest head
-    pub left_entry : (asked : List Asked) (input : I) (r : R) (e : ProvisionalEntry I R) (a : Asked)
+    pub left_entry : (asked : List Asked) (met : Bool) (input : I) (r : R) (e : ProvisionalEntry I R) (a : Asked)
         → e.input ≡ input → e.result ≡ r → e.heads.items ≡ heads → e.kind ≡ kind_after (drop (nearest + 1) es) k → slice_get asked e.asked ≡ Some a
         → m.IsInput c input → IsProvisional m (m.world c) (steps_of m c es) (m.goal_of c input, k) (indices heads) c r
         → IsFaithful m (m.world c) 0 (steps_of m c es) (m.goal_of c input) (m.answer_of c r) false (indices heads)
-        → IsProvisionalEntry m (m.world c) c asked (take (nearest + 1) (steps_of m c es)) e
-    left_entry asked input r e a same copy on kind at known result faithful =
+        → AllDescendTo m c es input met
+        → IsProvisionalEntry m (m.world c) met c asked (take (nearest + 1) (steps_of m c es)) e
+    left_entry asked met input r e a same copy on kind at known result faithful descends =
         let w = m.world c in
         let g = m.goal_of c input in
         let steps = steps_of m c es in
@@ -285,6 +303,9 @@ module _ {C I R F : Type 0} (m : Meaning C I R F) where
           not_plain = rw (same, on) (λ limit down n b within p.
               let there : HeadsDescend m w limit (indices heads) steps g = λ i s is place. down i s is (slice_get-take (nearest + 1) steps i (below_head (nearest + 1) i (indices heads) low is) ∙ place) in
               let told = faithful limit (inr refl) there n b within p in
+              subst (IsHead nearest) told.unread rests);
+          never = λ calm. rw same (λ limit n b within p.
+              let told = faithful limit (inr refl) (all_heads_descend m w limit (indices heads) steps g (descends calm limit)) n b within p in
               subst (IsHead nearest) told.unread rests);
           listed = (a, at);
         }

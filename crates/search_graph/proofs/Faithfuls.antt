@@ -26,11 +26,11 @@ cond_zero : (b : Bool) → ◌≡◌ {A = ℕ} (cond b 0 0) 0
 cond_zero true = refl
 cond_zero false = refl
 
-or_first : (a b : Bool) → (a || b) ≡ false → a ≡ false
+pub or_first : (a b : Bool) → (a || b) ≡ false → a ≡ false
 or_first true b h = h
 or_first false b h = refl
 
-or_second : (a b : Bool) → (a || b) ≡ false → b ≡ false
+pub or_second : (a b : Bool) → (a || b) ≡ false → b ≡ false
 or_second true b h = let e : true ≡ false = h in absurd cc
 or_second false b h = h
 
@@ -206,6 +206,18 @@ module _ {C I R F : Type 0} (m : Meaning C I R F) where
       ])
       in
       nested (pred limit) (rw told.within (omega arith)) all n x.0 (omega arith) x.2
+
+  -- plain recursion on each goal of the stack descends to what the newest one asks, if it has met no overflow
+  pub asked_descends : (w : m.World) (reach : ℕ) (steps : List (m.Goal × PathKind)) (g q : m.Goal) (j k : PathKind) (overflowed : Bool) (heads : List ℕ) (heard : List (Reply m.Answer))
+      → m.asks w g heard ≡ Evaluate q k → IsOnPlainTrack m w reach steps g overflowed heads heard → overflowed ≡ false
+      → ((limit : ℕ) → AllDescend m w limit steps g) → (limit : ℕ) → AllDescend m w limit (steps ++ (g, j) ∷ []) q
+  asked_descends w reach steps g q j k overflowed heads heard asks track within all limit place s at =
+      let now = track limit (inr within) (all_heads_descend w limit heads steps g (all limit)) in
+      let down : Descends m w limit g q = question_descends m w limit g q k heard asks now.track in
+      elim (slice_get_last steps (g, j) s place at) [
+        | inl there ↦ Descends-trans m w limit s.0 g q (all limit place s there) down
+        | inr own ↦ subst (λ z. Descends m w limit z.0 q) own down
+      ]
 
   -- a goal that ends with a result that rests on others, or after an overflow, isn't plain
   pub ends_not_plain : (w : m.World) (reach : ℕ) (steps : List (m.Goal × PathKind)) (g : m.Goal) (a : m.Answer) (overflowed : Bool) (heads : List ℕ)

@@ -183,7 +183,7 @@ same_or_not zero (suc b) = inr (λ e. omega (arith, e))
 same_or_not (suc a) zero = inr (λ e. omega (arith, e))
 same_or_not (suc a) (suc b) = elim (same_or_not a b) [ inl e ↦ inl (ap suc e) | inr n ↦ inr (λ e. n (omega (arith, e))) ]
 
-less_or : (place index : ℕ) → (place ≡ index → ⊥) → place < index + 1 → place < index
+pub less_or : (place index : ℕ) → (place ≡ index → ⊥) → place < index + 1 → place < index
 less_or place index n l = elim (same_or_not place index) [ inl e ↦ absurd (n e) | inr m ↦ omega (arith, l, m) ]
 
 module _ (heads less : List CycleHead) (index : ℕ) (taken : (other : ℕ) → RestsOn less other ↔ (RestsOn heads other × (other ≡ index → ⊥))) where

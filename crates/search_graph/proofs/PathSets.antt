@@ -6,7 +6,8 @@ use Rattle.std.proofs.lemmas.Nat.{and_le_r, pow_pos, pow_below}
 use Rattle.std.proofs.lemmas.Nat.Bits.{bit_at-lt, bit_at-zero, bit_at_and, bit_at_or, bit_at_ones, bit_at_ones_above, bit_at-pow_same, bit_at-pow_other, bit_at_mask_inside, bit_at_mask_below, bit_at-trailing_zeros}
 use Rattle.std.proofs.lemmas.Bool.{cases_order, cases_eq, cases_lt}
 use Rattle.search_graph.specs.declared.path_kind.PathKind.{PathKind}
-use Rattle.search_graph.specs.Path.{greater, after, flag_of, HasPath, only, AreExtendedBy}
+use Rattle.search_graph.specs.declared.path_kind.PathKind.TheVariants.{Inductive, Unknown, Coinductive, ForcedAmbiguity}
+use Rattle.search_graph.specs.Path.{greater, after, flag_of, HasPath, only, AreExtendedBy, AreExtendedWhere, AreExtendedByEach}
 use Rattle.search_graph.proofs.KindOrder.{same_flag, path_at, flag_of-path_at, flag_of-below, flag_of-after, after-twice}
 
 -- the set of a path has that path alone
@@ -112,11 +113,11 @@ module _ (k : PathKind) (n : ℕ) where
       omega (arith, bit-moved j, bit_at-lt n j))
 
 -- the bits of a union
-bit-union : (a b i : ℕ) → (bit_at a i ≡ 1) ⊎ (bit_at b i ≡ 1) → bit_at (bit_or a b) i ≡ 1
+pub bit-union : (a b i : ℕ) → (bit_at a i ≡ 1) ⊎ (bit_at b i ≡ 1) → bit_at (bit_or a b) i ≡ 1
 bit-union a b i (inl h) = omega (arith, bit_at_or a b i, bit_at-lt b i)
 bit-union a b i (inr h) = omega (arith, bit_at_or a b i, bit_at-lt a i)
 
-bit-either : (a b i : ℕ) → bit_at (bit_or a b) i ≡ 1 → (bit_at a i ≡ 1) ⊎ (bit_at b i ≡ 1)
+pub bit-either : (a b i : ℕ) → bit_at (bit_or a b) i ≡ 1 → (bit_at a i ≡ 1) ⊎ (bit_at b i ≡ 1)
 bit-either a b i h = elim (cases_eq (bit_at a i) 1) [ inl e ↦ inl e | inr ne ↦ inr (omega (arith, bit_at_or a b i, bit_at-lt a i, bit_at-lt b i)) ]
 
 -- to extend each of two sets is to extend their union
@@ -147,3 +148,63 @@ AreExtendedBy-twice j k a b c f g path = (to, from)
 
     from : ((shorter : Option PathKind) × HasPath a shorter × (path ≡ Some (after shorter (greater j k)))) → HasPath c path
     from t = (g path).1 (Some (after t.0 j), (f (Some (after t.0 j))).1 (t.0, t.1, refl), t.2 ∙ ap Some (sym (after-twice t.0 j k)))
+
+-- a set that shares a bit with the set of one path has that path
+pub shares-one : (kinds : ℕ) (path : Option PathKind) → bit_and kinds (only path) ≡ 0 → HasPath kinds path → ⊥
+shares-one kinds path none has =
+    let at = bit_at_and kinds (only path) (flag_of path) in
+    let own = bit_at-pow_same (flag_of path) in
+    let nothing : bit_at (bit_and kinds (only path)) (flag_of path) ≡ 0 = ap (λ m. bit_at m (flag_of path)) none ∙ bit_at-zero (flag_of path) in
+    omega (arith, at, own, nothing, has)
+
+pub has-one : (kinds : ℕ) (path : Option PathKind) → 0 < bit_and kinds (only path) → HasPath kinds path
+has-one kinds path some =
+    let found = some_bit kinds (only path) (pow_below (flag_of path) 8 (omega (arith, flag_of-below path))) some in
+    let i : ℕ = found.0 in
+    let both : min (bit_at kinds i) (bit_at (only path) i) ≡ 1 = sym (bit_at_and kinds (only path) i) ∙ found.1 in
+    elim (cases_eq i (flag_of path)) [
+      | inl e ↦ subst (λ n. bit_at kinds n ≡ 1) e (omega (arith, both, bit_at-lt kinds i, bit_at-lt (only path) i))
+      | inr ne ↦ let other = bit_at-pow_other (flag_of path) i ne in absurd (omega (arith, both, other))
+    ]
+
+-- no path is in the empty set
+pub none-in : (path : Option PathKind) → HasPath 0 path → ⊥
+none-in path h = let nothing = bit_at-zero (flag_of path) in omega (arith, nothing, h)
+
+pub extended-there : (kinds : ℕ) (k : PathKind) (paths longer : ℕ) → HasPath kinds (Some k) → AreExtendedBy k paths longer → AreExtendedWhere kinds k paths longer
+extended-there kinds k paths longer has is path = (λ h. let x = (is path).0 h in (has, x.0, x.1, x.2), λ h. (is path).1 (h.1, h.2, h.3))
+
+pub extended-nowhere : (kinds : ℕ) (k : PathKind) (paths longer : ℕ) → (HasPath kinds (Some k) → ⊥) → longer ≡ 0 → AreExtendedWhere kinds k paths longer
+extended-nowhere kinds k paths longer without none path = (λ h. absurd (none-in path (subst (λ n. HasPath n path) none h)), λ h. absurd (without h.0))
+
+-- the paths of all kinds
+pub extended-each : (kinds paths a b c d : ℕ) → AreExtendedWhere kinds Inductive paths a → AreExtendedWhere kinds Unknown paths b → AreExtendedWhere kinds Coinductive paths c → AreExtendedWhere kinds ForcedAmbiguity paths d
+    → AreExtendedByEach kinds paths (bit_or (bit_or (bit_or a b) c) d)
+extended-each kinds paths a b c d one two three four path = (to, from)
+  where
+    to : HasPath (bit_or (bit_or (bit_or a b) c) d) path → ((k : PathKind) × HasPath kinds (Some k) × (shorter : Option PathKind) × HasPath paths shorter × (path ≡ Some (after shorter k)))
+    to h = elim (bit-either (bit_or (bit_or a b) c) d (flag_of path) h) [
+      | inr w ↦ let r = (four path).0 w in (ForcedAmbiguity, r.0, r.1, r.2, r.3)
+      | inl x ↦ elim (bit-either (bit_or a b) c (flag_of path) x) [
+        | inr w ↦ let r = (three path).0 w in (Coinductive, r.0, r.1, r.2, r.3)
+        | inl y ↦ elim (bit-either a b (flag_of path) y) [ inr w ↦ let r = (two path).0 w in (Unknown, r.0, r.1, r.2, r.3) | inl w ↦ let r = (one path).0 w in (Inductive, r.0, r.1, r.2, r.3) ]
+      ]
+    ]
+
+    first : HasPath a path → HasPath (bit_or (bit_or (bit_or a b) c) d) path
+    first w = bit-union (bit_or (bit_or a b) c) d (flag_of path) (inl (bit-union (bit_or a b) c (flag_of path) (inl (bit-union a b (flag_of path) (inl w)))))
+
+    second : HasPath b path → HasPath (bit_or (bit_or (bit_or a b) c) d) path
+    second w = bit-union (bit_or (bit_or a b) c) d (flag_of path) (inl (bit-union (bit_or a b) c (flag_of path) (inl (bit-union a b (flag_of path) (inr w)))))
+
+    third : HasPath c path → HasPath (bit_or (bit_or (bit_or a b) c) d) path
+    third w = bit-union (bit_or (bit_or a b) c) d (flag_of path) (inl (bit-union (bit_or a b) c (flag_of path) (inr w)))
+
+    of_kind : (k : PathKind) → HasPath kinds (Some k) × (shorter : Option PathKind) × HasPath paths shorter × (path ≡ Some (after shorter k)) → HasPath (bit_or (bit_or (bit_or a b) c) d) path
+    of_kind Inductive h = first ((one path).1 h)
+    of_kind Unknown h = second ((two path).1 h)
+    of_kind Coinductive h = third ((three path).1 h)
+    of_kind ForcedAmbiguity h = bit-union (bit_or (bit_or a b) c) d (flag_of path) (inr ((four path).1 h))
+
+    from : ((k : PathKind) × HasPath kinds (Some k) × (shorter : Option PathKind) × HasPath paths shorter × (path ≡ Some (after shorter k))) → HasPath (bit_or (bit_or (bit_or a b) c) d) path
+    from h = of_kind h.0 (h.1, h.2, h.3, h.4)

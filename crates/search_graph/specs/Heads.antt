@@ -1,8 +1,10 @@
 -- The goals of the stack on which results rest.
-use Rattle.std.specs.Prelude.{◌≡◌, ◌==◌, ◌↔◌, ◌⊎◌, ℕ, List, [], ◌∷◌, Some, slice_get, position, if◌then◌else◌}
+use Rattle.std.specs.Prelude.{◌≡◌, ◌==◌, ◌↔◌, ◌⊎◌, ℕ, List, [], ◌∷◌, Option, Some, slice_get, position, if◌then◌else◌}
 use Rattle.std.specs.Int.RustNames.{bit_or}
 use Rattle.std.specs.Global.{Vec}
+use Rattle.search_graph.specs.declared.path_kind.PathKind.{PathKind}
 use Rattle.search_graph.specs.declared.dependencies.CycleHead.{CycleHead}
+use Rattle.search_graph.specs.Path.{HasPath, IsExtended}
 use Rattle.search_graph.specs.KeptPaths.{indices}
 use Rattle.search_graph.specs.Faithful.{IsHead}
 
@@ -10,6 +12,11 @@ use Rattle.search_graph.specs.Faithful.{IsHead}
 abbrev pub paths_to : List CycleHead → ℕ → ℕ
 paths_to [] place = 0
 paths_to (head ∷ heads) place = if head.index == place then bit_or head.paths.0 (paths_to heads place) else paths_to heads place
+
+-- those of the first head in the list that is of this goal
+abbrev pub first_paths : List CycleHead → ℕ → ℕ
+first_paths [] place = 0
+first_paths (head ∷ heads) place = if head.index == place then head.paths.0 else first_paths heads place
 
 -- those by which it was read in any of these lists
 abbrev pub paths_in : List (Vec CycleHead) → ℕ → ℕ
@@ -35,3 +42,7 @@ AreHeadsBut place less heads = (other : ℕ) → IsHead other heads → (other �
 -- what was read by the last heads is what was read by both
 abbrev pub AreReadByBoth : List CycleHead → List CycleHead → List CycleHead → Type 0
 AreReadByBoth one other both = (place : ℕ) → paths_to both place ≡ bit_or (paths_to one place) (paths_to other place)
+
+-- what was read by the last heads is what was read by the first, and what was read by the second, each by a path that goes on by one of these
+abbrev pub AreReadThrough : ℕ → List CycleHead → List CycleHead → List CycleHead → Type 0
+AreReadThrough paths one other both = (place : ℕ) (path : Option PathKind) → HasPath (paths_to both place) path ↔ (HasPath (paths_to one place) path ⊎ IsExtended paths (paths_to other place) path)

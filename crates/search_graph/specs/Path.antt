@@ -53,3 +53,15 @@ only path = 2 ^ flag_of path
 -- The second set has exactly the paths of the first, each extended by a step of the kind k
 abbrev pub AreExtendedBy : PathKind → ℕ → ℕ → Type 0
 AreExtendedBy k paths longer = (path : Option PathKind) → HasPath longer path ↔ ((shorter : Option PathKind) × HasPath paths shorter × (path ≡ Some (after shorter k)))
+
+-- The third set has the paths of the second, each extended by a step of the kind k, if the first has the path of that kind
+abbrev pub AreExtendedWhere : ℕ → PathKind → ℕ → ℕ → Type 0
+AreExtendedWhere kinds k paths longer = (path : Option PathKind) → HasPath longer path ↔ (HasPath kinds (Some k) × (shorter : Option PathKind) × HasPath paths shorter × (path ≡ Some (after shorter k)))
+
+-- the path is one of the second set, extended by one of the first
+abbrev pub IsExtended : ℕ → ℕ → Option PathKind → Type 0
+IsExtended kinds paths path = (k : PathKind) × HasPath kinds (Some k) × (shorter : Option PathKind) × HasPath paths shorter × (path ≡ Some (after shorter k))
+
+-- the third set has exactly these
+abbrev pub AreExtendedByEach : ℕ → ℕ → ℕ → Type 0
+AreExtendedByEach kinds paths longer = (path : Option PathKind) → HasPath longer path ↔ IsExtended kinds paths path

@@ -1,7 +1,11 @@
 -- Results that rest on goals of the stack, kept for the runs of those goals: a list of entries for each goal of the stack.
-use Rattle.std.specs.Prelude.{◌≡◌, ◌≤◌, ◌+◌, ℕ, true, length, take, drop, List, [], ◌∷◌, ◌++◌, Some, slice_get}
+use Rattle.std.specs.Prelude.{◌≡◌, ◌≤◌, ◌+◌, ◌↔◌, ◌⊎◌, ℕ, Bool, true, false, length, take, drop, List, [], ◌∷◌, ◌++◌, Option, Some, slice_get}
 use Rattle.std.specs.Global.{Vec}
 use Rattle.search_graph.specs.declared.path_kind.PathKind.{PathKind}
+use Rattle.search_graph.specs.declared.path_kind.PathKind.TheVariants.{ForcedAmbiguity}
+use Rattle.search_graph.specs.declared.dependencies.EvaluationResult.{EvaluationResult}
+use Rattle.search_graph.specs.Path.{greater, HasPath, IsExtended}
+use Rattle.search_graph.specs.Heads.{RestsOn, paths_to, first_paths}
 use Rattle.search_graph.specs.declared.cache.Asked.{Asked}
 use Rattle.search_graph.specs.declared.cache.CacheEntry.{CacheEntry}
 use Rattle.search_graph.specs.declared.stack.StackEntry.{StackEntry}
@@ -45,11 +49,38 @@ module _ {I R : Type 0} where
     pub others : (other : ℕ) → (other ≡ head → ⊥) → slice_get new other ≡ slice_get old other
     pub goals : length new ≡ length old
 
+  -- The goal that ended over this stack was asked by a step of the kind j, and under it was asked what is listed at the place.
+  -- An entry whose nearest head it was moves to the list of the goal at the place next
+  pub record IsMoved (stack : List (StackEntry I R)) (j : PathKind) (ended : EvaluationResult R) (asked next : ℕ) (old new : ProvisionalEntry I R) : Type 0 where
+    pub input : new.input ≡ old.input
+    pub number : new.number ≡ old.number
+    pub result : new.result ≡ old.result
+    pub depth : new.required_depth ≡ old.required_depth
+    pub asked_under : new.asked ≡ asked
+    -- both have one result
+    pub same : old.result ≡ ended.result
+    -- it rests on what both rest on, but for the goal itself, and the newest of these is its nearest head
+    pub rests : (place : ℕ) → RestsOn new.heads.items place ↔ ((RestsOn old.heads.items place × (place ≡ length stack → ⊥)) ⊎ RestsOn ended.dependencies.heads.items place)
+    pub nearest : RestsOn new.heads.items next × AreBelow (next + 1) (indices new.heads.items)
+    -- it read what it read, and by its reads of the goal what that read
+    pub reads : (place : ℕ) → (place ≡ length stack → ⊥) → (path : Option PathKind)
+        → HasPath (paths_to new.heads.items place) path ↔ (HasPath (paths_to old.heads.items place) path ⊎ IsExtended (first_paths old.heads.items (length stack)) (paths_to ended.dependencies.heads.items place) path)
+    -- no forced step hides a coinductive one of the path from there
+    pub kind : new.kind ≡ kind_after (drop (next + 1) stack) (greater j old.kind)
+    pub free : new.kind ≡ ForcedAmbiguity → ⊥
+
+  -- where no overflow was met some of these entries moved into the lists, and nothing else came in
+  abbrev pub AreMoved : List (StackEntry I R) → Bool → List (ProvisionalEntry I R) → PathKind → EvaluationResult R → ℕ → List (Vec (ProvisionalEntry I R)) → List (Vec (ProvisionalEntry I R)) → Type 0
+  AreMoved stack met left j ended asked old new =
+      (head place : ℕ) (e : ProvisionalEntry I R) → IsEntryAt new head place e
+      → IsEntryAt old head place e ⊎ ((met ≡ false) × (i : ℕ) × (from : ProvisionalEntry I R) × (slice_get left i ≡ Some from) × IsMoved stack j ended asked head from e)
+
 module _ {C I R F : Type 0} (m : Meaning C I R F) where
   -- An entry over the goals of the stack up to the one in whose list it stands, the oldest first. It is the result of its
   -- goal, and rests on its heads alone: a yes is shown as the reply to a question of the newest of these goals, by one step
-  -- of the entry's kind. What was asked under it is listed
-  pub record IsProvisionalEntry (w : m.World) (c : C) (asked : List Asked) (before : List (m.Goal × PathKind)) (e : ProvisionalEntry I R) : Type 0 where
+  -- of the entry's kind. Plain recursion has no answer to the goal, where that on the heads descends to it, or where no
+  -- overflow was met in the call. What was asked under it is listed
+  pub record IsProvisionalEntry (w : m.World) (met : Bool) (c : C) (asked : List Asked) (before : List (m.Goal × PathKind)) (e : ProvisionalEntry I R) : Type 0 where
     pub input : m.IsInput c e.input
     pub known : m.IsResult c e.result
     pub fair : IsFair m w (m.goal_of c e.input) (m.answer_of c e.result)
@@ -58,12 +89,17 @@ module _ {C I R F : Type 0} (m : Meaning C I R F) where
     pub below : AreBelow (length before) (indices e.heads.items)
     pub yes : m.is_yes (m.answer_of c e.result) ≡ true → ShownFor m.Goal (m.Follows w) (indices e.heads.items) before (m.goal_of c e.input) e.kind
     pub not_plain : (limit : ℕ) → HeadsDescend m w limit (indices e.heads.items) before (m.goal_of c e.input) → IsNotPlain m w limit (m.goal_of c e.input)
+    pub never : met ≡ false → (limit : ℕ) → IsNotPlain m w limit (m.goal_of c e.input)
     pub listed : (a : Asked) × (slice_get asked e.asked ≡ Some a)
 
   -- so is each entry in the list of a goal of the stack, over the stack up to that goal
-  abbrev pub AreProvisional : m.World → C → List Asked → List (m.Goal × PathKind) → List (Vec (ProvisionalEntry I R)) → Type 0
-  AreProvisional w c asked steps lists =
-      (head place : ℕ) (e : ProvisionalEntry I R) → IsEntryAt lists head place e → IsProvisionalEntry w c asked (take (head + 1) steps) e
+  abbrev pub AreProvisional : m.World → Bool → C → List Asked → List (m.Goal × PathKind) → List (Vec (ProvisionalEntry I R)) → Type 0
+  AreProvisional w met c asked steps lists =
+      (head place : ℕ) (e : ProvisionalEntry I R) → IsEntryAt lists head place e → IsProvisionalEntry w met c asked (take (head + 1) steps) e
+
+  -- and each in the list of the newest goal, which leaves the stack with it
+  abbrev pub AreLeft : m.World → Bool → C → List Asked → List (m.Goal × PathKind) → List (ProvisionalEntry I R) → Type 0
+  AreLeft w met c asked steps left = (place : ℕ) (e : ProvisionalEntry I R) → slice_get left place ≡ Some e → IsProvisionalEntry w met c asked steps e
 
   -- no limit had a part in their results, but for those that were known before
   abbrev pub AreEntriesWithin : m.World → List (m.Goal × m.Answer) → C → List (Vec (ProvisionalEntry I R)) → Type 0

@@ -1,5 +1,5 @@
 -- What is promised of a question on a goal over a stack: its input was asked in the context c, and its result came in d.
-use Rattle.std.specs.Prelude.{◌≡◌, ◌≤◌, ◌+◌, ◌⊎◌, ℕ, Bool, false, List, [], ◌∷◌, length}
+use Rattle.std.specs.Prelude.{◌≡◌, ◌≤◌, ◌+◌, ◌++◌, ◌⊎◌, ℕ, Bool, false, List, [], ◌∷◌, length}
 use Rattle.search_graph.specs.declared.path_kind.PathKind.{PathKind}
 use Rattle.search_graph.specs.declared.stack.StackEntry.{StackEntry}
 use Rattle.search_graph.specs.declared.stack.Cycle.{Cycle}
@@ -10,7 +10,7 @@ use Rattle.search_graph.specs.declared.dependencies.EvaluationResult.{Evaluation
 use Rattle.std.specs.Global.{Vec}
 use Rattle.search_graph.specs.declared.cache.Asked.{Asked}
 use Rattle.search_graph.specs.declared.provisional.ProvisionalEntry.{ProvisionalEntry}
-use Rattle.search_graph.specs.Provisional.{AreProvisional, AreEntriesWithin, AreKeptWithin}
+use Rattle.search_graph.specs.Provisional.{AreProvisional, AreLeft, AreEntriesWithin, AreKeptWithin}
 use Rattle.search_graph.specs.Meaning.{Meaning}
 use Rattle.search_graph.specs.Cache.{KnownResult, answers_in}
 use Rattle.search_graph.specs.Plain.{IsNotPlain}
@@ -118,13 +118,21 @@ module _ {C I R F : Type 0} (m : Meaning C I R F) where
       (before : List (m.Goal × m.Answer)) → met ≡ false → AreLastWithin m (m.world c) before c es → IsLastWithin m (m.world c) before c entry → AreKeptWithin m (m.world c) before c old lists
       → AreKeptWithin m (m.world c) before d new more × IsWithin m (m.world c) before (m.goal_of c entry.input) (m.answer_of d r)
 
+  -- where no overflow was met, plain recursion on each goal of the stack descends to this one, in chains of any length
+  abbrev pub AllDescendTo : C → List (StackEntry I R) → I → Bool → Type 0
+  AllDescendTo c es input met = met ≡ false → (limit : ℕ) → AllDescend m (m.world c) limit (steps_of m c es) (m.goal_of c input)
+
   -- the entries in these lists stand over the stack
-  abbrev pub AreEntriesOver : C → List (StackEntry I R) → List Asked → List (Vec (ProvisionalEntry I R)) → Type 0
-  AreEntriesOver c es asked lists = AreProvisional m (m.world c) c asked (steps_of m c es) lists
+  abbrev pub AreEntriesOver : C → List (StackEntry I R) → List Asked → Bool → List (Vec (ProvisionalEntry I R)) → Type 0
+  AreEntriesOver c es asked met lists = AreProvisional m (m.world c) met c asked (steps_of m c es) lists
 
   -- those that are there now stand over the stack as it was in the context c
-  abbrev pub AreEntriesStill : C → List (StackEntry I R) → C → List Asked → List (Vec (ProvisionalEntry I R)) → Type 0
-  AreEntriesStill c es d asked lists = AreProvisional m (m.world c) d asked (steps_of m c es) lists
+  abbrev pub AreEntriesStill : C → List (StackEntry I R) → C → List Asked → Bool → List (Vec (ProvisionalEntry I R)) → Type 0
+  AreEntriesStill c es d asked met lists = AreProvisional m (m.world c) met d asked (steps_of m c es) lists
+
+  -- the entries that a goal left with stand over the stack and the goal, which was asked by a step of this kind
+  abbrev pub AreLeftOver : C → List (StackEntry I R) → I → PathKind → C → List Asked → Bool → List (ProvisionalEntry I R) → Type 0
+  AreLeftOver c es input k d asked met left = AreLeft m (m.world c) met d asked (steps_of m c es ++ (m.goal_of c input, k) ∷ []) left
 
   -- no limit had a part in the result if none had in the entries
   abbrev pub IsWithinAsEntries : C → List (Vec (ProvisionalEntry I R)) → I → R → Type 0

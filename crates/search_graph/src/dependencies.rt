@@ -2,7 +2,7 @@
 
 ghost use Rattle.std.specs.Prelude.{◌≡◌, ◌≢◌, ◌==◌, ◌+◌, ◌-◌, ◌^◌, ◌++◌, ◌∷◌, ◌↔◌, [], ℕ, min, max, position, ◌||◌, All, IfOk, IfSome, IfNone, IsPermutation, OnOk, None, false};
 ghost use Rattle.std.specs.Int.RustNames.{bit_or};
-ghost use Rattle.search_graph.specs.Heads.{paths_to, RestsOn, IsFirstOf, AreHeadsOfBoth};
+ghost use Rattle.search_graph.specs.Heads.{paths_to, RestsOn, IsFirstOf, AreHeadsOfBoth, AreReadThrough};
 ghost use Rattle.search_graph.specs.KeptPaths.{indices, AreBelow};
 ghost use Rattle.search_graph.specs.Nested.{no_goal, covered};
 
@@ -178,6 +178,25 @@ pub(crate) fn merge_heads(heads: &mut Vec<CycleHead>, more: &[CycleHead]) -> Res
     Ok(())
 }
 
+/// Adds the heads of a goal on which a result rests that read it by these paths, and so them by its paths and then these.
+pub(crate) fn rest_through(
+    heads: &mut Vec<CycleHead>,
+    more: &[CycleHead],
+    paths: PathsToNested,
+) -> Result<(), AllocError>
+    ensures read { OnOk result (AreReadThrough paths.0 heads.old.items more.now heads.new.items) }
+    ensures rests { OnOk result (AreHeadsOfBoth heads.old.items more.now heads.new.items) }
+{
+    for head in more {
+        let read = CycleHead {
+            index: head.index,
+            paths: head.paths.extend_with_each(paths),
+        };
+        add_head(heads, read)?;
+    }
+    Ok(())
+}
+
 /// Adds a head, or its paths where it is there.
 fn add_head(heads: &mut Vec<CycleHead>, head: CycleHead) -> Result<(), AllocError>
     ensures united { OnOk result ((place : ℕ) → paths_to heads.new.items place ≡ bit_or (paths_to heads.old.items place) (paths_to (head ∷ []) place)) }
@@ -205,6 +224,7 @@ pub fn take_head(heads: &mut Vec<CycleHead>, index: usize) -> Option<PathsToNest
     ensures taken { IfSome result (λ paths. IsFirstOf heads.old.items (record { index = index; paths = paths })) }
     ensures absent { IfNone result (All (λ head. head.index ≢ index) heads.old.items) }
     ensures unchanged { IfNone result (heads.new.items ≡ heads.old.items) }
+    ensures others { (other : ℕ) → other ≢ index → paths_to heads.new.items other ≡ paths_to heads.old.items other }
     ensures rests { (other : ℕ) → RestsOn heads.new.items other ↔ (RestsOn heads.old.items other × (other ≢ index)) }
 {
     let place = place_of(heads, index)?;

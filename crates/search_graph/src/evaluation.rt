@@ -9,7 +9,7 @@ ghost use Rattle.search_graph.specs.Cache.{known_results, HasConflict, IsNumberO
 ghost use Rattle.search_graph.specs.Bound.{frame_bound, question_bound};
 ghost use Rattle.search_graph.specs.KeptPaths.{AreBelow, indices};
 ghost use Rattle.search_graph.specs.Stack.{steps_of, span_of_newest, IsStack, IsEntry, AreCached, IfUsable, IfUsableAlone};
-ghost use Rattle.search_graph.specs.Question.{AreEntriesOver, AreEntriesStill, IsReplyOver, IsRunOver, IsFaithfulOver, IsUntouchedOver, IsNotPlainOver, AreFramesWithin, StaysWithin};
+ghost use Rattle.search_graph.specs.Question.{AllDescendTo, AreEntriesOver, AreEntriesStill, AreLeftOver, IsReplyOver, IsRunOver, IsFaithfulOver, IsUntouchedOver, IsNotPlainOver, AreFramesWithin, StaysWithin};
 ghost use Rattle.search_graph.specs.Unlimited.{SearchStaysWithin, SearchRunsWithin};
 
 use crate::cache::CachedResults;
@@ -18,11 +18,13 @@ use crate::delegate::{Cx, Delegate, InputOf, ResultOf};
 use crate::dependencies::{Dependencies, EvaluationResult, take_head};
 use crate::fault::{GraphFault, Stop};
 use crate::path_kind::PathKind;
+use crate::provisional::Entries;
 use crate::reads::CandidateReads;
 use crate::search::{Evaluation, Outcome, Search, is_last_run, nested_depth, run_limit};
 use crate::stack::StackEntry;
 use crate::steps::{
-    conclude, give_up, hear, look_up, reply_in_cycle, reply_with_overflow, start_run, take_turn,
+    conclude, give_up, hear, is_met, look_up, reply_in_cycle, reply_with_overflow, start_run,
+    take_turn,
 };
 
 /// The reply to a question from outside. Where the call is given up, it is an overflow by depth, which is kept.
@@ -76,11 +78,13 @@ pub(crate) fn evaluate<D: Delegate>(
 ) -> Outcome<D>
     requires stack { IsStack D.meaning (D.meaning.world cx.old) [] cx.old search.old.stack.items }
     requires cache { AreCached D.meaning (D.meaning.world cx.old) cx.old cache.old.entries.items }
-    requires entries { AreEntriesOver D.meaning cx.old search.old.stack.items cache.old.asked.items search.old.entries.lists.items }
+    requires entries { AreEntriesOver D.meaning cx.old search.old.stack.items cache.old.asked.items search.old.overflow_met search.old.entries.lists.items }
+    requires descends { AllDescendTo D.meaning cx.old search.old.stack.items input search.old.overflow_met }
     requires input { D.meaning.IsInput cx.old input }
     ensures keeps { Keeps D.meaning cx.old cx.new }
     ensures stack { OnOk result (search.new.stack.items ≡ search.old.stack.items) }
-    ensures entries { OnOk result (AreEntriesStill D.meaning cx.old search.old.stack.items cx.new cache.new.asked.items search.new.entries.lists.items) }
+    ensures entries { OnOk result (AreEntriesStill D.meaning cx.old search.old.stack.items cx.new cache.new.asked.items search.new.overflow_met search.new.entries.lists.items) }
+    ensures calm { OnOk result (search.new.overflow_met ≡ false → search.old.overflow_met ≡ false) }
     ensures cache { AreCached D.meaning (D.meaning.world cx.new) cx.new cache.new.entries.items }
     ensures goals { KeepsNumbers D.Cx.Input.eq cache.old.goals.keys cache.new.goals.keys }
     ensures results { KeepsResults cache.old.entries.items cache.new.entries.items }
@@ -126,12 +130,14 @@ fn evaluate_new<D: Delegate>(
 ) -> Outcome<D>
     requires stack { IsStack D.meaning (D.meaning.world cx.old) [] cx.old search.old.stack.items }
     requires cache { AreCached D.meaning (D.meaning.world cx.old) cx.old cache.old.entries.items }
-    requires entries { AreEntriesOver D.meaning cx.old search.old.stack.items cache.old.asked.items search.old.entries.lists.items }
+    requires entries { AreEntriesOver D.meaning cx.old search.old.stack.items cache.old.asked.items search.old.overflow_met search.old.entries.lists.items }
+    requires descends { AllDescendTo D.meaning cx.old search.old.stack.items input search.old.overflow_met }
     requires input { D.meaning.IsInput cx.old input }
     requires number { IsNumberOf D.Cx.Input.eq cache.old.goals.keys input number }
     ensures keeps { Keeps D.meaning cx.old cx.new }
     ensures stack { OnOk result (search.new.stack.items ≡ search.old.stack.items) }
-    ensures entries { OnOk result (AreEntriesStill D.meaning cx.old search.old.stack.items cx.new cache.new.asked.items search.new.entries.lists.items) }
+    ensures entries { OnOk result (AreEntriesStill D.meaning cx.old search.old.stack.items cx.new cache.new.asked.items search.new.overflow_met search.new.entries.lists.items) }
+    ensures calm { OnOk result (search.new.overflow_met ≡ false → search.old.overflow_met ≡ false) }
     ensures cache { AreCached D.meaning (D.meaning.world cx.new) cx.new cache.new.entries.items }
     ensures goals { KeepsNumbers D.Cx.Input.eq cache.old.goals.keys cache.new.goals.keys }
     ensures results { KeepsResults cache.old.entries.items cache.new.entries.items }
@@ -156,8 +162,8 @@ fn evaluate_new<D: Delegate>(
     let mut dependencies = Dependencies::new(search.alloc);
     let limit = run_limit::<D>();
     for _run in 0..limit {
-        // The entries whose nearest head this is go with each run.
-        let (back, outcome) = run_once(search, cache, cx, entry, dependencies, depth)?;
+        // The entries whose nearest head this is go with each run but the last.
+        let (back, outcome, left) = run_once(search, cache, cx, entry, dependencies, depth)?;
         let EvaluationResult {
             result: answer,
             dependencies: mut found,
@@ -176,6 +182,7 @@ fn evaluate_new<D: Delegate>(
                 back.into_input(),
                 step_kind,
                 evaluation,
+                left,
                 depth,
             );
         }
@@ -196,11 +203,12 @@ fn evaluate_new<D: Delegate>(
         entry.into_input(),
         step_kind,
         evaluation,
+        Vec::new(search.alloc),
         depth,
     )
 }
 
-/// One run of a goal, whose dependencies are added to those of its earlier runs.
+/// One run of a goal, whose dependencies are added to those of its earlier runs. With it come the entries that it left with.
 ///
 /// A frame that is kept between two steps, to be resumed in place of this loop, would be kept beside its stack entry.
 #[cycle(search)]
@@ -215,21 +223,26 @@ fn run_once<D: Delegate>(
     (
         StackEntry<InputOf<D>, ResultOf<D>>,
         EvaluationResult<ResultOf<D>>,
+        Entries<D>,
     ),
     Stop,
 >
     requires stack { IsStack D.meaning (D.meaning.world cx.old) [] cx.old search.old.stack.items }
     requires cache { AreCached D.meaning (D.meaning.world cx.old) cx.old cache.old.entries.items }
-    requires entries { AreEntriesOver D.meaning cx.old search.old.stack.items cache.old.asked.items search.old.entries.lists.items }
+    requires entries { AreEntriesOver D.meaning cx.old search.old.stack.items cache.old.asked.items search.old.overflow_met search.old.entries.lists.items }
+    requires descends { AllDescendTo D.meaning cx.old search.old.stack.items entry.input search.old.overflow_met }
     requires entry { IsEntry D.meaning (D.meaning.world cx.old) (steps_of D.meaning cx.old search.old.stack.items) cx.old entry }
     requires below { AreBelow (length search.old.stack.items) (indices earlier.heads.items) }
     requires span { entry.span ≡ covered (span_of_newest search.old.stack.items) (one_goal entry.number) }
     requires nested { AreInRange cache.old.asked.items earlier.nested_goals }
     requires depth { earlier.encountered_overflow ≡ false → earlier.required_depth ≤ depth }
+    requires calm { search.old.overflow_met ≡ false → earlier.encountered_overflow ≡ false }
     requires earlier { IsUntouchedOver D.meaning cx.old search.old.stack.items entry.input (depth + 1) earlier }
     ensures keeps { Keeps D.meaning cx.old cx.new }
     ensures stack { OnOk result (search.new.stack.items ≡ search.old.stack.items) }
-    ensures entries { OnOk result (AreEntriesStill D.meaning cx.old search.old.stack.items cx.new cache.new.asked.items search.new.entries.lists.items) }
+    ensures entries { OnOk result (AreEntriesStill D.meaning cx.old search.old.stack.items cx.new cache.new.asked.items search.new.overflow_met search.new.entries.lists.items) }
+    ensures left { IfOk result (λ p. AreLeftOver D.meaning cx.old search.old.stack.items entry.input entry.step_kind cx.new cache.new.asked.items search.new.overflow_met p.2.items) }
+    ensures calm { IfOk result (λ p. search.new.overflow_met ≡ false → (search.old.overflow_met ≡ false) × (p.1.dependencies.encountered_overflow ≡ false)) }
     ensures cache { AreCached D.meaning (D.meaning.world cx.new) cx.new cache.new.entries.items }
     ensures goals { KeepsNumbers D.Cx.Input.eq cache.old.goals.keys cache.new.goals.keys }
     ensures results { KeepsResults cache.old.entries.items cache.new.entries.items }
@@ -247,7 +260,7 @@ fn run_once<D: Delegate>(
     ensures full { result ≡ Err (Stop.Fault GraphFault.Full) → D.meaning.IsFull cx.new }
     ensures limits { search.old.limits_met ≡ true → search.new.limits_met ≡ true }
     ensures no_limit { search.old.limits_met ≡ false → search.new.limits_met ≡ true → IsNotPlainOver D.meaning cx.old search.old.stack.items entry.input (depth + 1) }
-    ensures within { IfOk result (λ p. SearchRunsWithin D.meaning cx.old search.old cache.old entry cx.new search.new cache.new p.1.result) }
+    ensures within { IfOk result (λ p. SearchRunsWithin D.meaning cx.old search.old cache.old entry cx.new search.new cache.new p.1.result p.2) }
 {
     let (mut frame, mut request) = start_run(search, cx, entry)?;
     let mut dependencies = earlier;
@@ -259,6 +272,8 @@ fn run_once<D: Delegate>(
             Turn::Ask(input, step_kind) => {
                 let overflowed = dependencies.encountered_overflow;
                 let nested = ask(search, cache, cx, input, step_kind, depth, overflowed)?;
+                let told = nested.dependencies.encountered_overflow;
+                search.overflow_met = is_met(search.overflow_met, told);
                 let is_open = candidates.open;
                 request = hear::<D>(
                     &mut frame,
@@ -271,7 +286,7 @@ fn run_once<D: Delegate>(
             }
             Turn::Tell(reply) => request = D::step(&mut frame, cx, reply)?,
             Turn::End(answer) => {
-                let Some(entry) = search.pop() else {
+                let Some((entry, left)) = search.pop() else {
                     unreachable!()
                 };
                 reads.count(&mut dependencies.heads);
@@ -281,6 +296,7 @@ fn run_once<D: Delegate>(
                         result: answer,
                         dependencies,
                     },
+                    left,
                 ));
             }
         }
@@ -300,11 +316,13 @@ fn ask<D: Delegate>(
 ) -> Outcome<D>
     requires stack { IsStack D.meaning (D.meaning.world cx.old) [] cx.old search.old.stack.items }
     requires cache { AreCached D.meaning (D.meaning.world cx.old) cx.old cache.old.entries.items }
-    requires entries { AreEntriesOver D.meaning cx.old search.old.stack.items cache.old.asked.items search.old.entries.lists.items }
+    requires entries { AreEntriesOver D.meaning cx.old search.old.stack.items cache.old.asked.items search.old.overflow_met search.old.entries.lists.items }
+    requires descends { AllDescendTo D.meaning cx.old search.old.stack.items input search.old.overflow_met }
     requires input { D.meaning.IsInput cx.old input }
     ensures keeps { Keeps D.meaning cx.old cx.new }
     ensures stack { OnOk result (search.new.stack.items ≡ search.old.stack.items) }
-    ensures entries { OnOk result (AreEntriesStill D.meaning cx.old search.old.stack.items cx.new cache.new.asked.items search.new.entries.lists.items) }
+    ensures entries { OnOk result (AreEntriesStill D.meaning cx.old search.old.stack.items cx.new cache.new.asked.items search.new.overflow_met search.new.entries.lists.items) }
+    ensures calm { OnOk result (search.new.overflow_met ≡ false → search.old.overflow_met ≡ false) }
     ensures cache { AreCached D.meaning (D.meaning.world cx.new) cx.new cache.new.entries.items }
     ensures goals { KeepsNumbers D.Cx.Input.eq cache.old.goals.keys cache.new.goals.keys }
     ensures results { KeepsResults cache.old.entries.items cache.new.entries.items }

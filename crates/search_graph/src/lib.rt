@@ -13,6 +13,7 @@ mod fault;
 mod global_cache;
 mod graph;
 mod head_usages;
+mod moves;
 mod nested_goals;
 mod path_kind;
 mod provisional;

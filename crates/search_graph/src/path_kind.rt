@@ -3,7 +3,7 @@
 ghost use Rattle.std.specs.Prelude.{⊤, ◌≡◌, ◌-◌, ◌↔◌, ℕ, [], ◌∷◌, codes, max, Option, Some};
 ghost use Rattle.std.specs.Int.RustNames.{bit_or};
 ghost use Rattle.search_graph.specs.Laws.{IsAssociative, IsCommutative, IsIdempotent, IsNeutral, IsAbsorbing};
-ghost use Rattle.search_graph.specs.Path.{rank, greater, only, HasPath, AreExtendedBy};
+ghost use Rattle.search_graph.specs.Path.{rank, greater, only, HasPath, AreExtendedBy, AreExtendedWhere, AreExtendedByEach};
 ghost use Rattle.search_graph.specs.declared.path_kind.PathKind.{PathKind};
 ghost use Rattle.search_graph.specs.declared.path_kind.PathKind.TheVariants.{Inductive, ForcedAmbiguity};
 
@@ -137,6 +137,28 @@ impl PathsToNested {
             self.insert(PathsToNested::from(path));
         }
         self
+    }
+
+    /// These paths, each extended by each of those.
+    #[must_use]
+    pub fn extend_with_each(self, paths: PathsToNested) -> PathsToNested
+        ensures { AreExtendedByEach paths.0 self.0 result.0 }
+    {
+        self.extend_where(paths, PathKind::Inductive)
+            .union(self.extend_where(paths, PathKind::Unknown))
+            .union(self.extend_where(paths, PathKind::Coinductive))
+            .union(self.extend_where(paths, PathKind::ForcedAmbiguity))
+    }
+
+    /// These paths, each extended by the one of this kind, if that is among those, and else none.
+    fn extend_where(self, paths: PathsToNested, kind: PathKind) -> PathsToNested
+        ensures { AreExtendedWhere paths.0 kind self.0 result.0 }
+    {
+        if paths.intersects(PathsToNested::from(kind)) {
+            self.extend_with(kind)
+        } else {
+            PathsToNested::empty()
+        }
     }
 
     /// The only kind of these paths, or `None` where they have several kinds, no step or are none.

@@ -33,7 +33,7 @@ pub struct ProvisionalEntry<I, R> {
 }
 
 /// The entries of a delegate's goals in the list of a goal of the stack.
-type Entries<D> = Vec<ProvisionalEntry<InputOf<D>, ResultOf<D>>>;
+pub(crate) type Entries<D> = Vec<ProvisionalEntry<InputOf<D>, ResultOf<D>>>;
 
 /// The provisional entries of a search: for each goal of the stack a list of those whose nearest head it is.
 ///
@@ -149,7 +149,7 @@ impl<D: Delegate> ProvisionalEntries<D> {
 }
 
 /// Where among these an entry of the goal stands for a path of this kind that needs no more than this depth.
-fn find_among<D: Delegate>(
+pub(crate) fn find_among<D: Delegate>(
     entries: &[ProvisionalEntry<InputOf<D>, ResultOf<D>>],
     number: usize,
     input: &InputOf<D>,

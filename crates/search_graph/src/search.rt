@@ -10,19 +10,20 @@ ghost use Rattle.search_graph.specs.Meaning.{Keeps};
 ghost use Rattle.search_graph.specs.Heads.{RestsOn};
 ghost use Rattle.search_graph.specs.KeptPaths.{indices, AreBelow};
 ghost use Rattle.search_graph.specs.Bound.{open_ends_limit};
-ghost use Rattle.search_graph.specs.Cache.{known_results, HasConflict, IsNumberOf, KeepsResults, IsReplyOf, AddsEvaluation, SaysSame};
+ghost use Rattle.search_graph.specs.Cache.{known_results, HasConflict, IsNumberOf, KeepsResults, IsReplyOf, AddsAsked, AddsEvaluation, SaysSame};
 ghost use Rattle.search_graph.specs.Plain.{IsNotPlain};
 ghost use Rattle.search_graph.specs.Stack.{place_of, oldest_of, span_of_newest, IsStack, IsProvisional, IsUnread, IsSettled, AreCached, IsOnStack, IsClosedBy};
-ghost use Rattle.search_graph.specs.Provisional.{IsServingAt, IsEntryAt, NoneServes, AddsEntry};
-ghost use Rattle.search_graph.specs.Question.{AreEntriesOver, IsWithinAsEntries, EntriesStayWithin, IsResultOver, IsReplyOver, IsReadOver, IsInitial, IsFaithfulOver, IsKeptResult, IsNotPlainUnder, IsWithinAsCached, IsWithinAsStack, KeepsWithin};
+ghost use Rattle.search_graph.specs.Provisional.{IsServingAt, IsEntryAt, NoneServes, AddsEntry, AreMoved};
+ghost use Rattle.search_graph.specs.Question.{AllDescendTo, AreEntriesOver, IsWithinAsEntries, EntriesStayWithin, IsResultOver, IsReplyOver, IsReadOver, IsInitial, IsFaithfulOver, IsKeptResult, IsNotPlainUnder, IsWithinAsCached, IsWithinAsStack, KeepsWithin};
 
 use crate::cache::{Cached, CachedResults};
 use crate::delegate::{Cx, Delegate, InputOf, ResultOf};
 use crate::dependencies::{Dependencies, EvaluationResult};
 use crate::fault::{GraphFault, Stop};
+use crate::moves::move_entries;
 use crate::nested_goals::{NestedGoals, Span};
 use crate::path_kind::{PathKind, PathsToNested};
-use crate::provisional::{ProvisionalEntries, ProvisionalEntry};
+use crate::provisional::{Entries, ProvisionalEntries, ProvisionalEntry};
 use crate::stack::{Cycle, StackEntry, add_place, find_cycle, kind_of_path, remove_place};
 use bitflags::Flags;
 use indexmap::IndexMap;
@@ -60,6 +61,8 @@ pub struct Search<D: Delegate> {
     pub ghost listed: { length entries.lists.items ≡ length stack.items } by { Prim.hlevel props },
     /// Whether a limit of the depth or of the runs gave a result, or a call was given up.
     pub limits_met: bool,
+    /// Whether a goal heard of an overflow by depth in this call from outside.
+    pub(crate) overflow_met: bool,
     /// How many frames were started, or the greatest `u64` if there were more.
     pub frames: u64,
     /// The count of the goals that ended in this call from outside whose results rest on goals of the stack, or that met an
@@ -75,6 +78,7 @@ impl<D: Delegate> Drop for Search<D> {
             positions: _,
             entries: _,
             limits_met: _,
+            overflow_met: _,
             frames: _,
             open_ends: _,
         } = self;
@@ -95,6 +99,7 @@ impl<D: Delegate> Search<D> {
             positions: IndexMap::new(alloc),
             entries: ProvisionalEntries::new(alloc),
             limits_met: false,
+            overflow_met: false,
             frames: 0,
             open_ends: 0,
         }
@@ -112,27 +117,34 @@ impl<D: Delegate> Search<D> {
         self.entries.clear();
     }
 
-    /// Begins a call from outside, in which no goal has ended.
+    /// Begins a call from outside, in which no goal has ended and no overflow was met.
     pub(crate) fn count_anew(&mut self)
         ensures count { self.new.open_ends ≡ 0 }
+        ensures calm { self.new.overflow_met ≡ false }
         ensures stack { self.new.stack.items ≡ self.old.stack.items }
         ensures entries { self.new.entries ≡ self.old.entries }
         ensures frames { self.new.frames ≡ self.old.frames }
         ensures limits { self.new.limits_met ≡ self.old.limits_met }
     {
         self.open_ends = 0;
+        self.overflow_met = false;
     }
 
-    /// Counts a goal that ended with a result that isn't kept, or after an overflow: for 1, and for what it costs beyond that.
-    /// Whether the call may go on after it.
-    pub(crate) fn count_open_end(&mut self, cost: usize) -> bool
-        ensures limit { result ≡ true → self.new.open_ends < open_ends_limit }
-        ensures count { result ≡ true → self.new.open_ends ≡ self.old.open_ends + 1 + cost }
+    /// Counts a goal that ended, if it did so with a result that isn't kept, or after an overflow: for 1, and for what it costs beyond
+    /// that. Whether the call may go on after it.
+    pub(crate) fn count_end(&mut self, is_open: bool, cost: usize) -> bool
+        ensures limit { is_open ≡ true → result ≡ true → self.new.open_ends < open_ends_limit }
+        ensures count { is_open ≡ true → result ≡ true → self.new.open_ends ≡ self.old.open_ends + 1 + cost }
+        ensures uncounted { is_open ≡ false → (result ≡ true) × (self.new.open_ends ≡ self.old.open_ends) }
         ensures stack { self.new.stack.items ≡ self.old.stack.items }
         ensures entries { self.new.entries ≡ self.old.entries }
+        ensures met { self.new.overflow_met ≡ self.old.overflow_met }
         ensures frames { self.new.frames ≡ self.old.frames }
         ensures limits { self.new.limits_met ≡ self.old.limits_met }
     {
+        if !is_open {
+            return true;
+        }
         self.open_ends = self.open_ends.saturating_add(1).saturating_add(cost);
         self.open_ends < OPEN_ENDS_LIMIT
     }
@@ -178,6 +190,7 @@ impl<D: Delegate> Search<D> {
         ensures stack { OnOk result (self.new.stack.items ≡ self.old.stack.items ++ entry ∷ []) }
         ensures none { OnOk result ((list : _) × (self.new.entries.lists.items ≡ self.old.entries.lists.items ++ list ∷ []) × (list.items ≡ [])) }
         ensures err { OnErr result (self.new.stack.items ≡ self.old.stack.items) }
+        ensures met { self.new.overflow_met ≡ self.old.overflow_met }
         ensures frames { self.new.frames ≡ min (self.old.frames + 1) (2 ^ 64 - 1) }
         ensures limits { self.new.limits_met ≡ self.old.limits_met }
     {
@@ -192,18 +205,22 @@ impl<D: Delegate> Search<D> {
         Ok(())
     }
 
-    /// Takes the newest goal off the stack, and with it the entries that rest on it.
-    pub fn pop(&mut self) -> Option<StackEntry<InputOf<D>, ResultOf<D>>>
-        ensures stack { self.old.stack.items ≡ self.new.stack.items ++ option_to_list result }
+    /// Takes the newest goal off the stack, and with it the entries whose nearest head it is.
+    pub fn pop(&mut self) -> Option<(StackEntry<InputOf<D>, ResultOf<D>>, Entries<D>)>
+        ensures stack { IfSome result (λ p. self.old.stack.items ≡ self.new.stack.items ++ p.0 ∷ []) }
+        ensures none { IfNone result (self.new.stack.items ≡ self.old.stack.items) }
         ensures some { IsSome result ↔ (0 < length self.old.stack.items) }
-        ensures ended { IfSome result (λ _. (list : _) × (self.old.entries.lists.items ≡ self.new.entries.lists.items ++ list ∷ [])) }
+        ensures ended { IfSome result (λ p. self.old.entries.lists.items ≡ self.new.entries.lists.items ++ p.1 ∷ []) }
+        ensures met { self.new.overflow_met ≡ self.old.overflow_met }
         ensures frames { self.new.frames ≡ self.old.frames }
         ensures limits { self.new.limits_met ≡ self.old.limits_met }
     {
         let entry = self.stack.pop()?;
         remove_place(&mut self.positions, entry.number, self.stack.len());
-        let _ = self.entries.end();
-        Some(entry)
+        let Some(left) = self.entries.end() else {
+            unreachable!()
+        };
+        Some((entry, left))
     }
 
     /// The place of a cached result for the goal that one of this depth may use now: no goal that was asked under it is on the
@@ -249,7 +266,7 @@ impl<D: Delegate> Search<D> {
         step_kind: PathKind,
         depth: usize,
     ) -> Evaluation<D>
-        requires entries { AreEntriesOver D.meaning cx.now self.now.stack.items cache.now.asked.items self.now.entries.lists.items }
+        requires entries { AreEntriesOver D.meaning cx.now self.now.stack.items cache.now.asked.items self.now.overflow_met self.now.entries.lists.items }
         requires place { IsServingAt self.now.entries.lists.items self.now.stack.items number input.now step_kind depth at.0 at.1 }
         ensures success { IfOk result (λ o. o.dependencies.encountered_overflow ≡ false) }
         ensures depth { IfOk result (λ o. o.dependencies.required_depth ≤ depth) }
@@ -291,23 +308,26 @@ impl<D: Delegate> Search<D> {
         step_kind: PathKind,
         evaluation: EvaluationResult<ResultOf<D>>,
     ) -> Evaluation<D>
-        requires entries { AreEntriesOver D.meaning cx.now self.old.stack.items cache.old.asked.items self.old.entries.lists.items }
+        requires entries { AreEntriesOver D.meaning cx.now self.old.stack.items cache.old.asked.items self.old.overflow_met self.old.entries.lists.items }
         requires input { D.meaning.IsInput cx.now input }
         requires nested { AreInRange cache.old.asked.items evaluation.dependencies.nested_goals }
         requires result { IsResultOver D.meaning cx.now self.old.stack.items input step_kind evaluation }
         requires success { evaluation.dependencies.encountered_overflow ≡ false }
         requires faithful { IsFaithfulOver D.meaning cx.now self.old.stack.items input 0 cx.now evaluation }
+        requires descends { AllDescendTo D.meaning cx.now self.old.stack.items input self.old.overflow_met }
         requires place { nearest < length self.old.stack.items }
         requires nearest { RestsOn evaluation.dependencies.heads.items nearest × AreBelow (nearest + 1) (indices evaluation.dependencies.heads.items) }
         ensures left { OnOk result ((e : _) × (e.result ≡ evaluation.result) × AddsEntry self.old.entries.lists.items self.new.entries.lists.items nearest e) }
-        ensures entries { OnOk result (AreEntriesOver D.meaning cx.now self.old.stack.items cache.new.asked.items self.new.entries.lists.items) }
+        ensures entries { OnOk result (AreEntriesOver D.meaning cx.now self.old.stack.items cache.new.asked.items self.old.overflow_met self.new.entries.lists.items) }
         ensures within { OnOk result (EntriesStayWithin D.meaning cx.now self.old.entries.lists.items input evaluation.result self.new.entries.lists.items) }
         ensures reply { IfOk result (SaysSame evaluation) }
         ensures range { IfOk result (λ o. AreInRange cache.new.asked.items o.dependencies.nested_goals) }
+        ensures listed { OnOk result (AddsAsked cache.old.asked.items cache.new.asked.items number evaluation.dependencies.nested_goals) }
         ensures asked_before { KeepsResults cache.old.asked.items cache.new.asked.items }
         ensures cached { cache.new.entries ≡ cache.old.entries }
         ensures goals { cache.new.goals ≡ cache.old.goals }
         ensures stack { self.new.stack.items ≡ self.old.stack.items }
+        ensures met { self.new.overflow_met ≡ self.old.overflow_met }
         ensures frames { self.new.frames ≡ self.old.frames }
         ensures limits { self.new.limits_met ≡ self.old.limits_met }
         ensures no_conflict { result ≡ Err GraphFault.Conflict → ⊥ }
@@ -350,6 +370,31 @@ impl<D: Delegate> Search<D> {
             result: answer,
             dependencies,
         })
+    }
+
+    /// Moves the entries that a goal left with to their next heads, if no overflow by depth was met in this call. The goal ended with
+    /// this reply, was asked by a step of this kind, and what was asked under it is listed at this place. After a refusal some
+    /// entries may be missing.
+    pub(crate) fn move_entries(
+        &mut self,
+        left: Entries<D>,
+        step_kind: PathKind,
+        ended: &EvaluationResult<ResultOf<D>>,
+        asked: usize,
+    ) -> Result<(), AllocError>
+        requires below { AreBelow (length self.old.stack.items) (indices ended.now.dependencies.heads.items) }
+        requires rests { (place : ℕ) (e : _) → slice_get left.items place ≡ Some e → AreBelow (length self.old.stack.items + 1) (indices e.heads.items) }
+        ensures moved { OnOk result (AreMoved self.old.stack.items self.old.overflow_met left.items step_kind ended.now asked self.old.entries.lists.items self.new.entries.lists.items) }
+        ensures stack { self.new.stack.items ≡ self.old.stack.items }
+        ensures met { self.new.overflow_met ≡ self.old.overflow_met }
+        ensures frames { self.new.frames ≡ self.old.frames }
+        ensures limits { self.new.limits_met ≡ self.old.limits_met }
+    {
+        if self.overflow_met {
+            return Ok(());
+        }
+        let stack = &self.stack;
+        move_entries::<D>(&mut self.entries, stack, left, step_kind, ended, asked)
     }
 
     /// The cycle that a question closes, if its goal is on the stack.
@@ -458,6 +503,7 @@ impl<D: Delegate> Search<D> {
         ensures noted { self.new.limits_met ≡ true }
         ensures answer { IfOk result (λ o. IsReplyOver D.meaning cx.old self.old.stack.items input.now step_kind o.dependencies.heads.items cx.new o.result) }
         ensures entries { self.new.entries ≡ self.old.entries }
+        ensures met { self.new.overflow_met ≡ self.old.overflow_met }
         ensures overflow { IfOk result (λ o. D.meaning.answer_of cx.new o.result ≡ D.meaning.stack_overflow (D.meaning.world cx.old) (D.meaning.goal_of cx.old input.now)) }
         ensures told { IfOk result (λ o. o.dependencies.encountered_overflow ≡ true) }
         ensures unread { IfOk result (λ o. o.dependencies.heads.items ≡ []) }

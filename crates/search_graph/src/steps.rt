@@ -9,7 +9,7 @@ ghost use Rattle.search_graph.specs.Chain.{AreInRange};
 ghost use Rattle.search_graph.specs.Nested.{covered, one_goal, AsksAlone};
 ghost use Rattle.search_graph.specs.Cache.{known_results, HasConflict, HoldsResult, IsNumberOf, KeepsNumbers, KeepsResults, AddsEvaluation, SaysSame};
 ghost use Rattle.search_graph.specs.Stack.{span_of_newest, IsStack, IsProvisional, AreCached, IsClosedBy, IfUsable, HasBegun};
-ghost use Rattle.search_graph.specs.Question.{AreEntriesOver, IsResultOver, EntriesStayWithin, IsWithinAsKept, IsReplyOver, IsFaithfulOver, IsKeptResult, IsNotPlainUpTo, IsWithinAsCached, IsWithinAsStack, KeepsWithin};
+ghost use Rattle.search_graph.specs.Question.{AllDescendTo, AreEntriesOver, AreLeftOver, IsResultOver, EntriesStayWithin, IsWithinAsKept, IsReplyOver, IsFaithfulOver, IsKeptResult, IsNotPlainUpTo, IsWithinAsCached, IsWithinAsStack, KeepsWithin};
 
 use crate::cache::CachedResults;
 use crate::candidates::{Candidates, Turn};
@@ -17,6 +17,7 @@ use crate::delegate::{Delegate, InputOf, Reply, Request, ResultOf};
 use crate::dependencies::{Dependencies, EvaluationResult, nearest_head};
 use crate::fault::{GraphFault, Stop};
 use crate::path_kind::{PathKind, PathsToNested};
+use crate::provisional::Entries;
 use crate::reads::CandidateReads;
 use crate::search::{Evaluation, Outcome, Search, finish};
 use crate::stack::{Cycle, StackEntry};
@@ -32,7 +33,7 @@ pub(crate) fn look_up<D: Delegate>(
     depth: usize,
 ) -> Result<(usize, Option<EvaluationResult<ResultOf<D>>>), GraphFault>
     requires cache { AreCached D.meaning (D.meaning.world cx.now) cx.now cache.old.entries.items }
-    requires entries { AreEntriesOver D.meaning cx.now search.now.stack.items cache.old.asked.items search.now.entries.lists.items }
+    requires entries { AreEntriesOver D.meaning cx.now search.now.stack.items cache.old.asked.items search.now.overflow_met search.now.entries.lists.items }
     ensures goals { KeepsNumbers D.Cx.Input.eq cache.old.goals.keys cache.new.goals.keys }
     ensures entries { cache.new.entries ≡ cache.old.entries }
     ensures asked_before { cache.new.asked ≡ cache.old.asked }
@@ -109,6 +110,7 @@ pub(crate) fn reply_with_overflow<D: Delegate>(
     ensures keeps { Keeps D.meaning cx.old cx.new }
     ensures stack { search.new.stack.items ≡ search.old.stack.items }
     ensures provisional { search.new.entries ≡ search.old.entries }
+    ensures met { search.new.overflow_met ≡ search.old.overflow_met }
     ensures cache { AreCached D.meaning (D.meaning.world cx.new) cx.new cache.new.entries.items }
     ensures goals { KeepsNumbers D.Cx.Input.eq cache.old.goals.keys cache.new.goals.keys }
     ensures entries { cache.new.entries ≡ cache.old.entries }
@@ -140,6 +142,7 @@ pub(crate) fn start_run<D: Delegate>(
     ensures stack { OnOk result (search.new.stack.items ≡ search.old.stack.items ++ entry ∷ []) }
     ensures none { OnOk result ((list : _) × (search.new.entries.lists.items ≡ search.old.entries.lists.items ++ list ∷ []) × (list.items ≡ [])) }
     ensures begun { IfOk result (λ r. HasBegun D.meaning cx.old entry.input cx.new r.0 r.1) }
+    ensures met { search.new.overflow_met ≡ search.old.overflow_met }
     ensures frames { search.new.frames ≤ search.old.frames + 1 }
     ensures limits { search.new.limits_met ≡ search.old.limits_met }
     ensures no_conflict { result ≡ Err GraphFault.Conflict → ⊥ }
@@ -207,8 +210,15 @@ pub(crate) fn hear<D: Delegate>(
     Ok(request)
 }
 
-/// Counts the end of a goal. Its result is left with its nearest head, if it rests on goals of the stack and no overflow by depth
-/// was met, and else kept as `finish` does.
+/// Whether an overflow by depth was met that may have been met before, or of which a goal told.
+pub(crate) fn is_met(before: bool, told: bool) -> bool
+    ensures { result ≡ (before || told) }
+{
+    before || told
+}
+
+/// Counts the end of a goal. If its result rests on goals of the stack and no overflow by depth was met, it is left with its nearest
+/// head, and the entries that the goal left with in its last run move. Else it is kept as `finish` does.
 pub(crate) fn conclude<D: Delegate>(
     search: &mut Search<D>,
     cache: &mut CachedResults<D>,
@@ -217,6 +227,7 @@ pub(crate) fn conclude<D: Delegate>(
     input: InputOf<D>,
     step_kind: PathKind,
     evaluation: EvaluationResult<ResultOf<D>>,
+    left: Entries<D>,
     depth: usize,
 ) -> Outcome<D>
     requires cache { AreCached D.meaning (D.meaning.world cx.now) cx.now cache.old.entries.items }
@@ -225,12 +236,14 @@ pub(crate) fn conclude<D: Delegate>(
     requires number { IsNumberOf D.Cx.Input.eq cache.old.goals.keys input number }
     requires alone { evaluation.dependencies.heads.items ≡ [] → IsProvisional D.meaning (D.meaning.world cx.now) [] (D.meaning.goal_of cx.now input, PathKind.Inductive) [] cx.now evaluation.result }
     requires kept { evaluation.dependencies.heads.items ≡ [] → IsKeptResult D.meaning cx.now input evaluation.result depth evaluation.dependencies.encountered_overflow }
-    requires entries { AreEntriesOver D.meaning cx.now search.old.stack.items cache.old.asked.items search.old.entries.lists.items }
+    requires entries { AreEntriesOver D.meaning cx.now search.old.stack.items cache.old.asked.items search.old.overflow_met search.old.entries.lists.items }
+    requires left { AreLeftOver D.meaning cx.now search.old.stack.items input step_kind cx.now cache.old.asked.items search.old.overflow_met left.items }
+    requires descends { AllDescendTo D.meaning cx.now search.old.stack.items input search.old.overflow_met }
     requires result { IsResultOver D.meaning cx.now search.old.stack.items input step_kind evaluation }
     requires below { AreBelow (length search.old.stack.items) (indices evaluation.dependencies.heads.items) }
     requires faithful { IsFaithfulOver D.meaning cx.now search.old.stack.items input (depth + 1) cx.now evaluation }
-    ensures entries { OnOk result (AreEntriesOver D.meaning cx.now search.old.stack.items cache.new.asked.items search.new.entries.lists.items) }
-    ensures entries_within { OnOk result (EntriesStayWithin D.meaning cx.now search.old.entries.lists.items input evaluation.result search.new.entries.lists.items) }
+    ensures entries { OnOk result (AreEntriesOver D.meaning cx.now search.old.stack.items cache.new.asked.items search.old.overflow_met search.new.entries.lists.items) }
+    ensures entries_within { OnOk result (EntriesStayWithin D.meaning cx.now (search.old.entries.lists.items ++ left ∷ []) input evaluation.result search.new.entries.lists.items) }
     ensures kept { OnOk result (evaluation.dependencies.heads.items ≡ [] → AddsEvaluation cache.old.entries.items cache.new.entries.items cache.old.asked.items input number depth evaluation) }
     ensures results { KeepsResults cache.old.entries.items cache.new.entries.items }
     ensures asked_before { KeepsResults cache.old.asked.items cache.new.asked.items }
@@ -247,17 +260,22 @@ pub(crate) fn conclude<D: Delegate>(
     ensures in_order { result ≡ Err (Stop.Fault GraphFault.Protocol) → ⊥ }
     ensures room { result ≡ Err (Stop.Fault GraphFault.Full) → ⊥ }
     ensures stack { search.new.stack.items ≡ search.old.stack.items }
+    ensures met { search.new.overflow_met ≡ search.old.overflow_met }
     ensures frames { search.new.frames ≡ search.old.frames }
     ensures limits { search.new.limits_met ≡ search.old.limits_met }
 {
     let found = &evaluation.dependencies;
     let is_open = found.encountered_overflow || !found.heads.is_empty();
-    if is_open && !search.count_open_end(D::cost_of(cx, &input)) {
+    let cost = D::cost_of(cx, &input);
+    if !search.count_end(is_open, cost) {
         return Err(Stop::Exhausted);
     }
     if !found.encountered_overflow {
         if let Some(nearest) = nearest_head(&found.heads) {
-            return Ok(search.leave(cache, cx, nearest, number, input, step_kind, evaluation)?);
+            let asked = cache.asked.len();
+            let reply = search.leave(cache, cx, nearest, number, input, step_kind, evaluation)?;
+            search.move_entries(left, step_kind, &reply, asked)?;
+            return Ok(reply);
         }
     }
     let alloc = search.alloc;

@@ -3,6 +3,7 @@ use Rattle.std.proofs.lemmas.Fn.{filter_same}
 use Rattle.std.specs.List.{position}
 use Rattle.search_graph.specs.declared.dependencies.CycleHead.{CycleHead}
 use Rattle.search_graph.proofs.HeadFacts.{rests_filter, rests_absent, first_of}
+use Rattle.search_graph.proofs.ReadHeads.{paths_to-others}
 use Rattle.search_graph.proofs.dependencies.take_head.Goals as goal
 
 pub returns-clause-rests : goal.returns-clause-rests
@@ -20,3 +21,8 @@ returns-clause-taken c =
 pub returns-in_err-place-clause-rests : goal.returns-in_err-place-clause-rests
 returns-in_err-place-clause-rests c = λ other.
     rests_absent c.args.heads.now.items c.args.index other (rw c.deref.ensures.value at c.in_err-place.ensures.absent)
+
+pub returns-clause-others : goal.returns-clause-others
+returns-clause-others c = λ other apart.
+    let kept = filter_same _ _ _ (λ x b f' k. search rules) _ _ c.retain.ensures.filtered in
+    rw kept (paths_to-others c.args.heads.now.items c.args.index other apart)

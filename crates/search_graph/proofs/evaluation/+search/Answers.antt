@@ -22,12 +22,12 @@ use Rattle.search_graph.proofs.Refusals.{IfOk-err, OnOk-err}
 use Rattle.search_graph.proofs.Orders.{from_zero, within_more, less_within, none_started, one_started, not_less}
 use Rattle.search_graph.proofs.HeadFacts.{indices-none, both_kept, both_below, below_more, below_last, root_alone}
 use Rattle.search_graph.proofs.Graphs.{IsStack-now, steps-now, IsEntry-now, run_ended, next_entry, IsAnswer-then, answer_of_run, running_next_counted, running_begun, running_other, running_done, asked_now, hears_other, hears_next, misstep_now, due_next, due_other, Keeps-refl, Keeps-trans, IsStack-push, steps_pushed, length-steps_of, AreCached-later, provisional_alone, overflow_answers, overflow_stands}
-use Rattle.search_graph.proofs.Faithfuls.{true_not_false, not_plain_at_zero, all_heads_descend, run_heads_descend, ends_not_plain, conflict_up, plain_first, plain_next_at, plain_done, untouched_first, untouched_not_plain, faithful_not_plain, faithful_taken, faithful_at_zero, kept_of_faithful, IsFaithful-less, reach_within}
+use Rattle.search_graph.proofs.Faithfuls.{or_first, or_second, asked_descends, true_not_false, not_plain_at_zero, all_heads_descend, run_heads_descend, ends_not_plain, conflict_up, plain_first, plain_next_at, plain_done, untouched_first, untouched_not_plain, faithful_not_plain, faithful_taken, faithful_at_zero, kept_of_faithful, IsFaithful-less, reach_within}
 use Rattle.search_graph.proofs.Limits.{unnoted, either_noted, not_both, told_within, AreLastWithin-now, AreLastWithin-push, AreCachedWithin-keeps}
 use Rattle.search_graph.proofs.Bounds.{frame_bound_runs, nested_within, one_more_run, runs_within, done_within, asked_within, asked_more}
 use Rattle.search_graph.proofs.Ends.{depth_after, held_after, answer_after, faithful_after, within_after}
 use Rattle.search_graph.proofs.Turns.{asked_in_turn, ended_in_turn, in_order_in_turn, told_in_turn, plain_in_turn}
-use Rattle.search_graph.proofs.Entries.{runs_begin, runs_leave, entries_keep, entries_same, entries_within_keep, entries_within_begin, entries_within_leave}
+use Rattle.search_graph.proofs.Entries.{runs_begin, runs_leave, runs_left, entries_met, entries_keep, entries_same, entries_within_keep, entries_within_begin, entries_within_leave}
 use Rattle.search_graph.proofs.evaluation.+search.Goals as goal
 
 pub ask-returns-then-depth-eq0 : goal.ask-returns-then-depth-eq0
@@ -41,7 +41,8 @@ ask-returns-then-depth-eq0 g t c =
       keeps = c.reply_with_overflow.ensures.keeps;
       stack = OnOk-always c.reply_with_overflow.result c.reply_with_overflow.ensures.stack;
       cache = c.reply_with_overflow.ensures.cache;
-      entries = OnOk-always c.reply_with_overflow.result (entries_same m w first c.reply_with_overflow.new.cx c.args.cache.now.asked.items c.reply_with_overflow.new.cache.asked.items (steps_of m first es) c.args.search.now.entries.lists.items c.reply_with_overflow.new.search.entries.lists.items c.reply_with_overflow.ensures.keeps (ap (λ v. v.items) c.reply_with_overflow.ensures.asked_before) (ap (λ e. e.lists.items) c.reply_with_overflow.ensures.provisional) c.requires.entries);
+      entries = OnOk-always c.reply_with_overflow.result (rw c.reply_with_overflow.ensures.met (entries_same m w c.args.search.now.overflow_met first c.reply_with_overflow.new.cx c.args.cache.now.asked.items c.reply_with_overflow.new.cache.asked.items (steps_of m first es) c.args.search.now.entries.lists.items c.reply_with_overflow.new.search.entries.lists.items c.reply_with_overflow.ensures.keeps (ap (λ v. v.items) c.reply_with_overflow.ensures.asked_before) (ap (λ e. e.lists.items) c.reply_with_overflow.ensures.provisional) c.requires.entries));
+      calm = OnOk-always c.reply_with_overflow.result (λ off. sym c.reply_with_overflow.ensures.met ∙ off);
       goals = c.reply_with_overflow.ensures.goals;
       results = λ p x h. rw c.reply_with_overflow.ensures.entries h;
       asked_before = λ p x h. rw c.reply_with_overflow.ensures.asked_before h;
@@ -72,6 +73,7 @@ ask-returns g t c =
       stack = c.evaluate.ensures.stack;
       cache = c.evaluate.ensures.cache;
       entries = c.evaluate.ensures.entries;
+      calm = c.evaluate.ensures.calm;
       goals = c.evaluate.ensures.goals;
       results = c.evaluate.ensures.results;
       asked_before = c.evaluate.ensures.asked_before;
@@ -99,6 +101,7 @@ evaluate-returns-in_err-number g t c =
       stack = OnOk-always c.from_residual.result refl;
       cache = rw c.look_up.ensures.entries c.requires.cache;
       entries = OnOk-err _ _ _ p.1;
+      calm = OnOk-err _ _ _ p.1;
       goals = c.look_up.ensures.goals;
       results = λ p x h. rw c.look_up.ensures.entries h;
       asked_before = λ p x h. rw c.look_up.ensures.asked_before h;
@@ -130,7 +133,8 @@ evaluate-returns-in-Some g t c =
       keeps = Keeps-refl g.D.Delegate.meaning c.args.cx.now;
       stack = refl;
       cache = rw c.look_up.ensures.entries c.requires.cache;
-      entries = entries_same m (m.world first) first first c.args.cache.now.asked.items c.look_up.new.cache.asked.items (steps_of m first c.args.search.now.stack.items) lists lists (Keeps-refl m first) (ap (λ v. v.items) c.look_up.ensures.asked_before) refl c.requires.entries;
+      entries = entries_same m (m.world first) c.args.search.now.overflow_met first first c.args.cache.now.asked.items c.look_up.new.cache.asked.items (steps_of m first c.args.search.now.stack.items) lists lists (Keeps-refl m first) (ap (λ v. v.items) c.look_up.ensures.asked_before) refl c.requires.entries;
+      calm = λ off. off;
       goals = c.look_up.ensures.goals;
       results = λ p x h. rw c.look_up.ensures.entries h;
       asked_before = λ p x h. rw c.look_up.ensures.asked_before h;
@@ -166,7 +170,8 @@ evaluate-returns-in-Some-find_cycle g t c =
       keeps = c.reply_in_cycle.ensures.keeps;
       stack = OnOk-always c.reply_in_cycle.result refl;
       cache = rw c.look_up.ensures.entries (AreCached-later g.D.Delegate.meaning c.args.cx.now c.reply_in_cycle.new.cx c.args.cache.now.entries.items c.reply_in_cycle.ensures.keeps c.requires.cache);
-      entries = OnOk-always c.reply_in_cycle.result (entries_same m (m.world first) first c.reply_in_cycle.new.cx c.args.cache.now.asked.items c.look_up.new.cache.asked.items (steps_of m first es) c.args.search.now.entries.lists.items c.args.search.now.entries.lists.items c.reply_in_cycle.ensures.keeps (ap (λ v. v.items) c.look_up.ensures.asked_before) refl c.requires.entries);
+      entries = OnOk-always c.reply_in_cycle.result (entries_same m (m.world first) c.args.search.now.overflow_met first c.reply_in_cycle.new.cx c.args.cache.now.asked.items c.look_up.new.cache.asked.items (steps_of m first es) c.args.search.now.entries.lists.items c.args.search.now.entries.lists.items c.reply_in_cycle.ensures.keeps (ap (λ v. v.items) c.look_up.ensures.asked_before) refl c.requires.entries);
+      calm = OnOk-always c.reply_in_cycle.result (λ off. off);
       goals = c.look_up.ensures.goals;
       results = λ p x h. rw c.look_up.ensures.entries h;
       asked_before = λ p x h. rw c.look_up.ensures.asked_before h;
@@ -188,7 +193,7 @@ evaluate-returns-in-Some-find_cycle g t c =
           (λ o f before no last cached. (
             rw c.look_up.ensures.entries (
               AreCachedWithin-keeps m (m.world first) before (m.world first) first c.reply_in_cycle.new.cx c.args.cache.now.entries.items c.reply_in_cycle.ensures.keeps c.requires.cache cached.0,
-              entries_within_keep m (m.world first) (m.world first) before first c.reply_in_cycle.new.cx c.args.cache.now.asked.items (steps_of m first es) c.args.search.now.entries.lists.items c.reply_in_cycle.ensures.keeps c.requires.entries cached.1,
+              entries_within_keep m (m.world first) (m.world first) c.args.search.now.overflow_met before first c.reply_in_cycle.new.cx c.args.cache.now.asked.items (steps_of m first es) c.args.search.now.entries.lists.items c.reply_in_cycle.ensures.keeps c.requires.entries cached.1,
             ),
             f before last,
           )) c.reply_in_cycle.ensures.within;
@@ -204,6 +209,7 @@ evaluate-returns-in-None g t c =
       stack = c.evaluate_new.ensures.stack;
       cache = c.evaluate_new.ensures.cache;
       entries = c.evaluate_new.ensures.entries;
+      calm = c.evaluate_new.ensures.calm;
       goals = λ x n h. c.evaluate_new.ensures.goals x n (c.look_up.ensures.goals x n h);
       results = λ p x h. c.evaluate_new.ensures.results p x (rw c.look_up.ensures.entries h);
       asked_before = λ p x h. c.evaluate_new.ensures.asked_before p x (rw c.look_up.ensures.asked_before h);
@@ -241,7 +247,7 @@ evaluate-evaluate_new-requires g t c κs within = (
             within.1.1.1.1.0,
             (
               within.1.1.1.1.1,
-              (c.requires.stack, (rw c.look_up.ensures.entries c.requires.cache, (rw c.look_up.ensures.asked_before c.requires.entries, (c.requires.input, c.in_ok-number.ensures.number)))),
+              (c.requires.stack, (rw c.look_up.ensures.entries c.requires.cache, (rw c.look_up.ensures.asked_before c.requires.entries, (c.requires.descends, (c.requires.input, c.in_ok-number.ensures.number))))),
             ),
           ),
         ),
@@ -262,6 +268,7 @@ evaluate_new-loop-run-init g t c =
       keeps = Keeps-refl m first;
       cache = c.requires.cache;
       entries = c.requires.entries;
+      calm = λ off. (off, c.new-dependencies.ensures.within);
       goals = λ x n h. h;
       results = λ p x h. h;
       asked_before = λ p x h. h;
@@ -312,6 +319,7 @@ evaluate_new-loop-run-preserved g t c =
       keeps = keeps;
       cache = c.run_once.ensures.cache;
       entries = rw (inv.keeps.world, steps-now m first c.loop-run.cx es c.loop-run.search.stack.items inv.keeps inv.stack c.requires.stack) at c.in_ok-back.ensures.entries;
+      calm = λ off. let run = c.in_ok-back.ensures.calm off in ((inv.calm run.0).0, run.1);
       goals = λ x n h. c.run_once.ensures.goals x n (inv.goals x n h);
       results = λ p x h. c.run_once.ensures.results p x (inv.results p x h);
       asked_before = λ p x h. c.run_once.ensures.asked_before p x (inv.asked_before p x h);
@@ -333,9 +341,9 @@ evaluate_new-loop-run-preserved g t c =
           (rw (inv.keeps.world, steps-now m first c.loop-run.cx es c.loop-run.search.stack.items inv.keeps inv.stack c.requires.stack, inv.input, goal_is) at c.run_once.ensures.no_limit);
       within = λ before no last cached.
           let told = told_within m first c.loop-run.cx c.run_once.new.cx es c.loop-run.search.stack.items inv.keeps inv.stack c.requires.stack before c.args.input c.loop-run.entry c.in_ok-back.outcome.result inv.input c.requires.input
-          c.loop-run.cache.entries.items c.run_once.new.cache.entries.items c.loop-run.search.entries.lists.items c.run_once.new.search.entries.lists.items (c.in_ok-back.ensures.within before no) last
+          c.loop-run.cache.entries.items c.run_once.new.cache.entries.items c.loop-run.search.entries.lists.items (c.run_once.new.search.entries.lists.items ++ c.in_ok-back.left ∷ []) (c.in_ok-back.ensures.within before no) last
           (inv.within before (unnoted c.loop-run.search.limits_met c.run_once.new.search.limits_met c.run_once.ensures.limits no) last cached) in
-          (told.0, rw (c.in_ok-entry.ensures.result, c.in_ok-entry.ensures.input, input, (keeps.inputs c.args.input c.requires.input).1) told.1);
+          ((told.0.0, entries_within_leave m w before c.run_once.new.cx c.run_once.new.search.entries.lists.items c.in_ok-back.left told.0.1), rw (c.in_ok-entry.ensures.result, c.in_ok-entry.ensures.input, input, (keeps.inputs c.args.input c.requires.input).1) told.1);
       again = λ r. never;
     }
 
@@ -361,7 +369,7 @@ evaluate_new-run_once-requires g t c κs within =
                 within.1.1.1.1.0,
                 (
                   within.1.1.1.1.1,
-                  (stack, (inv.cache, (rw (inv.keeps.world, steps-now m first c.loop-run.cx es c.loop-run.search.stack.items inv.keeps inv.stack c.requires.stack) inv.entries, (entry, (rw inv.stack inv.below, (rw inv.stack inv.span, (inv.range, (inv.depth, rw (inv.keeps.world, steps-now m first c.loop-run.cx es c.loop-run.search.stack.items inv.keeps inv.stack c.requires.stack, inv.input, goal_is) inv.untouched)))))))),
+                  (stack, (inv.cache, (rw (inv.keeps.world, steps-now m first c.loop-run.cx es c.loop-run.search.stack.items inv.keeps inv.stack c.requires.stack) inv.entries, (rw (inv.keeps.world, steps-now m first c.loop-run.cx es c.loop-run.search.stack.items inv.keeps inv.stack c.requires.stack, inv.input, goal_is) (λ off. c.requires.descends (inv.calm off).0), (entry, (rw inv.stack inv.below, (rw inv.stack inv.span, (inv.range, (inv.depth, ((λ off. (inv.calm off).1), rw (inv.keeps.world, steps-now m first c.loop-run.cx es c.loop-run.search.stack.items inv.keeps inv.stack c.requires.stack, inv.input, goal_is) inv.untouched)))))))))),
                 ),
               ),
             ),
@@ -436,6 +444,29 @@ evaluate_new-conclude-requires-clause-entries g t c =
     let now = rw (inv.keeps.world, steps-now m first c.loop-run.cx es c.loop-run.search.stack.items inv.keeps inv.stack c.requires.stack) at c.in_ok-back.ensures.entries in
     rw (keeps.world, steps-now m first c.run_once.new.cx es c.run_once.new.search.stack.items keeps (c.in_ok-back.ensures.stack ∙ inv.stack) c.requires.stack) now
 
+pub evaluate_new-conclude-requires-clause-left : goal.evaluate_new-conclude-requires-clause-left
+evaluate_new-conclude-requires-clause-left g t c =
+    let m = g.D.Delegate.meaning in
+    let inv = c.loop-run.invariant in
+    let first = c.args.cx.now in
+    let es = c.args.search.now.stack.items in
+    let goal_is = (inv.keeps.inputs c.args.input c.requires.input).1 in
+    let keeps = Keeps-trans m first c.loop-run.cx c.run_once.new.cx inv.keeps c.run_once.ensures.keeps in
+    let input : c.into_input.result ≡ c.args.input = c.into_input.ensures ∙ ap (λ e. e.input) c.in_ok-back.ensures.entry ∙ inv.input in
+    let now = rw (inv.keeps.world, steps-now m first c.loop-run.cx es c.loop-run.search.stack.items inv.keeps inv.stack c.requires.stack, inv.input, inv.kind, goal_is) at c.in_ok-back.ensures.left in
+    rw (keeps.world, steps-now m first c.run_once.new.cx es c.run_once.new.search.stack.items keeps (c.in_ok-back.ensures.stack ∙ inv.stack) c.requires.stack, input, (keeps.inputs c.args.input c.requires.input).1) now
+
+pub evaluate_new-conclude-requires-clause-descends : goal.evaluate_new-conclude-requires-clause-descends
+evaluate_new-conclude-requires-clause-descends g t c =
+    let m = g.D.Delegate.meaning in
+    let inv = c.loop-run.invariant in
+    let first = c.args.cx.now in
+    let es = c.args.search.now.stack.items in
+    let keeps = Keeps-trans m first c.loop-run.cx c.run_once.new.cx inv.keeps c.run_once.ensures.keeps in
+    let input : c.into_input.result ≡ c.args.input = c.into_input.ensures ∙ ap (λ e. e.input) c.in_ok-back.ensures.entry ∙ inv.input in
+    rw (keeps.world, steps-now m first c.run_once.new.cx es c.run_once.new.search.stack.items keeps (c.in_ok-back.ensures.stack ∙ inv.stack) c.requires.stack, input, (keeps.inputs c.args.input c.requires.input).1)
+    (λ off. c.requires.descends (inv.calm (c.in_ok-back.ensures.calm off).0).0)
+
 pub evaluate_new-conclude-requires-clause-result : goal.evaluate_new-conclude-requires-clause-result
 evaluate_new-conclude-requires-clause-result g t c =
     let m = g.D.Delegate.meaning in
@@ -490,7 +521,20 @@ evaluate_new-conclude-requires-2-clause-entries g t c =
     let es = c.args.search.now.stack.items in
     let keeps = Keeps-trans m first c.loop-run.cx c.fixpoint_overflow_result.new.cx inv.keeps c.fixpoint_overflow_result.ensures.keeps in
     rw (keeps.world, steps-now m first c.fixpoint_overflow_result.new.cx es c.loop-run.search.stack.items keeps inv.stack c.requires.stack)
-    (entries_same m (m.world first) c.loop-run.cx c.fixpoint_overflow_result.new.cx c.loop-run.cache.asked.items c.loop-run.cache.asked.items (steps_of m first es) c.loop-run.search.entries.lists.items c.loop-run.search.entries.lists.items c.fixpoint_overflow_result.ensures.keeps refl refl inv.entries)
+    (entries_same m (m.world first) c.loop-run.search.overflow_met c.loop-run.cx c.fixpoint_overflow_result.new.cx c.loop-run.cache.asked.items c.loop-run.cache.asked.items (steps_of m first es) c.loop-run.search.entries.lists.items c.loop-run.search.entries.lists.items c.fixpoint_overflow_result.ensures.keeps refl refl inv.entries)
+
+pub evaluate_new-conclude-requires-2-clause-left : goal.evaluate_new-conclude-requires-2-clause-left
+evaluate_new-conclude-requires-2-clause-left g t c place e at = absurd (none-some e (rw c.new.ensures.items at at))
+
+pub evaluate_new-conclude-requires-2-clause-descends : goal.evaluate_new-conclude-requires-2-clause-descends
+evaluate_new-conclude-requires-2-clause-descends g t c =
+    let m = g.D.Delegate.meaning in
+    let inv = c.loop-run.invariant in
+    let first = c.args.cx.now in
+    let es = c.args.search.now.stack.items in
+    let keeps = Keeps-trans m first c.loop-run.cx c.fixpoint_overflow_result.new.cx inv.keeps c.fixpoint_overflow_result.ensures.keeps in
+    rw (keeps.world, steps-now m first c.fixpoint_overflow_result.new.cx es c.loop-run.search.stack.items keeps inv.stack c.requires.stack, c.into_input-2.ensures ∙ inv.input, (keeps.inputs c.args.input c.requires.input).1)
+    (λ off. c.requires.descends (inv.calm off).0)
 
 pub evaluate_new-conclude-requires-2-clause-result : goal.evaluate_new-conclude-requires-2-clause-result
 evaluate_new-conclude-requires-2-clause-result g t c =
@@ -555,7 +599,8 @@ evaluate_new-returns-then-is_last_run g t c =
       keeps = Keeps-trans g.D.Delegate.meaning c.args.cx.now c.loop-run.cx c.run_once.new.cx c.loop-run.invariant.keeps c.run_once.ensures.keeps;
       stack = OnOk-always c.conclude.result (c.conclude.ensures.stack ∙ c.in_ok-back.ensures.stack ∙ c.loop-run.invariant.stack);
       cache = c.conclude.ensures.cache;
-      entries = rw (keeps.world, steps-now m first c.run_once.new.cx es c.run_once.new.search.stack.items keeps (c.in_ok-back.ensures.stack ∙ inv.stack) c.requires.stack) at c.conclude.ensures.entries;
+      entries = rw c.conclude.ensures.met (rw (keeps.world, steps-now m first c.run_once.new.cx es c.run_once.new.search.stack.items keeps (c.in_ok-back.ensures.stack ∙ inv.stack) c.requires.stack) at c.conclude.ensures.entries);
+      calm = OnOk-always c.conclude.result (λ off. (inv.calm (c.in_ok-back.ensures.calm (sym c.conclude.ensures.met ∙ off)).0).0);
       goals = λ x n h. rw c.conclude.ensures.goals (c.run_once.ensures.goals x n (c.loop-run.invariant.goals x n h));
       results = λ p x h. c.conclude.ensures.results p x (c.run_once.ensures.results p x (c.loop-run.invariant.results p x h));
       asked_before = λ p x h. c.conclude.ensures.asked_before p x (c.run_once.ensures.asked_before p x (c.loop-run.invariant.asked_before p x h));
@@ -582,10 +627,10 @@ evaluate_new-returns-then-is_last_run g t c =
       limits = λ h. c.conclude.ensures.limits ∙ c.run_once.ensures.limits (inv.limits h);
       no_limit = λ off on. either_noted c.loop-run.search.limits_met c.run_once.new.search.limits_met (inv.noted off)
           (rw (inv.keeps.world, steps-now m first c.loop-run.cx es c.loop-run.search.stack.items inv.keeps inv.stack c.requires.stack, inv.input, goal_is) at c.run_once.ensures.no_limit) (sym c.conclude.ensures.limits ∙ on);
-      within = rw c.conclude.ensures.limits (within_after m first c.run_once.new.cx es c.args.input c.conclude.result _ c.args.cache.now.entries.items c.run_once.new.cache.entries.items c.conclude.new.cache.entries.items c.args.search.now.entries.lists.items c.run_once.new.search.entries.lists.items c.conclude.new.search.entries.lists.items c.into_input.result c.run_once.new.search.limits_met keeps input c.requires.input
+      within = rw c.conclude.ensures.limits (within_after m first c.run_once.new.cx es c.args.input c.conclude.result _ c.args.cache.now.entries.items c.run_once.new.cache.entries.items c.conclude.new.cache.entries.items c.args.search.now.entries.lists.items (c.run_once.new.search.entries.lists.items ++ c.in_ok-back.left ∷ []) c.conclude.new.search.entries.lists.items c.into_input.result c.run_once.new.search.limits_met keeps input c.requires.input
           (λ before no last cached.
           told_within m first c.loop-run.cx c.run_once.new.cx es c.loop-run.search.stack.items inv.keeps inv.stack c.requires.stack before c.args.input c.loop-run.entry c.in_ok-back.outcome.result inv.input c.requires.input
-          c.loop-run.cache.entries.items c.run_once.new.cache.entries.items c.loop-run.search.entries.lists.items c.run_once.new.search.entries.lists.items (c.in_ok-back.ensures.within before no) last
+          c.loop-run.cache.entries.items c.run_once.new.cache.entries.items c.loop-run.search.entries.lists.items (c.run_once.new.search.entries.lists.items ++ c.in_ok-back.left ∷ []) (c.in_ok-back.ensures.within before no) last
           (inv.within before (unnoted c.loop-run.search.limits_met c.run_once.new.search.limits_met c.run_once.ensures.limits no) last cached))
           c.conclude.ensures.within c.conclude.ensures.entries_within c.conclude.ensures.reply);
     }
@@ -606,6 +651,7 @@ evaluate_new-returns-in_err-back g t c =
       stack = OnOk-err _ _ _ p.1;
       cache = c.run_once.ensures.cache;
       entries = OnOk-err _ _ _ p.1;
+      calm = OnOk-err _ _ _ p.1;
       goals = λ x n h. c.run_once.ensures.goals x n (c.loop-run.invariant.goals x n h);
       results = λ p x h. c.run_once.ensures.results p x (c.loop-run.invariant.results p x h);
       asked_before = λ p x h. c.run_once.ensures.asked_before p x (c.loop-run.invariant.asked_before p x h);
@@ -644,6 +690,7 @@ evaluate_new-returns-in_err-entry g t c =
       stack = OnOk-err _ _ _ p.1;
       cache = c.run_once.ensures.cache;
       entries = OnOk-err _ _ _ p.1;
+      calm = OnOk-err _ _ _ p.1;
       goals = λ x n h. c.run_once.ensures.goals x n (inv.goals x n h);
       results = λ p x h. c.run_once.ensures.results p x (inv.results p x h);
       asked_before = λ p x h. c.run_once.ensures.asked_before p x (inv.asked_before p x h);
@@ -696,7 +743,8 @@ evaluate_new-returns g t c =
       keeps = Keeps-trans g.D.Delegate.meaning c.args.cx.now c.loop-run.cx c.fixpoint_overflow_result.new.cx c.loop-run.invariant.keeps c.fixpoint_overflow_result.ensures.keeps;
       stack = OnOk-always c.conclude-2.result (c.conclude-2.ensures.stack ∙ c.loop-run.invariant.stack);
       cache = c.conclude-2.ensures.cache;
-      entries = rw (keeps.world, steps-now m first c.fixpoint_overflow_result.new.cx es c.loop-run.search.stack.items keeps inv.stack c.requires.stack) at c.conclude-2.ensures.entries;
+      entries = rw c.conclude-2.ensures.met (rw (keeps.world, steps-now m first c.fixpoint_overflow_result.new.cx es c.loop-run.search.stack.items keeps inv.stack c.requires.stack) at c.conclude-2.ensures.entries);
+      calm = OnOk-always c.conclude-2.result (λ off. (inv.calm (sym c.conclude-2.ensures.met ∙ off)).0);
       goals = λ x n h. rw c.conclude-2.ensures.goals (c.loop-run.invariant.goals x n h);
       results = λ p x h. c.conclude-2.ensures.results p x (c.loop-run.invariant.results p x h);
       asked_before = λ p x h. c.conclude-2.ensures.asked_before p x (c.loop-run.invariant.asked_before p x h);
@@ -814,6 +862,8 @@ run_once-returns-in_err-frame g t c =
       stack = OnOk-err _ _ _ p.1;
       cache = AreCached-later g.D.Delegate.meaning c.args.cx.now c.start_run.new.cx c.args.cache.now.entries.items c.start_run.ensures.keeps c.requires.cache;
       entries = OnOk-err _ _ _ p.1;
+      left = IfOk-err _ _ _ p.1;
+      calm = IfOk-err _ _ _ p.1;
       goals = λ x n h. h;
       results = λ p x h. h;
       asked_before = λ p x h. h;
@@ -856,6 +906,8 @@ run_once-returns-in_err-request-in-Ask g t c =
       stack = OnOk-err _ _ _ p.1;
       cache = AreCached-later g.D.Delegate.meaning c.ask.new.cx c.hear.new.cx c.ask.new.cache.entries.items c.hear.ensures.keeps c.ask.ensures.cache;
       entries = OnOk-err _ _ _ p.1;
+      left = IfOk-err _ _ _ p.1;
+      calm = IfOk-err _ _ _ p.1;
       goals = λ x n h. c.ask.ensures.goals x n (c.loop-candidates.invariant.goals x n h);
       results = λ p x h. c.ask.ensures.results p x (c.loop-candidates.invariant.results p x h);
       asked_before = λ p x h. c.ask.ensures.asked_before p x (c.loop-candidates.invariant.asked_before p x h);
@@ -887,7 +939,10 @@ run_once-ask-requires g t c κs within =
     let es = c.args.search.now.stack.items in
     let w = m.world first in
     let pushed = IsStack-push m w first es c.args.entry c.requires.stack c.requires.entry in
-    let known = rw asks.0 at inv.running.known in (
+    let known = rw asks.0 at inv.running.known in
+    let x = m.goal_of first c.args.entry.input in
+    let steps = steps_of m first es in
+    let request = asked_now m w steps x c.args.entry.step_kind (indices c.loop-candidates.dependencies.heads.items) c.loop-candidates.cx c.loop-candidates.frame c.loop-candidates.request (Evaluate c.in-Ask.input c.in-Ask.step_kind) asks.0 inv.keeps.world inv.running in (
       search rules,
       (
         within.0,
@@ -901,7 +956,7 @@ run_once-ask-requires g t c κs within =
                 within.1.1.1.1.0,
                 (
                   within.1.1.1.1.1,
-                  (IsStack-now m first c.loop-candidates.cx (es ++ c.args.entry ∷ []) c.loop-candidates.search.stack.items inv.keeps inv.stack pushed, (inv.cache, (rw (inv.keeps.world, steps-now m first c.loop-candidates.cx (es ++ c.args.entry ∷ []) c.loop-candidates.search.stack.items inv.keeps inv.stack pushed, steps_pushed m first es c.args.entry) inv.entries, known))),
+                  (IsStack-now m first c.loop-candidates.cx (es ++ c.args.entry ∷ []) c.loop-candidates.search.stack.items inv.keeps inv.stack pushed, (inv.cache, (rw (inv.keeps.world, steps-now m first c.loop-candidates.cx (es ++ c.args.entry ∷ []) c.loop-candidates.search.stack.items inv.keeps inv.stack pushed, steps_pushed m first es c.args.entry) inv.entries, (rw (inv.keeps.world, steps-now m first c.loop-candidates.cx (es ++ c.args.entry ∷ []) c.loop-candidates.search.stack.items inv.keeps inv.stack pushed, steps_pushed m first es c.args.entry) (λ off. asked_descends m w (c.args.depth + 1) steps x (m.goal_of c.loop-candidates.cx c.in-Ask.input) c.args.entry.step_kind c.in-Ask.step_kind c.loop-candidates.dependencies.encountered_overflow (indices c.loop-candidates.dependencies.heads.items) inv.running.heard (sym request) inv.plain (inv.calm off).1 (c.requires.descends (inv.calm off).0)), known)))),
                 ),
               ),
             ),
@@ -942,7 +997,11 @@ run_once-loop-candidates-preserved-in-Ask g t c =
     record {
       keeps = Keeps-trans m first c.ask.new.cx c.hear.new.cx keeps c.hear.ensures.keeps;
       cache = AreCached-later m c.ask.new.cx c.hear.new.cx c.ask.new.cache.entries.items c.hear.ensures.keeps c.ask.ensures.cache;
-      entries = entries_keep m w c.ask.new.cx c.hear.new.cx c.ask.new.cache.asked.items c.ask.new.cache.asked.items (steps ++ question_of m first c.args.entry ∷ []) c.ask.new.search.entries.lists.items c.hear.ensures.keeps (λ place a at. at) (rw (inv.keeps.world, steps-now m first c.loop-candidates.cx (es ++ c.args.entry ∷ []) c.loop-candidates.search.stack.items inv.keeps inv.stack pushed, steps_pushed m first es c.args.entry) at c.in_ok-nested-in-Ask.ensures.entries);
+      entries = entries_met m w c.ask.new.search.overflow_met c.is_met-search.result c.hear.new.cx c.ask.new.cache.asked.items (steps ++ question_of m first c.args.entry ∷ []) c.ask.new.search.entries.lists.items (λ off. or_first c.ask.new.search.overflow_met nested.dependencies.encountered_overflow (sym c.is_met-search.ensures ∙ off))
+          (entries_keep m w c.ask.new.search.overflow_met c.ask.new.cx c.hear.new.cx c.ask.new.cache.asked.items c.ask.new.cache.asked.items (steps ++ question_of m first c.args.entry ∷ []) c.ask.new.search.entries.lists.items c.hear.ensures.keeps (λ place a at. at) (rw (inv.keeps.world, steps-now m first c.loop-candidates.cx (es ++ c.args.entry ∷ []) c.loop-candidates.search.stack.items inv.keeps inv.stack pushed, steps_pushed m first es c.args.entry) at c.in_ok-nested-in-Ask.ensures.entries));
+      calm = λ off.
+          let had = inv.calm (c.in_ok-nested-in-Ask.ensures.calm (or_first c.ask.new.search.overflow_met nested.dependencies.encountered_overflow (sym c.is_met-search.ensures ∙ off))) in
+          (had.0, rw (c.in_ok-request-in-Ask.ensures.overflow, had.1) (or_second c.ask.new.search.overflow_met nested.dependencies.encountered_overflow (sym c.is_met-search.ensures ∙ off)));
       goals = λ x n h. c.ask.ensures.goals x n (inv.goals x n h);
       results = λ p x h. c.ask.ensures.results p x (inv.results p x h);
       asked_before = λ p x h. c.ask.ensures.asked_before p x (inv.asked_before p x h);
@@ -967,7 +1026,7 @@ run_once-loop-candidates-preserved-in-Ask g t c =
           let here = rw inv.keeps.world at told in (
             (
               AreCachedWithin-keeps m w before (m.world c.ask.new.cx) c.ask.new.cx c.hear.new.cx c.ask.new.cache.entries.items c.hear.ensures.keeps c.ask.ensures.cache here.0.0,
-              entries_within_keep m w w before c.ask.new.cx c.hear.new.cx c.ask.new.cache.asked.items (steps ++ question_of m first c.args.entry ∷ []) c.ask.new.search.entries.lists.items c.hear.ensures.keeps
+              entries_within_keep m w w c.ask.new.search.overflow_met before c.ask.new.cx c.hear.new.cx c.ask.new.cache.asked.items (steps ++ question_of m first c.args.entry ∷ []) c.ask.new.search.entries.lists.items c.hear.ensures.keeps
                   (rw (inv.keeps.world, steps-now m first c.loop-candidates.cx (es ++ c.args.entry ∷ []) c.loop-candidates.search.stack.items inv.keeps inv.stack pushed, steps_pushed m first es c.args.entry) at c.in_ok-nested-in-Ask.ensures.entries) here.0.1,
             ),
             hears_next m w steps x c.args.entry.step_kind (indices c.loop-candidates.dependencies.heads.items) c.loop-candidates.cx c.loop-candidates.frame c.loop-candidates.request (Evaluate c.in-Ask.input c.in-Ask.step_kind) asks.0 inv.keeps.world inv.running (IsGivenWithin m w before)
@@ -1027,6 +1086,8 @@ run_once-returns-in_err-nested-in-Ask g t c =
       stack = OnOk-err _ _ _ p.1;
       cache = c.ask.ensures.cache;
       entries = OnOk-err _ _ _ p.1;
+      left = IfOk-err _ _ _ p.1;
+      calm = IfOk-err _ _ _ p.1;
       goals = λ x n h. c.ask.ensures.goals x n (c.loop-candidates.invariant.goals x n h);
       results = λ p x h. c.ask.ensures.results p x (c.loop-candidates.invariant.results p x h);
       asked_before = λ p x h. c.ask.ensures.asked_before p x (c.loop-candidates.invariant.asked_before p x h);
@@ -1067,8 +1128,9 @@ run_once-loop-candidates-init g t c =
       cache = AreCached-later m first c.start_run.new.cx c.args.cache.now.entries.items keeps c.requires.cache;
       entries =
           let none = c.in_ok-frame.ensures.none in
-          let begun = runs_begin m w first c.args.cache.now.asked.items steps (question_of m first c.args.entry) c.args.search.now.entries.lists.items none.0 (c.args.search.now.listed ∙ sym (length-steps_of m first es)) none.2 c.requires.entries in
-          entries_same m w first c.start_run.new.cx c.args.cache.now.asked.items c.args.cache.now.asked.items (steps ++ question_of m first c.args.entry ∷ []) (c.args.search.now.entries.lists.items ++ none.0 ∷ []) c.start_run.new.search.entries.lists.items keeps refl none.1 begun;
+          let begun = runs_begin m w c.args.search.now.overflow_met first c.args.cache.now.asked.items steps (question_of m first c.args.entry) c.args.search.now.entries.lists.items none.0 (c.args.search.now.listed ∙ sym (length-steps_of m first es)) none.2 c.requires.entries in
+          rw c.start_run.ensures.met (entries_same m w c.args.search.now.overflow_met first c.start_run.new.cx c.args.cache.now.asked.items c.args.cache.now.asked.items (steps ++ question_of m first c.args.entry ∷ []) (c.args.search.now.entries.lists.items ++ none.0 ∷ []) c.start_run.new.search.entries.lists.items keeps refl none.1 begun);
+      calm = λ off. let was = sym c.start_run.ensures.met ∙ off in (was, c.requires.calm was);
       goals = λ x n h. h;
       results = λ p x h. h;
       asked_before = λ p x h. h;
@@ -1083,7 +1145,7 @@ run_once-loop-candidates-init g t c =
       noted = λ off on. not_both {P = IsNotPlainOver m first es c.args.entry.input (c.args.depth + 1)} c.args.search.now.limits_met off (sym c.start_run.ensures.limits ∙ on);
       within = rw start.1 (λ before no last own cached.
           let none = c.in_ok-frame.ensures.none in
-          let kept = entries_within_keep m w w before first c.start_run.new.cx c.args.cache.now.asked.items steps c.args.search.now.entries.lists.items keeps c.requires.entries cached.1 in (
+          let kept = entries_within_keep m w w c.args.search.now.overflow_met before first c.start_run.new.cx c.args.cache.now.asked.items steps c.args.search.now.entries.lists.items keeps c.requires.entries cached.1 in (
             (
               AreCachedWithin-keeps m w before w first c.start_run.new.cx c.args.cache.now.entries.items keeps c.requires.cache cached.0,
               rw none.1 (entries_within_begin m w before c.start_run.new.cx c.args.search.now.entries.lists.items none.0 none.2 kept),
@@ -1109,6 +1171,8 @@ run_once-returns-in_err-turn g t c =
       stack = OnOk-err _ _ _ p.1;
       cache = inv.cache;
       entries = OnOk-err _ _ _ p.1;
+      left = IfOk-err _ _ _ p.1;
+      calm = IfOk-err _ _ _ p.1;
       goals = inv.goals;
       results = inv.results;
       asked_before = inv.asked_before;
@@ -1193,7 +1257,8 @@ run_once-loop-candidates-preserved g t c =
     record {
       keeps = Keeps-trans m first c.loop-candidates.cx c.step.new.cx inv.keeps c.step.ensures.keeps;
       cache = AreCached-later m c.loop-candidates.cx c.step.new.cx c.loop-candidates.cache.entries.items c.step.ensures.keeps inv.cache;
-      entries = entries_keep m w c.loop-candidates.cx c.step.new.cx c.loop-candidates.cache.asked.items c.loop-candidates.cache.asked.items (steps ++ question_of m first c.args.entry ∷ []) c.loop-candidates.search.entries.lists.items c.step.ensures.keeps (λ place a at. at) inv.entries;
+      entries = entries_keep m w c.loop-candidates.search.overflow_met c.loop-candidates.cx c.step.new.cx c.loop-candidates.cache.asked.items c.loop-candidates.cache.asked.items (steps ++ question_of m first c.args.entry ∷ []) c.loop-candidates.search.entries.lists.items c.step.ensures.keeps (λ place a at. at) inv.entries;
+      calm = inv.calm;
       goals = inv.goals;
       results = inv.results;
       asked_before = inv.asked_before;
@@ -1210,7 +1275,7 @@ run_once-loop-candidates-preserved g t c =
           let had = inv.within before no last own cached in (
             (
               AreCachedWithin-keeps m w before (m.world c.loop-candidates.cx) c.loop-candidates.cx c.step.new.cx c.loop-candidates.cache.entries.items c.step.ensures.keeps inv.cache had.0.0,
-              entries_within_keep m w w before c.loop-candidates.cx c.step.new.cx c.loop-candidates.cache.asked.items (steps ++ question_of m first c.args.entry ∷ []) c.loop-candidates.search.entries.lists.items c.step.ensures.keeps inv.entries had.0.1,
+              entries_within_keep m w w c.loop-candidates.search.overflow_met before c.loop-candidates.cx c.step.new.cx c.loop-candidates.cache.asked.items (steps ++ question_of m first c.args.entry ∷ []) c.loop-candidates.search.entries.lists.items c.step.ensures.keeps inv.entries had.0.1,
             ),
             hears_other m w steps x c.args.entry.step_kind (indices c.loop-candidates.dependencies.heads.items) c.loop-candidates.cx c.loop-candidates.frame c.loop-candidates.request c.loop-candidates.request refl inv.keeps.world inv.running (IsGivenWithin m w before) c.in-Tell.reply had.1 told.due told.quiet,
           ));
@@ -1272,8 +1337,7 @@ run_once-returns-in-End-clause-within g t c =
     let request = asked_now m w steps x c.args.entry.step_kind (indices c.loop-candidates.dependencies.heads.items) c.loop-candidates.cx c.loop-candidates.frame c.loop-candidates.request (Done c.in-End.answer) ends.0 inv.keeps.world inv.running in
     λ before no last own cached.
     let had = inv.within before (sym c.pop.ensures.limits ∙ no) last own cached in
-    let ended = c.in-Some.ensures.ended in
-    ((had.0.0, entries_within_leave m w before c.loop-candidates.cx c.pop.new.self.entries.lists.items ended.0 (rw ended.1 at had.0.1)), record { how = inr (inv.running.heard, had.1, sym request, sym inv.opened ∙ ends.1) })
+    ((had.0.0, rw c.in-Some.ensures.ended at had.0.1), record { how = inr (inv.running.heard, had.1, sym request, sym inv.opened ∙ ends.1) })
 
 pub run_once-returns-in-End-clause-no_limit : goal.run_once-returns-in-End-clause-no_limit
 run_once-returns-in-End-clause-no_limit g t c =
@@ -1285,18 +1349,38 @@ run_once-returns-in-End-clause-entries g t c =
     let inv = c.loop-candidates.invariant in
     let first = c.args.cx.now in
     let es = c.args.search.now.stack.items in
-    let ended = c.in-Some.ensures.ended in
     let lists = c.pop.new.self.entries.lists.items in
     let size : length lists ≡ length (steps_of m first es) =
     let a = c.loop-candidates.search.listed in
-    let b = length-append lists (ended.0 ∷ []) in
+    let b = length-append lists (c.in-Some.left ∷ []) in
     let d = length-append es (c.args.entry ∷ []) in
     let e = length-steps_of m first es in
-    let f : length c.loop-candidates.search.entries.lists.items ≡ length (lists ++ ended.0 ∷ []) = ap length ended.1 in
+    let f : length c.loop-candidates.search.entries.lists.items ≡ length (lists ++ c.in-Some.left ∷ []) = ap length c.in-Some.ensures.ended in
     let h : length c.loop-candidates.search.stack.items ≡ length (es ++ c.args.entry ∷ []) = ap length inv.stack in
     omega (arith, a, b, d, e, f, h)
     in
-    runs_leave m (m.world first) c.loop-candidates.cx c.loop-candidates.cache.asked.items (steps_of m first es) (question_of m first c.args.entry) lists ended.0 size (rw ended.1 at inv.entries)
+    rw c.pop.ensures.met (runs_leave m (m.world first) c.loop-candidates.search.overflow_met c.loop-candidates.cx c.loop-candidates.cache.asked.items (steps_of m first es) (question_of m first c.args.entry) lists c.in-Some.left size (rw c.in-Some.ensures.ended at inv.entries))
+
+pub run_once-returns-in-End-clause-left : goal.run_once-returns-in-End-clause-left
+run_once-returns-in-End-clause-left g t c =
+    let m = g.D.Delegate.meaning in
+    let inv = c.loop-candidates.invariant in
+    let first = c.args.cx.now in
+    let es = c.args.search.now.stack.items in
+    let lists = c.pop.new.self.entries.lists.items in
+    let size : length lists ≡ length (steps_of m first es) =
+    let a = c.loop-candidates.search.listed in
+    let b = length-append lists (c.in-Some.left ∷ []) in
+    let d = length-append es (c.args.entry ∷ []) in
+    let e = length-steps_of m first es in
+    let f : length c.loop-candidates.search.entries.lists.items ≡ length (lists ++ c.in-Some.left ∷ []) = ap length c.in-Some.ensures.ended in
+    let h : length c.loop-candidates.search.stack.items ≡ length (es ++ c.args.entry ∷ []) = ap length inv.stack in
+    omega (arith, a, b, d, e, f, h)
+    in
+    rw c.pop.ensures.met (runs_left m (m.world first) c.loop-candidates.search.overflow_met c.loop-candidates.cx c.loop-candidates.cache.asked.items (steps_of m first es) (question_of m first c.args.entry) lists c.in-Some.left size (rw c.in-Some.ensures.ended at inv.entries))
+
+pub run_once-returns-in-End-clause-calm : goal.run_once-returns-in-End-clause-calm
+run_once-returns-in-End-clause-calm g t c off = c.loop-candidates.invariant.calm (sym c.pop.ensures.met ∙ off)
 
 pub run_once-returns-in-End-clause-range : goal.run_once-returns-in-End-clause-range
 run_once-returns-in-End-clause-range g t c =

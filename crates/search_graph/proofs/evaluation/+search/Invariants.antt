@@ -30,7 +30,8 @@ invariant-evaluate_new-loop-run g l =
     record {
       keeps : Keeps m l.fn.cx l.cx;
       cache : AreCached m (m.world l.cx) l.cx l.cache.entries.items;
-      entries : AreProvisional m (m.world l.fn.cx) l.cx l.cache.asked.items (steps_of m l.fn.cx l.fn.search.stack.items) l.search.entries.lists.items;
+      entries : AreProvisional m (m.world l.fn.cx) l.search.overflow_met l.cx l.cache.asked.items (steps_of m l.fn.cx l.fn.search.stack.items) l.search.entries.lists.items;
+      calm : l.search.overflow_met ≡ false → (l.fn.search.overflow_met ≡ false) × (l.dependencies.encountered_overflow ≡ false);
       goals : KeepsNumbers g.D.Cx.Input.PartialEq.eq l.fn.cache.goals.keys l.cache.goals.keys;
       results : KeepsResults l.fn.cache.entries.items l.cache.entries.items;
       asked_before : KeepsResults l.fn.cache.asked.items l.cache.asked.items;
@@ -61,7 +62,8 @@ invariant-run_once-loop-candidates g l =
     record {
       keeps : Keeps m l.fn.cx l.cx;
       cache : AreCached m (m.world l.cx) l.cx l.cache.entries.items;
-      entries : AreProvisional m (m.world l.fn.cx) l.cx l.cache.asked.items (steps_of m l.fn.cx l.fn.search.stack.items ++ question_of m l.fn.cx l.fn.entry ∷ []) l.search.entries.lists.items;
+      entries : AreProvisional m (m.world l.fn.cx) l.search.overflow_met l.cx l.cache.asked.items (steps_of m l.fn.cx l.fn.search.stack.items ++ question_of m l.fn.cx l.fn.entry ∷ []) l.search.entries.lists.items;
+      calm : l.search.overflow_met ≡ false → (l.fn.search.overflow_met ≡ false) × (l.dependencies.encountered_overflow ≡ false);
       goals : KeepsNumbers g.D.Cx.Input.PartialEq.eq l.fn.cache.goals.keys l.cache.goals.keys;
       results : KeepsResults l.fn.cache.entries.items l.cache.entries.items;
       asked_before : KeepsResults l.fn.cache.asked.items l.cache.asked.items;

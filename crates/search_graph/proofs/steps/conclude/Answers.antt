@@ -1,14 +1,20 @@
-use Rattle.std.proofs.Common.{◌<◌, length, inl, inr, arith}
+use Rattle.std.proofs.Common.{◌≡◌, ◌<◌, ◌∙◌, ◌∷◌, [], Some, slice_get, length, inl, inr, not, ap, sym, subst, arith}
+use Rattle.std.specs.Prelude.{◌==◌}
+use Rattle.std.proofs.lemmas.List.{length-append}
 use Rattle.std.proofs.lemmas.Result.{err_from_is_err_and}
-use Rattle.search_graph.specs.KeptPaths.{indices}
+use Rattle.search_graph.specs.KeptPaths.{indices, AreBelow}
+use Rattle.search_graph.specs.declared.cache.Asked.{Asked}
 use Rattle.search_graph.specs.Stack.{steps_of}
 use Rattle.search_graph.specs.Question.{IsFaithfulOver}
 use Rattle.search_graph.proofs.Errors.{fault_passed}
+use Rattle.search_graph.proofs.Faithfuls.{true_not_false}
 use Rattle.search_graph.proofs.HeadFacts.{below_head}
-use Rattle.search_graph.proofs.Graphs.{Keeps-refl}
-use Rattle.search_graph.proofs.Entries.{entries_keep}
+use Rattle.search_graph.proofs.Graphs.{Keeps-refl, length-steps_of}
+use Rattle.search_graph.proofs.Ranges.{at_end}
+use Rattle.search_graph.proofs.Entries.{entries_keep, entries_within_leave}
+use Rattle.search_graph.proofs.MovedEntries.{entries_moved, entries_within_moved}
 use Rattle.search_graph.proofs.steps.conclude.Goals as goal
-use Rattle.search_graph.proofs.steps.conclude.Goals.{else-is_open-via-then-is_open+else-not-count_open_end, else-is_open-via-else-is_open}
+use Rattle.search_graph.proofs.steps.conclude.Goals.{then-found, else-found}
 
 pub returns-in_err-finish-clause-no_conflict : goal.returns-in_err-finish-clause-no_conflict
 returns-in_err-finish-clause-no_conflict g c =
@@ -16,11 +22,13 @@ returns-in_err-finish-clause-no_conflict g c =
     λ h. c.in_err-finish.ensures.no_conflict (fault_passed _ _ _ _ p.1 p.2 h)
 
 pub leave-requires-clause-entries : goal.leave-requires-clause-entries
-leave-requires-clause-entries g c =
-    elim c.else-is_open.branch [
-      | else-is_open-via-then-is_open+else-not-count_open_end w ↦ rw (w.search-is, w.count_open_end.ensures.stack, w.count_open_end.ensures.entries) c.requires.entries
-      | else-is_open-via-else-is_open w ↦ rw w.search-is c.requires.entries
-    ]
+leave-requires-clause-entries g c = rw (c.count_end.ensures.stack, c.count_end.ensures.met, c.count_end.ensures.entries) c.requires.entries
+
+pub leave-requires-clause-result : goal.leave-requires-clause-result
+leave-requires-clause-result g c = rw c.count_end.ensures.stack c.requires.result
+
+pub leave-requires-clause-descends : goal.leave-requires-clause-descends
+leave-requires-clause-descends g c = rw (c.count_end.ensures.stack, c.count_end.ensures.met) c.requires.descends
 
 pub leave-requires-clause-faithful : goal.leave-requires-clause-faithful
 leave-requires-clause-faithful g c =
@@ -29,48 +37,71 @@ leave-requires-clause-faithful g c =
     let within : IsFaithfulOver m cx c.args.search.now.stack.items c.args.input 0 cx c.args.evaluation =
     λ limit h down n b less p. c.requires.faithful limit (elim h [ inl l ↦ inl (omega (arith, l)) | inr y ↦ inr y ]) down n b less p
     in
-    elim c.else-is_open.branch [
-      | else-is_open-via-then-is_open+else-not-count_open_end w ↦ rw (w.search-is, w.count_open_end.ensures.stack) within
-      | else-is_open-via-else-is_open w ↦ rw w.search-is within
-    ]
+    rw c.count_end.ensures.stack within
 
 pub leave-requires-clause-place : goal.leave-requires-clause-place
 leave-requires-clause-place g c =
     let heads = c.args.evaluation.dependencies.heads.items in
     let low : c.in-Some.nearest < length c.args.search.now.stack.items = below_head (length c.args.search.now.stack.items) c.in-Some.nearest (indices heads) c.requires.below (rw c.deref.ensures.value at c.in-Some.ensures.head) in
-    elim c.else-is_open.branch [
-      | else-is_open-via-then-is_open+else-not-count_open_end w ↦ rw (w.search-is, w.count_open_end.ensures.stack) low
-      | else-is_open-via-else-is_open w ↦ rw w.search-is low
-    ]
+    rw c.count_end.ensures.stack low
+
+pub move_entries-requires-clause-below : goal.move_entries-requires-clause-below
+move_entries-requires-clause-below g c = rw (c.leave.ensures.stack ∙ c.count_end.ensures.stack, c.in_ok-reply.ensures.reply.heads) c.requires.below
+
+pub move_entries-requires-clause-rests : goal.move_entries-requires-clause-rests
+move_entries-requires-clause-rests g c place e at =
+    let m = g.D.Delegate.meaning in
+    let cx = c.args.cx.now in
+    let es = c.args.search.now.stack.items in
+    let n = length-append (steps_of m cx es) ((m.goal_of cx c.args.input, c.args.step_kind) ∷ []) in
+    let k = length-steps_of m cx es in
+    rw (c.leave.ensures.stack ∙ c.count_end.ensures.stack) (subst (λ n. AreBelow n (indices e.heads.items)) (omega (arith, n, k)) (c.requires.left place e at).below)
 
 pub returns-in-Some-clause-entries : goal.returns-in-Some-clause-entries
 returns-in-Some-clause-entries g c =
-    elim c.else-is_open.branch [
-      | else-is_open-via-then-is_open+else-not-count_open_end w ↦ rw (w.search-is, w.count_open_end.ensures.stack) at c.in_ok-leave.ensures.entries
-      | else-is_open-via-else-is_open w ↦ rw w.search-is at c.in_ok-leave.ensures.entries
-    ]
+    let m = g.D.Delegate.meaning in
+    let cx = c.args.cx.now in
+    let es = c.args.search.now.stack.items in
+    let reply = c.in_ok-reply.ensures.reply in
+    let old = c.args.cache.now.asked.items in
+    let asked = c.leave.new.cache.asked.items in
+    let listed : Asked = record { number = c.args.number; nested_goals = c.args.evaluation.dependencies.nested_goals } in
+    let place : c.len-asked.result ≡ length old = c.len-asked.ensures ∙ c.args.cache.now.asked.ok.0 in
+    let here : slice_get asked c.len-asked.result ≡ Some listed = rw (c.in_ok-reply.ensures.listed, place) (at_end old listed) in
+    entries_moved m cx es c.args.input c.args.step_kind c.in_ok-reply.reply asked old c.len-asked.result listed c.args.search.now.overflow_met
+    here (rw reply.heads c.requires.below) (rw (reply.heads, reply.result) c.requires.result)
+    c.args.left.items c.leave.new.self.entries.lists.items c.move_entries.new.self.entries.lists.items c.requires.left
+    (rw (c.leave.ensures.stack ∙ c.count_end.ensures.stack, c.leave.ensures.met ∙ c.count_end.ensures.met) at c.in_ok-move_entries.ensures.moved)
+    (rw (c.count_end.ensures.stack, c.count_end.ensures.met) at c.in_ok-reply.ensures.entries)
 
 pub returns-in-Some-clause-entries_within : goal.returns-in-Some-clause-entries_within
-returns-in-Some-clause-entries_within g c =
-    elim c.else-is_open.branch [
-      | else-is_open-via-then-is_open+else-not-count_open_end w ↦ rw (w.search-is, w.count_open_end.ensures.entries) at c.in_ok-leave.ensures.within
-      | else-is_open-via-else-is_open w ↦ rw w.search-is at c.in_ok-leave.ensures.within
-    ]
+returns-in-Some-clause-entries_within g c before stay is =
+    let m = g.D.Delegate.meaning in
+    let cx = c.args.cx.now in
+    let lists = c.args.search.now.entries.lists.items in
+    let kept = rw c.count_end.ensures.entries at c.in_ok-reply.ensures.within in
+    entries_within_moved m (m.world cx) before cx c.leave.new.self.stack.items c.args.step_kind c.in_ok-reply.reply c.len-asked.result c.leave.new.self.overflow_met c.args.left lists c.leave.new.self.entries.lists.items c.move_entries.new.self.entries.lists.items
+    c.in_ok-move_entries.ensures.moved stay (kept before (entries_within_leave m (m.world cx) before cx lists c.args.left stay) is)
 
 pub returns-clause-entries : goal.returns-clause-entries
 returns-clause-entries g c =
     let m = g.D.Delegate.meaning in
     let cx = c.args.cx.now in
     let es = c.args.search.now.stack.items in
-    let kept = entries_keep m (m.world cx) cx cx c.args.cache.now.asked.items c.finish.new.cache.asked.items (steps_of m cx es) c.args.search.now.entries.lists.items (Keeps-refl m cx) c.finish.ensures.asked_before c.requires.entries in
-    elim c.else-is_open.branch [
-      | else-is_open-via-then-is_open+else-not-count_open_end w ↦ rw (w.search-is, w.count_open_end.ensures.entries) kept
-      | else-is_open-via-else-is_open w ↦ rw w.search-is kept
-    ]
+    rw c.count_end.ensures.entries
+    (entries_keep m (m.world cx) c.args.search.now.overflow_met cx cx c.args.cache.now.asked.items c.finish.new.cache.asked.items (steps_of m cx es) c.args.search.now.entries.lists.items (Keeps-refl m cx) c.finish.ensures.asked_before c.requires.entries)
 
 pub returns-clause-entries_within : goal.returns-clause-entries_within
 returns-clause-entries_within g c before stay is =
-    elim c.else-is_open.branch [
-      | else-is_open-via-then-is_open+else-not-count_open_end w ↦ rw (w.search-is, w.count_open_end.ensures.entries) stay
-      | else-is_open-via-else-is_open w ↦ rw w.search-is stay
+    let m = g.D.Delegate.meaning in
+    let cx = c.args.cx.now in
+    rw c.count_end.ensures.entries (entries_within_leave m (m.world cx) before cx c.args.search.now.entries.lists.items c.args.left stay)
+
+pub returns-then-not-count_end-clause-exhausted : goal.returns-then-not-count_end-clause-exhausted
+returns-then-not-count_end-clause-exhausted g c h =
+    elim c.if-found.branch [
+      | then-found w ↦ inl w.if-found.true
+      | else-found w ↦ inr (λ none.
+          let empty = w.is_empty.ensures ∙ ap (λ n. n == 0) (c.args.evaluation.dependencies.heads.ok.0 ∙ ap length none) in
+          true_not_false (sym (c.count_end.ensures.uncounted (w.is_open-is ∙ ap not empty)).0 ∙ c.if-not-count_end.true))
     ]

@@ -23,10 +23,10 @@ returns-clause-entries g c =
     let inside : c.args.nearest < length lists = subst (λ n. c.args.nearest < n) (sym c.args.self.now.listed) c.requires.place in
     let kind = c.kind_of_path-kind.ensures ∙ ap (λ xs. kind_after (drop (c.args.nearest + 1) xs) c.args.step_kind) c.deref.ensures.value in
     let on = c.in_ok-rests_on.ensures.items ∙ c.deref-2.ensures.value in
-    entries_left m (m.world cx) cx asked (steps_of m cx es) lists c.leave.new.self.lists.items c.args.nearest _ c.in_ok-leave.ensures.added inside
+    entries_left m (m.world cx) c.args.self.now.overflow_met cx asked (steps_of m cx es) lists c.leave.new.self.lists.items c.args.nearest _ c.in_ok-leave.ensures.added inside
     (left_entry m cx es c.args.step_kind c.args.nearest c.args.evaluation.dependencies.heads.items c.requires.place c.requires.nearest.0 c.requires.nearest.1
-    asked c.args.input c.args.evaluation.result _ here refl c.in_ok-result.ensures.copy on kind at c.requires.input c.requires.result (rw c.requires.success at c.requires.faithful))
-    (entries_keep m (m.world cx) cx cx old asked (steps_of m cx es) lists (Keeps-refl m cx) c.list.ensures.asked c.requires.entries)
+    asked c.args.self.now.overflow_met c.args.input c.args.evaluation.result _ here refl c.in_ok-result.ensures.copy on kind at c.requires.input c.requires.result (rw c.requires.success at c.requires.faithful) c.requires.descends)
+    (entries_keep m (m.world cx) c.args.self.now.overflow_met cx cx old asked (steps_of m cx es) lists (Keeps-refl m cx) c.list.ensures.asked c.requires.entries)
 
 pub returns-clause-within : goal.returns-clause-within
 returns-clause-within g c before stay is =

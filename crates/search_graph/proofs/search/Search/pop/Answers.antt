@@ -19,7 +19,4 @@ invariant_of-self-2 g c =
     }
 
 pub returns-clause-ended : goal.returns-clause-ended
-returns-clause-ended g c =
-    let lower = one_less c.args.self.now.stack.items c.pop.new.self.items c.in_ok-entry.entry c.in_ok-entry.ensures.items in
-    let listed = c.args.self.now.listed in
-    ended_list c.args.self.now.entries.lists.items c.end.new.self.lists.items c.end.result c.end.ensures.lists (c.end.ensures.some.1 (omega (arith, lower, listed)))
+returns-clause-ended g c = rw c.in-Some.is at c.end.ensures.lists

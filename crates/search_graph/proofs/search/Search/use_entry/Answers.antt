@@ -34,7 +34,7 @@ returns-clause-answer g c =
     let on = c.in_ok-dependencies.ensures.items ∙ c.deref.ensures.value ∙ ap (λ z. z.heads.items) (sym is) in
     let copy = c.in_ok-answer.ensures.copy ∙ ap (λ z. z.result) (sym is) in
     rw (on, copy)
-    (entry_answers g.D.Delegate.meaning c.args.cx.now c.args.self.now.stack.items c.args.cache.now.asked.items c.args.self.now.entries.lists.items c.requires.entries c.args.number c.args.input.now c.args.step_kind c.args.depth c.args.at.0 c.args.at.1 at)
+    (entry_answers g.D.Delegate.meaning c.args.cx.now c.args.self.now.stack.items c.args.cache.now.asked.items c.args.self.now.overflow_met c.args.self.now.entries.lists.items c.requires.entries c.args.number c.args.input.now c.args.step_kind c.args.depth c.args.at.0 c.args.at.1 at)
 
 pub returns-clause-faithful : goal.returns-clause-faithful
 returns-clause-faithful g c reach =
@@ -43,7 +43,7 @@ returns-clause-faithful g c reach =
     let on = c.in_ok-dependencies.ensures.items ∙ c.deref.ensures.value ∙ ap (λ z. z.heads.items) (sym is) in
     let copy = c.in_ok-answer.ensures.copy ∙ ap (λ z. z.result) (sym is) in
     rw (on, copy)
-    (entry_faithful g.D.Delegate.meaning c.args.cx.now c.args.self.now.stack.items c.args.cache.now.asked.items c.args.self.now.entries.lists.items c.requires.entries c.args.number c.args.input.now c.args.step_kind c.args.depth c.args.at.0 c.args.at.1 at
+    (entry_faithful g.D.Delegate.meaning c.args.cx.now c.args.self.now.stack.items c.args.cache.now.asked.items c.args.self.now.overflow_met c.args.self.now.entries.lists.items c.requires.entries c.args.number c.args.input.now c.args.step_kind c.args.depth c.args.at.0 c.args.at.1 at
     reach c.new-dependencies.result.encountered_overflow)
 
 pub returns-clause-within : goal.returns-clause-within
@@ -52,5 +52,5 @@ returns-clause-within g c before stay =
     let is = entry_read c.args.self.now.entries.lists.items c.args.at.0 c.args.at.1 at.0 at.1 c.index.result.now c.index-entry.result.now c.index.ensures c.index-entry.ensures in
     let copy = c.in_ok-answer.ensures.copy ∙ ap (λ z. z.result) (sym is) in
     rw copy
-    (entry_within g.D.Delegate.meaning c.args.cx.now c.args.self.now.stack.items c.args.cache.now.asked.items c.args.self.now.entries.lists.items c.requires.entries c.args.number c.args.input.now c.args.step_kind c.args.depth c.args.at.0 c.args.at.1 at
+    (entry_within g.D.Delegate.meaning c.args.cx.now c.args.self.now.stack.items c.args.cache.now.asked.items c.args.self.now.overflow_met c.args.self.now.entries.lists.items c.requires.entries c.args.number c.args.input.now c.args.step_kind c.args.depth c.args.at.0 c.args.at.1 at
     before stay)

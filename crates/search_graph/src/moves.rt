@@ -1,0 +1,93 @@
+//! Entries of a goal that ended, on their way to the goals before it.
+
+ghost use Rattle.std.specs.Prelude.{◌≡◌, ◌+◌, ◌∷◌, [], ℕ, OnOk, Some, false, length, slice_get};
+ghost use Rattle.search_graph.specs.KeptPaths.{indices, AreBelow};
+ghost use Rattle.search_graph.specs.Provisional.{AreMoved};
+
+use crate::delegate::{Delegate, InputOf, ResultOf};
+use crate::dependencies::{CycleHead, EvaluationResult, nearest_head, rest_through, take_head};
+use crate::path_kind::{PathKind, PathsToNested};
+use crate::provisional::{Entries, ProvisionalEntries, ProvisionalEntry, find_among};
+use crate::stack::{StackEntry, kind_of_path};
+use bitflags::Flags;
+use std::alloc::AllocError;
+
+/// Moves those of these entries that have the result with which their nearest head ended to their next heads on this stack. The
+/// others go.
+///
+/// The head was asked by a step of this kind, and what was asked under it is listed at this place. After a refusal some entries may be
+/// missing. `rebase_provisional_cache_entries` of `rustc_type_ir::search_graph`, which asks for other conditions.
+pub(crate) fn move_entries<D: Delegate>(
+    entries: &mut ProvisionalEntries<D>,
+    stack: &[StackEntry<InputOf<D>, ResultOf<D>>],
+    left: Entries<D>,
+    step_kind: PathKind,
+    ended: &EvaluationResult<ResultOf<D>>,
+    asked: usize,
+) -> Result<(), AllocError>
+    requires listed { length stack.now ≡ length entries.old.lists.items }
+    requires below { AreBelow (length stack.now) (indices ended.now.dependencies.heads.items) }
+    requires rests { (place : ℕ) (e : _) → slice_get left.items place ≡ Some e → AreBelow (length stack.now + 1) (indices e.heads.items) }
+    ensures moved { OnOk result (AreMoved stack.now false left.items step_kind ended.now asked entries.old.lists.items entries.new.lists.items) }
+    ensures goals { length entries.new.lists.items ≡ length entries.old.lists.items }
+{
+    let mut left = left;
+    while let Some(entry) = left.pop() {
+        if entry.result == ended.result {
+            move_entry::<D>(entries, stack, entry, step_kind, ended, asked)?;
+        }
+    }
+    Ok(())
+}
+
+/// Moves an entry to its next head. It goes where that is none, where a forced step lies on the path from there, and where an entry
+/// is there that serves wherever it would.
+fn move_entry<D: Delegate>(
+    entries: &mut ProvisionalEntries<D>,
+    stack: &[StackEntry<InputOf<D>, ResultOf<D>>],
+    entry: ProvisionalEntry<InputOf<D>, ResultOf<D>>,
+    step_kind: PathKind,
+    ended: &EvaluationResult<ResultOf<D>>,
+    asked: usize,
+) -> Result<(), AllocError>
+    requires listed { length stack.now ≡ length entries.old.lists.items }
+    requires below { AreBelow (length stack.now) (indices ended.now.dependencies.heads.items) }
+    requires rests { AreBelow (length stack.now + 1) (indices entry.heads.items) }
+    requires same { entry.result ≡ ended.now.result }
+    ensures moved { OnOk result (AreMoved stack.now false (entry ∷ []) step_kind ended.now asked entries.old.lists.items entries.new.lists.items) }
+    ensures goals { length entries.new.lists.items ≡ length entries.old.lists.items }
+{
+    let ProvisionalEntry {
+        input,
+        number,
+        result,
+        heads,
+        kind,
+        required_depth,
+        asked: _,
+    } = entry;
+    let mut heads = heads;
+    let read = take_head(&mut heads, stack.len()).unwrap_or(PathsToNested::empty());
+    rest_through(&mut heads, &ended.dependencies.heads, read)?;
+    let Some(next) = nearest_head(&heads) else {
+        return Ok(());
+    };
+    let kind = kind_of_path(stack, next, step_kind.extend(kind));
+    if kind == PathKind::ForcedAmbiguity {
+        return Ok(());
+    }
+    if find_among::<D>(&entries.lists[next], number, &input, kind, required_depth).is_some() {
+        return Ok(());
+    }
+    let moved = ProvisionalEntry {
+        input,
+        number,
+        result,
+        heads,
+        kind,
+        required_depth,
+        asked,
+    };
+    entries.leave(next, moved)?;
+    Ok(())
+}
