@@ -117,7 +117,8 @@ pub fn consider_builtin_sized_candidate(
     ensures limit { cx.new.limit ≡ cx.old.limit }
     ensures held { IfOk result (λ o. IfSome o (SpecHeld cx.new.entries)) }
     ensures is { let V = written cx.old.entries declarations.now in
-        IfOk result (λ o. candidates_of V goal.now.goal.predicate.trait_ref.def_id.index cx.new.entries o ≡ sized_candidates V (asked_of cx.old.entries goal.now)) }
+        IfOk result (λ o. candidates_of V goal.now.goal.predicate.trait_ref.def_id.index cx.new.entries o
+        ≡ sized_candidates V (asked_of cx.old.entries goal.now)) }
     ensures full { result ≡ Err Fault.Full → SomeKindIsFull cx.new.entries cx.new.limit }
 {
     let self_ty = goal.goal.predicate.self_ty(cx);
@@ -138,7 +139,8 @@ pub fn consider_builtin_copy_clone_candidate(
     ensures keeps { Keeps cx.old.entries cx.new.entries }
     ensures limit { cx.new.limit ≡ cx.old.limit }
     ensures held { IfOk result (λ o. IfSome o (SpecHeld cx.new.entries)) }
-    ensures is { IfOk result (λ o. (V : World) → candidates_of V goal.now.goal.predicate.trait_ref.def_id.index cx.new.entries o ≡ copy_candidates V (asked_of cx.old.entries goal.now)) }
+    ensures is { IfOk result (λ o. (V : World)
+        → candidates_of V goal.now.goal.predicate.trait_ref.def_id.index cx.new.entries o ≡ copy_candidates V (asked_of cx.old.entries goal.now)) }
     ensures full { result ≡ Err Fault.Full → SomeKindIsFull cx.new.entries cx.new.limit }
 {
     let self_ty = goal.goal.predicate.self_ty(cx);
@@ -165,7 +167,8 @@ pub fn consider_builtin_tuple_candidate(
     ensures keeps { Keeps cx.old.entries cx.new.entries }
     ensures limit { cx.new.limit ≡ cx.old.limit }
     ensures held { IfOk result (λ o. IfSome o (SpecHeld cx.new.entries)) }
-    ensures is { IfOk result (λ o. (V : World) → candidates_of V goal.now.goal.predicate.trait_ref.def_id.index cx.new.entries o ≡ tuple_candidates V (asked_of cx.old.entries goal.now)) }
+    ensures is { IfOk result (λ o. (V : World)
+        → candidates_of V goal.now.goal.predicate.trait_ref.def_id.index cx.new.entries o ≡ tuple_candidates V (asked_of cx.old.entries goal.now)) }
     ensures full { result ≡ Err Fault.Full → SomeKindIsFull cx.new.entries cx.new.limit }
 {
     let self_ty = goal.goal.predicate.self_ty(cx);
@@ -192,7 +195,8 @@ pub fn consider_builtin_fn_ptr_trait_candidate(
     ensures keeps { Keeps cx.old.entries cx.new.entries }
     ensures limit { cx.new.limit ≡ cx.old.limit }
     ensures held { IfOk result (λ o. IfSome o (SpecHeld cx.new.entries)) }
-    ensures is { IfOk result (λ o. (V : World) → candidates_of V goal.now.goal.predicate.trait_ref.def_id.index cx.new.entries o ≡ fn_ptr_candidates V (asked_of cx.old.entries goal.now)) }
+    ensures is { IfOk result (λ o. (V : World)
+        → candidates_of V goal.now.goal.predicate.trait_ref.def_id.index cx.new.entries o ≡ fn_ptr_candidates V (asked_of cx.old.entries goal.now)) }
     ensures full { result ≡ Err Fault.Full → SomeKindIsFull cx.new.entries cx.new.limit }
 {
     let self_ty = goal.goal.predicate.self_ty(cx);
@@ -222,7 +226,8 @@ pub fn consider_auto_trait_candidate(
     ensures limit { cx.new.limit ≡ cx.old.limit }
     ensures held { IfOk result (λ o. IfSome o (SpecHeld cx.new.entries)) }
     ensures is { let V = written cx.old.entries declarations.now in
-        IfOk result (λ o. candidates_of V goal.now.goal.predicate.trait_ref.def_id.index cx.new.entries o ≡ auto_candidates V (asked_of cx.old.entries goal.now)) }
+        IfOk result (λ o. candidates_of V goal.now.goal.predicate.trait_ref.def_id.index cx.new.entries o
+        ≡ auto_candidates V (asked_of cx.old.entries goal.now)) }
     ensures full { result ≡ Err Fault.Full → SomeKindIsFull cx.new.entries cx.new.limit }
 {
     let trait_ref = goal.goal.predicate.trait_ref;

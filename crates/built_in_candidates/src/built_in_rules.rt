@@ -121,7 +121,8 @@ fn consider_rule(
     ensures limit { cx.new.limit ≡ cx.old.limit }
     ensures held { IfOk result (λ o. IfSome o (SpecHeld cx.new.entries)) }
     ensures is { let V = written cx.old.entries declarations.now in
-        IfOk result (λ o. candidates_of V goal.now.goal.predicate.trait_ref.def_id.index cx.new.entries o ≡ by_the_rule V (asked_of cx.old.entries goal.now) rule) }
+        IfOk result (λ o. candidates_of V goal.now.goal.predicate.trait_ref.def_id.index cx.new.entries o
+        ≡ by_the_rule V (asked_of cx.old.entries goal.now) rule) }
     ensures full { result ≡ Err Fault.Full → SomeKindIsFull cx.new.entries cx.new.limit }
 {
     if speaks_of(declarations, rule, goal.goal.predicate.trait_ref.def_id) {
@@ -155,7 +156,8 @@ pub fn consider_builtin_candidate(
     requires impls { HavePlainHeads cx.old.entries declarations.now }
     requires bounds { HaveBounds cx.old.entries declarations.now }
     requires object { ObjectIsApplied declarations.now (trees_at cx.old.entries goal.now.goal.predicate.trait_ref.args.0) }
-    requires unsizing { (goal.now.goal.predicate.trait_ref.def_id.index == unsize) ≡ true → CanUnsize declarations.now (self_of (asked_of cx.old.entries goal.now)) }
+    requires unsizing { (goal.now.goal.predicate.trait_ref.def_id.index == unsize) ≡ true
+        → CanUnsize declarations.now (self_of (asked_of cx.old.entries goal.now)) }
     ensures keeps { Keeps cx.old.entries cx.new.entries }
     ensures limit { cx.new.limit ≡ cx.old.limit }
     ensures held { IfOk result (λ o. IfSome o (SpecHeld cx.new.entries)) }

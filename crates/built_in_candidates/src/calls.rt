@@ -126,7 +126,8 @@ fn call_candidate(
     ensures keeps { Keeps cx.old.entries cx.new.entries }
     ensures limit { cx.new.limit ≡ cx.old.limit }
     ensures held { IfOk result (SpecHeld cx.new.entries) }
-    ensures is { let types = trees_at cx.old.entries inputs_and_output.0 in let equations = all_equal (tree tuple (but_last types) none) (arg_trees cx.old.entries arguments) in
+    ensures is { let types = trees_at cx.old.entries inputs_and_output.0 in
+        let equations = all_equal (tree tuple (but_last types) none) (arg_trees cx.old.entries arguments) in
         IfOk result (λ s. (V : World) → candidate_of V goal.now.goal.predicate.trait_ref.def_id.index cx.new.entries s
         ≡ by_rule V (asked_of cx.old.entries goal.now) misc equations (last_asked sized types)) }
     ensures full { result ≡ Err Fault.Full → SomeKindIsFull cx.new.entries cx.new.limit }
@@ -155,7 +156,8 @@ pub fn consider_builtin_fn_trait_candidates(
     ensures keeps { Keeps cx.old.entries cx.new.entries }
     ensures limit { cx.new.limit ≡ cx.old.limit }
     ensures held { IfOk result (λ o. IfSome o (SpecHeld cx.new.entries)) }
-    ensures is { IfOk result (λ o. (V : World) → candidates_of V goal.now.goal.predicate.trait_ref.def_id.index cx.new.entries o ≡ call_candidates V (asked_of cx.old.entries goal.now)) }
+    ensures is { IfOk result (λ o. (V : World)
+        → candidates_of V goal.now.goal.predicate.trait_ref.def_id.index cx.new.entries o ≡ call_candidates V (asked_of cx.old.entries goal.now)) }
     ensures full { result ≡ Err Fault.Full → SomeKindIsFull cx.new.entries cx.new.limit }
 {
     cx.lawful();

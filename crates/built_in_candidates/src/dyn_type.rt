@@ -82,7 +82,8 @@ pub(crate) fn principal_with(
     ensures keeps { Keeps cx.old.entries cx.new.entries }
     ensures limit { cx.new.limit ≡ cx.old.limit }
     ensures held { IfOk result (λ o. TraitRefsHeld cx.new.entries (if_there o)) }
-    ensures is { IfOk result (λ o. WithLifetime cx.old.entries bounds (λ b. references_in cx.new.entries (if_there o) ≡ principal_with (trees_at cx.old.entries self_ty.0) b)) }
+    ensures is { IfOk result
+        (λ o. WithLifetime cx.old.entries bounds (λ b. references_in cx.new.entries (if_there o) ≡ principal_with (trees_at cx.old.entries self_ty.0) b)) }
     ensures full { result ≡ Err Fault.Full → SomeKindIsFull cx.new.entries cx.new.limit }
 {
     match cx.bounds(bounds).principal {
@@ -109,7 +110,8 @@ fn elaborate_principal(
     ensures keeps { Keeps cx.old.entries cx.new.entries }
     ensures limit { cx.new.limit ≡ cx.old.limit }
     ensures held { IfOk result (λ v. TraitRefsHeld cx.new.entries v.items) }
-    ensures are { IfOk result (λ v. references_in cx.new.entries v.items ≡ elaborate (written cx.old.entries declarations.now) (references_in cx.old.entries (if_there principal))) }
+    ensures are { IfOk result (λ v. references_in cx.new.entries v.items
+        ≡ elaborate (written cx.old.entries declarations.now) (references_in cx.old.entries (if_there principal))) }
     ensures full { result ≡ Err Fault.Full → SomeKindIsFull cx.new.entries cx.new.limit }
 {
     match principal {
@@ -141,10 +143,12 @@ pub(crate) fn elaborated_principal(
     ensures keeps { Keeps cx.old.entries cx.new.entries }
     ensures limit { cx.new.limit ≡ cx.old.limit }
     ensures principal_held { IfOk result (λ e. TraitRefsHeld cx.new.entries (if_there e.principal)) }
-    ensures principal { IfOk result (λ e. WithLifetime cx.old.entries bounds (λ b. references_in cx.new.entries (if_there e.principal) ≡ principal_with (trees_at cx.old.entries self_ty.0) b)) }
+    ensures principal { IfOk result (λ e. WithLifetime cx.old.entries bounds (λ b. references_in cx.new.entries (if_there e.principal)
+        ≡ principal_with (trees_at cx.old.entries self_ty.0) b)) }
     ensures held { IfOk result (λ e. TraitRefsHeld cx.new.entries e.elaborated.items) }
     ensures elaborated { let V = written cx.old.entries declarations.now in
-        IfOk result (λ e. WithLifetime cx.old.entries bounds (λ b. references_in cx.new.entries e.elaborated.items ≡ elaborate V (principal_with (trees_at cx.old.entries self_ty.0) b))) }
+        IfOk result (λ e. WithLifetime cx.old.entries bounds (λ b. references_in cx.new.entries e.elaborated.items
+        ≡ elaborate V (principal_with (trees_at cx.old.entries self_ty.0) b))) }
     ensures full { result ≡ Err Fault.Full → SomeKindIsFull cx.new.entries cx.new.limit }
 {
     let principal = principal_with(alloc, cx, self_ty, bounds)?;

@@ -29,7 +29,8 @@ fn nested_goal(
     source: GoalSource,
     trait_ref: TraitRef,
 ) -> Result<(GoalSource, Goal), Fault>
-    ensures is { IfOk result (λ n. (es : List Entry) (kind : Bool) → nested_read es kind n ≡ premise (asked_of es goal.now) (is_coinductive_step kind source) (reference_in es trait_ref)) }
+    ensures is { IfOk result (λ n. (es : List Entry) (kind : Bool)
+        → nested_read es kind n ≡ premise (asked_of es goal.now) (is_coinductive_step kind source) (reference_in es trait_ref)) }
     ensures held { IfOk result (λ n. (es : List Entry) → GoalHeld es goal.now.goal → ReferenceHeld es trait_ref → GoalHeld es n.1) }
     ensures memory { IfErr result (λ fault. fault ≡ Memory) }
 {
@@ -72,8 +73,10 @@ pub fn by_rule(
     premises: &[TraitRef],
 ) -> Result<CandidateSpec, Fault>
     ensures is { IfOk result (λ s. (es : List Entry) (V : World)
-        → candidate_of V goal.now.goal.predicate.trait_ref.def_id.index es s ≡ by_rule V (asked_of es goal.now) source (map (equation_read es) equations.items) (references_in es premises.now)) }
-    ensures held { IfOk result (λ s. (es : List Entry) → GoalHeld es goal.now.goal → Every (EquationHeld es) equations.items → TraitRefsHeld es premises.now → SpecHeld es s) }
+        → candidate_of V goal.now.goal.predicate.trait_ref.def_id.index es s
+        ≡ by_rule V (asked_of es goal.now) source (map (equation_read es) equations.items) (references_in es premises.now)) }
+    ensures held { IfOk result (λ s. (es : List Entry) → GoalHeld es goal.now.goal → Every (EquationHeld es) equations.items → TraitRefsHeld es premises.now
+        → SpecHeld es s) }
     ensures memory { IfErr result (λ fault. fault ≡ Memory) }
 {
     let nested_goals = nested_goals(alloc, goal, GoalSource::ImplWhereBound, premises)?;

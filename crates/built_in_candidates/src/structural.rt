@@ -70,7 +70,8 @@ pub(crate) fn instantiate_constituent_tys_for_copy_clone_trait(
     self_ty: Ty,
 ) -> Result<Option<Vec<Ty>>, Fault>
     requires { Has cx.now.entries types self_ty.0 }
-    ensures are { IfOk result (λ o. (t : ℕ) → AreConstituents (λ v. v.items) cx.now.entries t (copy_rules t (with_plain_head (trees_at cx.now.entries self_ty.0))) o) }
+    ensures are { IfOk result (λ o. (t : ℕ)
+        → AreConstituents (λ v. v.items) cx.now.entries t (copy_rules t (with_plain_head (trees_at cx.now.entries self_ty.0))) o) }
     ensures held { IfOk result (λ o. IfSome o (λ v. TypesHeld cx.now.entries v.items)) }
     ensures memory { IfErr result (λ fault. fault ≡ Memory) }
 {
@@ -114,7 +115,8 @@ fn sized_constraint(
     requires applied { AreArguments declarations.now def_id.index (trees_at cx.old.entries args.0) }
     ensures keeps { Keeps cx.old.entries cx.new.entries }
     ensures limit { cx.new.limit ≡ cx.old.limit }
-    ensures are { IfOk result (AreConstituents (λ v. v.items) cx.new.entries sized (flat_map (λ x. row sized_struct (last_asked sized (fields_of x (trees_at cx.old.entries args.0))))
+    ensures are { IfOk result (AreConstituents (λ v. v.items) cx.new.entries sized
+        (flat_map (λ x. row sized_struct (last_asked sized (fields_of x (trees_at cx.old.entries args.0))))
         (structs_named (written cx.old.entries declarations.now) def_id.index))) }
     ensures held { IfOk result (λ o. IfSome o (λ v. TypesHeld cx.new.entries v.items)) }
     ensures full { result ≡ Err Fault.Full → SomeKindIsFull cx.new.entries cx.new.limit }
@@ -147,7 +149,8 @@ pub(crate) fn instantiate_constituent_tys_for_sized_trait(
     requires applied { StructIsApplied declarations.now (trees_at cx.old.entries self_ty.0) }
     ensures keeps { Keeps cx.old.entries cx.new.entries }
     ensures limit { cx.new.limit ≡ cx.old.limit }
-    ensures are { IfOk result (AreConstituents (λ v. v.items) cx.new.entries sized (sized_rules (written cx.old.entries declarations.now) (with_plain_head (trees_at cx.old.entries self_ty.0)))) }
+    ensures are { IfOk result (AreConstituents (λ v. v.items) cx.new.entries sized
+        (sized_rules (written cx.old.entries declarations.now) (with_plain_head (trees_at cx.old.entries self_ty.0)))) }
     ensures held { IfOk result (λ o. IfSome o (λ v. TypesHeld cx.new.entries v.items)) }
     ensures full { result ≡ Err Fault.Full → SomeKindIsFull cx.new.entries cx.new.limit }
 {
@@ -255,7 +258,8 @@ fn fields_with(
     ensures keeps { Keeps cx.old.entries cx.new.entries }
     ensures limit { cx.new.limit ≡ cx.old.limit }
     ensures held { IfOk result (λ v. TypesHeld cx.new.entries v.items) }
-    ensures are { IfOk result (λ v. field_trees cx.new.entries v.items ≡ map (instantiate 0 (trees_at cx.old.entries args.0)) (field_trees cx.old.entries fields.now)) }
+    ensures are { IfOk result (λ v. field_trees cx.new.entries v.items
+        ≡ map (instantiate 0 (trees_at cx.old.entries args.0)) (field_trees cx.old.entries fields.now)) }
     ensures full { result ≡ Err Fault.Full → SomeKindIsFull cx.new.entries cx.new.limit }
 {
     let mut found = Vec::new(alloc);
@@ -282,7 +286,8 @@ fn all_fields(
     requires applied { AreArguments declarations.now def_id.index (trees_at cx.old.entries args.0) }
     ensures keeps { Keeps cx.old.entries cx.new.entries }
     ensures limit { cx.new.limit ≡ cx.old.limit }
-    ensures are { IfOk result (λ o. (t : ℕ) → AreConstituents (λ v. v.items) cx.new.entries t (flat_map (λ x. row auto_struct (each_asked t (fields_of x (trees_at cx.old.entries args.0))))
+    ensures are { IfOk result (λ o. (t : ℕ)
+        → AreConstituents (λ v. v.items) cx.new.entries t (flat_map (λ x. row auto_struct (each_asked t (fields_of x (trees_at cx.old.entries args.0))))
         (structs_named (written cx.old.entries declarations.now) def_id.index)) o) }
     ensures held { IfOk result (λ o. IfSome o (λ v. TypesHeld cx.new.entries v.items)) }
     ensures full { result ≡ Err Fault.Full → SomeKindIsFull cx.new.entries cx.new.limit }
@@ -325,7 +330,8 @@ pub(crate) fn instantiate_constituent_tys_for_auto_trait(
     ensures keeps { Keeps cx.old.entries cx.new.entries }
     ensures limit { cx.new.limit ≡ cx.old.limit }
     ensures are { IfOk result (λ o. (t : ℕ)
-        → AreConstituents (λ v. v.items) cx.new.entries t (auto_rules_plain (written cx.old.entries declarations.now) t (with_plain_head (trees_at cx.old.entries self_ty.0))) o) }
+        → AreConstituents (λ v. v.items) cx.new.entries t
+        (auto_rules_plain (written cx.old.entries declarations.now) t (with_plain_head (trees_at cx.old.entries self_ty.0))) o) }
     ensures held { IfOk result (λ o. IfSome o (λ v. TypesHeld cx.new.entries v.items)) }
     ensures full { result ≡ Err Fault.Full → SomeKindIsFull cx.new.entries cx.new.limit }
 {

@@ -106,7 +106,8 @@ fn unsize_array(
     requires target { Has cx.now.entries types target.0 }
     ensures held { IfOk result (SpecHeld cx.now.entries) }
     ensures is { let equations = all_equal (trees_at cx.now.entries element.0) (trees_at cx.now.entries target.0) in
-        IfOk result (λ s. (V : World) → candidate_of V goal.now.goal.predicate.trait_ref.def_id.index cx.now.entries s ≡ by_rule V (asked_of cx.now.entries goal.now) misc equations []) }
+        IfOk result (λ s. (V : World)
+        → candidate_of V goal.now.goal.predicate.trait_ref.def_id.index cx.now.entries s ≡ by_rule V (asked_of cx.now.entries goal.now) misc equations []) }
     ensures memory { IfErr result (λ fault. fault ≡ Memory) }
 {
     cx.lawful();
@@ -133,7 +134,8 @@ pub fn consider_array_to_slice_candidate(
     requires target { Has cx.now.entries types target.0 }
     ensures held { IfOk result (λ o. IfSome o (SpecHeld cx.now.entries)) }
     ensures is { let types = trees_at cx.now.entries self_ty.0 +++ trees_at cx.now.entries target.0 in
-        IfOk result (λ o. (V : World) → candidates_of V goal.now.goal.predicate.trait_ref.def_id.index cx.now.entries o ≡ unsize_array_of V (asked_of cx.now.entries goal.now) types) }
+        IfOk result (λ o. (V : World)
+        → candidates_of V goal.now.goal.predicate.trait_ref.def_id.index cx.now.entries o ≡ unsize_array_of V (asked_of cx.now.entries goal.now) types) }
     ensures memory { IfErr result (λ fault. fault ≡ Memory) }
 {
     cx.lawful();
@@ -287,7 +289,8 @@ pub fn consider_builtin_unsize_candidate(
     requires considered { CanBeConsidered cx.old.entries declarations.now goal.now }
     requires bounds { HaveBounds cx.old.entries declarations.now }
     requires object { ObjectIsApplied declarations.now (trees_at cx.old.entries goal.now.goal.predicate.trait_ref.args.0) }
-    requires unsizing { (goal.now.goal.predicate.trait_ref.def_id.index == unsize) ≡ true → CanUnsize declarations.now (self_of (asked_of cx.old.entries goal.now)) }
+    requires unsizing { (goal.now.goal.predicate.trait_ref.def_id.index == unsize) ≡ true
+        → CanUnsize declarations.now (self_of (asked_of cx.old.entries goal.now)) }
     ensures keeps { Keeps cx.old.entries cx.new.entries }
     ensures limit { cx.new.limit ≡ cx.old.limit }
     ensures held { IfOk result (λ o. IfSome o (SpecHeld cx.new.entries)) }

@@ -98,7 +98,8 @@ fn unsizing_equations(
     ensures keeps { Keeps cx.old.entries cx.new.entries }
     ensures limit { cx.new.limit ≡ cx.old.limit }
     ensures held { IfOk result (λ v. Every (EquationHeld cx.new.entries) v.items) }
-    ensures are { let fields = field_trees cx.old.entries def.now.fields.items in let b = trees_at cx.old.entries args.0 in let d = trees_at cx.old.entries target.0 in
+    ensures are { let fields = field_trees cx.old.entries def.now.fields.items in let b = trees_at cx.old.entries args.0 in
+        let d = trees_at cx.old.entries target.0 in
         IfOk result (λ v. map (equation_read cx.new.entries) v.items ≡ all_equal (with_unsizing fields 0 b d) d) }
     ensures full { result ≡ Err Fault.Full → SomeKindIsFull cx.new.entries cx.new.limit }
 {
@@ -115,7 +116,8 @@ fn unsizes(alloc: Global, cx: &mut Interner, source: Ty, target: Ty) -> Result<T
     ensures keeps { Keeps cx.old.entries cx.new.entries }
     ensures limit { cx.new.limit ≡ cx.old.limit }
     ensures held { IfOk result (ReferenceHeld cx.new.entries) }
-    ensures is { IfOk result (λ r. reference_in cx.new.entries r ≡ record { trait = unsize; args = trees_at cx.old.entries source.0 +++ trees_at cx.old.entries target.0 }) }
+    ensures is { IfOk result (λ r. reference_in cx.new.entries r
+        ≡ record { trait = unsize; args = trees_at cx.old.entries source.0 +++ trees_at cx.old.entries target.0 }) }
     ensures full { result ≡ Err Fault.Full → SomeKindIsFull cx.new.entries cx.new.limit }
 {
     let list = vec![in alloc; GenericArgKind::Ty(source), GenericArgKind::Ty(target)]?;
@@ -144,7 +146,8 @@ fn tail_unsizes(
     ensures keeps { Keeps cx.old.entries cx.new.entries }
     ensures limit { cx.new.limit ≡ cx.old.limit }
     ensures held { IfOk result (ReferenceHeld cx.new.entries) }
-    ensures is { IfOk result (λ r. reference_in cx.new.entries r ≡ tail_asked (trees_at cx.old.entries args.0) (trees_at cx.old.entries target.0) (trees_at cx.old.entries tail.0)) }
+    ensures is { IfOk result (λ r. reference_in cx.new.entries r
+        ≡ tail_asked (trees_at cx.old.entries args.0) (trees_at cx.old.entries target.0) (trees_at cx.old.entries tail.0)) }
     ensures full { result ≡ Err Fault.Full → SomeKindIsFull cx.new.entries cx.new.limit }
 {
     let source = field_with(alloc, cx, tail, args)?;
@@ -174,7 +177,8 @@ fn struct_candidate(
     ensures keeps { Keeps cx.old.entries cx.new.entries }
     ensures limit { cx.new.limit ≡ cx.old.limit }
     ensures held { IfOk result (SpecHeld cx.new.entries) }
-    ensures is { let fields = field_trees cx.old.entries def.now.fields.items in let b = trees_at cx.old.entries args.0 in let d = trees_at cx.old.entries target.0 in
+    ensures is { let fields = field_trees cx.old.entries def.now.fields.items in let b = trees_at cx.old.entries args.0 in
+        let d = trees_at cx.old.entries target.0 in
         IfOk result (λ s. (V : World) → candidate_of V goal.now.goal.predicate.trait_ref.def_id.index cx.new.entries s
         ≡ by_rule V (asked_of cx.old.entries goal.now) misc (all_equal (with_unsizing fields 0 b d) d) (tail_asked b d (trees_at cx.old.entries tail.0) ∷ [])) }
     ensures full { result ≡ Err Fault.Full → SomeKindIsFull cx.new.entries cx.new.limit }
@@ -304,7 +308,8 @@ pub fn consider_builtin_struct_unsize_candidate(
     ensures held { IfOk result (λ o. IfSome o (SpecHeld cx.new.entries)) }
     ensures is { let V = written cx.old.entries declarations.now in
         let types = trees_at cx.old.entries self_ty.0 +++ trees_at cx.old.entries target.0 in
-        IfOk result (λ o. candidates_of V goal.now.goal.predicate.trait_ref.def_id.index cx.new.entries o ≡ unsize_struct_of V (asked_of cx.old.entries goal.now) types) }
+        IfOk result (λ o. candidates_of V goal.now.goal.predicate.trait_ref.def_id.index cx.new.entries o
+        ≡ unsize_struct_of V (asked_of cx.old.entries goal.now) types) }
     ensures full { result ≡ Err Fault.Full → SomeKindIsFull cx.new.entries cx.new.limit }
 {
     cx.lawful();

@@ -89,7 +89,8 @@ fn with_traits_asked(
     ensures keeps { Keeps cx.old.entries cx.new.entries }
     ensures limit { cx.new.limit ≡ cx.old.limit }
     ensures held { IfOk result (λ v. TraitRefsHeld cx.new.entries v.items) }
-    ensures are { IfOk result (λ v. references_in cx.new.entries v.items ≡ references_in cx.old.entries (if_there first) ++ traits_asked def_ids.now (trees_at cx.old.entries ty.0)) }
+    ensures are { IfOk result (λ v. references_in cx.new.entries v.items
+        ≡ references_in cx.old.entries (if_there first) ++ traits_asked def_ids.now (trees_at cx.old.entries ty.0)) }
     ensures full { result ≡ Err Fault.Full → SomeKindIsFull cx.new.entries cx.new.limit }
 {
     let mut found = if_there(alloc, first)?;
@@ -185,7 +186,8 @@ pub fn consider_builtin_unsize_to_dyn_candidate(
     ensures held { IfOk result (λ o. IfSome o (SpecHeld cx.new.entries)) }
     ensures is { let V = written cx.old.entries declarations.now in
         let types = with_plain_head (trees_at cx.old.entries self_ty.0) +++ trees_at cx.old.entries target.0 in
-        IfOk result (λ o. candidates_of V goal.now.goal.predicate.trait_ref.def_id.index cx.new.entries o ≡ as_written V (asked_of cx.old.entries goal.now) misc (unsize_to_dyn_rules V types)) }
+        IfOk result (λ o. candidates_of V goal.now.goal.predicate.trait_ref.def_id.index cx.new.entries o
+        ≡ as_written V (asked_of cx.old.entries goal.now) misc (unsize_to_dyn_rules V types)) }
     ensures full { result ≡ Err Fault.Full → SomeKindIsFull cx.new.entries cx.new.limit }
 {
     cx.lawful();

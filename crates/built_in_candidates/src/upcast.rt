@@ -69,7 +69,8 @@ fn can_upcast(
     requires target { Has cx.now.entries bounds_lists target.0 }
     ensures { (es now : List Entry) (self : Trees) → let V = written es declarations.now in let ps = references_in now (if_there from.now.principal) in
         HaveBounds es declarations.now → references_in now from.now.elaborated.items ≡ elaborate V ps
-        → WithLifetime cx.now.entries source (λ b. WithLifetime cx.now.entries target (λ d. result ≡ are_declared V ps && upcasts_autos V ps (autos_with self b) (autos_with self d))) }
+        → WithLifetime cx.now.entries source
+        (λ b. WithLifetime cx.now.entries target (λ d. result ≡ are_declared V ps && upcasts_autos V ps (autos_with self b) (autos_with self d))) }
 {
     is_declared(declarations, from.principal)
         && has_autos(
@@ -87,7 +88,8 @@ fn upcast_bound(
 ) -> Option<(BuiltinImplSource, TraitRef)>
     ensures is { (es : List Entry) (V : World) → let ps = references_in es (if_there from.now.principal) in
         references_in es from.now.elaborated.items ≡ elaborate V ps → option_map (bound_in es) result ≡ slice_get (upcast_bounds V def_id.index ps) place }
-    ensures held { (es : List Entry) → TraitRefsHeld es (if_there from.now.principal) → TraitRefsHeld es from.now.elaborated.items → IfSome result (λ x. ReferenceHeld es x.1) }
+    ensures held { (es : List Entry) → TraitRefsHeld es (if_there from.now.principal) → TraitRefsHeld es from.now.elaborated.items
+        → IfSome result (λ x. ReferenceHeld es x.1) }
 {
     match from.principal {
         Some(principal) => {
@@ -212,12 +214,15 @@ fn upcast_ends(
     ensures keeps { Keeps cx.old.entries cx.new.entries }
     ensures limit { cx.new.limit ≡ cx.old.limit }
     ensures principal_held { IfOk result (λ e. TraitRefsHeld cx.new.entries (if_there e.from.principal)) }
-    ensures principal { IfOk result (λ e. WithLifetime cx.old.entries source (λ b. references_in cx.new.entries (if_there e.from.principal) ≡ principal_with (trees_at cx.old.entries self_ty.0) b)) }
+    ensures principal { IfOk result (λ e. WithLifetime cx.old.entries source (λ b. references_in cx.new.entries (if_there e.from.principal)
+        ≡ principal_with (trees_at cx.old.entries self_ty.0) b)) }
     ensures elaborated_held { IfOk result (λ e. TraitRefsHeld cx.new.entries e.from.elaborated.items) }
     ensures elaborated { let V = written cx.old.entries declarations.now in
-        IfOk result (λ e. WithLifetime cx.old.entries source (λ b. references_in cx.new.entries e.from.elaborated.items ≡ elaborate V (principal_with (trees_at cx.old.entries self_ty.0) b))) }
+        IfOk result (λ e. WithLifetime cx.old.entries source (λ b. references_in cx.new.entries e.from.elaborated.items
+        ≡ elaborate V (principal_with (trees_at cx.old.entries self_ty.0) b))) }
     ensures to_held { IfOk result (λ e. TraitRefsHeld cx.new.entries (if_there e.to)) }
-    ensures to { IfOk result (λ e. WithLifetime cx.old.entries target (λ b. references_in cx.new.entries (if_there e.to) ≡ principal_with (trees_at cx.old.entries self_ty.0) b)) }
+    ensures to { IfOk result
+        (λ e. WithLifetime cx.old.entries target (λ b. references_in cx.new.entries (if_there e.to) ≡ principal_with (trees_at cx.old.entries self_ty.0) b)) }
     ensures full { result ≡ Err Fault.Full → SomeKindIsFull cx.new.entries cx.new.limit }
 {
     let from = elaborated_principal(alloc, cx, declarations, self_ty, source)?;

@@ -130,7 +130,8 @@ impl Declarations {
     pub fn add_struct(&mut self, id: AdtId, def: AdtDef) -> Result<(), Fault>
         requires { structs_named (declared [] self.old) id.index ≡ [] }
         ensures added { OnOk result (self.new ≡ with_struct self.old (id, def)) }
-        ensures declares { OnOk result ((es : List Entry) → (declared es self.new).structs ≡ (declared es self.old).structs ++ erased_struct (struct_in es (id, def)) ∷ []) }
+        ensures declares { OnOk result ((es : List Entry)
+            → (declared es self.new).structs ≡ (declared es self.old).structs ++ erased_struct (struct_in es (id, def)) ∷ []) }
         ensures held { OnOk result ((es : List Entry) → AreHeld es self.old → StructHeld es def → AreHeld es self.new) }
         ensures refused { OnErr result (self.new ≡ self.old) }
         ensures memory { IfErr result (λ fault. fault ≡ Memory) }
@@ -143,7 +144,8 @@ impl Declarations {
     pub fn add_trait(&mut self, id: TraitId, def: TraitDef) -> Result<(), Fault>
         requires { traits_named (declared [] self.old) id.index ≡ [] }
         ensures added { OnOk result (self.new ≡ with_trait self.old (id, def)) }
-        ensures declares { OnOk result ((es : List Entry) → (declared es self.new).traits ≡ (declared es self.old).traits ++ erased_trait (trait_in es (id, def)) ∷ []) }
+        ensures declares { OnOk result ((es : List Entry)
+            → (declared es self.new).traits ≡ (declared es self.old).traits ++ erased_trait (trait_in es (id, def)) ∷ []) }
         ensures held { OnOk result ((es : List Entry) → AreHeld es self.old → TraitHeld es def → AreHeld es self.new) }
         ensures refused { OnErr result (self.new ≡ self.old) }
         ensures memory { IfErr result (λ fault. fault ≡ Memory) }
@@ -158,7 +160,8 @@ impl Declarations {
         requires above { IsAbove id.index self.old }
         requires held { ImplHeld cx.now.entries def }
         ensures added { OnOk result (self.new ≡ with_impl self.old (held_impl cx.now.entries id def)) }
-        ensures declares { OnOk result ((es : List Entry) → (declared es self.new).impls ≡ (declared es self.old).impls ++ erased_impl (impl_in es id def) ∷ []) }
+        ensures declares { OnOk result ((es : List Entry)
+            → (declared es self.new).impls ≡ (declared es self.old).impls ++ erased_impl (impl_in es id def) ∷ []) }
         ensures held { OnOk result (AreHeld cx.now.entries self.old → AreHeld cx.now.entries self.new) }
         ensures refused { OnErr result (self.new ≡ self.old) }
         ensures memory { IfErr result (λ fault. fault ≡ Memory) }
@@ -292,7 +295,8 @@ impl Declarations {
     ) -> Option<ImplId>
         requires held { AreHeld cx.now.entries self.now }
         requires self_held { Has cx.now.entries types self_ty.0 }
-        ensures is { option_map (λ i. i.index) result ≡ next_above last (relevant_in cx.now.entries self.now trait_id.index (trees_at cx.now.entries self_ty.0)) }
+        ensures is { option_map (λ i. i.index) result
+            ≡ next_above last (relevant_in cx.now.entries self.now trait_id.index (trees_at cx.now.entries self_ty.0)) }
         ensures rises { Rises (map (λ i. i.id) self.now.impls) }
     {
         cx.lawful();

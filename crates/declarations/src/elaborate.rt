@@ -75,7 +75,8 @@ fn instantiate_bounds(
     ensures keeps { Keeps cx.old.entries cx.new.entries }
     ensures limit { cx.new.limit ≡ cx.old.limit }
     ensures held { IfOk result (λ v. TraitRefsHeld cx.new.entries v.items) }
-    ensures are { IfOk result (λ v. references_in cx.new.entries v.items ≡ all_with_args (trees_at cx.old.entries args.0) (references_in cx.old.entries bounds.now)) }
+    ensures are { IfOk result (λ v. references_in cx.new.entries v.items
+        ≡ all_with_args (trees_at cx.old.entries args.0) (references_in cx.old.entries bounds.now)) }
     ensures full { result ≡ Err Fault.Full → SomeKindIsFull cx.new.entries cx.new.limit }
 {
     let mut found = Vec::new(alloc);
@@ -140,7 +141,8 @@ impl Declarations {
         ensures limit { cx.new.limit ≡ cx.old.limit }
         ensures held { IfOk result (λ v. TraitRefsHeld cx.new.entries v.items) }
         ensures applied { IfOk result (λ v. AreApplied cx.new.entries self.now v.items) }
-        ensures are { IfOk result (λ v. references_in cx.new.entries v.items ≡ written_supertraits (written cx.old.entries self.now) (reference_in cx.old.entries trait_ref)) }
+        ensures are { IfOk result (λ v. references_in cx.new.entries v.items
+            ≡ written_supertraits (written cx.old.entries self.now) (reference_in cx.old.entries trait_ref)) }
         ensures full { result ≡ Err Fault.Full → SomeKindIsFull cx.new.entries cx.new.limit }
     {
         match self.trait_def(trait_ref.def_id) {
@@ -167,7 +169,8 @@ impl Declarations {
         ensures limit { cx.new.limit ≡ cx.old.limit }
         ensures held { IfOk result (λ v. TraitRefsHeld cx.new.entries v.items) }
         ensures applied { IfOk result (λ v. AreApplied cx.new.entries self.now v.items) }
-        ensures are { IfOk result (λ v. references_in cx.new.entries v.items ≡ elaborate (written cx.old.entries self.now) (references_in cx.old.entries references.now)) }
+        ensures are { IfOk result (λ v. references_in cx.new.entries v.items
+            ≡ elaborate (written cx.old.entries self.now) (references_in cx.old.entries references.now)) }
         ensures full { result ≡ Err Fault.Full → SomeKindIsFull cx.new.entries cx.new.limit }
     {
         let mut elaborator = Elaborator {
@@ -199,7 +202,8 @@ impl Declarations {
         ensures limit { cx.new.limit ≡ cx.old.limit }
         ensures held { IfOk result (λ v. TraitRefsHeld cx.new.entries v.items) }
         ensures applied { IfOk result (λ v. AreApplied cx.new.entries self.now v.items) }
-        ensures are { IfOk result (λ v. references_in cx.new.entries v.items ≡ supertraits (written cx.old.entries self.now) (reference_in cx.old.entries trait_ref)) }
+        ensures are { IfOk result (λ v. references_in cx.new.entries v.items
+            ≡ supertraits (written cx.old.entries self.now) (reference_in cx.old.entries trait_ref)) }
         ensures full { result ≡ Err Fault.Full → SomeKindIsFull cx.new.entries cx.new.limit }
     {
         let mut found = self.elaborate(alloc, cx, &[trait_ref])?;

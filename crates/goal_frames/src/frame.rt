@@ -91,7 +91,8 @@ impl GoalFrame {
     /// The frame of a goal, which has had no reply.
     pub fn new<H: GoalHandler>(alloc: Global, goal: CanonicalInput) -> GoalFrame
         ensures goal { result.goal ≡ goal }
-        ensures heard { (es : List Entry) (m : H.meaning.goals.World) (mode : TypingMode) (form : CanonicalForm) → GoalHeld es goal.goal → HasHeard es (H.meaning.goals.handled m mode form) result [] }
+        ensures heard { (es : List Entry) (m : H.meaning.goals.World) (mode : TypingMode) (form : CanonicalForm) → GoalHeld es goal.goal
+            → HasHeard es (H.meaning.goals.handled m mode form) result [] }
     {
         GoalFrame {
             goal,
@@ -188,7 +189,8 @@ impl GoalFrame {
         ensures asks { IfOk result (λ q. let h = goal_meaning H.meaning handler.now cx.old.entries self.old.goal in
             (p : FrameStanding) → AsksHandler cx.old.entries h self.old p → AsksAt self.old.goal.mode cx.new.entries h self.new q p) }
         ensures full { result ≡ Err Fault.Full → SomeKindIsFull cx.new.entries cx.new.limit
-            ⊎ NextRunsOut cx.old.entries (goal_meaning H.meaning handler.now cx.old.entries self.old.goal) self.old.goal.variables.items self.old.considered.items }
+            ⊎ NextRunsOut cx.old.entries
+            (goal_meaning H.meaning handler.now cx.old.entries self.old.goal) self.old.goal.variables.items self.old.considered.items }
     {
         match handler.step(alloc, cx, &self.goal, &self.considered)? {
             HandlerStep::Consider(spec) => {

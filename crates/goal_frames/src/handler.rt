@@ -62,18 +62,22 @@ pub trait GoalHandler {
 
     /// Whether the trait is coinductive: a goal of it holds if it needs nothing but itself.
     fn trait_is_coinductive(&self, def_id: TraitId) -> bool
-        ensures { (es : List Entry) (mode : TypingMode) (goal : CanonicalForm) → IsOfTrait def_id.index goal → result ≡ (meaning.goals.handled (meaning.world self.now es) mode goal).coinductive };
+        ensures { (es : List Entry) (mode : TypingMode) (goal : CanonicalForm) → IsOfTrait def_id.index goal
+            → result ≡ (meaning.goals.handled (meaning.world self.now es) mode goal).coinductive };
 
     ghost lawful: { HandlerIsLawful meaning };
 }
 
 /// The frames of a handler's goals keep all that is promised of frames, and with each step they have fewer left.
 pub fn frames_keep_promises<H: GoalHandler>()
-    ensures yes { (m : H.meaning.goals.World) (mode : TypingMode) (goal : CanonicalForm) → DefiniteYesFollows frame_tables (H.meaning.goals.handled m mode goal) }
-    ensures covers { (m : H.meaning.goals.World) (mode : TypingMode) (goal : CanonicalForm) → AnswerCoversGoal frame_tables (H.meaning.goals.handled m mode goal) }
+    ensures yes { (m : H.meaning.goals.World) (mode : TypingMode) (goal : CanonicalForm)
+        → DefiniteYesFollows frame_tables (H.meaning.goals.handled m mode goal) }
+    ensures covers { (m : H.meaning.goals.World) (mode : TypingMode) (goal : CanonicalForm)
+        → AnswerCoversGoal frame_tables (H.meaning.goals.handled m mode goal) }
     ensures bounded { (m : H.meaning.goals.World) (mode : TypingMode) (goal : CanonicalForm) → IsBounded frame_tables (H.meaning.goals.handled m mode goal) }
     ensures number { (m : H.meaning.goals.World) (mode : TypingMode) (goal : CanonicalForm) → KeepsNumber frame_tables (H.meaning.goals.handled m mode goal) }
-    ensures ignores { (m : H.meaning.goals.World) (mode : TypingMode) (goal : CanonicalForm) → IgnoresFinishedOnce frame_tables (H.meaning.goals.handled m mode goal) }
+    ensures ignores { (m : H.meaning.goals.World) (mode : TypingMode) (goal : CanonicalForm)
+        → IgnoresFinishedOnce frame_tables (H.meaning.goals.handled m mode goal) }
     ensures steps { (m : H.meaning.goals.World) (mode : TypingMode) (goal : CanonicalForm) → StepsFall (H.meaning.goals.handled m mode goal) }
 {}
 

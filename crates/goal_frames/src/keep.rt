@@ -47,7 +47,8 @@ impl GoalStore {
 
         // A goal that is there keeps its number, and so does one that asks the same, if under other names.
         ensures found { (id : InputId) → StandsForInput self.old id input → result ≡ Ok id }
-        ensures known { (es : List Entry) (id : InputId) → Lawful es → StoreIsHeld es self.old → GoalHeld es input.goal → goal_at es self.old id ≡ Some (asked_goal es input) → result ≡ Ok id }
+        ensures known { (es : List Entry) (id : InputId) → Lawful es → StoreIsHeld es self.old → GoalHeld es input.goal
+            → goal_at es self.old id ≡ Some (asked_goal es input) → result ≡ Ok id }
         ensures renamed { FindsRenamed self.old input result }
 
         ensures refused { OnErr result (kept_inputs self.new ≡ kept_inputs self.old) }
@@ -72,7 +73,8 @@ impl GoalStore {
 
         // An answer that is there keeps its number, and so does one that says the same.
         ensures found { (id : ResponseId) → StandsForResponse self.old id response → result ≡ Ok id }
-        ensures known { (es : List Entry) (id : _) → Lawful es → StoreIsHeld es self.old → ResponseHeld es response → answer_at es self.old id ≡ Some (answer_trees es response) → result ≡ Ok id }
+        ensures known { (es : List Entry) (id : _) → Lawful es → StoreIsHeld es self.old → ResponseHeld es response
+            → answer_at es self.old id ≡ Some (answer_trees es response) → result ≡ Ok id }
 
         ensures refused { OnErr result (kept_responses self.new ≡ kept_responses self.old) }
         ensures absent { OnErr result (IsNewResponse self.old response) }

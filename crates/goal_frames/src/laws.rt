@@ -18,8 +18,10 @@ pub fn number_laws()
 /// Over a lawful interner a goal has one number, and so has an answer. The numbers of two goals are equal exactly if a renaming
 /// carries one goal to the other.
 pub fn distinct_laws()
-    ensures inputs { (es : List Entry) (s : GoalStore) (i j : InputId) (q : AskedGoal) → Lawful es → StoreIsHeld es s → goal_at es s i ≡ Some q → goal_at es s j ≡ Some q → i ≡ j }
-    ensures responses { (es : List Entry) (s : GoalStore) (i j : ResponseId) (a : AnswerTrees) → Lawful es → StoreIsHeld es s → answer_at es s i ≡ Some a → answer_at es s j ≡ Some a → i ≡ j }
+    ensures inputs { (es : List Entry) (s : GoalStore) (i j : InputId) (q : AskedGoal) → Lawful es → StoreIsHeld es s → goal_at es s i ≡ Some q
+        → goal_at es s j ≡ Some q → i ≡ j }
+    ensures responses { (es : List Entry) (s : GoalStore) (i j : ResponseId) (a : AnswerTrees) → Lawful es → StoreIsHeld es s → answer_at es s i ≡ Some a
+        → answer_at es s j ≡ Some a → i ≡ j }
     ensures questions { NumbersTellQuestions }
 {}
 
@@ -33,7 +35,8 @@ pub fn interner_laws()
 /// While the store grows, its numbers stand for the same goals and answers.
 pub fn growth_laws()
     ensures goals { (es : List Entry) (old new : GoalStore) (i : InputId) → StoreGrows old new → HasInput old i → goal_at es new i ≡ goal_at es old i }
-    ensures answers { (es : List Entry) (old new : GoalStore) (i : ResponseId) → StoreGrows old new → HasResponse old i → answer_at es new i ≡ answer_at es old i }
+    ensures answers { (es : List Entry) (old new : GoalStore) (i : ResponseId) → StoreGrows old new → HasResponse old i
+        → answer_at es new i ≡ answer_at es old i }
     ensures same { (s : GoalStore) → StoreGrows s s }
     ensures further { (a b c : GoalStore) → StoreGrows a b → StoreGrows b c → StoreGrows a c }
 {}

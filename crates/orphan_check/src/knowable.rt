@@ -56,7 +56,8 @@ fn decisive<N: Normalize>(
 ) -> Result<Option<Decisive>, WalkError<N::Error>>
     requires held { Has cx.now.entries args_lists args.0 }
     requires ready { Ready cx.now.entries infcx.now }
-    ensures { let es = cx.now.entries in IsDecisive (steps (reading es decls.now infcx.now (N.answers normalize.now) in_crate) limit (trees_at es args.0)) result }
+    ensures { let es = cx.now.entries in
+        IsDecisive (steps (reading es decls.now infcx.now (N.answers normalize.now) in_crate) limit (trees_at es args.0)) result }
 {
     let walk = Walk {
         cx,

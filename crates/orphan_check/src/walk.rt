@@ -84,7 +84,8 @@ impl<N: Normalize> Walk<'_, N> {
         requires held { ArgsHeld self.now.cx.now.entries args.now }
         requires pending_held { ArePending self.now.cx.now.entries pending.old.items }
         ensures held { OnOk result (ArePending self.now.cx.now.entries pending.new.items) }
-        ensures pushed { OnOk result (ArePushed self.now.cx.now.entries (reads N.answers self.now) limit false (args_trees self.now.cx.now.entries args.now) pending.old.items pending.new.items) }
+        ensures pushed { OnOk result (ArePushed self.now.cx.now.entries (reads N.answers self.now) limit false
+            (args_trees self.now.cx.now.entries args.now) pending.old.items pending.new.items) }
         ensures on_top { OnOk result (AreOnTop limit pending.old.items pending.new.items) }
     {
         self.cx.lawful();
@@ -113,7 +114,8 @@ impl<N: Normalize> Walk<'_, N> {
         requires held { Has self.now.cx.now.entries args_lists args.0 }
         requires pending_held { ArePending self.now.cx.now.entries pending.old.items }
         ensures held { OnOk result (ArePending self.now.cx.now.entries pending.new.items) }
-        ensures pushed { let es = self.now.cx.now.entries in OnOk result (ArePushed es (reads N.answers self.now) limit (is_first first) (trees_at es args.0) pending.old.items pending.new.items) }
+        ensures pushed { let es = self.now.cx.now.entries in
+            OnOk result (ArePushed es (reads N.answers self.now) limit (is_first first) (trees_at es args.0) pending.old.items pending.new.items) }
         ensures on_top { OnOk result (AreOnTop limit pending.old.items pending.new.items) }
     {
         self.cx.lawful();
@@ -178,7 +180,8 @@ impl<N: Normalize> Walk<'_, N> {
         requires pending_held { ArePending self.now.cx.now.entries pending.old.items }
         ensures held { OnOk result (ArePending self.now.cx.now.entries pending.new.items) }
         ensures met { IfOk result (λ met. IfSome met (MetHeld self.now.cx.now.entries)) }
-        ensures stepped { let es = self.now.cx.now.entries in let r = reads N.answers self.now in IsStep es (pending_steps es r pending.old.items) result (pending_steps es r pending.new.items) }
+        ensures stepped { let es = self.now.cx.now.entries in let r = reads N.answers self.now in
+            IsStep es (pending_steps es r pending.old.items) result (pending_steps es r pending.new.items) }
     {
         match pending.pop() {
             Some(next) => Ok(Some(self.visit(next, pending)?)),
@@ -246,7 +249,8 @@ impl<N: Normalize> Walk<'_, N> {
         requires held { Has self.now.cx.now.entries args_lists args.0 }
         requires ready { Ready self.now.cx.now.entries self.now.infcx.now }
         ensures held { IfOk result (λ answer. IfErr answer (ErrorHeld self.now.cx.now.entries)) }
-        ensures answers { IsOrphanAnswer self.now.cx.now.entries self.now.in_crate (steps (reads N.answers self.now) limit (trees_at self.now.cx.now.entries args.0)) result }
+        ensures answers { IsOrphanAnswer self.now.cx.now.entries self.now.in_crate
+            (steps (reads N.answers self.now) limit (trees_at self.now.cx.now.entries args.0)) result }
     {
         match self.first_end(alloc, args, limit)? {
             End::Local => Ok(Ok(())),

@@ -33,7 +33,8 @@ fn field_with(
     ensures keeps { Keeps cx.old.entries cx.new.entries }
     ensures limit { cx.new.limit ≡ cx.old.limit }
     ensures held { IfOk result (λ o. IfSome o (λ r. Has cx.new.entries types r.0)) }
-    ensures is { IfOk result (λ o. IfSome o (λ r. trees_at cx.new.entries r.0 ≡ instantiate 0 (trees_at cx.old.entries args.0) (trees_at cx.old.entries field.0))) }
+    ensures is { IfOk result
+        (λ o. IfSome o (λ r. trees_at cx.new.entries r.0 ≡ instantiate 0 (trees_at cx.old.entries args.0) (trees_at cx.old.entries field.0))) }
     ensures fits { IfOk result (λ o. IfSome o (λ _. first_misfit (trees_at cx.old.entries args.0) (trees_at cx.old.entries field.0) ≡ None)) }
     ensures full { result ≡ Err Fault.Full → SomeKindIsFull cx.new.entries cx.new.limit }
 {
@@ -59,8 +60,10 @@ fn fields_with(
     ensures keeps { Keeps cx.old.entries cx.new.entries }
     ensures limit { cx.new.limit ≡ cx.old.limit }
     ensures held { IfOk result (λ o. IfSome o (λ v. TysHeld cx.new.entries v.items)) }
-    ensures are { IfOk result (λ o. IfSome o (λ v. field_trees cx.new.entries v.items ≡ map (instantiate 0 (trees_at cx.old.entries args.0)) (field_trees cx.old.entries fields.now))) }
-    ensures fits { IfOk result (λ o. IfSome o (λ _. Each (λ f. first_misfit (trees_at cx.old.entries args.0) (trees_at cx.old.entries f.0) ≡ None) fields.now)) }
+    ensures are { IfOk result (λ o. IfSome o (λ v. field_trees cx.new.entries v.items
+        ≡ map (instantiate 0 (trees_at cx.old.entries args.0)) (field_trees cx.old.entries fields.now))) }
+    ensures fits { IfOk result
+        (λ o. IfSome o (λ _. Each (λ f. first_misfit (trees_at cx.old.entries args.0) (trees_at cx.old.entries f.0) ≡ None) fields.now)) }
     ensures full { result ≡ Err Fault.Full → SomeKindIsFull cx.new.entries cx.new.limit }
 {
     let mut found = Vec::new(alloc);

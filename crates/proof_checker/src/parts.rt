@@ -32,7 +32,8 @@ fn sized_part(
     requires self_held { Has cx.old.entries types self_ty.0 }
     ensures keeps { Keeps cx.old.entries cx.new.entries }
     ensures limit { cx.new.limit ≡ cx.old.limit }
-    ensures asks { IfOk result (λ o. IfSome o (λ v. IsOneRow (sized_rules (declared cx.old.entries declarations.now) (erase (trees_at cx.old.entries self_ty.0))) (each_asked_of cx.new.entries sized v.items))) }
+    ensures asks { IfOk result (λ o. IfSome o (λ v. IsOneRow
+        (sized_rules (declared cx.old.entries declarations.now) (erase (trees_at cx.old.entries self_ty.0))) (each_asked_of cx.new.entries sized v.items))) }
     ensures held { IfOk result (λ o. IfSome o (λ v. TysHeld cx.new.entries v.items)) }
     ensures full { result ≡ Err Fault.Full → SomeKindIsFull cx.new.entries cx.new.limit }
 {
@@ -75,7 +76,8 @@ fn auto_parts(
     ensures keeps { Keeps cx.old.entries cx.new.entries }
     ensures limit { cx.new.limit ≡ cx.old.limit }
     ensures asks { IfOk result (λ o. IfSome o (λ v. (t : ℕ)
-        → IsOneRow (auto_rules_plain (declared cx.old.entries declarations.now) t (erase (trees_at cx.old.entries self_ty.0))) (each_asked_of cx.new.entries t v.items))) }
+        → IsOneRow (auto_rules_plain (declared cx.old.entries declarations.now) t (erase (trees_at cx.old.entries self_ty.0)))
+        (each_asked_of cx.new.entries t v.items))) }
     ensures held { IfOk result (λ o. IfSome o (λ v. TysHeld cx.new.entries v.items)) }
     ensures full { result ≡ Err Fault.Full → SomeKindIsFull cx.new.entries cx.new.limit }
 {
@@ -154,7 +156,8 @@ pub(crate) fn parts_asked(
     requires self_held { Has cx.old.entries types self_ty.0 }
     ensures keeps { Keeps cx.old.entries cx.new.entries }
     ensures limit { cx.new.limit ≡ cx.old.limit }
-    ensures row { IfOk result (λ o. IfSome o (λ v. HasRow (declared cx.old.entries declarations.now) id.index (erase (trees_at cx.old.entries self_ty.0)) (each_asked_of cx.new.entries id.index v.items))) }
+    ensures row { IfOk result (λ o. IfSome o (λ v. HasRow (declared cx.old.entries declarations.now) id.index
+        (erase (trees_at cx.old.entries self_ty.0)) (each_asked_of cx.new.entries id.index v.items))) }
     ensures held { IfOk result (λ o. IfSome o (λ v. TysHeld cx.new.entries v.items)) }
     ensures full { result ≡ Err Fault.Full → SomeKindIsFull cx.new.entries cx.new.limit }
 {

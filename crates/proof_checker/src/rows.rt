@@ -51,7 +51,8 @@ pub(crate) fn last_alone(alloc: Global, tys: &[Ty]) -> Result<Vec<Ty>, Fault>
 /// The types that have to be `Sized` for the type to be so, if a rule makes it so that reads the type alone. The error is `Memory`.
 fn sized_types(alloc: Global, cx: &Interner, self_ty: Ty) -> Result<Option<Vec<Ty>>, Fault>
     requires { Has cx.now.entries types self_ty.0 }
-    ensures asks { IfOk result (λ o. IfSome o (λ v. (V : World) → IsOneRow (sized_rules V (erase (trees_at cx.now.entries self_ty.0))) (each_asked_of cx.now.entries sized v.items))) }
+    ensures asks { IfOk result (λ o. IfSome o (λ v. (V : World)
+        → IsOneRow (sized_rules V (erase (trees_at cx.now.entries self_ty.0))) (each_asked_of cx.now.entries sized v.items))) }
     ensures held { IfOk result (λ o. IfSome o (λ v. TysHeld cx.now.entries v.items)) }
     ensures memory { IfErr result (λ fault. fault ≡ Memory) }
 {
@@ -89,7 +90,8 @@ fn copy_types(
     self_ty: Ty,
 ) -> Result<Option<Vec<Ty>>, Fault>
     requires { Has cx.now.entries types self_ty.0 }
-    ensures asks { IfOk result (λ o. IfSome o (λ v. IsOneRow (copy_rules id.index (erase (trees_at cx.now.entries self_ty.0))) (each_asked_of cx.now.entries id.index v.items))) }
+    ensures asks { IfOk result
+        (λ o. IfSome o (λ v. IsOneRow (copy_rules id.index (erase (trees_at cx.now.entries self_ty.0))) (each_asked_of cx.now.entries id.index v.items))) }
     ensures held { IfOk result (λ o. IfSome o (λ v. TysHeld cx.now.entries v.items)) }
     ensures memory { IfErr result (λ fault. fault ≡ Memory) }
 {
@@ -150,7 +152,8 @@ fn types_asked(
     self_ty: Ty,
 ) -> Result<Option<Vec<Ty>>, Fault>
     requires { Has cx.now.entries types self_ty.0 }
-    ensures row { IfOk result (λ o. IfSome o (λ v. (V : World) → HasRow V id.index (erase (trees_at cx.now.entries self_ty.0)) (each_asked_of cx.now.entries id.index v.items))) }
+    ensures row { IfOk result (λ o. IfSome o (λ v. (V : World)
+        → HasRow V id.index (erase (trees_at cx.now.entries self_ty.0)) (each_asked_of cx.now.entries id.index v.items))) }
     ensures held { IfOk result (λ o. IfSome o (λ v. TysHeld cx.now.entries v.items)) }
     ensures memory { IfErr result (λ fault. fault ≡ Memory) }
 {
@@ -240,7 +243,8 @@ fn by_parts(
     ensures limit { cx.new.limit ≡ cx.old.limit }
     ensures held { IfOk result (λ o. IfSome o (λ v. TraitRefsHeld cx.new.entries v.items)) }
     ensures rule { IfOk result (λ o. IfSome o (λ v. (E : List Reference)
-        → IsBuiltInRule (declared cx.old.entries declarations.now) E (asked id.index (erase (trees_at cx.old.entries self_ty.0))) (terms_of cx.new.entries v.items))) }
+        → IsBuiltInRule (declared cx.old.entries declarations.now) E
+        (asked id.index (erase (trees_at cx.old.entries self_ty.0))) (terms_of cx.new.entries v.items))) }
     ensures full { result ≡ Err Fault.Full → SomeKindIsFull cx.new.entries cx.new.limit }
 {
     match parts_asked(alloc, cx, declarations, id, self_ty)? {

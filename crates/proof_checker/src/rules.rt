@@ -37,7 +37,8 @@ fn with_arguments(
     ensures keeps { Keeps cx.old.entries cx.new.entries }
     ensures limit { cx.new.limit ≡ cx.old.limit }
     ensures held { IfOk result (λ o. IfSome o (ReferenceHeld cx.new.entries)) }
-    ensures is { IfOk result (λ o. IfSome o (λ r. reference_in cx.new.entries r ≡ with_args (trees_at cx.old.entries args.0) (reference_in cx.old.entries reference))) }
+    ensures is { IfOk result
+        (λ o. IfSome o (λ r. reference_in cx.new.entries r ≡ with_args (trees_at cx.old.entries args.0) (reference_in cx.old.entries reference))) }
     ensures fits { IfOk result (λ o. IfSome o (λ _. first_misfit (trees_at cx.old.entries args.0) (trees_at cx.old.entries reference.args.0) ≡ None)) }
     ensures full { result ≡ Err Fault.Full → SomeKindIsFull cx.new.entries cx.new.limit }
 {
@@ -65,7 +66,8 @@ pub(crate) fn all_with_arguments(
     ensures held { IfOk result (λ o. IfSome o (λ v. TraitRefsHeld cx.new.entries v.items)) }
     ensures are { IfOk result (λ o. IfSome o (λ v. references_in cx.new.entries v.items
         ≡ all_with_args (trees_at cx.old.entries args.0) (references_in cx.old.entries references.now))) }
-    ensures fits { IfOk result (λ o. IfSome o (λ _. Each (λ b. first_misfit (trees_at cx.old.entries args.0) (trees_at cx.old.entries b.args.0) ≡ None) references.now)) }
+    ensures fits { IfOk result
+        (λ o. IfSome o (λ _. Each (λ b. first_misfit (trees_at cx.old.entries args.0) (trees_at cx.old.entries b.args.0) ≡ None) references.now)) }
     ensures full { result ≡ Err Fault.Full → SomeKindIsFull cx.new.entries cx.new.limit }
 {
     let mut found = Vec::new(alloc);

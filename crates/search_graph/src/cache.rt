@@ -168,8 +168,10 @@ impl<D: Delegate> CachedResults<D> {
         depth: usize,
     ) -> Result<Option<usize>, AllocError>
         requires range { AllInRange (ContainsKey nat_eq positions.now) on_stack }
-        ensures found { IfOk result (λ found. IfSome found (IsUsableAt self.now.entries.items self.now.asked.items (ContainsKey nat_eq positions.now) number input.now depth)) }
-        ensures none { IfOk result (λ found. IfNone found (NoneIsUsable self.now.entries.items self.now.asked.items (ContainsKey nat_eq positions.now) number input.now depth)) }
+        ensures found { IfOk result
+            (λ found. IfSome found (IsUsableAt self.now.entries.items self.now.asked.items (ContainsKey nat_eq positions.now) number input.now depth)) }
+        ensures none { IfOk result
+            (λ found. IfNone found (NoneIsUsable self.now.entries.items self.now.asked.items (ContainsKey nat_eq positions.now) number input.now depth)) }
     {
         let mut next = self.newest_of(number);
         for _ in 0..self.entries.len() {
@@ -199,8 +201,10 @@ impl<D: Delegate> CachedResults<D> {
         place: usize,
     ) -> Result<bool, AllocError>
         requires range { AllInRange (ContainsKey nat_eq positions.now) on_stack }
-        ensures asked { IfOk result (λ clear. clear ≡ false → (asked : ℕ) × IsAskedUnder self.now.asked.items place asked × ContainsKey nat_eq positions.now asked) }
-        ensures clear { IfOk result (λ clear. clear ≡ true → (asked : ℕ) → IsAskedUnder self.now.asked.items place asked → ContainsKey nat_eq positions.now asked → ⊥) }
+        ensures asked { IfOk result (λ clear. clear ≡ false
+            → (asked : ℕ) × IsAskedUnder self.now.asked.items place asked × ContainsKey nat_eq positions.now asked) }
+        ensures clear { IfOk result (λ clear. clear ≡ true → (asked : ℕ) → IsAskedUnder self.now.asked.items place asked
+            → ContainsKey nat_eq positions.now asked → ⊥) }
     {
         let Some(entry) = self.asked.get(place) else {
             return Ok(true);
@@ -234,7 +238,8 @@ impl<D: Delegate> CachedResults<D> {
         on_stack: Span,
     ) -> Result<(), AllocError>
         ensures stay { KeepsResults reached.old.keys reached.new.keys }
-        ensures among { (j place : ℕ) → slice_get reached.new.keys j ≡ Some place → (slice_get reached.old.keys j ≡ Some place) ⊎ ((i : ℕ) × (slice_get places.now i ≡ Some place)) }
+        ensures among { (j place : ℕ) → slice_get reached.new.keys j ≡ Some place
+            → (slice_get reached.old.keys j ≡ Some place) ⊎ ((i : ℕ) × (slice_get places.now i ≡ Some place)) }
         ensures reached { OnOk result (All (IsReachedOrApart self.now.asked.items reached.new.keys on_stack) places.now) }
     {
         for place in places {
@@ -265,7 +270,8 @@ impl<D: Delegate> CachedResults<D> {
     ) -> Result<Cached<ResultOf<D>>, Fault>
         requires cache { AreCached D.meaning (D.meaning.world cx.now) cx.now self.now.entries.items }
         requires place { (e : _) × (slice_get self.now.entries.items place ≡ Some e) × (e.input ≡ input.now) }
-        ensures result { IfOk result (λ r. IsProvisional D.meaning (D.meaning.world cx.now) [] (D.meaning.goal_of cx.now input.now, PathKind.Inductive) [] cx.now r.result) }
+        ensures result { IfOk result
+            (λ r. IsProvisional D.meaning (D.meaning.world cx.now) [] (D.meaning.goal_of cx.now input.now, PathKind.Inductive) [] cx.now r.result) }
         ensures kept { IfOk result (λ r. IsKeptResult D.meaning cx.now input.now r.result r.depth r.encountered_overflow) }
         ensures within { IfOk result (λ r. IsWithinAsCached D.meaning cx.now self.now.entries.items input.now r.result) }
         ensures entry { IfOk result (IsUseOf self.now.entries.items place) }
@@ -289,8 +295,10 @@ impl<D: Delegate> CachedResults<D> {
         depth: usize,
         encountered_overflow: bool,
     ) -> Option<usize>
-        ensures found { IfSome result (λ place. (e : _) × (slice_get self.now.entries.items place ≡ Some e) × IsAlike input.now depth encountered_overflow (known_result e)) }
-        ensures none { IfNone result ((place : ℕ) (e : _) → slice_get self.now.entries.items place ≡ Some e → e.number ≡ number → IsAlike input.now depth encountered_overflow (known_result e) → ⊥) }
+        ensures found { IfSome result (λ place. (e : _) × (slice_get self.now.entries.items place ≡ Some e)
+            × IsAlike input.now depth encountered_overflow (known_result e)) }
+        ensures none { IfNone result ((place : ℕ) (e : _) → slice_get self.now.entries.items place ≡ Some e → e.number ≡ number
+            → IsAlike input.now depth encountered_overflow (known_result e) → ⊥) }
     {
         let mut next = self.newest_of(number);
         for _ in 0..self.entries.len() {
@@ -321,7 +329,8 @@ impl<D: Delegate> CachedResults<D> {
     ) -> bool
         requires number { IsNumberOf D.Cx.Input.eq self.now.goals.keys input.now number }
         ensures other { result ≡ true → HoldsOther D.Cx.Result.eq self.now.entries.items input.now depth encountered_overflow found.now }
-        ensures none { result ≡ false → (place : ℕ) (e : _) → slice_get self.now.entries.items place ≡ Some e → IsAlike input.now depth encountered_overflow (known_result e) → e.result ≡ found.now }
+        ensures none { result ≡ false → (place : ℕ) (e : _) → slice_get self.now.entries.items place ≡ Some e
+            → IsAlike input.now depth encountered_overflow (known_result e) → e.result ≡ found.now }
     {
         match self.find_alike(number, input, depth, encountered_overflow) {
             Some(place) => {
@@ -371,7 +380,8 @@ impl<D: Delegate> CachedResults<D> {
         requires result { IsProvisional D.meaning (D.meaning.world cx.now) [] (D.meaning.goal_of cx.now input, PathKind.Inductive) [] cx.now found.now }
         requires kept { IsKeptResult D.meaning cx.now input found.now depth encountered_overflow }
         ensures place { IfOk result (λ place. place ≡ length self.old.asked.items) }
-        ensures kept { OnOk result (AddsResult self.old.entries.items self.new.entries.items input found.now depth encountered_overflow number (length self.old.asked.items)) }
+        ensures kept { OnOk result
+            (AddsResult self.old.entries.items self.new.entries.items input found.now depth encountered_overflow number (length self.old.asked.items)) }
         ensures recorded { OnOk result (AddsAsked self.old.asked.items self.new.asked.items number nested_goals) }
         ensures asked { KeepsResults self.old.asked.items self.new.asked.items }
         ensures err { OnErr result (self.new.entries.items ≡ self.old.entries.items) }

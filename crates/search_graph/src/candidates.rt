@@ -107,7 +107,8 @@ impl Candidates {
 
     /// Ignores a candidate that was finished and not ignored before.
     pub fn ignore(&mut self, number: usize) -> Result<(), GraphFault>
-        ensures ignored { OnOk result ((slice_get self.old.finished.items number ≡ Some false) × (self.new.finished.items ≡ slice_set self.old.finished.items number true)) }
+        ensures ignored { OnOk result ((slice_get self.old.finished.items number ≡ Some false)
+            × (self.new.finished.items ≡ slice_set self.old.finished.items number true)) }
         ensures open { self.new.open ≡ self.old.open }
         ensures protocol { result ≡ Err Protocol → slice_get self.old.finished.items number ≡ Some false → ⊥ }
         ensures no_conflict { result ≡ Err Conflict → ⊥ }

@@ -105,7 +105,8 @@ pub trait Delegate {
         requires { meaning.IsInput cx.old input.now }
         ensures keeps { Keeps meaning cx.old cx.new }
         ensures full { result ≡ Err Full → meaning.IsFull cx.new }
-        ensures is { IfOk result (λ r. meaning.IsResult cx.new r × (meaning.answer_of cx.new r ≡ meaning.initial (meaning.world cx.old) (meaning.goal_of cx.old input.now) kind)) };
+        ensures is { IfOk result (λ r. meaning.IsResult cx.new r
+            × (meaning.answer_of cx.new r ≡ meaning.initial (meaning.world cx.old) (meaning.goal_of cx.old input.now) kind)) };
 
     /// Whether the goal's initial result for paths of this kind is this one.
     fn is_initial_provisional_result(
@@ -126,7 +127,8 @@ pub trait Delegate {
         requires { meaning.IsInput cx.old input.now }
         ensures keeps { Keeps meaning cx.old cx.new }
         ensures full { result ≡ Err Full → meaning.IsFull cx.new }
-        ensures is { IfOk result (λ r. meaning.IsResult cx.new r × (meaning.answer_of cx.new r ≡ meaning.stack_overflow (meaning.world cx.old) (meaning.goal_of cx.old input.now))) };
+        ensures is { IfOk result (λ r. meaning.IsResult cx.new r
+            × (meaning.answer_of cx.new r ≡ meaning.stack_overflow (meaning.world cx.old) (meaning.goal_of cx.old input.now))) };
 
     /// The result of a goal that was run as often as it may be.
     fn fixpoint_overflow_result(
@@ -136,7 +138,8 @@ pub trait Delegate {
         requires { meaning.IsInput cx.old input.now }
         ensures keeps { Keeps meaning cx.old cx.new }
         ensures full { result ≡ Err Full → meaning.IsFull cx.new }
-        ensures is { IfOk result (λ r. meaning.IsResult cx.new r × (meaning.answer_of cx.new r ≡ meaning.fixpoint_overflow (meaning.world cx.old) (meaning.goal_of cx.old input.now))) };
+        ensures is { IfOk result (λ r. meaning.IsResult cx.new r
+            × (meaning.answer_of cx.new r ≡ meaning.fixpoint_overflow (meaning.world cx.old) (meaning.goal_of cx.old input.now))) };
 
     /// Why the result is ambiguous, where it is. A goal with such a result isn't run again.
     fn is_ambiguous_result(

@@ -76,11 +76,13 @@ impl Dependencies {
         ensures depth { OnOk result (self.new.required_depth ≡ max self.old.required_depth (min (nested.required_depth + 1) (2 ^ 64 - 1))) }
 
         ensures unread { OnOk result (self.old.heads.items ≡ [] → nested.heads.items ≡ [] → self.new.heads.items ≡ []) }
-        ensures heads { OnOk result ((place : ℕ) → paths_to self.new.heads.items place ≡ bit_or (paths_to self.old.heads.items place) (paths_to nested.heads.items place)) }
+        ensures heads { OnOk result ((place : ℕ)
+            → paths_to self.new.heads.items place ≡ bit_or (paths_to self.old.heads.items place) (paths_to nested.heads.items place)) }
         ensures rests { OnOk result (AreHeadsOfBoth self.old.heads.items nested.heads.items self.new.heads.items) }
 
         ensures goals { OnOk result (IsPermutation (self.old.nested_goals.goals.items ++ nested.nested_goals.goals.items) self.new.nested_goals.goals.items) }
-        ensures cached { OnOk result (IsPermutation (self.old.nested_goals.cached.items ++ nested.nested_goals.cached.items) self.new.nested_goals.cached.items) }
+        ensures cached { OnOk result
+            (IsPermutation (self.old.nested_goals.cached.items ++ nested.nested_goals.cached.items) self.new.nested_goals.cached.items) }
         ensures span { OnOk result (self.new.nested_goals.span ≡ covered self.old.nested_goals.span nested.nested_goals.span) }
     {
         let Dependencies {
@@ -148,7 +150,8 @@ pub(crate) fn forget_paths(alloc: Global, heads: &mut Vec<CycleHead>) -> Result<
 /// Adds the paths of a head, if it is there.
 fn add_paths(heads: &mut Vec<CycleHead>, read: CycleHead)
     ensures same { indices heads.new.items ≡ indices heads.old.items }
-    ensures counted { (place : ℕ) → RestsOn heads.old.items place → paths_to heads.new.items place ≡ bit_or (paths_to heads.old.items place) (paths_to (read ∷ []) place) }
+    ensures counted { (place : ℕ) → RestsOn heads.old.items place
+        → paths_to heads.new.items place ≡ bit_or (paths_to heads.old.items place) (paths_to (read ∷ []) place) }
 {
     match place_of(heads, read.index) {
         Some(place) => heads[place].paths.insert(read.paths),
@@ -159,7 +162,8 @@ fn add_paths(heads: &mut Vec<CycleHead>, read: CycleHead)
 /// Adds the paths of these heads, as far as they are there.
 pub(crate) fn add_all_paths(heads: &mut Vec<CycleHead>, more: &[CycleHead])
     ensures same { indices heads.new.items ≡ indices heads.old.items }
-    ensures counted { (place : ℕ) → RestsOn heads.old.items place → paths_to heads.new.items place ≡ bit_or (paths_to heads.old.items place) (paths_to more.now place) }
+    ensures counted { (place : ℕ) → RestsOn heads.old.items place
+        → paths_to heads.new.items place ≡ bit_or (paths_to heads.old.items place) (paths_to more.now place) }
 {
     for head in more {
         add_paths(heads, *head);

@@ -50,13 +50,17 @@ pub(crate) fn evaluate_root<D: Delegate>(
     ensures no_conflict { result ≡ Err GraphFault.Conflict → IsNotPlainOver D.meaning cx.old [] input (depth + 1) }
     ensures protocol { result ≡ Err GraphFault.Protocol → MakesMisstep D.meaning (D.meaning.world cx.old) (D.meaning.goal_of cx.old input) }
     ensures conflict { result ≡ Err GraphFault.Conflict → HasConflict D.meaning cx.new (known_results cache.new.entries.items) }
-    ensures frames { AreFramesWithin D.meaning cx.old input search.old.frames search.new.frames (λ width. frame_bound (max D.FIXPOINT_STEP_LIMIT 1) width depth) }
+    ensures frames { AreFramesWithin D.meaning cx.old input search.old.frames search.new.frames
+        (λ width. frame_bound (max D.FIXPOINT_STEP_LIMIT 1) width depth) }
     ensures full { result ≡ Err GraphFault.Full → D.meaning.IsFull cx.new }
     ensures limits { search.old.limits_met ≡ true → search.new.limits_met ≡ true }
     ensures no_limit { search.old.limits_met ≡ false → search.new.limits_met ≡ true → IsNotPlainOver D.meaning cx.old [] input (depth + 1) }
-    ensures within { IfOk result (λ o. StaysWithin D.meaning cx.old [] cache.old.entries.items input search.new.limits_met cx.new cache.new.entries.items o.result) }
-    ensures cached { IfUsable cache.old.entries.items cache.old.asked.items [] input depth ((search.new.frames ≡ search.old.frames) × (cache.new.entries ≡ cache.old.entries)) }
-    ensures known { IfUsable cache.old.entries.items cache.old.asked.items [] input depth (IfOk result (λ o. HoldsResult cache.old.entries.items input depth o.result)) }
+    ensures within { IfOk result
+        (λ o. StaysWithin D.meaning cx.old [] cache.old.entries.items input search.new.limits_met cx.new cache.new.entries.items o.result) }
+    ensures cached { IfUsable cache.old.entries.items cache.old.asked.items [] input depth ((search.new.frames ≡ search.old.frames)
+        × (cache.new.entries ≡ cache.old.entries)) }
+    ensures known { IfUsable cache.old.entries.items cache.old.asked.items [] input depth
+        (IfOk result (λ o. HoldsResult cache.old.entries.items input depth o.result)) }
 {
     let again = cx.copy_input(&input)?;
     match evaluate(search, cache, cx, input, step_kind, depth) {
@@ -83,7 +87,8 @@ pub(crate) fn evaluate<D: Delegate>(
     requires input { D.meaning.IsInput cx.old input }
     ensures keeps { Keeps D.meaning cx.old cx.new }
     ensures stack { OnOk result (search.new.stack.items ≡ search.old.stack.items) }
-    ensures entries { OnOk result (AreEntriesStill D.meaning cx.old search.old.stack.items cx.new cache.new.asked.items search.new.overflow_met search.new.entries.lists.items) }
+    ensures entries { OnOk result
+        (AreEntriesStill D.meaning cx.old search.old.stack.items cx.new cache.new.asked.items search.new.overflow_met search.new.entries.lists.items) }
     ensures calm { OnOk result (search.new.overflow_met ≡ false → search.old.overflow_met ≡ false) }
     ensures cache { AreCached D.meaning (D.meaning.world cx.new) cx.new cache.new.entries.items }
     ensures goals { KeepsNumbers D.Cx.Input.eq cache.old.goals.keys cache.new.goals.keys }
@@ -98,14 +103,17 @@ pub(crate) fn evaluate<D: Delegate>(
     ensures exhausted { result ≡ Err Stop.Exhausted → IsNotPlainOver D.meaning cx.old search.old.stack.items input (depth + 1) }
     ensures protocol { result ≡ Err (Stop.Fault GraphFault.Protocol) → MakesMisstep D.meaning (D.meaning.world cx.old) (D.meaning.goal_of cx.old input) }
     ensures conflict { result ≡ Err (Stop.Fault GraphFault.Conflict) → HasConflict D.meaning cx.new (known_results cache.new.entries.items) }
-    ensures frames { AreFramesWithin D.meaning cx.old input search.old.frames search.new.frames (λ width. frame_bound (max D.FIXPOINT_STEP_LIMIT 1) width depth) }
+    ensures frames { AreFramesWithin D.meaning cx.old input search.old.frames search.new.frames
+        (λ width. frame_bound (max D.FIXPOINT_STEP_LIMIT 1) width depth) }
     ensures full { result ≡ Err (Stop.Fault GraphFault.Full) → D.meaning.IsFull cx.new }
     ensures limits { search.old.limits_met ≡ true → search.new.limits_met ≡ true }
     ensures no_limit { search.old.limits_met ≡ false → search.new.limits_met ≡ true → IsNotPlainOver D.meaning cx.old search.old.stack.items input (depth + 1) }
     ensures within { IfOk result (λ o. SearchStaysWithin D.meaning cx.old search.old cache.old input cx.new search.new cache.new o.result) }
-    ensures cached { IfUsable cache.old.entries.items cache.old.asked.items search.old.stack.items input depth (search.new.frames ≡ search.old.frames × cache.new.entries ≡ cache.old.entries) }
+    ensures cached { IfUsable cache.old.entries.items cache.old.asked.items search.old.stack.items input depth (search.new.frames
+        ≡ search.old.frames × cache.new.entries ≡ cache.old.entries) }
     ensures served { IfUsable cache.old.entries.items cache.old.asked.items search.old.stack.items input depth (result ≡ Err Stop.Exhausted → ⊥) }
-    ensures known { IfUsableAlone cache.old.entries.items cache.old.asked.items search.old.stack.items input depth (IfOk result (λ o. HoldsResult cache.old.entries.items input depth o.result)) }
+    ensures known { IfUsableAlone cache.old.entries.items cache.old.asked.items search.old.stack.items input depth
+        (IfOk result (λ o. HoldsResult cache.old.entries.items input depth o.result)) }
 {
     let (number, found) = look_up(search, cache, cx, &input, step_kind, depth)?;
     if let Some(reply) = found {
@@ -136,7 +144,8 @@ fn evaluate_new<D: Delegate>(
     requires number { IsNumberOf D.Cx.Input.eq cache.old.goals.keys input number }
     ensures keeps { Keeps D.meaning cx.old cx.new }
     ensures stack { OnOk result (search.new.stack.items ≡ search.old.stack.items) }
-    ensures entries { OnOk result (AreEntriesStill D.meaning cx.old search.old.stack.items cx.new cache.new.asked.items search.new.overflow_met search.new.entries.lists.items) }
+    ensures entries { OnOk result
+        (AreEntriesStill D.meaning cx.old search.old.stack.items cx.new cache.new.asked.items search.new.overflow_met search.new.entries.lists.items) }
     ensures calm { OnOk result (search.new.overflow_met ≡ false → search.old.overflow_met ≡ false) }
     ensures cache { AreCached D.meaning (D.meaning.world cx.new) cx.new cache.new.entries.items }
     ensures goals { KeepsNumbers D.Cx.Input.eq cache.old.goals.keys cache.new.goals.keys }
@@ -151,7 +160,8 @@ fn evaluate_new<D: Delegate>(
     ensures exhausted { result ≡ Err Stop.Exhausted → IsNotPlainOver D.meaning cx.old search.old.stack.items input (depth + 1) }
     ensures protocol { result ≡ Err (Stop.Fault GraphFault.Protocol) → MakesMisstep D.meaning (D.meaning.world cx.old) (D.meaning.goal_of cx.old input) }
     ensures conflict { result ≡ Err (Stop.Fault GraphFault.Conflict) → HasConflict D.meaning cx.new (known_results cache.new.entries.items) }
-    ensures frames { AreFramesWithin D.meaning cx.old input search.old.frames search.new.frames (λ width. frame_bound (max D.FIXPOINT_STEP_LIMIT 1) width depth) }
+    ensures frames { AreFramesWithin D.meaning cx.old input search.old.frames search.new.frames
+        (λ width. frame_bound (max D.FIXPOINT_STEP_LIMIT 1) width depth) }
     ensures full { result ≡ Err (Stop.Fault GraphFault.Full) → D.meaning.IsFull cx.new }
     ensures limits { search.old.limits_met ≡ true → search.new.limits_met ≡ true }
     ensures no_limit { search.old.limits_met ≡ false → search.new.limits_met ≡ true → IsNotPlainOver D.meaning cx.old search.old.stack.items input (depth + 1) }
@@ -240,8 +250,10 @@ fn run_once<D: Delegate>(
     requires earlier { IsUntouchedOver D.meaning cx.old search.old.stack.items entry.input (depth + 1) earlier }
     ensures keeps { Keeps D.meaning cx.old cx.new }
     ensures stack { OnOk result (search.new.stack.items ≡ search.old.stack.items) }
-    ensures entries { OnOk result (AreEntriesStill D.meaning cx.old search.old.stack.items cx.new cache.new.asked.items search.new.overflow_met search.new.entries.lists.items) }
-    ensures left { IfOk result (λ p. AreLeftOver D.meaning cx.old search.old.stack.items entry.input entry.step_kind cx.new cache.new.asked.items search.new.overflow_met p.2.items) }
+    ensures entries { OnOk result
+        (AreEntriesStill D.meaning cx.old search.old.stack.items cx.new cache.new.asked.items search.new.overflow_met search.new.entries.lists.items) }
+    ensures left { IfOk result
+        (λ p. AreLeftOver D.meaning cx.old search.old.stack.items entry.input entry.step_kind cx.new cache.new.asked.items search.new.overflow_met p.2.items) }
     ensures calm { IfOk result (λ p. search.new.overflow_met ≡ false → (search.old.overflow_met ≡ false) × (p.1.dependencies.encountered_overflow ≡ false)) }
     ensures cache { AreCached D.meaning (D.meaning.world cx.new) cx.new cache.new.entries.items }
     ensures goals { KeepsNumbers D.Cx.Input.eq cache.old.goals.keys cache.new.goals.keys }
@@ -256,10 +268,12 @@ fn run_once<D: Delegate>(
     ensures exhausted { result ≡ Err Stop.Exhausted → IsNotPlainOver D.meaning cx.old search.old.stack.items entry.input (depth + 1) }
     ensures protocol { result ≡ Err (Stop.Fault GraphFault.Protocol) → MakesMisstep D.meaning (D.meaning.world cx.old) (D.meaning.goal_of cx.old entry.input) }
     ensures conflict { result ≡ Err (Stop.Fault GraphFault.Conflict) → HasConflict D.meaning cx.new (known_results cache.new.entries.items) }
-    ensures frames { AreFramesWithin D.meaning cx.old entry.input search.old.frames search.new.frames (λ width. 1 + width * question_bound (max D.FIXPOINT_STEP_LIMIT 1) width depth) }
+    ensures frames { AreFramesWithin D.meaning cx.old entry.input search.old.frames search.new.frames
+        (λ width. 1 + width * question_bound (max D.FIXPOINT_STEP_LIMIT 1) width depth) }
     ensures full { result ≡ Err (Stop.Fault GraphFault.Full) → D.meaning.IsFull cx.new }
     ensures limits { search.old.limits_met ≡ true → search.new.limits_met ≡ true }
-    ensures no_limit { search.old.limits_met ≡ false → search.new.limits_met ≡ true → IsNotPlainOver D.meaning cx.old search.old.stack.items entry.input (depth + 1) }
+    ensures no_limit { search.old.limits_met ≡ false → search.new.limits_met ≡ true
+        → IsNotPlainOver D.meaning cx.old search.old.stack.items entry.input (depth + 1) }
     ensures within { IfOk result (λ p. SearchRunsWithin D.meaning cx.old search.old cache.old entry cx.new search.new cache.new p.1.result p.2) }
 {
     let (mut frame, mut request) = start_run(search, cx, entry)?;
@@ -321,7 +335,8 @@ fn ask<D: Delegate>(
     requires input { D.meaning.IsInput cx.old input }
     ensures keeps { Keeps D.meaning cx.old cx.new }
     ensures stack { OnOk result (search.new.stack.items ≡ search.old.stack.items) }
-    ensures entries { OnOk result (AreEntriesStill D.meaning cx.old search.old.stack.items cx.new cache.new.asked.items search.new.overflow_met search.new.entries.lists.items) }
+    ensures entries { OnOk result
+        (AreEntriesStill D.meaning cx.old search.old.stack.items cx.new cache.new.asked.items search.new.overflow_met search.new.entries.lists.items) }
     ensures calm { OnOk result (search.new.overflow_met ≡ false → search.old.overflow_met ≡ false) }
     ensures cache { AreCached D.meaning (D.meaning.world cx.new) cx.new cache.new.entries.items }
     ensures goals { KeepsNumbers D.Cx.Input.eq cache.old.goals.keys cache.new.goals.keys }
@@ -331,14 +346,17 @@ fn ask<D: Delegate>(
     ensures depth { IfOk result (λ o. o.dependencies.encountered_overflow ≡ false → o.dependencies.required_depth < depth) }
     ensures answer { IfOk result (λ o. IsReplyOver D.meaning cx.old search.old.stack.items input step_kind o.dependencies.heads.items cx.new o.result) }
     ensures faithful { IfOk result (IsFaithfulOver D.meaning cx.old search.old.stack.items input (cond overflowed 0 depth) cx.new) }
-    ensures no_conflict { result ≡ Err (Stop.Fault GraphFault.Conflict) → IsNotPlainOver D.meaning cx.old search.old.stack.items input (cond overflowed 0 depth) }
+    ensures no_conflict { result ≡ Err (Stop.Fault GraphFault.Conflict)
+        → IsNotPlainOver D.meaning cx.old search.old.stack.items input (cond overflowed 0 depth) }
     ensures exhausted { result ≡ Err Stop.Exhausted → IsNotPlainOver D.meaning cx.old search.old.stack.items input (cond overflowed 0 depth) }
     ensures protocol { result ≡ Err (Stop.Fault GraphFault.Protocol) → MakesMisstep D.meaning (D.meaning.world cx.old) (D.meaning.goal_of cx.old input) }
     ensures conflict { result ≡ Err (Stop.Fault GraphFault.Conflict) → HasConflict D.meaning cx.new (known_results cache.new.entries.items) }
-    ensures frames { AreFramesWithin D.meaning cx.old input search.old.frames search.new.frames (λ width. question_bound (max D.FIXPOINT_STEP_LIMIT 1) width depth) }
+    ensures frames { AreFramesWithin D.meaning cx.old input search.old.frames search.new.frames
+        (λ width. question_bound (max D.FIXPOINT_STEP_LIMIT 1) width depth) }
     ensures full { result ≡ Err (Stop.Fault GraphFault.Full) → D.meaning.IsFull cx.new }
     ensures limits { search.old.limits_met ≡ true → search.new.limits_met ≡ true }
-    ensures no_limit { search.old.limits_met ≡ false → search.new.limits_met ≡ true → IsNotPlainOver D.meaning cx.old search.old.stack.items input (cond overflowed 0 depth) }
+    ensures no_limit { search.old.limits_met ≡ false → search.new.limits_met ≡ true
+        → IsNotPlainOver D.meaning cx.old search.old.stack.items input (cond overflowed 0 depth) }
     ensures within { IfOk result (λ o. SearchStaysWithin D.meaning cx.old search.old cache.old input cx.new search.new cache.new o.result) }
 {
     if depth == 0 {

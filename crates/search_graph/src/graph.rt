@@ -115,16 +115,20 @@ impl<D: Delegate> SearchGraph<D> {
         ensures results { KeepsResults cache.old cache.new }
 
         ensures answer { IfOk result (λ r. IsSound D.meaning (D.meaning.world cx.old) (D.meaning.goal_of cx.old input) cx.new r) }
-        ensures plain { IfOk result (λ r. (a : _) → IsPlain D.meaning (D.meaning.world cx.old) (self.old.root_depth + 1) (D.meaning.goal_of cx.old input) a → a ≡ D.meaning.answer_of cx.new r) }
-        ensures no_conflict { result ≡ Err GraphFault.Conflict → IsNotPlain D.meaning (D.meaning.world cx.old) (self.old.root_depth + 1) (D.meaning.goal_of cx.old input) }
+        ensures plain { IfOk result (λ r. (a : _) → IsPlain D.meaning (D.meaning.world cx.old) (self.old.root_depth + 1) (D.meaning.goal_of cx.old input) a
+            → a ≡ D.meaning.answer_of cx.new r) }
+        ensures no_conflict { result ≡ Err GraphFault.Conflict
+            → IsNotPlain D.meaning (D.meaning.world cx.old) (self.old.root_depth + 1) (D.meaning.goal_of cx.old input) }
 
         // A request out of order is refused, and nothing else is: an answer comes of frames whose requests are all in order.
-        ensures computed { IfOk result (λ r. IsComputedOrGiven D.meaning (D.meaning.world cx.old) (D.meaning.goal_of cx.old input) (D.meaning.answer_of cx.new r)) }
+        ensures computed { IfOk result
+            (λ r. IsComputedOrGiven D.meaning (D.meaning.world cx.old) (D.meaning.goal_of cx.old input) (D.meaning.answer_of cx.new r)) }
         ensures protocol { result ≡ Err GraphFault.Protocol → MakesMisstep D.meaning (D.meaning.world cx.old) (D.meaning.goal_of cx.old input) }
         ensures conflict { result ≡ Err GraphFault.Conflict → HasConflict D.meaning cx.new cache.new }
         ensures full { result ≡ Err GraphFault.Full → D.meaning.IsFull cx.new }
 
-        ensures frames { AreFramesWithin D.meaning cx.old input self.old.frames self.new.frames (λ width. frame_bound (max D.FIXPOINT_STEP_LIMIT 1) width self.old.root_depth) }
+        ensures frames { AreFramesWithin D.meaning cx.old input self.old.frames self.new.frames
+            (λ width. frame_bound (max D.FIXPOINT_STEP_LIMIT 1) width self.old.root_depth) }
 
         // The result of a goal that the cache holds, and that it may use, costs no frame, and is one that the cache holds.
         ensures cached { IfKnown cache.old input self.old.root_depth ((self.new.frames ≡ self.old.frames) × (cache.new ≡ cache.old)) }
@@ -138,7 +142,8 @@ impl<D: Delegate> SearchGraph<D> {
         // A limit that was met is noted, after a refusal too, and none is for a goal that plain recursion answers within the
         // depth. Where none was, no overflow has a part in the answer, but for those that the cache held before.
         ensures noted { self.old.limits_met ≡ true → self.new.limits_met ≡ true }
-        ensures no_limit { self.old.limits_met ≡ false → self.new.limits_met ≡ true → IsNotPlain D.meaning (D.meaning.world cx.old) (self.old.root_depth + 1) (D.meaning.goal_of cx.old input) }
+        ensures no_limit { self.old.limits_met ≡ false → self.new.limits_met ≡ true
+            → IsNotPlain D.meaning (D.meaning.world cx.old) (self.old.root_depth + 1) (D.meaning.goal_of cx.old input) }
         ensures limits { IfOk result (λ r. self.new.limits_met ≡ false → IsWithinKnown D.meaning cx.old cache.old input cx.new r) }
     {
         let depth = self.root_depth;

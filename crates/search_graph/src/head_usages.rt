@@ -133,7 +133,8 @@ impl CandidateHeadUsages {
     /// The result of the goal at this place was read once more, by a path of this kind; or `Memory`, and nothing changes.
     pub fn add_usage(&mut self, head: usize, path: PathKind) -> Result<(), Fault>
         ensures added { OnOk result (usage_count self.new head path ≡ sticking_sum (usage_count self.old head path) 1) }
-        ensures others { OnOk result ((place : ℕ) (kind : PathKind) → (place ≡ head → kind ≡ path → ⊥) → usage_count self.new place kind ≡ usage_count self.old place kind) }
+        ensures others { OnOk result ((place : ℕ) (kind : PathKind) → (place ≡ head → kind ≡ path → ⊥)
+            → usage_count self.new place kind ≡ usage_count self.old place kind) }
 
         ensures memory { IfErr result (λ fault. fault ≡ Memory) }
         ensures unchanged { OnErr result (self.new ≡ self.old) }
@@ -146,7 +147,8 @@ impl CandidateHeadUsages {
 
     /// Adds what was read elsewhere, each number to its own; or `Memory`, and nothing changes.
     pub fn merge_usages(&mut self, other: CandidateHeadUsages) -> Result<(), Fault>
-        ensures sums { OnOk result ((head : ℕ) (path : PathKind) → usage_count self.new head path ≡ sticking_sum (usage_count self.old head path) (usage_count other head path)) }
+        ensures sums { OnOk result ((head : ℕ) (path : PathKind)
+            → usage_count self.new head path ≡ sticking_sum (usage_count self.old head path) (usage_count other head path)) }
 
         // So neither the order nor the grouping of merges matters.
         ensures commutative { IsCommutative sticking_sum }

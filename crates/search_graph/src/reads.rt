@@ -45,8 +45,10 @@ impl CandidateReads {
 
     /// Notes a request of the frame: a candidate is finished, or ignored.
     pub(crate) fn note<I, R>(&mut self, request: &Request<I, R>) -> Result<(), AllocError>
-        ensures finished { OnOk result (request.now ≡ FinishCandidate → (self.new.finished.items ≡ self.old.finished.items ++ self.old.unfinished ∷ []) × (self.new.unfinished.items ≡ [])) }
-        ensures ignored { (number : ℕ) (read : _) → request.now ≡ IgnoreCandidate number → slice_get self.new.finished.items number ≡ Some read → read.items ≡ [] }
+        ensures finished { OnOk result (request.now ≡ FinishCandidate
+            → (self.new.finished.items ≡ self.old.finished.items ++ self.old.unfinished ∷ []) × (self.new.unfinished.items ≡ [])) }
+        ensures ignored { (number : ℕ) (read : _) → request.now ≡ IgnoreCandidate number → slice_get self.new.finished.items number ≡ Some read
+            → read.items ≡ [] }
     {
         match request {
             Request::FinishCandidate => {
@@ -71,7 +73,8 @@ impl CandidateReads {
     ) -> Result<(), AllocError>
         ensures same { OnOk result (indices heads.new.items ≡ indices heads.old.items) }
         ensures counted { is_open ≡ false → heads.new.items ≡ heads.old.items }
-        ensures held { OnOk result (is_open ≡ true → (place : ℕ) → paths_to self.new.unfinished.items place ≡ bit_or (paths_to self.old.unfinished.items place) (paths_to heads.old.items place)) }
+        ensures held { OnOk result (is_open ≡ true → (place : ℕ)
+            → paths_to self.new.unfinished.items place ≡ bit_or (paths_to self.old.unfinished.items place) (paths_to heads.old.items place)) }
         ensures unread { OnOk result (is_open ≡ true → (place : ℕ) → paths_to heads.new.items place ≡ 0) }
     {
         if !is_open {
@@ -84,7 +87,8 @@ impl CandidateReads {
     /// Counts what the candidates read that were finished and not ignored, as far as the heads are there.
     pub(crate) fn count(&self, heads: &mut Vec<CycleHead>)
         ensures same { indices heads.new.items ≡ indices heads.old.items }
-        ensures counted { (place : ℕ) → RestsOn heads.old.items place → paths_to heads.new.items place ≡ bit_or (paths_to heads.old.items place) (paths_in self.now.finished.items place) }
+        ensures counted { (place : ℕ) → RestsOn heads.old.items place
+            → paths_to heads.new.items place ≡ bit_or (paths_to heads.old.items place) (paths_in self.now.finished.items place) }
     {
         for read in &self.finished {
             add_all_paths(heads, read);

@@ -232,8 +232,10 @@ impl<D: Delegate> Search<D> {
         input: &InputOf<D>,
         depth: usize,
     ) -> Result<Option<usize>, AllocError>
-        ensures found { IfOk result (λ found. IfSome found (IsUsableAt cache.now.entries.items cache.now.asked.items (IsOnStack self.now.stack.items) number input.now depth)) }
-        ensures none { IfOk result (λ found. IfNone found (NoneIsUsable cache.now.entries.items cache.now.asked.items (IsOnStack self.now.stack.items) number input.now depth)) }
+        ensures found { IfOk result
+            (λ found. IfSome found (IsUsableAt cache.now.entries.items cache.now.asked.items (IsOnStack self.now.stack.items) number input.now depth)) }
+        ensures none { IfOk result
+            (λ found. IfNone found (NoneIsUsable cache.now.entries.items cache.now.asked.items (IsOnStack self.now.stack.items) number input.now depth)) }
     {
         cache.find(&self.positions, self.span(), number, input, depth)
     }
@@ -318,7 +320,8 @@ impl<D: Delegate> Search<D> {
         requires place { nearest < length self.old.stack.items }
         requires nearest { RestsOn evaluation.dependencies.heads.items nearest × AreBelow (nearest + 1) (indices evaluation.dependencies.heads.items) }
         ensures left { OnOk result ((e : _) × (e.result ≡ evaluation.result) × AddsEntry self.old.entries.lists.items self.new.entries.lists.items nearest e) }
-        ensures entries { OnOk result (AreEntriesOver D.meaning cx.now self.old.stack.items cache.new.asked.items self.old.overflow_met self.new.entries.lists.items) }
+        ensures entries { OnOk result
+            (AreEntriesOver D.meaning cx.now self.old.stack.items cache.new.asked.items self.old.overflow_met self.new.entries.lists.items) }
         ensures within { OnOk result (EntriesStayWithin D.meaning cx.now self.old.entries.lists.items input evaluation.result self.new.entries.lists.items) }
         ensures reply { IfOk result (SaysSame evaluation) }
         ensures range { IfOk result (λ o. AreInRange cache.new.asked.items o.dependencies.nested_goals) }
@@ -384,7 +387,8 @@ impl<D: Delegate> Search<D> {
     ) -> Result<(), AllocError>
         requires below { AreBelow (length self.old.stack.items) (indices ended.now.dependencies.heads.items) }
         requires rests { (place : ℕ) (e : _) → slice_get left.items place ≡ Some e → AreBelow (length self.old.stack.items + 1) (indices e.heads.items) }
-        ensures moved { OnOk result (AreMoved self.old.stack.items self.old.overflow_met left.items step_kind ended.now asked self.old.entries.lists.items self.new.entries.lists.items) }
+        ensures moved { OnOk result
+            (AreMoved self.old.stack.items self.old.overflow_met left.items step_kind ended.now asked self.old.entries.lists.items self.new.entries.lists.items) }
         ensures stack { self.new.stack.items ≡ self.old.stack.items }
         ensures met { self.new.overflow_met ≡ self.old.overflow_met }
         ensures frames { self.new.frames ≡ self.old.frames }
@@ -426,9 +430,12 @@ impl<D: Delegate> Search<D> {
         requires cycle { IsClosedBy self.now.stack.items input.now step_kind cycle }
         ensures keeps { Keeps D.meaning cx.old cx.new }
         ensures full { result ≡ Err Fault.Full → D.meaning.IsFull cx.new }
-        ensures last { IfOk result (λ r. (e : _) (last : _) → slice_get self.now.stack.items cycle.index ≡ Some e → e.provisional_result ≡ Some last → r ≡ last) }
-        ensures first { IfOk result (λ r. (e : _) → slice_get self.now.stack.items cycle.index ≡ Some e → e.provisional_result ≡ None → IsInitial D.meaning cx.old input.now cycle cx.new r) }
-        ensures reply { IfOk result (λ r. (e : _) → slice_get self.now.stack.items cycle.index ≡ Some e → IsReadOver D.meaning cx.old self.now.stack.items input.now step_kind cycle.index e cx.new r) }
+        ensures last { IfOk result (λ r. (e : _) (last : _) → slice_get self.now.stack.items cycle.index ≡ Some e → e.provisional_result ≡ Some last
+            → r ≡ last) }
+        ensures first { IfOk result (λ r. (e : _) → slice_get self.now.stack.items cycle.index ≡ Some e → e.provisional_result ≡ None
+            → IsInitial D.meaning cx.old input.now cycle cx.new r) }
+        ensures reply { IfOk result (λ r. (e : _) → slice_get self.now.stack.items cycle.index ≡ Some e
+            → IsReadOver D.meaning cx.old self.now.stack.items input.now step_kind cycle.index e cx.new r) }
         ensures not_plain { IfOk result (λ r. IsNotPlainUnder D.meaning cx.old self.now.stack.items input.now cycle.index) }
         ensures within { IfOk result (λ r. IsWithinAsStack D.meaning cx.old self.now.stack.items input.now cx.new r) }
     {
@@ -457,7 +464,8 @@ impl<D: Delegate> Search<D> {
         depth: usize,
     ) -> Evaluation<D>
         requires cache { AreCached D.meaning (D.meaning.world cx.now) cx.now cache.now.entries.items }
-        requires place { (e : _) × (slice_get cache.now.entries.items place ≡ Some e) × (e.input ≡ input.now) × (e.encountered_overflow ≡ true → e.depth ≡ depth) }
+        requires place { (e : _) × (slice_get cache.now.entries.items place ≡ Some e)
+            × (e.input ≡ input.now) × (e.encountered_overflow ≡ true → e.depth ≡ depth) }
         ensures same { IfOk result (λ o. (e : _) → slice_get cache.now.entries.items place ≡ Some e → IsReplyOf e o) }
         ensures unread { IfOk result (λ o. o.dependencies.heads.items ≡ []) }
         ensures asked { IfOk result (λ o. (e : _) → slice_get cache.now.entries.items place ≡ Some e → UsesAlone e.asked o.dependencies.nested_goals) }
@@ -504,7 +512,8 @@ impl<D: Delegate> Search<D> {
         ensures answer { IfOk result (λ o. IsReplyOver D.meaning cx.old self.old.stack.items input.now step_kind o.dependencies.heads.items cx.new o.result) }
         ensures entries { self.new.entries ≡ self.old.entries }
         ensures met { self.new.overflow_met ≡ self.old.overflow_met }
-        ensures overflow { IfOk result (λ o. D.meaning.answer_of cx.new o.result ≡ D.meaning.stack_overflow (D.meaning.world cx.old) (D.meaning.goal_of cx.old input.now)) }
+        ensures overflow { IfOk result (λ o. D.meaning.answer_of cx.new o.result
+            ≡ D.meaning.stack_overflow (D.meaning.world cx.old) (D.meaning.goal_of cx.old input.now)) }
         ensures told { IfOk result (λ o. o.dependencies.encountered_overflow ≡ true) }
         ensures unread { IfOk result (λ o. o.dependencies.heads.items ≡ []) }
         ensures asked { IfOk result (λ o. AsksAlone number o.dependencies.nested_goals) }
@@ -602,21 +611,27 @@ pub fn finish<D: Delegate>(
     requires input { D.meaning.IsInput cx.now input }
     requires nested { AreInRange cache.old.asked.items evaluation.dependencies.nested_goals }
     requires number { IsNumberOf D.Cx.Input.eq cache.old.goals.keys input number }
-    requires alone { evaluation.dependencies.heads.items ≡ [] → IsProvisional D.meaning (D.meaning.world cx.now) [] (D.meaning.goal_of cx.now input, PathKind.Inductive) [] cx.now evaluation.result }
-    requires kept { evaluation.dependencies.heads.items ≡ [] → IsKeptResult D.meaning cx.now input evaluation.result depth evaluation.dependencies.encountered_overflow }
-    ensures kept { OnOk result (evaluation.dependencies.heads.items ≡ [] → AddsEvaluation cache.old.entries.items cache.new.entries.items cache.old.asked.items input number depth evaluation) }
+    requires alone { evaluation.dependencies.heads.items ≡ []
+        → IsProvisional D.meaning (D.meaning.world cx.now) [] (D.meaning.goal_of cx.now input, PathKind.Inductive) [] cx.now evaluation.result }
+    requires kept { evaluation.dependencies.heads.items ≡ []
+        → IsKeptResult D.meaning cx.now input evaluation.result depth evaluation.dependencies.encountered_overflow }
+    ensures kept { OnOk result (evaluation.dependencies.heads.items ≡ []
+        → AddsEvaluation cache.old.entries.items cache.new.entries.items cache.old.asked.items input number depth evaluation) }
     ensures unkept { OnOk result ((evaluation.dependencies.heads.items ≡ [] → ⊥) → cache.new.entries.items ≡ cache.old.entries.items) }
-    ensures err { OnErr result ((cache.new.entries.items ≡ cache.old.entries.items) ⊎ ((e : _) × (cache.new.entries.items ≡ cache.old.entries.items ++ e ∷ []))) }
+    ensures err { OnErr result ((cache.new.entries.items ≡ cache.old.entries.items)
+        ⊎ ((e : _) × (cache.new.entries.items ≡ cache.old.entries.items ++ e ∷ []))) }
     ensures results { KeepsResults cache.old.entries.items cache.new.entries.items }
     ensures asked_before { KeepsResults cache.old.asked.items cache.new.asked.items }
     ensures goals { cache.new.goals ≡ cache.old.goals }
     ensures cache { AreCached D.meaning (D.meaning.world cx.now) cx.now cache.new.entries.items }
     ensures reply { IfOk result (SaysSame evaluation) }
     ensures found { IfOk result (λ o. evaluation.dependencies.heads.items ≡ [] → UsesAlone (length cache.old.asked.items) o.dependencies.nested_goals) }
-    ensures asked { IfOk result (λ o. (evaluation.dependencies.heads.items ≡ [] → ⊥) → AlsoAsks evaluation.dependencies.nested_goals number o.dependencies.nested_goals) }
+    ensures asked { IfOk result (λ o. (evaluation.dependencies.heads.items ≡ [] → ⊥)
+        → AlsoAsks evaluation.dependencies.nested_goals number o.dependencies.nested_goals) }
     ensures range { IfOk result (λ o. AreInRange cache.new.asked.items o.dependencies.nested_goals) }
     ensures within { OnOk result (KeepsWithin D.meaning cx.now cache.old.entries.items input evaluation.result cache.new.entries.items) }
-    ensures no_conflict { result ≡ Err GraphFault.Conflict → (limit : ℕ) → limit ≤ depth + 1 → IsNotPlain D.meaning (D.meaning.world cx.now) limit (D.meaning.goal_of cx.now input) }
+    ensures no_conflict { result ≡ Err GraphFault.Conflict → (limit : ℕ) → limit ≤ depth + 1
+        → IsNotPlain D.meaning (D.meaning.world cx.now) limit (D.meaning.goal_of cx.now input) }
     ensures conflict { result ≡ Err GraphFault.Conflict → HasConflict D.meaning cx.now (known_results cache.new.entries.items) }
     ensures in_order { result ≡ Err GraphFault.Protocol → ⊥ }
     ensures room { result ≡ Err GraphFault.Full → ⊥ }

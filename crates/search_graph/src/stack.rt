@@ -82,8 +82,10 @@ pub(crate) fn add_place(
     number: usize,
     place: usize,
 ) -> Result<(), AllocError>
-    ensures again { OnOk result ((older : ℕ) → get nat_eq positions.old number ≡ Some older → (other : ℕ) → get nat_eq positions.new other ≡ get nat_eq positions.old other) }
-    ensures added { OnOk result (get nat_eq positions.old number ≡ None → (other : ℕ) → get nat_eq positions.new other ≡ cond (nat_eq number other) (Some place) (get nat_eq positions.old other)) }
+    ensures again { OnOk result ((older : ℕ) → get nat_eq positions.old number ≡ Some older → (other : ℕ)
+        → get nat_eq positions.new other ≡ get nat_eq positions.old other) }
+    ensures added { OnOk result (get nat_eq positions.old number ≡ None → (other : ℕ)
+        → get nat_eq positions.new other ≡ cond (nat_eq number other) (Some place) (get nat_eq positions.old other)) }
     ensures err { OnErr result ((other : ℕ) → get nat_eq positions.new other ≡ get nat_eq positions.old other) }
 {
     if positions.contains_key(&number) {
@@ -95,7 +97,8 @@ pub(crate) fn add_place(
 
 /// Takes the place of a number away, if it is this one.
 pub(crate) fn remove_place(positions: &mut IndexMap<usize, usize>, number: usize, place: usize)
-    ensures removed { get nat_eq positions.old number ≡ Some place → (other : ℕ) → get nat_eq positions.new other ≡ cond (nat_eq number other) None (get nat_eq positions.old other) }
+    ensures removed { get nat_eq positions.old number ≡ Some place → (other : ℕ)
+        → get nat_eq positions.new other ≡ cond (nat_eq number other) None (get nat_eq positions.old other) }
     ensures kept { (get nat_eq positions.old number ≡ Some place → ⊥) → (other : ℕ) → get nat_eq positions.new other ≡ get nat_eq positions.old other }
 {
     let Some(found) = positions.get(&number).copied() else {
@@ -116,7 +119,8 @@ pub(crate) fn find_cycle<D: Delegate>(
 ) -> Option<Cycle>
     ensures found { IfSome result (IsClosedBy stack.now input.now step_kind) }
     ensures place { IfSome result (λ cycle. get nat_eq positions.now number ≡ Some cycle.index) }
-    ensures none { IfNone result ((place : ℕ) (e : _) → get nat_eq positions.now number ≡ Some place → slice_get stack.now place ≡ Some e → e.input ≡ input.now → ⊥) }
+    ensures none { IfNone result ((place : ℕ) (e : _) → get nat_eq positions.now number ≡ Some place → slice_get stack.now place ≡ Some e
+        → e.input ≡ input.now → ⊥) }
 {
     let index = *positions.get(&number)?;
     if index >= stack.len() {

@@ -41,9 +41,11 @@ pub(crate) fn look_up<D: Delegate>(
     ensures range { IfOk result (λ r. IfSome r.1 (λ o. AreInRange cache.old.asked.items o.dependencies.nested_goals)) }
     ensures depth { IfOk result (λ r. IfSome r.1 (λ o. o.dependencies.encountered_overflow ≡ false → o.dependencies.required_depth ≤ depth)) }
     ensures kept { search.now.stack.items ≡ [] → IfOk result (λ r. IfSome r.1 (λ o. HoldsResult cache.old.entries.items input.now depth o.result)) }
-    ensures answer { IfOk result (λ r. IfSome r.1 (λ o. IsReplyOver D.meaning cx.now search.now.stack.items input.now step_kind o.dependencies.heads.items cx.now o.result)) }
+    ensures answer { IfOk result
+        (λ r. IfSome r.1 (λ o. IsReplyOver D.meaning cx.now search.now.stack.items input.now step_kind o.dependencies.heads.items cx.now o.result)) }
     ensures faithful { IfOk result (λ r. IfSome r.1 (IsFaithfulOver D.meaning cx.now search.now.stack.items input.now (depth + 1) cx.now)) }
-    ensures within { IfOk result (λ r. IfSome r.1 (λ o. IsWithinAsKept D.meaning cx.now cache.old.entries.items search.now.entries.lists.items input.now o.result)) }
+    ensures within { IfOk result
+        (λ r. IfSome r.1 (λ o. IsWithinAsKept D.meaning cx.now cache.old.entries.items search.now.entries.lists.items input.now o.result)) }
     ensures found { IfUsable cache.old.entries.items cache.old.asked.items search.now.stack.items input.now depth (IfOk result (λ r. IsSome r.1)) }
     ensures no_conflict { result ≡ Err GraphFault.Conflict → ⊥ }
     ensures in_order { result ≡ Err GraphFault.Protocol → ⊥ }
@@ -162,7 +164,8 @@ pub(crate) fn take_turn<I: Drop, R: Drop>(
     reads: &mut CandidateReads,
     request: Request<I, R>,
 ) -> Result<Turn<I, R>, GraphFault>
-    ensures turn { IfOk result (λ turn. IsTurn candidates.old.open candidates.old.finished.items request turn candidates.new.open candidates.new.finished.items) }
+    ensures turn { IfOk result
+        (λ turn. IsTurn candidates.old.open candidates.old.finished.items request turn candidates.new.open candidates.new.finished.items) }
     ensures protocol { result ≡ Err GraphFault.Protocol → IsInTurn candidates.old.open candidates.old.finished.items request → ⊥ }
     ensures no_conflict { result ≡ Err GraphFault.Conflict → ⊥ }
     ensures room { result ≡ Err GraphFault.Full → ⊥ }
@@ -186,15 +189,19 @@ pub(crate) fn hear<D: Delegate>(
     ensures keeps { Keeps D.meaning cx.old cx.new }
     ensures steps { IfOk result (λ q. Steps D.meaning cx.old frame.old (Reply.Result nested.result) cx.new frame.new q) }
     ensures falls { IfOk result (λ q. D.steps_left cx.new frame.new < D.steps_left cx.old frame.old) }
-    ensures overflow { OnOk result (dependencies.new.encountered_overflow ≡ (dependencies.old.encountered_overflow || nested.dependencies.encountered_overflow)) }
-    ensures depth { OnOk result (dependencies.new.required_depth ≡ max dependencies.old.required_depth (min (nested.dependencies.required_depth + 1) (2 ^ 64 - 1))) }
+    ensures overflow { OnOk result (dependencies.new.encountered_overflow
+        ≡ (dependencies.old.encountered_overflow || nested.dependencies.encountered_overflow)) }
+    ensures depth { OnOk result (dependencies.new.required_depth
+        ≡ max dependencies.old.required_depth (min (nested.dependencies.required_depth + 1) (2 ^ 64 - 1))) }
     ensures unread { OnOk result (dependencies.old.heads.items ≡ [] → nested.dependencies.heads.items ≡ [] → dependencies.new.heads.items ≡ []) }
     ensures read { OnOk result (is_open ≡ false → AreReadByBoth dependencies.old.heads.items nested.dependencies.heads.items dependencies.new.heads.items) }
     ensures held { OnOk result (is_open ≡ true → AreReadByBoth reads.old.unfinished.items nested.dependencies.heads.items reads.new.unfinished.items) }
     ensures unread_yet { OnOk result (is_open ≡ true → AreReadByBoth dependencies.old.heads.items [] dependencies.new.heads.items) }
     ensures rests { OnOk result (AreHeadsOfBoth dependencies.old.heads.items nested.dependencies.heads.items dependencies.new.heads.items) }
-    ensures goals { OnOk result (IsPermutation (dependencies.old.nested_goals.goals.items ++ nested.dependencies.nested_goals.goals.items) dependencies.new.nested_goals.goals.items) }
-    ensures cached { OnOk result (IsPermutation (dependencies.old.nested_goals.cached.items ++ nested.dependencies.nested_goals.cached.items) dependencies.new.nested_goals.cached.items) }
+    ensures goals { OnOk result (IsPermutation
+        (dependencies.old.nested_goals.goals.items ++ nested.dependencies.nested_goals.goals.items) dependencies.new.nested_goals.goals.items) }
+    ensures cached { OnOk result (IsPermutation
+        (dependencies.old.nested_goals.cached.items ++ nested.dependencies.nested_goals.cached.items) dependencies.new.nested_goals.cached.items) }
     ensures span { OnOk result (dependencies.new.nested_goals.span ≡ covered dependencies.old.nested_goals.span nested.dependencies.nested_goals.span) }
     ensures no_conflict { result ≡ Err GraphFault.Conflict → ⊥ }
     ensures in_order { result ≡ Err GraphFault.Protocol → ⊥ }
@@ -234,17 +241,22 @@ pub(crate) fn conclude<D: Delegate>(
     requires input { D.meaning.IsInput cx.now input }
     requires nested { AreInRange cache.old.asked.items evaluation.dependencies.nested_goals }
     requires number { IsNumberOf D.Cx.Input.eq cache.old.goals.keys input number }
-    requires alone { evaluation.dependencies.heads.items ≡ [] → IsProvisional D.meaning (D.meaning.world cx.now) [] (D.meaning.goal_of cx.now input, PathKind.Inductive) [] cx.now evaluation.result }
-    requires kept { evaluation.dependencies.heads.items ≡ [] → IsKeptResult D.meaning cx.now input evaluation.result depth evaluation.dependencies.encountered_overflow }
+    requires alone { evaluation.dependencies.heads.items ≡ []
+        → IsProvisional D.meaning (D.meaning.world cx.now) [] (D.meaning.goal_of cx.now input, PathKind.Inductive) [] cx.now evaluation.result }
+    requires kept { evaluation.dependencies.heads.items ≡ []
+        → IsKeptResult D.meaning cx.now input evaluation.result depth evaluation.dependencies.encountered_overflow }
     requires entries { AreEntriesOver D.meaning cx.now search.old.stack.items cache.old.asked.items search.old.overflow_met search.old.entries.lists.items }
     requires left { AreLeftOver D.meaning cx.now search.old.stack.items input step_kind cx.now cache.old.asked.items search.old.overflow_met left.items }
     requires descends { AllDescendTo D.meaning cx.now search.old.stack.items input search.old.overflow_met }
     requires result { IsResultOver D.meaning cx.now search.old.stack.items input step_kind evaluation }
     requires below { AreBelow (length search.old.stack.items) (indices evaluation.dependencies.heads.items) }
     requires faithful { IsFaithfulOver D.meaning cx.now search.old.stack.items input (depth + 1) cx.now evaluation }
-    ensures entries { OnOk result (AreEntriesOver D.meaning cx.now search.old.stack.items cache.new.asked.items search.old.overflow_met search.new.entries.lists.items) }
-    ensures entries_within { OnOk result (EntriesStayWithin D.meaning cx.now (search.old.entries.lists.items ++ left ∷ []) input evaluation.result search.new.entries.lists.items) }
-    ensures kept { OnOk result (evaluation.dependencies.heads.items ≡ [] → AddsEvaluation cache.old.entries.items cache.new.entries.items cache.old.asked.items input number depth evaluation) }
+    ensures entries { OnOk result
+        (AreEntriesOver D.meaning cx.now search.old.stack.items cache.new.asked.items search.old.overflow_met search.new.entries.lists.items) }
+    ensures entries_within { OnOk result
+        (EntriesStayWithin D.meaning cx.now (search.old.entries.lists.items ++ left ∷ []) input evaluation.result search.new.entries.lists.items) }
+    ensures kept { OnOk result (evaluation.dependencies.heads.items ≡ []
+        → AddsEvaluation cache.old.entries.items cache.new.entries.items cache.old.asked.items input number depth evaluation) }
     ensures results { KeepsResults cache.old.entries.items cache.new.entries.items }
     ensures asked_before { KeepsResults cache.old.asked.items cache.new.asked.items }
     ensures goals { cache.new.goals ≡ cache.old.goals }

@@ -46,7 +46,8 @@ pub fn ask<H: GoalHandler>(
     ensures table { Ready cx.new.interner.entries table.now }
     ensures held { IfOk result (λ a. GoalHeld cx.new.interner.entries a.goal) }
     ensures resolved { IfOk result (λ a. goal_trees cx.new.interner.entries a.goal ≡ goal_in cx.old.interner.entries table.now goal.now) }
-    ensures input { IfOk result (λ a. IsInput H.meaning.IsReady cx.new a.input × (goal_of cx.new a.input ≡ (mode, canonical_form (goal_in cx.old.interner.entries table.now goal.now)))) }
+    ensures input { IfOk result (λ a. IsInput H.meaning.IsReady cx.new a.input
+        × (goal_of cx.new a.input ≡ (mode, canonical_form (goal_in cx.old.interner.entries table.now goal.now)))) }
     ensures args { IfOk result (λ a. ArgsHeld cx.new.interner.entries a.values.items) }
     ensures leaves { IfOk result (λ a. AreLeaves cx.new.interner.entries a.values.items) }
     ensures values { IfOk result (λ a. labels cx.new.interner.entries a.values.items ≡ goal_leaves (goal_in cx.old.interner.entries table.now goal.now)) }

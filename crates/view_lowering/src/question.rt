@@ -141,7 +141,8 @@ pub fn lower_question(
     ensures lowered { (q : Question) → IsQuestion workspace.now number q → IfOk result (λ lowered. IsLowered cx.new.entries q lowered) }
     ensures keeps { Keeps cx.old.entries cx.new.entries }
     ensures limit { cx.new.limit ≡ cx.old.limit }
-    ensures full { (q : Question) → IsQuestion workspace.now number q → result ≡ Err Fault.Full → SomeKindIsFull cx.new.entries cx.new.limit ⊎ (MAX_INDEX < length q.variables) }
+    ensures full { (q : Question) → IsQuestion workspace.now number q → result ≡ Err Fault.Full
+        → SomeKindIsFull cx.new.entries cx.new.limit ⊎ (MAX_INDEX < length q.variables) }
 {
     let entries = workspace.question_entries();
     lower_entry(alloc, cx, &entries[number as usize - 1])
