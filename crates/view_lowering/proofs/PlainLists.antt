@@ -1,16 +1,24 @@
--- Cells and references, made plain one after the other.
-use Rattle.std.proofs.Common.{◌≡◌, ℕ, zero, suc, ◌+◌, Bool, List, [], ◌∷◌, ◌++◌, map, take, Option, Some, None, refl, sym, ap, ◌∙◌, subst}
+-- Cells, made plain one after the other, and cells that are plain as they are.
+use Rattle.std.proofs.Common.{◌≡◌, ℕ, ◌+◌, Bool, true, false, ◌&&◌, List, [], ◌∷◌, ◌++◌, map, take, Option, Some, None, refl, sym, ap, ◌∙◌, subst}
 use Rattle.std.proofs.lemmas.List.{map_push, take_more}
-use Rattle.std.proofs.lemmas.Option.{slice_get_within, get_or_from_slice_get, same_Some}
+use Rattle.std.proofs.lemmas.Option.{slice_get_within, get_or_from_slice_get}
 use Rattle.std.specs.Prelude.{slice_get}
 use Rattle.std.specs.List.{list_all}
 use Rattle.std.specs.Option.{option_map, option_and_then}
-use Rattle.workspace.specs.Made.{StackPart, parts_behind, parts_of, CellHeld, CellsHeld, AreMade, ReferenceMade, ReferencesMade}
+use Rattle.type_terms.specs.Kinds.{const_label}
+use Rattle.type_terms.specs.declared.kinds.ConstKind.{ConstKind}
+use Rattle.type_terms.specs.declared.kinds.ConstKind.TheVariants as consts
+use Rattle.type_terms.specs.declared.number.BoundVarIndexKind.TheVariants as binders
+use Rattle.workspace.specs.Made.{StackPart, parts_behind, parts_of, CellHeld, CellsHeld, AreMade}
+use Rattle.workspace.specs.TermCells.{TermCell as Cell, node_cell, trees_of, joined}
 use Rattle.workspace.specs.Views.{cell_of, cells_of, reference_of}
 use Rattle.workspace.specs.declared.declared.ReferenceCells.{ReferenceCells}
-use Rattle.view_lowering.specs.Plain.{plain_reference}
+use Rattle.type_terms.specs.Worlds.{Reference}
 use Rattle.workspace.specs.declared.cell.TermCell.{TermCell}
-use Rattle.view_lowering.specs.PlainCells.{plain_cell}
+use Rattle.workspace.specs.declared.cell.TermCell.TheVariants as cells
+use Rattle.view_lowering.specs.Plain.{plain_label, plain_reference}
+use Rattle.view_lowering.specs.PlainCells.{is_without_lifetimes, plain_cell}
+use Rattle.view_lowering.proofs.Plainly.{trees-plain, joined-plain}
 
 -- these cells are those, made plain
 pub record ArePlain (k : ℕ → Bool) (cs out : List TermCell) : Type 0 where
@@ -62,48 +70,36 @@ one-more-plain k all out i c x there a is parts held =
 pub plain-made : (k : ℕ → Bool) (cs out : List TermCell) → ArePlain k cs out → (p : StackPart → Bool) → AreMade p cs → AreMade p out
 plain-made k cs out a p m = record { held = a.held m.held; parts = ap (option_map (list_all p)) (a.parts []) ∙ m.parts }
 
--- ---- references
-abbrev AllMade : List ReferenceCells → Type 0
-AllMade [] = Unit {0}
-AllMade (r ∷ rs) = ReferenceMade r × AllMade rs
+-- ---- cells without lifetimes are plain as they are
+const-stays : (k : ℕ → Bool) (n : ConstKind) → plain_label k (const_label n) ≡ const_label n
+const-stays k (consts.Bound (binders.Bound b) i) = refl
+const-stays k (consts.Bound binders.Canonical i) = refl
+const-stays k n = refl
 
-all-made : (rs : List ReferenceCells) → ReferencesMade rs → AllMade rs
-all-made [] h = tt
-all-made (r ∷ rs) h = (h zero r refl, all-made rs (λ k x e. h (suc k) x e))
+cell-stays : (k : ℕ → Bool) (c : TermCell) → is_without_lifetimes c ≡ true → plain_cell k (cell_of c) ≡ cell_of c
+cell-stays k (cells.Lifetime r) h = absurd cc
+cell-stays k (cells.Ref r m) h = absurd cc
+cell-stays k (cells.FnPtr b n) h = absurd cc
+cell-stays k (cells.Principal b t n) h = absurd cc
+cell-stays k (cells.Const n) h = ap (λ l. node_cell l 0) (const-stays k n)
+cell-stays k (cells.Dynamic true n) h = refl
+cell-stays k (cells.Dynamic false n) h = refl
+cell-stays k c h = refl
 
-each-made : (rs : List ReferenceCells) → AllMade rs → ReferencesMade rs
-each-made [] h k x e = absurd cc
-each-made (r ∷ rs) h zero x e = subst ReferenceMade (same_Some r x e) h.0
-each-made (r ∷ rs) h (suc k) x e = each-made rs h.1 k x e
+first-of-both : (a b : Bool) → (a && b) ≡ true → (a ≡ true) × (b ≡ true)
+first-of-both true b h = (refl, h)
+first-of-both false b h = absurd cc
 
--- these references are those, made plain
-pub record ReferencesPlain (k : ℕ → Bool) (rs out : List ReferenceCells) : Type 0 where
-  pub are : map reference_of out ≡ map (plain_reference k) (map reference_of rs)
-  pub made : ReferencesMade rs → ReferencesMade out
+cells-stay : (k : ℕ → Bool) (cs : List TermCell) → list_all is_without_lifetimes cs ≡ true → map (plain_cell k) (cells_of cs) ≡ cells_of cs
+cells-stay k [] h = refl
+cells-stay k (c ∷ cs) h =
+    let p = first-of-both (is_without_lifetimes c) (list_all is_without_lifetimes cs) h in
+    two (cell-stays k c p.0) (cells-stay k cs p.1)
+  where
+    two : {x y : Cell} {xs ys : List Cell} → x ≡ y → xs ≡ ys → x ∷ xs ≡ y ∷ ys
+    two p q = cc
 
-pub none-referred : (k : ℕ → Bool) → ReferencesPlain k [] []
-none-referred k = record { are = refl; made = λ h. h }
-
-made-append : (xs : List ReferenceCells) (y : ReferenceCells) → AllMade xs → ReferenceMade y → AllMade (xs ++ y ∷ [])
-made-append [] y h g = (g, tt)
-made-append (x ∷ xs) y h g = (h.0, made-append xs y h.1 g)
-
-first-references : (xs : List ReferenceCells) (y : ReferenceCells) → AllMade (xs ++ y ∷ []) → AllMade xs × ReferenceMade y
-first-references [] y h = (tt, h.0)
-first-references (x ∷ xs) y h = ((h.0, (first-references xs y h.1).0), (first-references xs y h.1).1)
-
-push-reference : (k : ℕ → Bool) (rs out : List ReferenceCells) (r x : ReferenceCells) → ReferencesPlain k rs out → reference_of x ≡ plain_reference k (reference_of r) → (ReferenceMade r → ReferenceMade x)
-    → ReferencesPlain k (rs ++ r ∷ []) (out ++ x ∷ [])
-push-reference k rs out r x a is made =
-    record {
-      are =
-          map_push reference_of out x ∙ ap (λ l. l ++ reference_of x ∷ []) a.are ∙ ap (λ y. map (plain_reference k) (map reference_of rs) ++ y ∷ []) is
-          ∙ sym (ap (map (plain_reference k)) (map_push reference_of rs r) ∙ map_push (plain_reference k) (map reference_of rs) (reference_of r));
-      made = λ h. (let q = first-references rs r (all-made (rs ++ r ∷ []) h) in each-made (out ++ x ∷ []) (made-append out x (all-made out (a.made (each-made rs q.0))) (made q.1)));
-    }
-
-pub one-more-reference : (k : ℕ → Bool) (all out : List ReferenceCells) (i : ℕ) (r x : ReferenceCells) → slice_get all i ≡ Some r → ReferencesPlain k (take i all) out → reference_of x ≡ plain_reference k (reference_of r)
-    → (ReferenceMade r → ReferenceMade x) → ReferencesPlain k (take (i + 1) all) (out ++ x ∷ [])
-one-more-reference k all out i r x there a is made =
-    subst (λ l. ReferencesPlain k l (out ++ x ∷ [])) (sym (take_more all i r (slice_get_within all i r there) ∙ ap (λ y. take i all ++ y ∷ []) (get_or_from_slice_get all i r r there)))
-    (push-reference k (take i all) out r x a is made)
+pub reference-stays : (k : ℕ → Bool) (r : ReferenceCells) → list_all is_without_lifetimes r.args.items ≡ true → reference_of r ≡ plain_reference k (reference_of r)
+reference-stays k r h =
+    ap (λ t. (let x : Reference = record { trait = r.trait_id.index; args = t } in x))
+    (ap (λ x. joined (trees_of x)) (sym (cells-stay k r.args.items h)) ∙ ap joined (trees-plain k (cells_of r.args.items)) ∙ joined-plain k (trees_of (cells_of r.args.items)))

@@ -23,6 +23,14 @@ is_kept kept.All i = true
 is_kept (kept.NamedIn cs) i = named_in cs.now i
 is_kept kept.None i = false
 
+-- the cell is no lifetime, and nothing in which a lifetime stands beside its parts or is bound
+abbrev pub is_without_lifetimes : TermCell → Bool
+is_without_lifetimes (cells.Lifetime r) = false
+is_without_lifetimes (cells.Ref r m) = false
+is_without_lifetimes (cells.FnPtr b n) = false
+is_without_lifetimes (cells.Principal b t n) = false
+is_without_lifetimes _ = true
+
 abbrev pub plain_cell : (ℕ → Bool) → Cell → Cell
 plain_cell k (node_cell l n) = node_cell (plain_label k l) n
 plain_cell k (reference_cell r m) = reference_cell (plain_label k r) m

@@ -14,7 +14,7 @@ ghost use Rattle.view_lowering.specs.Plain.{plain_struct, plain_trait, plain_imp
 ghost use Rattle.view_lowering.specs.Seen.{struct_sorts, trait_sorts, param_sorts};
 
 use crate::parts::{lower_reference, lower_references, param_kind, push_params};
-use crate::plain::{Kept, plain_cells, plain_reference, plain_references};
+use crate::plain::{Kept, plain_cells};
 use declarations::items::{AdtDef, GenericParamKind, ImplDef, TraitDef};
 use std::alloc::{AllocError, Global};
 use type_terms::Fault;
@@ -69,8 +69,7 @@ pub(crate) fn lower_trait(
     ensures full { result ≡ Err Fault.Full → SomeKindIsFull cx.new.entries cx.new.limit }
 {
     let params = trait_params(alloc, &entry.params)?;
-    let cells = plain_references(alloc, &entry.bounds, Kept::None)?;
-    let bounds = lower_references(alloc, cx, &cells)?;
+    let bounds = lower_references(alloc, cx, &entry.bounds, Kept::None)?;
     Ok(TraitDef {
         home: entry.owner,
         is_fundamental: entry.is_fundamental,
@@ -109,10 +108,9 @@ pub(crate) fn lower_impl(
     ensures full { result ≡ Err Fault.Full → SomeKindIsFull cx.new.entries cx.new.limit }
 {
     let params = impl_params(alloc, &entry.params)?;
-    let plain_header = plain_reference(alloc, &entry.header, Kept::All)?;
-    let header = lower_reference(alloc, cx, &plain_header)?;
-    let plain_clauses = plain_references(alloc, &entry.clauses, Kept::NamedIn(&entry.header.args))?;
-    let clauses = lower_references(alloc, cx, &plain_clauses)?;
+    let header = lower_reference(alloc, cx, &entry.header, Kept::All)?;
+    let kept = Kept::NamedIn(&entry.header.args);
+    let clauses = lower_references(alloc, cx, &entry.clauses, kept)?;
     Ok(ImplDef {
         home: entry.owner,
         params,

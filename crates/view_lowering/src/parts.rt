@@ -9,7 +9,10 @@ ghost use Rattle.declarations.specs.Merges.{Each};
 ghost use Rattle.workspace.specs.Made.{ReferenceMade, ReferencesMade};
 ghost use Rattle.workspace.specs.TermCounts.{reference_terms};
 ghost use Rattle.workspace.specs.Views.{sort_of_kind, sorts_of, reference_of};
+ghost use Rattle.view_lowering.specs.Plain.{plain_reference};
+ghost use Rattle.view_lowering.specs.PlainCells.{is_kept};
 
+use crate::plain::{Kept, are_without_lifetimes, plain_reference};
 use declarations::items::GenericParamKind;
 use std::alloc::{AllocError, Global};
 use term_folds::predicate::TraitRef;
@@ -41,8 +44,8 @@ pub(crate) fn push_params(
     Ok(())
 }
 
-/// A reference whose arguments are terms. Errors are those of `lower_args`.
-pub(crate) fn lower_reference(
+/// A reference whose arguments are the terms that its cells stand for. Errors are those of `lower_args`.
+fn lower_as_written(
     alloc: Global,
     cx: &mut Interner,
     cells: &ReferenceCells,
@@ -62,14 +65,37 @@ pub(crate) fn lower_reference(
     })
 }
 
-/// References whose arguments are terms, in order.
+/// A reference whose arguments are terms, with the lifetimes that are kept and without binders. Errors are those of `lower_args`.
+pub(crate) fn lower_reference(
+    alloc: Global,
+    cx: &mut Interner,
+    cells: &ReferenceCells,
+    kept: Kept<'_>,
+) -> Result<TraitRef, Fault>
+    requires { ReferenceMade cells.now }
+    ensures is { IfOk result (λ trait_ref. reference_in cx.new.entries trait_ref ≡ plain_reference (is_kept kept.entry) (reference_of cells.now)) }
+    ensures held { IfOk result (λ trait_ref. ReferenceHeld cx.new.entries trait_ref) }
+    ensures keeps { Keeps cx.old.entries cx.new.entries }
+    ensures limit { cx.new.limit ≡ cx.old.limit }
+    ensures few { length cx.new.entries ≤ length cx.old.entries + reference_terms (reference_of cells.now) }
+    ensures full { result ≡ Err Fault.Full → SomeKindIsFull cx.new.entries cx.new.limit }
+{
+    if are_without_lifetimes(&cells.args) {
+        return lower_as_written(alloc, cx, cells);
+    }
+    let plain = plain_reference(alloc, cells, kept)?;
+    lower_as_written(alloc, cx, &plain)
+}
+
+/// References whose arguments are terms, in order, with the lifetimes that are kept and without binders.
 pub(crate) fn lower_references(
     alloc: Global,
     cx: &mut Interner,
     list: &[ReferenceCells],
+    kept: Kept<'_>,
 ) -> Result<Vec<TraitRef>, Fault>
     requires { ReferencesMade list.now }
-    ensures are { IfOk result (λ refs. references_in cx.new.entries refs.items ≡ map reference_of list.now) }
+    ensures are { IfOk result (λ refs. references_in cx.new.entries refs.items ≡ map (plain_reference (is_kept kept.entry)) (map reference_of list.now)) }
     ensures held { IfOk result (λ refs. Each (ReferenceHeld cx.new.entries) refs.items) }
     ensures keeps { Keeps cx.old.entries cx.new.entries }
     ensures limit { cx.new.limit ≡ cx.old.limit }
@@ -78,7 +104,7 @@ pub(crate) fn lower_references(
 {
     let mut refs = Vec::new(alloc);
     for cells in list {
-        let trait_ref = lower_reference(alloc, cx, cells)?;
+        let trait_ref = lower_reference(alloc, cx, cells, kept)?;
         refs.push(trait_ref)?;
     }
     Ok(refs)

@@ -1,10 +1,11 @@
 //! Cells without binders, and with the lifetimes that are kept.
 ghost use Rattle.std.specs.Prelude.{◌≡◌, List, Bool, map, IfOk};
+ghost use Rattle.std.specs.List.{list_all};
 ghost use Rattle.type_terms.specs.Kinds.{region_label, RegionHeld};
-ghost use Rattle.workspace.specs.Made.{StackPart, AreMade, ReferenceMade, ReferencesMade, CellHeld, parts_behind};
+ghost use Rattle.workspace.specs.Made.{StackPart, AreMade, ReferenceMade, CellHeld, parts_behind};
 ghost use Rattle.workspace.specs.Views.{cell_of, cells_of, reference_of};
 ghost use Rattle.view_lowering.specs.Plain.{plain_label, is_lifetime, plain_reference};
-ghost use Rattle.view_lowering.specs.PlainCells.{names, named_in, is_kept, plain_cell};
+ghost use Rattle.view_lowering.specs.PlainCells.{names, named_in, is_kept, is_without_lifetimes, plain_cell};
 
 use std::alloc::{AllocError, Global};
 use type_terms::number::BoundVarIndexKind;
@@ -108,6 +109,21 @@ fn plain_cell(cell: TermCell, kept: Kept<'_>) -> TermCell
     }
 }
 
+/// Whether no lifetime stands among the cells, and nothing that may bind one: these are plain as they are, whatever is kept.
+pub(crate) fn are_without_lifetimes(cells: &[TermCell]) -> bool
+    ensures { result ≡ list_all is_without_lifetimes cells.now }
+{
+    cells.iter().all(|cell| {
+        !matches!(
+            *cell,
+            TermCell::Lifetime(_)
+                | TermCell::Ref { .. }
+                | TermCell::FnPtr { .. }
+                | TermCell::Principal { .. }
+        )
+    })
+}
+
 /// The cells with the lifetimes that are kept, and without binders. The error says that a request for memory was refused.
 pub(crate) fn plain_cells(
     alloc: Global,
@@ -138,22 +154,4 @@ pub(crate) fn plain_reference(
         trait_id: cells.trait_id,
         args,
     })
-}
-
-/// The references with the lifetimes that are kept, and without binders, in order. The error says that a request for memory was
-/// refused.
-pub(crate) fn plain_references(
-    alloc: Global,
-    list: &[ReferenceCells],
-    kept: Kept<'_>,
-) -> Result<Vec<ReferenceCells>, AllocError>
-    ensures are { IfOk result (λ plain. map reference_of plain.items ≡ map (plain_reference (is_kept kept.entry)) (map reference_of list.now)) }
-    ensures made { ReferencesMade list.now → IfOk result (λ plain. ReferencesMade plain.items) }
-{
-    let mut plain = Vec::new(alloc);
-    for cells in list {
-        let reference = plain_reference(alloc, cells, kept)?;
-        plain.push(reference)?;
-    }
-    Ok(plain)
 }

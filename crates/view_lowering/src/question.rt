@@ -11,7 +11,7 @@ ghost use Rattle.workspace.specs.Views.{question_of, variable_of};
 ghost use Rattle.view_lowering.specs.Questions.{IsQuestion, IsLowered, IsNextUnknown};
 
 use crate::parts::{lower_reference, lower_references};
-use crate::plain::{Kept, plain_reference, plain_references};
+use crate::plain::Kept;
 use std::alloc::Global;
 use term_folds::predicate::TraitRef;
 use type_terms::interner::Interner;
@@ -117,10 +117,8 @@ fn lower_entry(
     ensures limit { cx.new.limit ≡ cx.old.limit }
     ensures full { result ≡ Err Fault.Full → SomeKindIsFull cx.new.entries cx.new.limit ⊎ (MAX_INDEX < length entry.now.variables.items) }
 {
-    let plain_asked = plain_reference(alloc, &entry.asked, Kept::All)?;
-    let asked = lower_reference(alloc, cx, &plain_asked)?;
-    let plain_clauses = plain_references(alloc, &entry.clauses, Kept::All)?;
-    let clauses = lower_references(alloc, cx, &plain_clauses)?;
+    let asked = lower_reference(alloc, cx, &entry.asked, Kept::All)?;
+    let clauses = lower_references(alloc, cx, &entry.clauses, Kept::All)?;
     let unknowns = own_unknowns(alloc, cx, &entry.variables)?;
     Ok(LoweredQuestion {
         asked,

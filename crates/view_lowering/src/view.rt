@@ -1,5 +1,6 @@
 //! The whole view of a crate.
-ghost use Rattle.std.specs.Prelude.{◌≡◌, ◌+◌, ◌<◌, ◌≤◌, [], length, map, sum_by, Err, OnOk, IfOk};
+ghost use Rattle.std.specs.Prelude.{◌≡◌, ◌+◌, ◌<◌, ◌≤◌, [], length, map, sum_by, Err, OnOk, IfOk, IfErr};
+ghost use Rattle.type_terms.specs.declared.Fault.TheVariants.{Memory};
 ghost use Rattle.type_terms.specs.Terms.{Keeps};
 ghost use Rattle.type_terms.specs.Failures.{SomeKindIsFull};
 ghost use Rattle.declarations.specs.Held.{AreHeld};
@@ -14,6 +15,37 @@ use std::alloc::Global;
 use type_terms::interner::Interner;
 use type_terms::{CrateId, Fault};
 use workspace::Workspace;
+
+/// Makes room for the structs, traits and impls that the crate sees.
+fn reserve_seen(
+    workspace: &Workspace,
+    crate_id: CrateId,
+    decls: &mut Declarations,
+) -> Result<(), Fault>
+    requires { crate_id.index < length workspace.now.crates }
+    ensures same { decls.new ≡ decls.old }
+    ensures memory { IfErr result (λ fault. fault ≡ Memory) }
+{
+    let mut structs = 0;
+    for entry in workspace.structs() {
+        if workspace.sees(crate_id, entry.owner) {
+            structs += 1;
+        }
+    }
+    let mut traits = 0;
+    for entry in workspace.traits() {
+        if workspace.sees(crate_id, entry.owner) {
+            traits += 1;
+        }
+    }
+    let mut impls = 0;
+    for entry in workspace.impls() {
+        if workspace.sees(crate_id, entry.owner) {
+            impls += 1;
+        }
+    }
+    decls.reserve(structs, traits, impls)
+}
 
 /// Adds the structs that the crate sees.
 fn lower_structs(
@@ -136,6 +168,7 @@ pub fn lower(
     ensures full { result ≡ Err Fault.Full → SomeKindIsFull cx.new.entries cx.new.limit }
 {
     let mut decls = Declarations::new(alloc, crate_id);
+    reserve_seen(workspace, crate_id, &mut decls)?;
     lower_structs(alloc, cx, workspace, crate_id, &mut decls)?;
     lower_traits(alloc, cx, workspace, crate_id, &mut decls)?;
     lower_impls(alloc, cx, workspace, crate_id, &mut decls)?;

@@ -14,7 +14,6 @@ use Rattle.view_lowering.proofs.Plainly.{references-same, begins-plain}
 use Rattle.view_lowering.proofs.Named.{named-stands}
 use Rattle.std.specs.Prelude.{sum_by}
 use Rattle.workspace.specs.TermCounts.{reference_terms}
-use Rattle.view_lowering.proofs.Counts.{plain-terms, all-plain-terms}
 use Rattle.view_lowering.proofs.items.lower_impl.Goals as goal
 
 twice : (ps : List Param) → map (λ q. q.1) (sorted_params ps) ≡ map (λ p. sort_of_kind p.kind) ps
@@ -22,7 +21,7 @@ twice [] = refl
 twice (p ∷ ps) = ap (λ l. sort_of_kind p.kind ∷ l) (twice ps)
 
 pub lower_references-requires : goal.lower_references-requires
-lower_references-requires c = subst ReferencesMade (sym c.deref-4.ensures.value) (c.in_ok-plain_clauses.ensures.made (subst ReferencesMade (sym c.deref-2.ensures.value) c.requires.clauses))
+lower_references-requires c = subst ReferencesMade (sym c.deref-3.ensures.value) c.requires.clauses
 
 pub returns-clause-is : goal.returns-clause-is
 returns-clause-is c =
@@ -30,11 +29,12 @@ returns-clause-is c =
     let old = c.lower_reference.new.cx.entries in
     let new = c.lower_references.new.cx.entries in
     let cs = e.header.args.items in
+    let kept = named_in c.deref-2.result.now in
     join e.id.index e.owner.index _ _ _ _ _ _
     (sym (length-map c.in_ok-params.params.items sort_of_param) ∙ ap length (c.in_ok-params.ensures ∙ ap (map (λ p. sort_of_kind p.kind)) c.deref.ensures.value) ∙ length-map e.params.items (λ p. sort_of_kind p.kind))
-    (reference-same old new c.lower_references.ensures.keeps c.in_ok-header.header c.in_ok-header.ensures.held ∙ c.in_ok-header.ensures.is ∙ c.in_ok-plain_header.ensures.is)
-    (c.in_ok-clauses.ensures.are ∙ ap (map reference_of) c.deref-4.ensures.value ∙ c.in_ok-plain_clauses.ensures.are ∙ ap (λ x. map (plain_reference (named_in c.deref-3.result.now)) (map reference_of x)) c.deref-2.ensures.value
-    ∙ references-same (named_in c.deref-3.result.now) (stands_in (reference_of e.header).args) (λ i. ap (λ x. named_in x i) c.deref-3.ensures.value ∙ named-stands is_arg cs c.requires.header i) (map reference_of e.clauses.items))
+    (reference-same old new c.lower_references.ensures.keeps c.in_ok-header.header c.in_ok-header.ensures.held ∙ c.in_ok-header.ensures.is)
+    (c.in_ok-clauses.ensures.are ∙ ap (λ x. map (plain_reference kept) (map reference_of x)) c.deref-3.ensures.value
+    ∙ references-same kept (stands_in (reference_of e.header).args) (λ i. ap (λ x. named_in x i) c.deref-2.ensures.value ∙ named-stands is_arg cs c.requires.header i) (map reference_of e.clauses.items))
   where
     join : (n h p q : ℕ) (x y : Reference) (ks ls : List Reference) → p ≡ q → x ≡ y → ks ≡ ls
         → (let i : ImplDecl = record { name = n; home = h; params = p; header = x; clauses = ks } in i) ≡ record { name = n; home = h; params = q; header = y; clauses = ls }
@@ -50,7 +50,7 @@ returns-clause-held c =
       header = reference-kept old new k r c.in_ok-header.ensures.held;
       clauses = c.in_ok-clauses.ensures.held;
       begins =
-          ap begins_declared (args-same old new k r c.in_ok-header.ensures.held) ∙ ap (λ x. begins_declared x.args) (c.in_ok-header.ensures.is ∙ c.in_ok-plain_header.ensures.is)
+          ap begins_declared (args-same old new k r c.in_ok-header.ensures.held) ∙ ap (λ x. begins_declared x.args) c.in_ok-header.ensures.is
           ∙ begins-plain all_kept (reference_of c.args.entry.now.header).args ∙ c.requires.begins;
     }
 
@@ -64,29 +64,14 @@ pub returns-in_err-clauses-clause-full : goal.returns-in_err-clauses-clause-full
 returns-in_err-clauses-clause-full c = handed-on c.from_residual-in_err-clauses.result c.from_residual-in_err-clauses.ensures.1 (λ p. c.in_err-clauses.ensures.full (ap Err p))
 
 pub returns-in_err-header-clause-few : goal.returns-in_err-header-clause-few
-returns-in_err-header-clause-few c =
-    let header = ap reference_terms c.in_ok-plain_header.ensures.is ∙ plain-terms all_kept (reference_of c.args.entry.now.header) in
-    omega (arith, header, c.lower_reference.ensures.few)
-
-pub returns-in_err-plain_clauses-clause-few : goal.returns-in_err-plain_clauses-clause-few
-returns-in_err-plain_clauses-clause-few c =
-    let header = ap reference_terms c.in_ok-plain_header.ensures.is ∙ plain-terms all_kept (reference_of c.args.entry.now.header) in
-    omega (arith, header, c.lower_reference.ensures.few)
+returns-in_err-header-clause-few c = omega (arith, c.lower_reference.ensures.few)
 
 pub returns-in_err-clauses-clause-few : goal.returns-in_err-clauses-clause-few
 returns-in_err-clauses-clause-few c =
-    let header = ap reference_terms c.in_ok-plain_header.ensures.is ∙ plain-terms all_kept (reference_of c.args.entry.now.header) in
-    let clauses =
-    ap (λ x. sum_by reference_terms (map reference_of x)) c.deref-4.ensures.value ∙ ap (sum_by reference_terms) (c.in_ok-plain_clauses.ensures.are ∙ ap (λ x. map (plain_reference (named_in c.deref-3.result.now)) (map reference_of x)) c.deref-2.ensures.value)
-    ∙ all-plain-terms (named_in c.deref-3.result.now) (map reference_of c.args.entry.now.clauses.items)
-    in
-    omega (arith, header, clauses, c.lower_reference.ensures.few, c.lower_references.ensures.few)
+    let clauses = ap (λ x. sum_by reference_terms (map reference_of x)) c.deref-3.ensures.value in
+    omega (arith, clauses, c.lower_reference.ensures.few, c.lower_references.ensures.few)
 
 pub returns-clause-few : goal.returns-clause-few
 returns-clause-few c =
-    let header = ap reference_terms c.in_ok-plain_header.ensures.is ∙ plain-terms all_kept (reference_of c.args.entry.now.header) in
-    let clauses =
-    ap (λ x. sum_by reference_terms (map reference_of x)) c.deref-4.ensures.value ∙ ap (sum_by reference_terms) (c.in_ok-plain_clauses.ensures.are ∙ ap (λ x. map (plain_reference (named_in c.deref-3.result.now)) (map reference_of x)) c.deref-2.ensures.value)
-    ∙ all-plain-terms (named_in c.deref-3.result.now) (map reference_of c.args.entry.now.clauses.items)
-    in
-    omega (arith, header, clauses, c.lower_reference.ensures.few, c.lower_references.ensures.few)
+    let clauses = ap (λ x. sum_by reference_terms (map reference_of x)) c.deref-3.ensures.value in
+    omega (arith, clauses, c.lower_reference.ensures.few, c.lower_references.ensures.few)

@@ -1,38 +1,31 @@
 use Rattle.std.proofs.Common.{arith, subst, sym, ap, ◌∙◌, map, Err}
+use Rattle.std.specs.Prelude.{sum_by}
 use Rattle.type_terms.specs.Worlds.{TraitDecl}
 use Rattle.infer_table.proofs.FullFacts.{handed-on}
 use Rattle.workspace.specs.Made.{ReferencesMade}
+use Rattle.workspace.specs.TermCounts.{reference_terms}
 use Rattle.workspace.specs.Views.{reference_of}
 use Rattle.view_lowering.specs.Plain.{none_kept, plain_reference}
-use Rattle.std.specs.Prelude.{sum_by}
-use Rattle.workspace.specs.TermCounts.{reference_terms}
-use Rattle.view_lowering.proofs.Counts.{all-plain-terms}
 use Rattle.view_lowering.proofs.items.lower_trait.Goals as goal
 
 pub lower_references-requires : goal.lower_references-requires
-lower_references-requires c = subst ReferencesMade (sym c.deref-3.ensures.value) (c.in_ok-cells.ensures.made (subst ReferencesMade (sym c.deref-2.ensures.value) c.requires))
+lower_references-requires c = subst ReferencesMade (sym c.deref-2.ensures.value) c.requires
 
 pub returns-clause-is : goal.returns-clause-is
 returns-clause-is c =
     let e = c.args.entry.now in
     ap (λ bs. (let t : TraitDecl = record { name = e.id.index; home = e.owner.index; is_fundamental = e.is_fundamental; is_auto = e.is_auto; bounds = bs } in t))
-    (c.in_ok-bounds.ensures.are ∙ ap (map reference_of) c.deref-3.ensures.value ∙ c.in_ok-cells.ensures.are ∙ ap (λ x. map (plain_reference none_kept) (map reference_of x)) c.deref-2.ensures.value)
+    (c.in_ok-bounds.ensures.are ∙ ap (λ x. map (plain_reference none_kept) (map reference_of x)) c.deref-2.ensures.value)
 
 pub returns-in_err-bounds-clause-full : goal.returns-in_err-bounds-clause-full
 returns-in_err-bounds-clause-full c = handed-on c.from_residual-in_err-bounds.result c.from_residual-in_err-bounds.ensures.1 (λ p. c.in_err-bounds.ensures.full (ap Err p))
 
 pub returns-in_err-bounds-clause-few : goal.returns-in_err-bounds-clause-few
 returns-in_err-bounds-clause-few c =
-    let same =
-    ap (λ x. sum_by reference_terms (map reference_of x)) c.deref-3.ensures.value ∙ ap (sum_by reference_terms) (c.in_ok-cells.ensures.are ∙ ap (λ x. map (plain_reference none_kept) (map reference_of x)) c.deref-2.ensures.value)
-    ∙ all-plain-terms none_kept (map reference_of c.args.entry.now.bounds.items)
-    in
+    let same = ap (λ x. sum_by reference_terms (map reference_of x)) c.deref-2.ensures.value in
     omega (arith, same, c.lower_references.ensures.few)
 
 pub returns-clause-few : goal.returns-clause-few
 returns-clause-few c =
-    let same =
-    ap (λ x. sum_by reference_terms (map reference_of x)) c.deref-3.ensures.value ∙ ap (sum_by reference_terms) (c.in_ok-cells.ensures.are ∙ ap (λ x. map (plain_reference none_kept) (map reference_of x)) c.deref-2.ensures.value)
-    ∙ all-plain-terms none_kept (map reference_of c.args.entry.now.bounds.items)
-    in
+    let same = ap (λ x. sum_by reference_terms (map reference_of x)) c.deref-2.ensures.value in
     omega (arith, same, c.lower_references.ensures.few)

@@ -6,6 +6,7 @@ use Rattle.infer_table.proofs.FullFacts.{handed-on}
 use Rattle.view_lowering.proofs.References.{one-more-lowered}
 use Rattle.workspace.specs.TermCounts.{reference_terms}
 use Rattle.workspace.specs.Views.{reference_of}
+use Rattle.view_lowering.specs.PlainCells.{is_kept}
 use Rattle.view_lowering.proofs.Counts.{one-more, no-more}
 use Rattle.view_lowering.proofs.parts.lower_references.Goals as goal
 
@@ -30,7 +31,7 @@ loop-cells-preserved c =
       keeps = λ j y h. k j y (inv.keeps j y h);
       limit = c.lower_reference.ensures.limit ∙ inv.limit;
       few = let more = one-more reference_terms reference_of c.args.list.now i x c.loop-cells-test.true c.cells-item.is in omega (arith, more, inv.few, c.lower_reference.ensures.few);
-      are = ap (references_in new) put ∙ one-more-lowered old new k rs r c.args.list.now i x inv.held e inv.are c.in_ok-trait_ref.ensures.is;
+      are = ap (references_in new) put ∙ one-more-lowered (is_kept c.args.kept) old new k rs r c.args.list.now i x inv.held e inv.are c.in_ok-trait_ref.ensures.is;
       held = subst (TraitRefsHeld new) (sym put) (held-more old new k rs r inv.held c.in_ok-trait_ref.ensures.held);
     }
 

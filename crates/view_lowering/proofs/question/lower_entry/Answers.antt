@@ -14,7 +14,7 @@ use Rattle.view_lowering.specs.Plain.{unbound_references}
 use Rattle.view_lowering.proofs.question.lower_entry.Goals as goal
 
 pub lower_references-requires : goal.lower_references-requires
-lower_references-requires c = subst ReferencesMade (sym c.deref-2.ensures.value) (c.in_ok-plain_clauses.ensures.made (subst ReferencesMade (sym c.deref.ensures.value) c.requires.clauses))
+lower_references-requires c = subst ReferencesMade (sym c.deref.ensures.value) c.requires.clauses
 
 pub returns-clause-lowered : goal.returns-clause-lowered
 returns-clause-lowered c =
@@ -27,18 +27,18 @@ returns-clause-lowered c =
     let asked = c.in_ok-asked.asked in
     let clauses = c.in_ok-clauses.clauses.items in
     record {
-      asked = reference-same one all jk asked c.in_ok-asked.ensures.held ∙ c.in_ok-asked.ensures.is ∙ c.in_ok-plain_asked.ensures.is;
+      asked = reference-same one all jk asked c.in_ok-asked.ensures.held ∙ c.in_ok-asked.ensures.is;
       clauses =
-          all-same two all k clauses c.in_ok-clauses.ensures.held ∙ c.in_ok-clauses.ensures.are ∙ ap (map reference_of) c.deref-2.ensures.value ∙ c.in_ok-plain_clauses.ensures.are
+          all-same two all k clauses c.in_ok-clauses.ensures.held ∙ c.in_ok-clauses.ensures.are
           ∙ ap (λ x. unbound_references (map reference_of x)) c.deref.ensures.value;
-      unknowns = c.in_ok-unknowns.ensures.are ∙ ap (λ vs. own_from 0 0 (map variable_of vs)) c.deref-3.ensures.value;
+      unknowns = c.in_ok-unknowns.ensures.are ∙ ap (λ vs. own_from 0 0 (map variable_of vs)) c.deref-2.ensures.value;
       asked_held = reference-kept one all jk asked c.in_ok-asked.ensures.held;
       clauses_held = references-kept two all k clauses c.in_ok-clauses.ensures.held;
       unknowns_held = c.in_ok-unknowns.ensures.held;
     }
 
 pub returns-in_err-asked-clause-full : goal.returns-in_err-asked-clause-full
-returns-in_err-asked-clause-full c = handed-on c.from_residual-in_err-asked.result c.from_residual-in_err-asked.ensures.1 (λ p. inl (c.in_err-asked.ensures.full (ap Err p)))
+returns-in_err-asked-clause-full c = handed-on c.from_residual.result c.from_residual.ensures.1 (λ p. inl (c.in_err-asked.ensures.full (ap Err p)))
 
 pub returns-in_err-clauses-clause-full : goal.returns-in_err-clauses-clause-full
 returns-in_err-clauses-clause-full c = handed-on c.from_residual-in_err-clauses.result c.from_residual-in_err-clauses.ensures.1 (λ p. inl (c.in_err-clauses.ensures.full (ap Err p)))
@@ -47,4 +47,4 @@ pub returns-in_err-unknowns-clause-full : goal.returns-in_err-unknowns-clause-fu
 returns-in_err-unknowns-clause-full c =
     let SomeKind = SomeKindIsFull c.own_unknowns.new.cx.entries c.own_unknowns.new.cx.limit in
     let handed = c.from_residual-in_err-unknowns in
-    handed-on handed.result handed.ensures.1 (λ p. subst (λ (vs : List Param). SomeKind ⊎ (MAX_INDEX < length vs)) c.deref-3.ensures.value (c.in_err-unknowns.ensures.full (ap Err p)))
+    handed-on handed.result handed.ensures.1 (λ p. subst (λ (vs : List Param). SomeKind ⊎ (MAX_INDEX < length vs)) c.deref-2.ensures.value (c.in_err-unknowns.ensures.full (ap Err p)))

@@ -13,7 +13,7 @@ pub returns-clause-rules : goal.returns-clause-rules
 returns-clause-rules c = view-rules c.lower_impls.new.cx.entries c.lower_impls.new.decls c.args.workspace.now c.args.crate_id.index (returns-clause-written c)
 
 pub returns-in_err-lower_structs-clause-full : goal.returns-in_err-lower_structs-clause-full
-returns-in_err-lower_structs-clause-full c = handed-on c.from_residual.result c.from_residual.ensures.1 (λ p. c.in_err-lower_structs.ensures.full (ap Err p))
+returns-in_err-lower_structs-clause-full c = handed-on c.from_residual-in_err-lower_structs.result c.from_residual-in_err-lower_structs.ensures.1 (λ p. c.in_err-lower_structs.ensures.full (ap Err p))
 
 pub returns-in_err-lower_traits-clause-full : goal.returns-in_err-lower_traits-clause-full
 returns-in_err-lower_traits-clause-full c = handed-on c.from_residual-in_err-lower_traits.result c.from_residual-in_err-lower_traits.ensures.1 (λ p. c.in_err-lower_traits.ensures.full (ap Err p))
