@@ -6,7 +6,6 @@ pub mod Ends
 pub mod Collected
 pub mod Walking
 pub mod Passing
-pub mod Handles
 pub mod InOrder
 pub mod Taken
 pub mod Along

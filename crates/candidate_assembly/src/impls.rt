@@ -17,13 +17,11 @@ ghost use Rattle.assembly_laws.specs.Candidates.{rules_behind, by_the_impl, by_i
 ghost use Rattle.built_in_candidates.specs.Goals.{asked_of, candidate_of};
 ghost use Rattle.candidate_assembly.specs.Headers.{var_kind, StandInHeader, SpeaksOfParameters, HaveCandidates, HasTooMany, impls_above, matching_in};
 
-use crate::apart::are_apart;
 use crate::instances::{all_with_arguments, variable_kinds, variables_behind, with_arguments};
 use built_in_candidates::parts::nested_goals;
 use built_in_candidates::relate::relate_args;
 use declarations::declarations::Declarations;
 use declarations::items::ImplDef;
-use declarations::merge::split_smaller;
 use evaluation::{CandidateSource, CandidateSpec, Certainty, GoalSource};
 use infer_table::canonical::CanonicalVarKind;
 use infer_table::input::CanonicalInput;
@@ -105,7 +103,7 @@ pub fn consider_impl_candidate(
 }
 
 /// The impl of the lowest number above `last` that can match the goal: its self type is a parameter or has the head of the goal's, and
-/// its arguments and the goal's are not apart. No table is begun for the others.
+/// its arguments and the goal's are not apart. No table is begun for the others, and a fixed goal looks at no fixed header but its own.
 fn next_matching_impl(
     cx: &Interner,
     declarations: &Declarations,
@@ -119,23 +117,7 @@ fn next_matching_impl(
     ensures is { option_map (λ i. i.index) result ≡ next_above last (matching_in cx.now.entries declarations.now (asked_of cx.now.entries goal.now)) }
     ensures rises { Rises (map (λ i. i.id) declarations.now.impls) }
 {
-    let trait_ref = goal.goal.predicate.trait_ref;
-    let self_ty = trait_ref.self_ty(cx);
-    let lists = declarations.relevant_impls_above(cx, trait_ref.def_id, self_ty, last);
-    let (mut blanket, mut same_head) = lists;
-    'impls: while let Some((id, blanket_left, same_head_left)) = split_smaller(blanket, same_head) {
-        match declarations.impl_def(id) {
-            Some(def) => {
-                if !are_apart(cx, trait_ref.args, def.header.args) {
-                    return Some(id);
-                }
-            }
-            None => unreachable!(),
-        }
-        blanket = blanket_left;
-        same_head = same_head_left;
-    }
-    None
+    declarations.next_matching_impl(cx, goal.goal.predicate.trait_ref, last)
 }
 
 /// The candidate by the impl of the lowest number above `last` among those that can match the goal, if there is one. So

@@ -3,7 +3,6 @@
 //! considered, and at the end they are merged.
 #![tactic(auto)]
 
-mod apart;
 pub mod assembly;
 pub mod decided;
 pub mod impls;
