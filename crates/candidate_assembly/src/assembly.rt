@@ -161,7 +161,8 @@ pub fn assemble_builtin_impl_candidates(
     requires impls { HaveCandidates cx.old.entries declarations.now }
     requires bounds { HaveBounds cx.old.entries declarations.now }
     requires object { ObjectIsApplied declarations.now (trees_at cx.old.entries goal.now.goal.predicate.trait_ref.args.0) }
-    requires unsizing { (goal.now.goal.predicate.trait_ref.def_id.index == unsize) ≡ true → CanUnsize declarations.now (self_of (asked_of cx.old.entries goal.now)) }
+    requires unsizing { (goal.now.goal.predicate.trait_ref.def_id.index == unsize) ≡ true
+        → CanUnsize declarations.now (self_of (asked_of cx.old.entries goal.now)) }
     ensures keeps { Keeps cx.old.entries cx.new.entries }
     ensures limit { cx.new.limit ≡ cx.old.limit }
     ensures held { IfOk result (λ o. IfSome o (SpecHeld cx.new.entries)) }
@@ -196,7 +197,8 @@ pub fn assemble_impl_candidates(
     ensures rises { Rises (map (λ i. i.id) declarations.now.impls) }
     ensures full { let V = written cx.old.entries declarations.now in let a = asked_of cx.old.entries goal.now in
         result ≡ Err Fault.Full → SomeKindIsFull cx.new.entries cx.new.limit
-        ⊎ ForEachPast cx.old.entries done.now (λ seen. HasTooMany (length goal.now.variables.items) (slice_get (by_impls V a (impls_above (last_impl seen) V.impls)) 0)) }
+        ⊎ ForEachPast cx.old.entries done.now
+        (λ seen. HasTooMany (length goal.now.variables.items) (slice_get (by_impls V a (impls_above (last_impl seen) V.impls)) 0)) }
 {
     let last = last_impl(done);
     next_impl_candidate(alloc, cx, declarations, goal, last)

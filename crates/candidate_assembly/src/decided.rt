@@ -143,7 +143,8 @@ fn names_unsize(ids: &[TraitId]) -> bool
 /// Whether the principal of a `dyn` has an argument for each parameter of its trait but Self, and does not use the lifetimes that it binds.
 fn principal_fits(cx: &Interner, declarations: &Declarations, principal: Principal) -> bool
     requires { Has cx.now.entries args_lists principal.args.0 }
-    ensures { let args = trees_at cx.now.entries principal.args.0 in result ≡ (are_of_trait declarations.now principal.def_id.index (of_type ∷ sorts_of args) && is_shut args) }
+    ensures { let args = trees_at cx.now.entries principal.args.0 in
+        result ≡ (are_of_trait declarations.now principal.def_id.index (of_type ∷ sorts_of args) && is_shut args) }
 {
     args_are_for_principal(cx, declarations, principal.def_id, principal.args)
         && cx.outer_exclusive_binder(principal.args).index == 0
@@ -152,7 +153,8 @@ fn principal_fits(cx: &Interner, declarations: &Declarations, principal: Princip
 /// Whether the bounds of a `dyn` fit: its principal has its arguments, and `Unsize` is no auto trait of it.
 fn bounds_fit(cx: &Interner, declarations: &Declarations, bounds: Bounds) -> bool
     requires { Has cx.now.entries bounds_lists bounds.0 }
-    ensures { (r : Region) → let bs = trees_at cx.now.entries bounds.0 +++ region_trees r in result ≡ (principal_fits declarations.now bs && not (names_unsize bs)) }
+    ensures { (r : Region) → let bs = trees_at cx.now.entries bounds.0 +++ region_trees r in
+        result ≡ (principal_fits declarations.now bs && not (names_unsize bs)) }
 {
     let bounds = cx.bounds(bounds);
     match bounds.principal {
@@ -349,7 +351,8 @@ fn clauses_are_over(cx: &Interner, kinds: &[CanonicalVarKind], clauses: &[Clause
 /// types.
 fn is_asked(cx: &Interner, declarations: &Declarations, goal: &CanonicalInput) -> bool
     requires { GoalHeld cx.now.entries goal.now.goal }
-    ensures { let es = cx.now.entries in goal_over_kinds (written es declarations.now) (form_of es goal.now) ≡ (if result then Some (asked_of es goal.now) else None) }
+    ensures { let es = cx.now.entries in
+        goal_over_kinds (written es declarations.now) (form_of es goal.now) ≡ (if result then Some (asked_of es goal.now) else None) }
 {
     let trait_ref = goal.goal.predicate.trait_ref;
     if !reference_is_declared(cx, declarations, trait_ref) {
@@ -374,7 +377,8 @@ pub fn is_decided(cx: &Interner, declarations: &Declarations, goal: &CanonicalIn
     requires well { is_declared_well (written cx.now.entries declarations.now) ≡ true }
     requires fields { HaveFields cx.now.entries declarations.now }
     ensures is { let es = cx.now.entries in let f = form_of es goal.now in
-        decided (meaning_for (solving_of es declarations.now) f) (goal_over_kinds (written es declarations.now) f) ≡ (if result then Some (asked_of es goal.now) else None) }
+        decided (meaning_for (solving_of es declarations.now) f) (goal_over_kinds (written es declarations.now) f)
+        ≡ (if result then Some (asked_of es goal.now) else None) }
     ensures fits { IsTrue result → GoalFits cx.now.entries declarations.now goal.now }
 {
     let trait_ref = goal.goal.predicate.trait_ref;

@@ -53,7 +53,8 @@ fn instance_behind(
     ensures clauses_held { IfOk result (λ n. TraitRefsHeld cx.new.entries n.clauses.items) }
     ensures variables { IfOk result (λ n. n.variables.items ≡ map var_kind def.now.params.items) }
     ensures header { IfOk result (λ n. reference_in cx.new.entries n.header ≡ rules_behind others (reference_in cx.old.entries def.now.header)) }
-    ensures clauses { IfOk result (λ n. references_in cx.new.entries n.clauses.items ≡ map (rules_behind others) (references_in cx.old.entries def.now.clauses.items)) }
+    ensures clauses { IfOk result (λ n. references_in cx.new.entries n.clauses.items
+        ≡ map (rules_behind others) (references_in cx.old.entries def.now.clauses.items)) }
     ensures full { result ≡ Err Fault.Full → SomeKindIsFull cx.new.entries cx.new.limit ⊎ (MAX_INDEX < others + length def.now.params.items) }
 {
     let variables = variable_kinds(alloc, &def.params)?;
@@ -85,8 +86,10 @@ pub fn consider_impl_candidate(
     ensures limit { cx.new.limit ≡ cx.old.limit }
     ensures held { IfOk result (SpecHeld cx.new.entries) }
     ensures is { IfOk result (λ s. (V : World)
-        → candidate_of V goal.now.goal.predicate.trait_ref.def_id.index cx.new.entries s ≡ by_the_impl V (asked_of cx.old.entries goal.now) (impl_in cx.old.entries id def.now)) }
-    ensures full { result ≡ Err Fault.Full → SomeKindIsFull cx.new.entries cx.new.limit ⊎ (MAX_INDEX < length goal.now.variables.items + length def.now.params.items) }
+        → candidate_of V goal.now.goal.predicate.trait_ref.def_id.index cx.new.entries s
+        ≡ by_the_impl V (asked_of cx.old.entries goal.now) (impl_in cx.old.entries id def.now)) }
+    ensures full { result ≡ Err Fault.Full
+        → SomeKindIsFull cx.new.entries cx.new.limit ⊎ (MAX_INDEX < length goal.now.variables.items + length def.now.params.items) }
 {
     let instance = instance_behind(alloc, cx, goal.variables.len(), def)?;
     let asked = goal.goal.predicate.trait_ref.args;
