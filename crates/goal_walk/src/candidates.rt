@@ -134,23 +134,17 @@ pub(crate) struct Telling {
     pub(crate) goals: Vec<Goal>,
 }
 
-/// The candidate with the goals that it asks, if it tells why the goal at a place is answered so; none where it does not fit, which is
-/// noted.
-pub(crate) fn note_opened(
-    walk: &mut GoalWalk,
+/// The candidate with the goals that it asks, if it tells why the goal at a place is answered so; none where it does not fit.
+pub(crate) fn told_candidate(
+    walk: &GoalWalk,
     frame: &FrameWalk,
     opened: Option<Vec<Goal>>,
     place: usize,
 ) -> Option<Telling>
-    ensures references { walk.new.references ≡ walk.old.references }
-    ensures held { (es : List Entry) → IfSome opened (λ gs. GoalsHeld es gs.items) → IfSome result (λ t. GoalsHeld es t.goals.items) }
+    ensures { (es : List Entry) → IfSome opened (λ gs. GoalsHeld es gs.items) → IfSome result (λ t. GoalsHeld es t.goals.items) }
 {
-    let Some(goals) = opened else {
-        walk.note_misfit(place);
-        return None;
-    };
-    let outcome = frame.outcome()?;
-    let (source, certainty) = outcome;
+    let goals = opened?;
+    let (source, certainty) = frame.outcome()?;
     if !walk.tells(place, certainty) {
         return None;
     }

@@ -44,7 +44,6 @@ pub enum Standing {
 }
 
 /// A candidate whose header fits, with the goals that it asks, up to the first that is refused.
-#[derive(Drop)]
 pub struct CandidateNode {
     pub source: CandidateSource,
     /// How sure its response is; none if it was refused.
@@ -54,7 +53,6 @@ pub struct CandidateNode {
 }
 
 /// A goal, and why it is answered so.
-#[derive(Drop)]
 pub struct Node {
     input: InputId,
     pub answer: Answer,
@@ -69,16 +67,48 @@ pub struct Node {
     pub is_whole: bool,
     /// The candidates that tell why it is answered so; of a goal that holds, one that proves it.
     pub candidates: Vec<CandidateNode>,
-    /// How many candidates have headers that cannot be made equal to the goal.
-    pub misfits: u32,
 }
 
 /// The goals that were walked. Each has its place, in the order in which they were met.
-#[derive(Drop)]
 pub struct GoalWalk {
     /// The reference of the goal at each place, as the table resolved it when it was met.
     pub references: Vec<TraitRef>,
     pub nodes: Vec<Node>,
+}
+
+// Written, so that what owns one drops it by one call at each way out, and not field by field.
+impl Drop for CandidateNode {
+    fn drop(self) {
+        let CandidateNode {
+            source: _,
+            certainty: _,
+            premises: _,
+        } = self;
+    }
+}
+
+impl Drop for Node {
+    fn drop(self) {
+        let Node {
+            input: _,
+            answer: _,
+            standing: _,
+            is_coinductive: _,
+            is_open: _,
+            is_founded: _,
+            is_whole: _,
+            candidates: _,
+        } = self;
+    }
+}
+
+impl Drop for GoalWalk {
+    fn drop(self) {
+        let GoalWalk {
+            references: _,
+            nodes: _,
+        } = self;
+    }
 }
 
 /// Whether a candidate tells why the goal is answered so.
@@ -187,7 +217,6 @@ impl GoalWalk {
             is_founded: is_founded && answer == Answer::Yes,
             is_whole: false,
             candidates: Vec::new(alloc),
-            misfits: 0,
         })?;
         Ok(place)
     }
@@ -207,15 +236,6 @@ impl GoalWalk {
     {
         if let Some(node) = self.nodes.get_mut(place) {
             node.is_whole = true;
-        }
-    }
-
-    /// Notes a candidate whose header cannot be made equal to the goal at a place.
-    pub(crate) fn note_misfit(&mut self, place: usize)
-        ensures { self.new.references ≡ self.old.references }
-    {
-        if let Some(node) = self.nodes.get_mut(place) {
-            node.misfits = node.misfits.saturating_add(1);
         }
     }
 

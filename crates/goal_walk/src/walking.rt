@@ -9,7 +9,7 @@ ghost use Rattle.goal_walk.specs.Frames.{IsWalked};
 ghost use Rattle.goal_walk.specs.Walking.{GoalsHeld, IsWalkable, HasWalked};
 
 use crate::asking::{Met, meet_goal};
-use crate::candidates::{Telling, Tried, is_over, note_opened, try_next};
+use crate::candidates::{Telling, Tried, is_over, told_candidate, try_next};
 use crate::frames::FrameWalk;
 use crate::nodes::{CANDIDATE_LIMIT, CandidateNode, GoalWalk};
 use crate::settling::settle;
@@ -136,7 +136,7 @@ fn visit_candidate<H: GoalHandler>(
         return Ok(None);
     };
     let Tried { frame, opened } = tried;
-    let told = note_opened(walk, &frame, opened, place);
+    let told = told_candidate(walk, &frame, opened, place);
     walk_telling(graph, cache, cx, table, walk, mode, told, place, depth)?;
     take_back(table, before);
     frame.finish(cx)

@@ -28,8 +28,8 @@ visit_candidate-walk_telling-requires g t c κs within = (
   (
     within,
     (
-      walkable-same g.H.GoalHandler.meaning c.try_next.new.graph c.try_next.new.cache c.try_next.new.cx c.try_next.new.table c.args.walk.now.references.items c.note_opened-told.new.walk.references.items (walkable-asked g.H.GoalHandler.meaning c.args.graph.now c.try_next.new.graph c.args.cache.now c.try_next.new.cache c.args.cx.now c.try_next.new.cx c.args.table.now c.try_next.new.table c.args.walk.now.references.items c.requires.walkable c.try_next.ensures.again c.try_next.ensures.asked.entries c.try_next.ensures.table) (ap (λ r. r.items) c.note_opened-told.ensures.references),
-      c.note_opened-told.ensures.held c.try_next.new.cx.interner.entries (subst (λ o. IfSome o (λ x. IfSome x.opened (λ gs. GoalsHeld c.try_next.new.cx.interner.entries gs.items))) c.in-Some.is c.in_ok-tried.ensures.held),
+      walkable-asked g.H.GoalHandler.meaning c.args.graph.now c.try_next.new.graph c.args.cache.now c.try_next.new.cache c.args.cx.now c.try_next.new.cx c.args.table.now c.try_next.new.table c.args.walk.now.references.items c.requires.walkable c.try_next.ensures.again c.try_next.ensures.asked.entries c.try_next.ensures.table,
+      c.told_candidate-told.ensures c.try_next.new.cx.interner.entries (subst (λ o. IfSome o (λ x. IfSome x.opened (λ gs. GoalsHeld c.try_next.new.cx.interner.entries gs.items))) c.in-Some.is c.in_ok-tried.ensures.held),
     ),
   ),
 )
