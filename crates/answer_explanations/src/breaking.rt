@@ -1,21 +1,50 @@
 //! What is said of a later version that may break users.
 
 use diagnostics::{Diagnostic, Level, SpanLabel, on_line};
-use explanation_texts::{Texts, crate_name, note};
+use explanation_texts::{Texts, crate_name, is_fundamental, note, trait_name};
 use session_walks::BreakingCause;
 use std::alloc::{AllocError, Global};
-use type_terms::CrateId;
+use type_terms::{CrateId, TraitId};
+
+/// The trait of the impl of a section with a number.
+fn added_trait(texts: Texts<'_>, section: u32, number: u32) -> Option<TraitId> {
+    let place = (number as usize).checked_sub(1)?;
+    let added = texts.workspace.later_impls_of(section).get(place)?;
+    Some(added.entry.header.trait_id)
+}
+
+/// That users rely on what a trait is not implemented for, since it is fundamental, or else since it is an auto trait.
+fn relied_text(
+    alloc: Global,
+    texts: Texts<'_>,
+    relied: Option<TraitId>,
+) -> Result<String, AllocError> {
+    let Some(id) = relied else {
+        return String::from_str(alloc, "users rely on what the trait is not implemented for");
+    };
+    let name = trait_name(alloc, texts, id)?;
+    let name = name.as_str();
+    let sort = if is_fundamental(texts, id) {
+        "fundamental"
+    } else {
+        "an auto trait"
+    };
+    format!(in alloc; "`{name}` is {sort}: users rely on what it is not implemented for")
+}
 
 /// What is said at the header.
-fn label_of(alloc: Global, name: &str, cause: BreakingCause) -> Result<String, AllocError> {
+fn label_of(
+    alloc: Global,
+    texts: Texts<'_>,
+    name: &str,
+    cause: BreakingCause,
+    added: Option<TraitId>,
+) -> Result<String, AllocError> {
     match cause {
         BreakingCause::Orphan => {
             format!(in alloc; "this header breaks the orphan rule of crate `{name}`")
         }
-        BreakingCause::ReliedOn => String::from_str(
-            alloc,
-            "the trait is fundamental or auto: users rely on what it is not implemented for",
-        ),
+        BreakingCause::ReliedOn => relied_text(alloc, texts, added),
         BreakingCause::OpenWalk => {
             format!(in alloc; "a crate that uses `{name}` may have an impl that overlaps this one")
         }
@@ -61,7 +90,8 @@ pub(crate) fn breaking(
     let name = name.as_str();
     let message = format!(in alloc; "a later version of crate `{name}` may not add this impl")?;
     let mut told = Diagnostic::new(alloc, Level::Error, None, message);
-    let label = label_of(alloc, name, cause)?;
+    let added = added_trait(texts, section, number);
+    let label = label_of(alloc, texts, name, cause, added)?;
     mark_added(texts, section, number, label, &mut told)?;
     if let Some(said) = meaning(cause) {
         let message = String::from_str(alloc, said)?;

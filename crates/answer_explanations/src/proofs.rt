@@ -1,14 +1,11 @@
 //! What is said of a question that was answered yes.
 
-ghost use Rattle.declarations.specs.Merges.{Each};
-ghost use Rattle.proof_checker.specs.Steps.{StepHeld};
-ghost use Rattle.session_walks.specs.Walked.{ProofWalkHeld};
+ghost use Rattle.session_walks.specs.Walked.{ProofWalkHeld, StepsHeld};
 
 use answer_lines::ShownNames;
 use diagnostics::{Diagnostic, Level, ProofRow, Span, SpanLabel};
 use explanation_texts::{Spoken, Story, Texts, impl_name, note, source_name, speak, tell};
-use proof_checker::steps::{Step, Way};
-use session_walks::ProofWalk;
+use session_walks::{ProofWalk, Step, Way};
 use std::alloc::{AllocError, Global};
 use type_terms::interner::Interner;
 
@@ -44,7 +41,7 @@ fn speak_steps(
     names: &ShownNames<'_>,
     steps: &[Step],
 ) -> Result<Vec<Spoken>, AllocError>
-    requires { Each (StepHeld cx.now.entries) steps.now }
+    requires { StepsHeld cx.now.entries steps.now }
 {
     let mut spoken = Vec::new(alloc);
     for step in steps {

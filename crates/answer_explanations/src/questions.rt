@@ -2,8 +2,7 @@
 
 ghost use Rattle.std.specs.Prelude.{◌≡◌, IfOk};
 ghost use Rattle.answer_explanations.specs.Asked.{IsAskedOf};
-ghost use Rattle.goal_walk.specs.Walking.{ReferencesHeld};
-ghost use Rattle.session_walks.specs.Walked.{ProofWalkHeld};
+ghost use Rattle.session_walks.specs.Walked.{ProofWalkHeld, WalkHeld};
 ghost use Rattle.sessions.specs.Given.{AnswerValuesHeld};
 ghost use Rattle.sessions.specs.Subjects.{AsksProof, AsksRefutation, StaysOn};
 ghost use Rattle.text_definitions.specs.Declarations.{Question};
@@ -14,8 +13,9 @@ use crate::spending::{Next, Spending, too_long};
 use answer_lines::ShownNames;
 use diagnostics::{Diagnostic, Span};
 use explanation_texts::{Asking, Texts, left_open, refuted, tell, unproved, unsettled};
-use goal_walk::GoalWalk;
-use session_walks::{ProofWalk, explain_proof, explain_question, explain_refutation, unseen_at};
+use session_walks::{
+    GoalWalk, ProofWalk, explain_proof, explain_question, explain_refutation, unseen_at,
+};
 use sessions::{ProveAnswer, RefuteAnswer, Session};
 use std::alloc::{AllocError, Global};
 use type_terms::kinds::GenericArgKind;
@@ -118,7 +118,7 @@ fn tell_not_proved(
     walk: &GoalWalk,
     answer: NotProved,
 ) -> Result<Diagnostic, AllocError>
-    requires { ReferencesHeld session.now.terms walk.now.references.items }
+    requires { WalkHeld session.now.terms walk.now }
 {
     let story = tell(alloc, session.interner(), &question.names(), walk)?;
     let span = question.span();
@@ -126,11 +126,11 @@ fn tell_not_proved(
         NotProved::Unproved => {
             let asking = Asking {
                 seen: question.seen,
-                is_impl: false,
+                supertrait: None,
             };
             unproved(alloc, question.texts, &story, span, asking)
         }
-        NotProved::Maybe => unsettled(alloc, question.texts, &story, span, question.depth),
+        NotProved::Maybe => { unsettled(alloc, question.texts, &story, span, question.depth, None) }
     }
 }
 
@@ -207,7 +207,7 @@ fn tell_refutation(
     walk: &GoalWalk,
     answer: RefuteAnswer,
 ) -> Result<Diagnostic, Fault>
-    requires { ReferencesHeld session.now.terms walk.now.references.items }
+    requires { WalkHeld session.now.terms walk.now }
 {
     let unseen = unseen_at(session, walk, 0)?;
     let story = tell(alloc, session.interner(), &question.names(), walk)?;

@@ -1,5 +1,7 @@
 //! How much is spent on explanations.
 
+ghost use Rattle.std.specs.Prelude.{◌≡◌, ◌≤◌, ◌+◌, ◌*◌, false};
+
 use diagnostics::{Diagnostic, Level};
 use std::alloc::{AllocError, Global};
 
@@ -37,12 +39,16 @@ impl Spending {
     }
 
     /// Whether explanations took as much as they may: twice what the answers took, and what is free.
-    fn is_over(&self) -> bool {
+    fn is_over(&self) -> bool
+        ensures { result ≡ false → self.now.explaining ≤ 2 * self.now.answering + FREE }
+    {
         self.explaining > self.answering.saturating_mul(2).saturating_add(FREE)
     }
 
-    /// How it stands with a question that is to be explained next.
-    pub(crate) fn next(&mut self) -> Next {
+    /// How it stands with a question that is to be explained next: it is explained only where those before took no more than they may.
+    pub(crate) fn next(&mut self) -> Next
+        ensures { result ≡ Next.Explained → self.old.explaining ≤ 2 * self.old.answering + FREE }
+    {
         if !self.is_over() {
             return Next::Explained;
         }

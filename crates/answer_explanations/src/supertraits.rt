@@ -1,14 +1,13 @@
 //! What is said of a supertrait that is not held.
 
 ghost use Rattle.std.specs.Prelude.{◌≡◌};
-ghost use Rattle.goal_walk.specs.Walking.{ReferencesHeld};
+ghost use Rattle.session_walks.specs.Walked.{WalkHeld};
 ghost use Rattle.sessions.specs.Subjects.{StaysOn};
 
 use answer_lines::ShownNames;
 use diagnostics::{Diagnostic, Place, Span, on_line};
-use explanation_texts::{Asking, Story, Texts, impl_line, note, tell, unproved, unsettled};
-use goal_walk::GoalWalk;
-use session_walks::explain_supertrait;
+use explanation_texts::{Asking, Story, Texts, impl_line, tell, unproved, unsettled};
+use session_walks::{GoalWalk, explain_supertrait};
 use sessions::{Session, SupersAnswer};
 use std::alloc::{AllocError, Global};
 use type_terms::{Fault, ImplId};
@@ -55,27 +54,6 @@ fn header_span(texts: Texts<'_>, id: ImplId) -> Span {
     }
 }
 
-/// What is said of a goal that was not proved, or is not settled.
-fn explain_goal(
-    alloc: Global,
-    texts: Texts<'_>,
-    story: &Story<'_>,
-    unheld: Unheld,
-    depth: u32,
-    seen: &[ImplId],
-) -> Result<Diagnostic, AllocError> {
-    let span = header_span(texts, unheld.id);
-    if unheld.is_missing {
-        let asking = Asking {
-            seen,
-            is_impl: true,
-        };
-        unproved(alloc, texts, story, span, asking)
-    } else {
-        unsettled(alloc, texts, story, span, depth)
-    }
-}
-
 /// What is said of the supertrait.
 fn diagnose(
     alloc: Global,
@@ -85,14 +63,14 @@ fn diagnose(
     depth: u32,
     seen: &[ImplId],
 ) -> Result<Diagnostic, AllocError> {
-    let mut told = explain_goal(alloc, texts, story, unheld, depth, seen)?;
-    let number = unheld.number;
-    let reference = story.reference(0);
-    let said = format!(in alloc;
-        "`{reference}` is supertrait {number} of the header: an impl of the trait needs an impl of each of its supertraits"
-    )?;
-    told.children.push(note(alloc, said))?;
-    Ok(told)
+    let span = header_span(texts, unheld.id);
+    let supertrait = Some(unheld.number);
+    if unheld.is_missing {
+        let asking = Asking { seen, supertrait };
+        unproved(alloc, texts, story, span, asking)
+    } else {
+        unsettled(alloc, texts, story, span, depth, supertrait)
+    }
 }
 
 /// What is said of a supertrait that was walked.
@@ -105,7 +83,7 @@ fn explain_walk(
     depth: u32,
     seen: &[ImplId],
 ) -> Result<Diagnostic, AllocError>
-    requires { ReferencesHeld session.now.terms walk.now.references.items }
+    requires { WalkHeld session.now.terms walk.now }
 {
     let names = ShownNames {
         workspace: texts.workspace,

@@ -118,7 +118,7 @@ pub fn write_answers<W: Write>(
 }
 
 /// Why not all is explained.
-#[derive(Clone, Copy, PartialEq, Eq)]
+#[derive(Clone, Copy)]
 pub enum Lack {
     /// A request for memory was refused.
     Memory,

@@ -5,7 +5,7 @@ ghost use Rattle.std.specs.Prelude.{◌≤◌, IfSome};
 use coherence::parse_depth;
 
 /// When there are colours, after rustc's `--color`.
-#[derive(Clone, Copy, PartialEq, Eq)]
+#[derive(Clone, Copy)]
 pub enum ColorConfig {
     /// Where standard output is a terminal.
     Auto,

@@ -1,7 +1,9 @@
 //! What is said of a goal that is not settled: several ways, an unknown, the depth, or a cycle.
 
+ghost use Rattle.std.specs.Prelude.{◌≡◌, ◌<◌, ◌≤◌, ◌⊎◌, IfSome};
+
 use crate::items::{Texts, header_marks, help, impl_line, note};
-use crate::links::{last_of, push_links};
+use crate::links::{last_of, push_links, push_supertrait};
 use crate::sources::source_name;
 use crate::story::{Story, unsure_premise};
 use diagnostics::{Diagnostic, ErrCode, LIST_LIMIT, Level, Span, SpanLabel, Subdiagnostic};
@@ -10,15 +12,17 @@ use goal_walk::{Answer, CandidateNode};
 use std::alloc::{AllocError, Global};
 
 /// Why a goal is not settled.
-#[derive(Clone, Copy, PartialEq, Eq)]
+#[derive(Clone, Copy)]
 enum Doubt {
     /// The search met its depth limit.
     Depth,
+    /// The search met a limit, and it is not seen that it was that of the depth.
+    Limits,
     /// A goal needs itself.
     Cycle,
     /// More than one candidate is left.
     Ways,
-    /// The self type is not known.
+    /// An argument is not known.
     Open,
     /// None of these is seen.
     Other,
@@ -34,12 +38,32 @@ fn premise_answered(story: &Story<'_>, candidate: &CandidateNode, answer: Answer
     None
 }
 
-/// The goal for which a goal is not settled: one that its candidates ask, and that is not settled for the same cause if there is such.
-fn doubtful_premise(story: &Story<'_>, place: usize) -> Option<usize> {
-    let answer = story.answer(place);
-    if story.candidates(place).len() > 1 && answer == Answer::Maybe(MaybeCause::Ambiguity) {
-        return None;
+/// Whether a goal that holds when it is asked alone may meet the limit in the course of others: it asks goals, or those are not shown.
+fn may_go_deeper(story: &Story<'_>, place: usize) -> bool {
+    match story.only_candidate(place) {
+        Some(candidate) => !candidate.premises.is_empty(),
+        None => true,
     }
+}
+
+/// The goal through which a goal meets the depth limit, though each that it asks holds when it is asked alone; none where it is not known
+/// which it is.
+fn deep_premise(story: &Story<'_>, place: usize) -> Option<usize> {
+    let candidate = story.only_candidate(place)?;
+    let mut found = None;
+    let mut count = 0usize;
+    for premise in &candidate.premises {
+        if may_go_deeper(story, *premise) {
+            found = Some(*premise);
+            count = count.saturating_add(1);
+        }
+    }
+    if count == 1 { found } else { None }
+}
+
+/// The goal that the candidates of a goal ask for which that is not settled: one that is not settled for the same cause if there is such.
+fn unsure_goal(story: &Story<'_>, place: usize) -> Option<usize> {
+    let answer = story.answer(place);
     for candidate in story.candidates(place) {
         if let Some(premise) = premise_answered(story, candidate, answer) {
             return Some(premise);
@@ -51,6 +75,29 @@ fn doubtful_premise(story: &Story<'_>, place: usize) -> Option<usize> {
         }
     }
     None
+}
+
+/// Whether the goal at place 0 is not settled since a limit was met, or a goal needs itself.
+fn overflows(story: &Story<'_>) -> bool {
+    story.answer(0) == Answer::Maybe(MaybeCause::Overflow)
+}
+
+/// The goal that a goal asks for which that is not settled.
+fn doubtful_premise(story: &Story<'_>, place: usize) -> Option<usize> {
+    let is_ambiguous = story.answer(place) == Answer::Maybe(MaybeCause::Ambiguity);
+    if is_ambiguous && story.candidates(place).len() > 1 {
+        return None;
+    }
+    if story.is_unsure(place) {
+        if let Some(premise) = unsure_goal(story, place) {
+            return Some(premise);
+        }
+    }
+    if overflows(story) {
+        deep_premise(story, place)
+    } else {
+        None
+    }
 }
 
 /// The goals from place 0 down, each one for which the one above is not settled, to the first that is not settled by itself: with more
@@ -72,11 +119,13 @@ fn doubtful_path(alloc: Global, story: &Story<'_>) -> Result<Vec<usize>, AllocEr
 fn doubt_of(story: &Story<'_>, leaf: usize) -> Doubt {
     if story.is_cycle(leaf) {
         Doubt::Cycle
-    } else if story.answer(0) == Answer::Maybe(MaybeCause::Overflow) {
+    } else if overflows(story) && story.is_cut(leaf) {
         Doubt::Depth
+    } else if overflows(story) {
+        Doubt::Limits
     } else if story.candidates(leaf).len() > 1 {
         Doubt::Ways
-    } else if story.is_unknown(leaf) {
+    } else if !story.unknown(leaf).is_empty() {
         Doubt::Open
     } else {
         Doubt::Other
@@ -93,7 +142,7 @@ fn message_of(
     let reference = story.reference(leaf);
     let first = story.reference(0);
     match doubt {
-        Doubt::Depth => {
+        Doubt::Depth | Doubt::Limits => {
             let message = format!(in alloc; "overflow evaluating the requirement `{first}`")?;
             Ok((ErrCode::E0275, message))
         }
@@ -119,16 +168,17 @@ fn said_at(
     depth: u32,
 ) -> Result<String, AllocError> {
     let reference = story.reference(leaf);
-    let subject = story.subject(leaf);
+    let unknown = story.unknown(leaf);
     match doubt {
         Doubt::Depth => format!(in alloc; "not settled within the depth limit {depth}"),
+        Doubt::Limits => String::from_str(alloc, "not settled within the limits of the search"),
         Doubt::Cycle => {
             format!(in alloc;
                 "`{reference}` needs itself: such a cycle proves nothing and refuses nothing"
             )
         }
         Doubt::Ways => String::from_str(alloc, "more than one way is left"),
-        Doubt::Open => format!(in alloc; "it is not known what `{subject}` is"),
+        Doubt::Open => format!(in alloc; "it is not known what `{unknown}` is"),
         Doubt::Other => format!(in alloc; "whether `{reference}` holds is not settled"),
     }
 }
@@ -172,17 +222,28 @@ fn push_ways(
     Ok(())
 }
 
+/// The greatest depth limit that a program takes.
+const GREATEST_DEPTH: u32 = 255;
+
+/// A greater depth limit to ask with, if there is one: twice as much, as far as that goes.
+fn deeper(depth: u32) -> Option<u32>
+    ensures greater { IfSome result (λ other. depth < other) }
+    ensures taken { IfSome result (λ other. other ≤ GREATEST_DEPTH) }
+    ensures none { result ≡ None → depth < 1 ⊎ GREATEST_DEPTH ≤ depth }
+{
+    let twice = depth.saturating_mul(2).min(GREATEST_DEPTH);
+    if twice > depth { Some(twice) } else { None }
+}
+
 /// Adds the advice to ask with a greater depth limit, where there is one.
 fn push_deeper(
     alloc: Global,
     depth: u32,
+    advice: &str,
     children: &mut Vec<Subdiagnostic>,
 ) -> Result<(), AllocError> {
-    let twice = depth.saturating_mul(2).min(255);
-    if twice > depth {
-        let message = format!(in alloc;
-            "ask with a greater depth limit: `{twice}` in place of `{depth}`"
-        )?;
+    if let Some(other) = deeper(depth) {
+        let message = format!(in alloc; "{advice}: `{other}` in place of `{depth}`")?;
         children.push(help(alloc, message))?;
     }
     Ok(())
@@ -200,18 +261,25 @@ fn push_doubt(
 ) -> Result<(), AllocError> {
     match doubt {
         Doubt::Ways => push_ways(alloc, texts, story, leaf, children),
-        Doubt::Depth => push_deeper(alloc, depth, children),
+        Doubt::Depth => push_deeper(alloc, depth, "ask with a greater depth limit", children),
+        Doubt::Limits => push_deeper(
+            alloc,
+            depth,
+            "a greater depth limit may settle it",
+            children,
+        ),
         Doubt::Cycle | Doubt::Open | Doubt::Other => Ok(()),
     }
 }
 
-/// What is said of a goal that is not settled, at a span.
+/// What is said of a goal that is not settled, at a span: of a question, or of the supertrait of a header with a number.
 pub fn unsettled(
     alloc: Global,
     texts: Texts<'_>,
     story: &Story<'_>,
     span: Span,
     depth: u32,
+    supertrait: Option<u32>,
 ) -> Result<Diagnostic, AllocError> {
     let path = doubtful_path(alloc, story)?;
     let leaf = last_of(&path);
@@ -221,6 +289,7 @@ pub fn unsettled(
     let said = said_at(alloc, story, doubt, leaf, depth)?;
     told.spans.push(SpanLabel::primary(span, said))?;
     push_links(alloc, texts, story, &path, &mut told.children)?;
+    push_supertrait(alloc, story, supertrait, &mut told.children)?;
     push_doubt(alloc, texts, story, doubt, leaf, depth, &mut told.children)?;
     Ok(told)
 }

@@ -1,7 +1,7 @@
 //! What is said of a goal of which no proof was found: the deepest goal that failed, and who asked for it.
 
 use crate::items::{Texts, has_rules, help, impl_line, note, trait_name, written};
-use crate::links::{last_of, push_links};
+use crate::links::{last_of, push_links, push_supertrait};
 use crate::refused::push_refused;
 use crate::story::{Story, refused_premise};
 use diagnostics::{
@@ -15,8 +15,8 @@ use type_terms::{ImplId, TraitId};
 pub struct Asking<'s> {
     /// The impls that its crate sees.
     pub seen: &'s [ImplId],
-    /// Whether it is an impl, and no question.
-    pub is_impl: bool,
+    /// Which supertrait of a header it asks for, from 1; none of a question.
+    pub supertrait: Option<u32>,
 }
 
 /// The goals from place 0 to the first that fails for a reason of its own: not since the one goal of its one candidate is refused.
@@ -210,7 +210,7 @@ fn push_helps(
     asking: Asking<'_>,
     children: &mut Vec<Subdiagnostic>,
 ) -> Result<(), AllocError> {
-    push_where(alloc, story, leaf, asking.is_impl, children)?;
+    push_where(alloc, story, leaf, asking.supertrait.is_some(), children)?;
     match story.spoken(leaf) {
         Some(spoken) => push_implemented(alloc, texts, spoken.trait_id, asking.seen, children),
         None => Ok(()),
@@ -233,6 +233,7 @@ pub fn unproved(
     let said = said_at(alloc, story, leaf)?;
     told.spans.push(SpanLabel::primary(span, said))?;
     push_links(alloc, texts, story, &path, &mut told.children)?;
+    push_supertrait(alloc, story, asking.supertrait, &mut told.children)?;
     push_leaf(alloc, texts, story, leaf, &mut told.children)?;
     push_helps(alloc, texts, story, leaf, asking, &mut told.children)?;
     Ok(told)

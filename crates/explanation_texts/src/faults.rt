@@ -2,8 +2,8 @@
 
 use crate::lines::whole_line;
 use crate::offending::{
-    Offence, above, hidden, mark, other_byte, other_space, push_help, reads_above, seeing_crate,
-    taken, unknown,
+    Offence, above, hidden, mark, misplaced, other_byte, other_space, push_help, reads_above,
+    seeing_crate, taken, unknown,
 };
 use diagnostics::{Diagnostic, ErrCode, Level, SourceFile};
 use name_resolution::FaultKind;
@@ -49,7 +49,6 @@ fn code(kind: FaultKind) -> Option<ErrCode> {
 fn advice(kind: FaultKind) -> Option<&'static str> {
     match kind {
         FaultKind::OtherByte => Some("write the text in ASCII, its comments too"),
-        FaultKind::Misplaced => Some("begin a crate above it: `crate NAME`"),
         FaultKind::FreeParam => Some(
             "leave the parameter out, or use it in the trait's arguments or in the self type",
         ),
@@ -95,6 +94,7 @@ fn offence(
     match fault.kind {
         FaultKind::OtherByte => other_byte(alloc, line),
         FaultKind::Syntax => other_space(alloc, line),
+        FaultKind::Misplaced => misplaced(alloc, file, fault.line),
         _ => Ok(None),
     }
 }

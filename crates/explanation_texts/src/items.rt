@@ -50,11 +50,7 @@ pub fn impl_name(alloc: Global, texts: Texts<'_>, id: ImplId) -> Result<String, 
 }
 
 /// The name of a trait.
-pub(crate) fn trait_name(
-    alloc: Global,
-    texts: Texts<'_>,
-    id: TraitId,
-) -> Result<String, AllocError> {
+pub fn trait_name(alloc: Global, texts: Texts<'_>, id: TraitId) -> Result<String, AllocError> {
     match texts.workspace.traits().get(id.index as usize) {
         Some(entry) => cut_text(alloc, &entry.name, TYPE_LIMIT),
         None => Ok(String::new(alloc)),
@@ -91,7 +87,7 @@ pub(crate) fn has_rules(texts: Texts<'_>, id: TraitId) -> bool {
 }
 
 /// Whether a trait is fundamental.
-pub(crate) fn is_fundamental(texts: Texts<'_>, id: TraitId) -> bool {
+pub fn is_fundamental(texts: Texts<'_>, id: TraitId) -> bool {
     match texts.workspace.traits().get(id.index as usize) {
         Some(entry) => entry.is_fundamental,
         None => false,

@@ -155,6 +155,23 @@ fn is_asked_by(story: &Story<'_>, link: Option<&Link>, id: Option<ImplId>) -> bo
     }
 }
 
+/// Adds that the goal at place 0 is the supertrait of a header with a number, from 1; nothing of a question.
+pub(crate) fn push_supertrait(
+    alloc: Global,
+    story: &Story<'_>,
+    supertrait: Option<u32>,
+    children: &mut Vec<Subdiagnostic>,
+) -> Result<(), AllocError> {
+    if let Some(number) = supertrait {
+        let reference = story.reference(0);
+        let message = format!(in alloc;
+            "`{reference}` is supertrait {number} of the header: an impl of a trait needs its supertraits to hold"
+        )?;
+        children.push(note(alloc, message))?;
+    }
+    Ok(())
+}
+
 /// Adds what the goals of a path are required for, from the inside out. Of goals in a row by one impl the first and the last are told.
 pub(crate) fn push_links(
     alloc: Global,

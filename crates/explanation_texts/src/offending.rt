@@ -1,5 +1,6 @@
 //! The token that a fault is about.
 
+use crate::lines::whole_line;
 use crate::similar::similar_name;
 use diagnostics::{
     Level, Place, SourceFile, SpanLabel, Subdiagnostic, TYPE_LIMIT, cut_text, on_line, text_of,
@@ -178,6 +179,22 @@ fn used_at<'t>(line: &'t [u8], place: Place) -> Used<'t> {
     }
 }
 
+/// Whether a line declares a name as its own.
+fn declares_own(
+    alloc: Global,
+    file: &SourceFile<'_>,
+    line: u32,
+    name: &[u8],
+) -> Result<bool, AllocError> {
+    let Some(read) = reading(alloc, file.line(line))? else {
+        return Ok(false);
+    };
+    match read.statement.declared_name() {
+        Some(own) => Ok(own == name),
+        None => Ok(false),
+    }
+}
+
 /// The line below a line that declares a name, if there is one.
 fn declared_below(
     alloc: Global,
@@ -188,12 +205,8 @@ fn declared_below(
     let count = u32::try_from(file.count_lines()).unwrap_or(0);
     for number in line..count {
         let below = number.saturating_add(1);
-        if let Some(read) = reading(alloc, file.line(below))? {
-            if let Some(own) = read.statement.declared_name() {
-                if own == name {
-                    return Ok(Some(below));
-                }
-            }
+        if declares_own(alloc, file, below, name)? {
+            return Ok(Some(below));
         }
     }
     Ok(None)
@@ -250,6 +263,70 @@ pub(crate) fn above(
     }
 }
 
+/// The first token that a line uses, and does not declare itself, of which a test holds.
+fn first_used<'t, P: Fn(Used<'t>) -> bool>(
+    alloc: Global,
+    line: &'t [u8],
+    holds: P,
+) -> Result<Option<Used<'t>>, AllocError>
+    requires { P.IsAlwaysCallable holds }
+{
+    let Some(read) = reading(alloc, line)? else {
+        return Ok(None);
+    };
+    for place in &token_places(alloc, line)? {
+        let used = used_at(line, *place);
+        if holds(used) && uses(&read, used.name) && !declares(&read, used.name) {
+            return Ok(Some(used));
+        }
+    }
+    Ok(None)
+}
+
+/// What is said of a lifetime that is not known.
+fn unknown_lifetime(alloc: Global, used: Used<'_>) -> Result<Offence, AllocError> {
+    let shown = cut_text(alloc, used.shown, TYPE_LIMIT)?;
+    let shown = shown.as_str();
+    Ok(Offence {
+        place: used.place,
+        label: format!(in alloc; "the lifetime `{shown}` is not declared in this line")?,
+        help: None,
+    })
+}
+
+/// That a name is not known.
+fn unknown_label(alloc: Global, used: Used<'_>) -> Result<String, AllocError> {
+    let shown = cut_text(alloc, used.shown, TYPE_LIMIT)?;
+    let shown = shown.as_str();
+    format!(in alloc; "`{shown}` is not known here")
+}
+
+/// What is said of a name that is not known.
+fn unknown_name(
+    alloc: Global,
+    file: &SourceFile<'_>,
+    line: u32,
+    workspace: &Workspace,
+    used: Used<'_>,
+) -> Result<Offence, AllocError> {
+    let label = unknown_label(alloc, used)?;
+    let help = unknown_help(alloc, file, line, workspace, used.name)?;
+    Ok(Offence {
+        place: used.place,
+        label,
+        help,
+    })
+}
+
+/// Whether a token that a line uses is not known, if the line does not declare it.
+fn is_unknown(workspace: &Workspace, used: Used<'_>) -> bool {
+    if used.is_lifetime {
+        used.shown != b"'static".as_slice()
+    } else {
+        workspace.known(used.name).is_none()
+    }
+}
+
 /// The token with a name that is not known.
 pub(crate) fn unknown(
     alloc: Global,
@@ -257,34 +334,16 @@ pub(crate) fn unknown(
     line: u32,
     workspace: &Workspace,
 ) -> Result<Option<Offence>, AllocError> {
-    let text = file.line(line);
-    let Some(read) = reading(alloc, text)? else {
+    let found = first_used(alloc, file.line(line), |used| is_unknown(workspace, used))?;
+    let Some(used) = found else {
         return Ok(None);
     };
-    for place in &token_places(alloc, text)? {
-        let used = used_at(text, *place);
-        let is_static = used.shown == b"'static".as_slice();
-        if is_static || !uses(&read, used.name) || declares(&read, used.name) {
-            continue;
-        }
-        let shown = cut_text(alloc, used.shown, TYPE_LIMIT)?;
-        let shown = shown.as_str();
-        if used.is_lifetime {
-            return Ok(Some(Offence {
-                place: used.place,
-                label: format!(in alloc; "the lifetime `{shown}` is not declared in this line")?,
-                help: None,
-            }));
-        }
-        if workspace.known(used.name).is_none() {
-            return Ok(Some(Offence {
-                place: used.place,
-                label: format!(in alloc; "`{shown}` is not known here")?,
-                help: unknown_help(alloc, file, line, workspace, used.name)?,
-            }));
-        }
-    }
-    Ok(None)
+    let told = if used.is_lifetime {
+        unknown_lifetime(alloc, used)
+    } else {
+        unknown_name(alloc, file, line, workspace, used)
+    };
+    Ok(Some(told?))
 }
 
 /// The name of a crate of a workspace.
@@ -319,6 +378,50 @@ fn hidden_help(
     Ok(Some(help))
 }
 
+/// The crate of the struct or trait that a token names, if another one does not see it.
+fn hidden_owner(workspace: &Workspace, seeing: CrateId, used: Used<'_>) -> Option<CrateId> {
+    if used.is_lifetime {
+        return None;
+    }
+    let owner = owner_of(workspace.known(used.name)?)?;
+    if is_hidden(workspace, seeing, owner) {
+        Some(owner)
+    } else {
+        None
+    }
+}
+
+/// Of which crate a struct or trait is.
+fn hidden_label(
+    alloc: Global,
+    workspace: &Workspace,
+    owner: CrateId,
+    used: Used<'_>,
+) -> Result<String, AllocError> {
+    let shown = cut_text(alloc, used.shown, TYPE_LIMIT)?;
+    let shown = shown.as_str();
+    let home = name_of(alloc, workspace, owner)?;
+    let home = home.as_str();
+    format!(in alloc; "`{shown}` is of crate `{home}`")
+}
+
+/// What is said of a struct or trait of a crate that another one does not see.
+fn hidden_name(
+    alloc: Global,
+    workspace: &Workspace,
+    seeing: CrateId,
+    owner: CrateId,
+    used: Used<'_>,
+) -> Result<Offence, AllocError> {
+    let label = hidden_label(alloc, workspace, owner, used)?;
+    let help = hidden_help(alloc, workspace, seeing, owner)?;
+    Ok(Offence {
+        place: used.place,
+        label,
+        help,
+    })
+}
+
 /// The token with a struct or trait that a crate does not see.
 pub(crate) fn hidden(
     alloc: Global,
@@ -327,34 +430,16 @@ pub(crate) fn hidden(
     workspace: &Workspace,
     seeing: CrateId,
 ) -> Result<Option<Offence>, AllocError> {
-    let text = file.line(line);
-    let Some(read) = reading(alloc, text)? else {
+    let found = first_used(alloc, file.line(line), |used| {
+        hidden_owner(workspace, seeing, used).is_some()
+    })?;
+    let Some(used) = found else {
         return Ok(None);
     };
-    for place in &token_places(alloc, text)? {
-        let used = used_at(text, *place);
-        if used.is_lifetime || !uses(&read, used.name) || declares(&read, used.name) {
-            continue;
-        }
-        let owner = match workspace.known(used.name) {
-            Some(known) => owner_of(known),
-            None => None,
-        };
-        if let Some(owner) = owner {
-            if is_hidden(workspace, seeing, owner) {
-                let shown = cut_text(alloc, used.shown, TYPE_LIMIT)?;
-                let shown = shown.as_str();
-                let home = name_of(alloc, workspace, owner)?;
-                let home = home.as_str();
-                return Ok(Some(Offence {
-                    place: used.place,
-                    label: format!(in alloc; "`{shown}` is of crate `{home}`")?,
-                    help: hidden_help(alloc, workspace, seeing, owner)?,
-                }));
-            }
-        }
+    match hidden_owner(workspace, seeing, used) {
+        Some(owner) => Ok(Some(hidden_name(alloc, workspace, seeing, owner, used)?)),
+        None => Ok(None),
     }
-    Ok(None)
 }
 
 /// The token with a declared name that is taken.
@@ -387,6 +472,46 @@ pub(crate) fn taken(
         }
     }
     Ok(None)
+}
+
+/// Whether a line stands in a section: a `later` line is the last above it that begins a crate or a section.
+fn is_in_section(alloc: Global, file: &SourceFile<'_>, line: u32) -> Result<bool, AllocError> {
+    let mut in_section = false;
+    for at in 1..line {
+        if let Some(read) = reading(alloc, file.line(at))? {
+            match &read.statement {
+                Statement::Crate { .. } => in_section = false,
+                Statement::Later { .. } => in_section = true,
+                _ => {}
+            }
+        }
+    }
+    Ok(in_section)
+}
+
+/// What is said of an item that no crate may have there.
+pub(crate) fn misplaced(
+    alloc: Global,
+    file: &SourceFile<'_>,
+    line: u32,
+) -> Result<Option<Offence>, AllocError> {
+    let (label, help) = if is_in_section(alloc, file, line)? {
+        (
+            "a later version adds impls alone here",
+            "declare it in the crate itself, above the section",
+        )
+    } else {
+        (
+            "no `crate` line stands above",
+            "begin a crate above it: `crate NAME`",
+        )
+    };
+    let help = String::from_str(alloc, help)?;
+    Ok(Some(Offence {
+        place: whole_line(file.line(line)),
+        label: String::from_str(alloc, label)?,
+        help: Some(help),
+    }))
 }
 
 /// What a name of a crate in the lines above stands for.

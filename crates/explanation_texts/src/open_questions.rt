@@ -5,8 +5,8 @@ use crate::sources::source_name;
 use crate::spoken::{Spoken, conflict_text};
 use crate::story::Story;
 use diagnostics::{Diagnostic, LIST_LIMIT, Level, Span, SpanLabel, Subdiagnostic};
-use evaluation::CandidateSource;
-use goal_walk::CandidateNode;
+use evaluation::{CandidateSource, Certainty};
+use goal_walk::{Answer, CandidateNode};
 use orphan_check::errors::Conflict;
 use std::alloc::{AllocError, Global};
 
@@ -36,6 +36,22 @@ fn is_left(candidate: &CandidateNode) -> bool {
     candidate.certainty.is_some() && candidate.source != CandidateSource::CoherenceUnknowable
 }
 
+/// What is said of a candidate that is left: that it applies, where the goal holds by it.
+fn way_text(
+    alloc: Global,
+    texts: Texts<'_>,
+    candidate: &CandidateNode,
+    holds: bool,
+) -> Result<String, AllocError> {
+    let name = source_name(alloc, texts, candidate.source)?;
+    let name = name.as_str();
+    if holds && candidate.certainty == Some(Certainty::Yes) {
+        format!(in alloc; "the {name} applies")
+    } else {
+        format!(in alloc; "the {name} may apply")
+    }
+}
+
 /// Adds the candidates that apply, or may. Of a type that is not known nothing is added: the one candidate stands for all of them.
 fn push_ways(
     alloc: Global,
@@ -55,9 +71,7 @@ fn push_ways(
                 return Ok(());
             }
             count = count.saturating_add(1);
-            let name = source_name(alloc, texts, candidate.source)?;
-            let name = name.as_str();
-            let message = format!(in alloc; "the {name} applies, or may")?;
+            let message = way_text(alloc, texts, candidate, story.answer(0) == Answer::Yes)?;
             children.push(note(alloc, message))?;
         }
     }

@@ -47,7 +47,7 @@ fn unseen_text(
     let said = conflict_text(alloc, spoken, conflict)?;
     let said = said.as_str();
     format!(in alloc;
-        "{said}, but it would need the supertraits of `{name}`, of which one is refused"
+        "{said}, but such an impl would need the supertraits of `{name}`, of which one is refused"
     )
 }
 
@@ -81,7 +81,9 @@ pub fn refuted(
     unseen: Option<Conflict>,
 ) -> Result<Diagnostic, AllocError> {
     let reference = story.reference(0);
-    let message = format!(in alloc; "no crate can ever make `{reference}` hold")?;
+    let message = format!(in alloc;
+        "no crate that may be linked with this one can make `{reference}` hold"
+    )?;
     let mut told = Diagnostic::new(alloc, Level::Note, None, message);
     told.spans
         .push(SpanLabel::primary(span, String::new(alloc)))?;
@@ -90,7 +92,7 @@ pub fn refuted(
         texts,
         story,
         0,
-        "which no crate can give",
+        "which no such crate can give",
         &mut told.children,
     )?;
     if let Some(spoken) = story.spoken(0) {

@@ -9,7 +9,7 @@ fn rule_name(source: BuiltinImplSource) -> &'static str {
     match source {
         BuiltinImplSource::Trivial => "built-in rule",
         BuiltinImplSource::Misc => "built-in rule",
-        BuiltinImplSource::Object(_) => "bound of the `dyn`",
+        BuiltinImplSource::Object(_) => "built-in rule of the `dyn`",
         BuiltinImplSource::TraitUpcasting(_) => "supertrait of the `dyn`'s bound",
     }
 }

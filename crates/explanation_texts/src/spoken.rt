@@ -22,6 +22,8 @@ pub struct Spoken {
     pub subject: String,
     /// `Show`
     pub bound: String,
+    /// The first argument that is an unknown, the self type among them: `?x`. Empty where none is.
+    pub unknown: String,
     pub trait_id: TraitId,
     /// Whether the self type is an unknown.
     pub is_unknown: bool,
@@ -36,6 +38,7 @@ impl Drop for Spoken {
             reference: _,
             subject: _,
             bound: _,
+            unknown: _,
             trait_id: _,
             is_unknown: _,
             is_param: _,
@@ -128,6 +131,42 @@ fn is_unknown(cx: &Interner, reference: TraitRef) -> bool
     }
 }
 
+/// An argument as text where it is a type that is an unknown, else empty.
+fn text_if_unknown(
+    alloc: Global,
+    cx: &Interner,
+    names: &ShownNames<'_>,
+    arg: GenericArgKind,
+) -> Result<String, AllocError>
+    requires { ArgHeld cx.now.entries arg }
+{
+    match arg {
+        GenericArgKind::Ty(ty) => match cx.kind(ty) {
+            TyKind::Infer(_) => type_text(alloc, cx, names, ty),
+            _ => Ok(String::new(alloc)),
+        },
+        _ => Ok(String::new(alloc)),
+    }
+}
+
+/// The first argument of a reference that is an unknown, as text; empty where none is.
+fn unknown_text(
+    alloc: Global,
+    cx: &Interner,
+    names: &ShownNames<'_>,
+    reference: TraitRef,
+) -> Result<String, AllocError>
+    requires { Has cx.now.entries args_lists reference.args.0 }
+{
+    for arg in cx.args(reference.args) {
+        let text = text_if_unknown(alloc, cx, names, *arg)?;
+        if !text.is_empty() {
+            return Ok(text);
+        }
+    }
+    Ok(String::new(alloc))
+}
+
 /// Whether the self type of a reference is a placeholder.
 fn is_param(cx: &Interner, reference: TraitRef) -> bool
     requires { Has cx.now.entries args_lists reference.args.0 }
@@ -149,6 +188,7 @@ pub fn speak(
 {
     let subject = subject_text(alloc, cx, names, reference)?;
     let bound = bound_text(alloc, cx, names, reference)?;
+    let unknown = unknown_text(alloc, cx, names, reference)?;
     let left = subject.as_str();
     let right = bound.as_str();
     let whole = format!(in alloc; "{left}: {right}")?;
@@ -156,6 +196,7 @@ pub fn speak(
         reference: whole,
         subject,
         bound,
+        unknown,
         trait_id: reference.def_id,
         is_unknown: is_unknown(cx, reference),
         is_param: is_param(cx, reference),

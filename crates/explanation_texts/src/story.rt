@@ -89,6 +89,14 @@ impl Story<'_> {
         }
     }
 
+    /// The first argument of a goal that is an unknown; empty where none is.
+    pub(crate) fn unknown(&self, place: usize) -> &str {
+        match self.spoken.get(place) {
+            Some(spoken) => spoken.unknown.as_str(),
+            None => "",
+        }
+    }
+
     /// How a goal is answered.
     pub fn answer(&self, place: usize) -> Answer {
         match self.walk.node(place) {

@@ -8,7 +8,9 @@ use Rattle.solver_context.specs.Contexts.{entries_of, KeepsLimits}
 use Rattle.solver_context.specs.declared.context.SolverCx.{SolverCx}
 use Rattle.candidate_assembly.specs.declared.solver.Solver.{Solver}
 use Rattle.goal_walk.specs.Walking.{ReferencesHeld}
+use Rattle.goal_walk.specs.declared.nodes.GoalWalk.{GoalWalk}
 use Rattle.proof_checker.specs.Steps.{StepHeld}
+use Rattle.proof_checker.specs.declared.steps.Step.{Step}
 use Rattle.sessions.specs.Proving.{SolvesTheSame}
 use Rattle.sessions.specs.Resting.{Cached}
 use Rattle.sessions.specs.Sessions.{SolverRests}
@@ -22,12 +24,20 @@ pub record RestsAfter (depth : ℕ) (old new : SolverCx Solver) (graph : SearchS
   pub keeps : Keeps (entries_of old) (entries_of new)
   pub limits : KeepsLimits old new
 
--- The references of a proof's walk and its steps are the interner's.
+-- The references of a walk are the interner's.
+abbrev pub WalkHeld : List Entry → GoalWalk → Type 0
+WalkHeld es w = ReferencesHeld es w.references.items
+
+-- So are steps.
+abbrev pub StepsHeld : List Entry → List Step → Type 0
+StepsHeld es ss = Each (StepHeld es) ss
+
+-- So are the walk of a proof and its steps.
 pub record ProofWalkHeld (es : List Entry) (p : ProofWalk) : Type 0 where
-  pub walked : ReferencesHeld es p.walk.references.items
-  pub steps : Each (StepHeld es) p.steps.items
+  pub walked : WalkHeld es p.walk
+  pub steps : StepsHeld es p.steps.items
 
 -- So are those of a pair's walk.
 pub record PairWalkHeld (es : List Entry) (p : PairWalk) : Type 0 where
   pub common : ReferenceHeld es p.common
-  pub walked : ReferencesHeld es p.walk.references.items
+  pub walked : WalkHeld es p.walk

@@ -24,7 +24,7 @@ use type_terms::interner::Interner;
 use workspace::Workspace;
 
 /// Why a later version of a crate may not add an impl.
-#[derive(Clone, Copy, PartialEq, Eq)]
+#[derive(Clone, Copy)]
 pub enum BreakingCause {
     /// Its header breaks the crate's orphan rule.
     Orphan,

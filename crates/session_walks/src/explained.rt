@@ -3,7 +3,6 @@
 ghost use Rattle.std.specs.Prelude.{◌≡◌, true, IfOk, IfSome};
 ghost use Rattle.type_terms.specs.Kinds.{ArgsHeld};
 ghost use Rattle.text_definitions.specs.Declarations.{Question};
-ghost use Rattle.goal_walk.specs.Walking.{ReferencesHeld};
 ghost use Rattle.sessions.specs.Later.{section_headers};
 ghost use Rattle.sessions.specs.Promises.{view_in};
 ghost use Rattle.sessions.specs.Releases.{IsSectionOf};
@@ -11,7 +10,7 @@ ghost use Rattle.sessions.specs.Shown.{AreProofOfQuestion};
 ghost use Rattle.sessions.specs.Subjects.{AsksProof, AsksRefutation, StaysOn};
 ghost use Rattle.session_walks.specs.Causes.{IsCauseAt};
 ghost use Rattle.session_walks.specs.Shown.{ShowsItsSteps};
-ghost use Rattle.session_walks.specs.Walked.{PairWalkHeld, ProofWalkHeld};
+ghost use Rattle.session_walks.specs.Walked.{PairWalkHeld, ProofWalkHeld, WalkHeld};
 
 use crate::breaking::{BreakingCause, breaking_cause};
 use crate::pairs::walk_pair;
@@ -30,7 +29,7 @@ use type_terms::{Fault, ImplId};
 /// The fault is `Memory` where memory is refused, or `Full` where a table of the session is full.
 pub fn explain_question(session: &mut Session<'_>, number: u32) -> Result<GoalWalk, Fault>
     requires { (q : Question) × AsksProof session.old.declarations session.old.of_crate number q }
-    ensures held { IfOk result (λ w. ReferencesHeld session.new.terms w.references.items) }
+    ensures held { IfOk result (WalkHeld session.new.terms) }
     ensures stays { StaysOn session.old session.new }
 {
     clauses_apply();
@@ -90,7 +89,7 @@ pub fn explain_proof(
 /// The fault is `Memory` where memory is refused, or `Full` where a table of the session is full.
 pub fn explain_refutation(session: &mut Session<'_>, number: u32) -> Result<GoalWalk, Fault>
     requires { (q : Question) × AsksRefutation session.old.declarations session.old.of_crate number q }
-    ensures held { IfOk result (λ w. ReferencesHeld session.new.terms w.references.items) }
+    ensures held { IfOk result (WalkHeld session.new.terms) }
     ensures stays { StaysOn session.old session.new }
 {
     walk_refutation(
@@ -112,7 +111,7 @@ pub fn explain_supertrait(
     id: ImplId,
     number: u32,
 ) -> Result<Option<GoalWalk>, Fault>
-    ensures held { IfOk result (λ o. IfSome o (λ w. ReferencesHeld session.new.terms w.references.items)) }
+    ensures held { IfOk result (λ o. IfSome o (WalkHeld session.new.terms)) }
     ensures stays { StaysOn session.old session.new }
 {
     impls_apply();

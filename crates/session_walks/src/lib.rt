@@ -23,3 +23,8 @@ pub use explained::{
 };
 pub use unseen::{impl_header, unseen_at, unseen_crates};
 pub use walks::{PairWalk, ProofWalk, ShownStep};
+
+// What walks are made of, so that who reads one names no crate below.
+pub use goal_walk::{Answer, GoalWalk};
+pub use orphan_check::errors::Conflict;
+pub use proof_checker::steps::{Step, Way};

@@ -3,9 +3,9 @@
 ghost use Rattle.std.specs.Prelude.{◌≡◌, IfOk, IfSome};
 ghost use Rattle.declarations.specs.Held.{ReferenceHeld};
 ghost use Rattle.declarations.specs.Items.{declared, reference_in};
-ghost use Rattle.goal_walk.specs.Walking.{ReferencesHeld};
 ghost use Rattle.sessions.specs.Promises.{view_in};
 ghost use Rattle.session_walks.specs.Unseen.{IsUnseen};
+ghost use Rattle.session_walks.specs.Walked.{WalkHeld};
 
 use crate::places::reference_at;
 use declarations::declarations::Declarations;
@@ -70,7 +70,7 @@ pub fn unseen_at(
     walk: &GoalWalk,
     place: usize,
 ) -> Result<Option<Conflict>, Fault>
-    requires { ReferencesHeld session.now.terms walk.now.references.items }
+    requires { WalkHeld session.now.terms walk.now }
 {
     match reference_at(&walk.references, place) {
         Some(reference) => unseen_crates(session, reference),
