@@ -1,9 +1,9 @@
 //! The candidates by built-in rules, one after the other.
-ghost use Rattle.std.specs.Prelude.{◌≡◌, ◌==◌, true, List, IfOk, IfSome, Err, option_map};
+ghost use Rattle.term_folds.specs.Growth.{Grew, FullAtLimit};
+ghost use Rattle.std.specs.Prelude.{◌≡◌, ◌==◌, true, List, IfOk, IfSome, option_map, IfErr};
 ghost use Rattle.std.specs.List.{slice_get};
 ghost use Rattle.type_terms.specs.Rules.{unsize, is_auto};
-ghost use Rattle.type_terms.specs.Terms.{Keeps, Entry, trees_at};
-ghost use Rattle.type_terms.specs.Failures.{SomeKindIsFull};
+ghost use Rattle.type_terms.specs.Terms.{Entry, trees_at};
 ghost use Rattle.evaluation.specs.Readings.{SpecHeld};
 ghost use Rattle.declarations.specs.Items.{written};
 ghost use Rattle.declarations.specs.Applied.{HaveBounds};
@@ -90,12 +90,11 @@ fn consider_rule_for(
 ) -> Result<Option<CandidateSpec>, Fault>
     requires considered { CanBeConsidered cx.old.entries declarations.now goal.now }
     requires impls { HavePlainHeads cx.old.entries declarations.now }
-    ensures keeps { Keeps cx.old.entries cx.new.entries }
-    ensures limit { cx.new.limit ≡ cx.old.limit }
+    ensures grew { Grew cx.old cx.new }
     ensures held { IfOk result (λ o. IfSome o (SpecHeld cx.new.entries)) }
     ensures is { let V = written cx.old.entries declarations.now in
         IfOk result (λ o. candidates_of V goal.now.goal.predicate.trait_ref.def_id.index cx.new.entries o ≡ of_rule V (asked_of cx.old.entries goal.now) rule) }
-    ensures full { result ≡ Err Fault.Full → SomeKindIsFull cx.new.entries cx.new.limit }
+    ensures full { IfErr result (FullAtLimit cx.new) }
 {
     match rule {
         BuiltInRule::Sized => consider_builtin_sized_candidate(alloc, cx, declarations, goal),
@@ -117,13 +116,12 @@ fn consider_rule(
 ) -> Result<Option<CandidateSpec>, Fault>
     requires considered { CanBeConsidered cx.old.entries declarations.now goal.now }
     requires impls { HavePlainHeads cx.old.entries declarations.now }
-    ensures keeps { Keeps cx.old.entries cx.new.entries }
-    ensures limit { cx.new.limit ≡ cx.old.limit }
+    ensures grew { Grew cx.old cx.new }
     ensures held { IfOk result (λ o. IfSome o (SpecHeld cx.new.entries)) }
     ensures is { let V = written cx.old.entries declarations.now in
         IfOk result (λ o. candidates_of V goal.now.goal.predicate.trait_ref.def_id.index cx.new.entries o
         ≡ by_the_rule V (asked_of cx.old.entries goal.now) rule) }
-    ensures full { result ≡ Err Fault.Full → SomeKindIsFull cx.new.entries cx.new.limit }
+    ensures full { IfErr result (FullAtLimit cx.new) }
 {
     if speaks_of(declarations, rule, goal.goal.predicate.trait_ref.def_id) {
         consider_rule_for(alloc, cx, declarations, goal, rule)
@@ -158,12 +156,11 @@ pub fn consider_builtin_candidate(
     requires object { ObjectIsApplied declarations.now (trees_at cx.old.entries goal.now.goal.predicate.trait_ref.args.0) }
     requires unsizing { (goal.now.goal.predicate.trait_ref.def_id.index == unsize) ≡ true
         → CanUnsize declarations.now (self_of (asked_of cx.old.entries goal.now)) }
-    ensures keeps { Keeps cx.old.entries cx.new.entries }
-    ensures limit { cx.new.limit ≡ cx.old.limit }
+    ensures grew { Grew cx.old cx.new }
     ensures held { IfOk result (λ o. IfSome o (SpecHeld cx.new.entries)) }
     ensures is { let V = written cx.old.entries declarations.now in let a = asked_of cx.old.entries goal.now in
         IfOk result (λ o. option_map (candidate_of V a.reference.trait cx.new.entries) o ≡ slice_get (built_in V a) place) }
-    ensures full { result ≡ Err Fault.Full → SomeKindIsFull cx.new.entries cx.new.limit }
+    ensures full { IfErr result (FullAtLimit cx.new) }
 {
     let rules = [
         BuiltInRule::Sized,

@@ -1,14 +1,14 @@
 //! The types that a type is made of, as far as built-in rules ask for them (`structural_traits`).
-ghost use Rattle.std.specs.Prelude.{◌≡◌, ℕ, IfOk, IfErr, IfSome, Err, None, map, if◌then◌else◌};
+ghost use Rattle.term_folds.specs.Growth.{Grew, FullAtLimit};
+ghost use Rattle.std.specs.Prelude.{◌≡◌, ℕ, IfOk, IfErr, IfSome, None, map, if◌then◌else◌};
 ghost use Rattle.std.specs.List.{flat_map};
 ghost use Rattle.type_terms.specs.Label.{slice, uint};
 ghost use Rattle.type_terms.specs.Trees.{tree, leaf, none, instantiate, outer_binder};
 ghost use Rattle.type_terms.specs.Worlds.{World, structs_named};
 ghost use Rattle.type_terms.specs.Rules.{sized, sized_rules, sized_struct, copy_rules, auto_rules_plain, auto_struct, tuple_rules, fn_ptr_rules, row, last_asked, each_asked, fields_of};
-ghost use Rattle.type_terms.specs.Terms.{Keeps, Has, types, args_lists, trees_at};
+ghost use Rattle.type_terms.specs.Terms.{Has, types, args_lists, trees_at};
 ghost use Rattle.type_terms.specs.declared.Fault.TheVariants.{Memory};
 ghost use Rattle.term_folds.specs.Arguments.{first_misfit};
-ghost use Rattle.type_terms.specs.Failures.{SomeKindIsFull};
 ghost use Rattle.declarations.specs.Items.{written};
 ghost use Rattle.declarations.specs.Held.{AreHeld};
 ghost use Rattle.declarations.specs.Merges.{Each};
@@ -47,11 +47,10 @@ pub(crate) fn field_with(
     requires args { Has cx.old.entries args_lists args.0 }
     requires closed { outer_binder (trees_at cx.old.entries args.0) ≡ 0 }
     requires fits { first_misfit (trees_at cx.old.entries args.0) (trees_at cx.old.entries field.0) ≡ None }
-    ensures keeps { Keeps cx.old.entries cx.new.entries }
-    ensures limit { cx.new.limit ≡ cx.old.limit }
+    ensures grew { Grew cx.old cx.new }
     ensures held { IfOk result (λ r. Has cx.new.entries types r.0) }
     ensures is { IfOk result (λ r. trees_at cx.new.entries r.0 ≡ instantiate 0 (trees_at cx.old.entries args.0) (trees_at cx.old.entries field.0)) }
-    ensures full { result ≡ Err Fault.Full → SomeKindIsFull cx.new.entries cx.new.limit }
+    ensures full { IfErr result (FullAtLimit cx.new) }
 {
     closed_arguments_are_in_range();
     match EarlyBinder::bind(field).instantiate(alloc, cx, args) {
@@ -113,13 +112,12 @@ fn sized_constraint(
     requires fields { HaveFields cx.old.entries declarations.now }
     requires args { Has cx.old.entries args_lists args.0 }
     requires applied { AreArguments declarations.now def_id.index (trees_at cx.old.entries args.0) }
-    ensures keeps { Keeps cx.old.entries cx.new.entries }
-    ensures limit { cx.new.limit ≡ cx.old.limit }
+    ensures grew { Grew cx.old cx.new }
     ensures are { IfOk result (AreConstituents (λ v. v.items) cx.new.entries sized
         (flat_map (λ x. row sized_struct (last_asked sized (fields_of x (trees_at cx.old.entries args.0))))
         (structs_named (written cx.old.entries declarations.now) def_id.index))) }
     ensures held { IfOk result (λ o. IfSome o (λ v. TypesHeld cx.new.entries v.items)) }
-    ensures full { result ≡ Err Fault.Full → SomeKindIsFull cx.new.entries cx.new.limit }
+    ensures full { IfErr result (FullAtLimit cx.new) }
 {
     match declarations.adt_def(def_id) {
         Some(def) => match def.fields.split_last() {
@@ -147,12 +145,11 @@ pub(crate) fn instantiate_constituent_tys_for_sized_trait(
     requires fields { HaveFields cx.old.entries declarations.now }
     requires self_held { Has cx.old.entries types self_ty.0 }
     requires applied { StructIsApplied declarations.now (trees_at cx.old.entries self_ty.0) }
-    ensures keeps { Keeps cx.old.entries cx.new.entries }
-    ensures limit { cx.new.limit ≡ cx.old.limit }
+    ensures grew { Grew cx.old cx.new }
     ensures are { IfOk result (AreConstituents (λ v. v.items) cx.new.entries sized
         (sized_rules (written cx.old.entries declarations.now) (with_plain_head (trees_at cx.old.entries self_ty.0)))) }
     ensures held { IfOk result (λ o. IfSome o (λ v. TypesHeld cx.new.entries v.items)) }
-    ensures full { result ≡ Err Fault.Full → SomeKindIsFull cx.new.entries cx.new.limit }
+    ensures full { IfErr result (FullAtLimit cx.new) }
 {
     cx.lawful();
     match cx.kind(self_ty) {
@@ -255,12 +252,11 @@ fn fields_with(
     requires args { Has cx.old.entries args_lists args.0 }
     requires closed { outer_binder (trees_at cx.old.entries args.0) ≡ 0 }
     requires fits { Each (λ f. first_misfit (trees_at cx.old.entries args.0) (trees_at cx.old.entries f.0) ≡ None) fields.now }
-    ensures keeps { Keeps cx.old.entries cx.new.entries }
-    ensures limit { cx.new.limit ≡ cx.old.limit }
+    ensures grew { Grew cx.old cx.new }
     ensures held { IfOk result (λ v. TypesHeld cx.new.entries v.items) }
     ensures are { IfOk result (λ v. field_trees cx.new.entries v.items
         ≡ map (instantiate 0 (trees_at cx.old.entries args.0)) (field_trees cx.old.entries fields.now)) }
-    ensures full { result ≡ Err Fault.Full → SomeKindIsFull cx.new.entries cx.new.limit }
+    ensures full { IfErr result (FullAtLimit cx.new) }
 {
     let mut found = Vec::new(alloc);
     let mut left = fields;
@@ -284,13 +280,12 @@ fn all_fields(
     requires fields { HaveFields cx.old.entries declarations.now }
     requires args { Has cx.old.entries args_lists args.0 }
     requires applied { AreArguments declarations.now def_id.index (trees_at cx.old.entries args.0) }
-    ensures keeps { Keeps cx.old.entries cx.new.entries }
-    ensures limit { cx.new.limit ≡ cx.old.limit }
+    ensures grew { Grew cx.old cx.new }
     ensures are { IfOk result (λ o. (t : ℕ)
         → AreConstituents (λ v. v.items) cx.new.entries t (flat_map (λ x. row auto_struct (each_asked t (fields_of x (trees_at cx.old.entries args.0))))
         (structs_named (written cx.old.entries declarations.now) def_id.index)) o) }
     ensures held { IfOk result (λ o. IfSome o (λ v. TypesHeld cx.new.entries v.items)) }
-    ensures full { result ≡ Err Fault.Full → SomeKindIsFull cx.new.entries cx.new.limit }
+    ensures full { IfErr result (FullAtLimit cx.new) }
 {
     match declarations.adt_def(def_id) {
         Some(def) => {
@@ -304,11 +299,10 @@ fn all_fields(
 
 /// The type of a string's bytes: `[u8]`.
 fn str_bytes(cx: &mut Interner) -> Result<Ty, Fault>
-    ensures keeps { Keeps cx.old.entries cx.new.entries }
-    ensures limit { cx.new.limit ≡ cx.old.limit }
+    ensures grew { Grew cx.old cx.new }
     ensures held { IfOk result (λ r. Has cx.new.entries types r.0) }
     ensures is { IfOk result (λ r. trees_at cx.new.entries r.0 ≡ tree slice (leaf (uint 0)) none) }
-    ensures full { result ≡ Err Fault.Full → SomeKindIsFull cx.new.entries cx.new.limit }
+    ensures full { IfErr result (FullAtLimit cx.new) }
 {
     let byte = cx.mk_ty(TyKind::Uint(UintTy::U8))?;
     let bytes = cx.mk_ty(TyKind::Slice(byte))?;
@@ -327,13 +321,12 @@ pub(crate) fn instantiate_constituent_tys_for_auto_trait(
     requires fields { HaveFields cx.old.entries declarations.now }
     requires self_held { Has cx.old.entries types self_ty.0 }
     requires applied { StructIsApplied declarations.now (trees_at cx.old.entries self_ty.0) }
-    ensures keeps { Keeps cx.old.entries cx.new.entries }
-    ensures limit { cx.new.limit ≡ cx.old.limit }
+    ensures grew { Grew cx.old cx.new }
     ensures are { IfOk result (λ o. (t : ℕ)
         → AreConstituents (λ v. v.items) cx.new.entries t
         (auto_rules_plain (written cx.old.entries declarations.now) t (with_plain_head (trees_at cx.old.entries self_ty.0))) o) }
     ensures held { IfOk result (λ o. IfSome o (λ v. TypesHeld cx.new.entries v.items)) }
-    ensures full { result ≡ Err Fault.Full → SomeKindIsFull cx.new.entries cx.new.limit }
+    ensures full { IfErr result (FullAtLimit cx.new) }
 {
     cx.lawful();
     match cx.kind(self_ty) {

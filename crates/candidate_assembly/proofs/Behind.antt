@@ -1,6 +1,6 @@
 -- An impl's terms with variables in the place of its parameters.
 use Rattle.std.proofs.Math.Bridge.{le_prop}
-use Rattle.std.proofs.Common.{◌≡◌, ℕ, zero, suc, ◌+◌, ◌≤◌, subst, arith, Bool, true, false, List, [], ◌∷◌, length, map, refl, sym, ap, ◌∙◌, Option, Some, None}
+use Rattle.std.proofs.Common.{◌≡◌, ℕ, zero, suc, ◌+◌, ◌≤◌, subst, arith, Bool, true, false, List, [], ◌∷◌, map, refl, sym, ap, ◌∙◌, Option, Some, None}
 use Rattle.std.specs.Prelude.{cond}
 use Rattle.std.specs.Option.{option_or}
 use Rattle.type_terms.specs.Label.{Sort, canonical, param, inside}
@@ -126,10 +126,6 @@ module _ (es fs : List Entry) (kept : Keeps es fs) where
 -- ---- the arguments of an impl's instance
 pub arguments-are : (es fs : List Entry) (i n : ℕ) (xs : List GenericArgKind) (ks : List CanonicalVarKind) → Is fs args_lists i (args_trees es xs) → values_of es xs ≡ variables_from n ks → trees_at fs i ≡ variables n ks
 arguments-are es fs i n xs ks is e = trees-is fs args_lists i (args_trees es xs) is ∙ args-variables es xs n ks e
-
-pub kinds-length : (ps : List GenericParamKind) → length (map var_kind ps) ≡ length ps
-kinds-length [] = refl
-kinds-length (p ∷ ps) = ap suc (kinds-length ps)
 
 impl-back : (a b : ImplId) → a.index ≡ b.index → a ≡ b
 impl-back a b h = subst (λ (m : ℕ). (p : m ≤ MAX_INDEX) → a ≡ record { index = m; in_range = p }) h (λ p. ap (λ (q : a.index ≤ MAX_INDEX). record { index = a.index; in_range = q }) (le_prop a.in_range p)) b.in_range

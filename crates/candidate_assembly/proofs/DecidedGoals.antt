@@ -1,5 +1,5 @@
 -- Goals that are decided, while the interner grows, and what comes next for them.
-use Rattle.std.proofs.Common.{◌≡◌, ◌==◌, ℕ, Bool, true, false, if◌then◌else◌, List, [], ◌∷◌, ◌++◌, map, length, reverse, refl, sym, ◌∙◌, ap, subst, Option, Some, None}
+use Rattle.std.proofs.Common.{◌≡◌, ◌==◌, Bool, true, false, if◌then◌else◌, List, [], ◌∷◌, ◌++◌, map, length, reverse, refl, sym, ◌∙◌, ap, subst, Option, Some, None}
 use Rattle.std.specs.List.{slice_get}
 use Rattle.type_terms.specs.Worlds.{World}
 use Rattle.type_terms.specs.Rules.{unsize}
@@ -30,7 +30,7 @@ use Rattle.built_in_candidates.specs.Constituents.{StructIsApplied, CanBeConside
 use Rattle.candidate_assembly.specs.Counted.{ForEachPast}
 use Rattle.candidate_assembly.specs.Fitting.{GoalFits, solving_of}
 use Rattle.built_in_candidates.specs.Goals.{asked_of}
-use Rattle.candidate_assembly.specs.Headers.{HasTooMany, impls_above}
+use Rattle.candidate_assembly.specs.Headers.{impls_above}
 use Rattle.declarations.proofs.Elaborating.{applied-later}
 use Rattle.candidate_assembly.specs.Kept.{ready-kept, solving-kept}
 use Rattle.candidate_assembly.specs.Nexts.{handled_in, ForEachHistory}
@@ -120,17 +120,6 @@ first-of c x y e = ap (λ z. or_else z y) e
 
 pub second-of : (x y o : Option Candidate) → None ≡ x → o ≡ y → o ≡ or_else x y
 second-of x y o e f = f ∙ ap (λ z. or_else z y) e
-
-pub many-first : (n : ℕ) (x y : Option Candidate) → HasTooMany n x → HasTooMany n (or_else x y)
-many-first n None y h = absurd h
-many-first n (Some c) y h = h
-
-pub many-second : (n : ℕ) (x y : Option Candidate) → None ≡ x → HasTooMany n y → HasTooMany n (or_else x y)
-many-second n x y e h = subst (λ z. HasTooMany n (or_else z y)) e h
-
--- what is found at a place that is told in two ways
-pub many-at : (n : ℕ) (x y : Option Candidate) → x ≡ y → HasTooMany n x → HasTooMany n y
-many-at n x y e h = subst (HasTooMany n) e h
 
 -- ---- sections
 abbrev pub next_impl : World → GoalOverKinds → SolverPast → Option Candidate

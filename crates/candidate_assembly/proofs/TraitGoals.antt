@@ -1,11 +1,10 @@
 -- The step of a goal's frame: what comes next in each of its histories.
-use Rattle.std.proofs.Common.{◌≡◌, ◌<◌, ℕ, zero, suc, Bool, true, false, not, ◌&&◌, ◌||◌, if◌then◌else◌, List, [], ◌∷◌, ◌++◌, map, length, refl, sym, ◌∙◌, ap, subst, Option, Some, None}
+use Rattle.std.proofs.Common.{◌≡◌, ℕ, zero, suc, Bool, true, false, not, ◌&&◌, ◌||◌, if◌then◌else◌, List, [], ◌∷◌, ◌++◌, map, refl, sym, ◌∙◌, ap, subst, Option, Some, None}
 use Rattle.std.specs.Prelude.{IfSome}
 use Rattle.std.specs.List.{slice_get}
 use Rattle.type_terms.specs.Worlds.{World}
 use Rattle.type_terms.specs.Made.{terms, is_made}
 use Rattle.type_terms.specs.Terms.{Entry}
-use Rattle.type_terms.specs.declared.TheConstants.{MAX_INDEX}
 use Rattle.type_terms.proofs.Made.{false-true, left, right}
 use Rattle.term_folds.specs.declared.predicate.Clause.{Clause}
 use Rattle.term_folds.specs.declared.predicate.Clause.TheVariants.{Trait, RegionOutlives, TypeOutlives}
@@ -28,7 +27,6 @@ use Rattle.evaluation.specs.Variables.{is_variable_over}
 use Rattle.goal_frames.specs.Fitting.{IsOver}
 use Rattle.evaluation.specs.StepReadings.{equation_read, nested_read, spec_read}
 use Rattle.goal_frames.specs.RuleFitting.{slots_of, IsOverSlots}
-use Rattle.goal_frames.specs.Shortages.{HasTooManyVariables}
 use Rattle.goal_frames.proofs.KnownKinds.{all-known as known-some}
 use Rattle.declarations.specs.Items.{Items, written}
 use Rattle.assembly_laws.specs.Asking.{GoalOverKinds, all_known, are_clauses, goal_over_kinds, self_of, begins_unknown, clauses}
@@ -41,13 +39,12 @@ use Rattle.assembly_laws.proofs.LawfulCandidates.{asked-clauses}
 use Rattle.assembly_laws.proofs.CandidateKinds.{every-split}
 use Rattle.candidate_assembly.specs.Fitting.{solving_of}
 use Rattle.built_in_candidates.specs.Goals.{asked_of, candidate_of}
-use Rattle.candidate_assembly.specs.Headers.{HasTooMany}
 use Rattle.candidate_assembly.specs.Merging.{end_in}
 use Rattle.candidate_assembly.specs.Nexts.{handled_in, next_for, mode_at_end}
 use Rattle.candidate_assembly.specs.Ready.{AreReadyDeclarations, Decides}
 use Rattle.candidate_assembly.specs.Sections.{misc_is_bound, is_unknowable, is_built_in, is_bound, sources_tell, considered_from, early, late, is_first, next_in, decided, next_candidate, end_of, or_end}
 use Rattle.candidate_assembly.specs.Solving.{meaning_for}
-use Rattle.candidate_assembly.proofs.Histories.{ends-answer, histories-tell}
+use Rattle.candidate_assembly.proofs.Histories.{histories-tell}
 use Rattle.candidate_assembly.proofs.Over.{goal-over}
 use Rattle.candidate_assembly.proofs.OverCandidates.{all-fit, unknowable-fits}
 
@@ -88,19 +85,6 @@ module _ (es : List Entry) (d : Items) (g : CanonicalInput) where
 
     pub answers : (seen : SolverPast) → IsHistory (workings frame_tables) (handled_in es d g).next seen → None ≡ next_for es d g seen → wanted frame_tables (end_in (mode_at_end g.mode b) g.variables.items seen) ≡ (handled_in es d g).next seen
     answers seen t e = ap (wanted frame_tables) (end-same seen) ∙ ap (λ o. or_end o (end seen)) e ∙ sym (next-is seen t)
-
-    -- ---- where numbers run out
-    pub candidate-many : (seen : SolverPast) → IsHistory (workings frame_tables) (handled_in es d g).next seen → HasTooMany (length g.variables.items) (next_for es d g seen) → HasTooManyVariables g.variables.items ((handled_in es d g).next seen)
-    candidate-many seen t x = subst (HasTooManyVariables g.variables.items) (sym (next-is seen t)) (by (next_for es d g seen) x)
-      where
-        by : (o : Option Candidate) → HasTooMany (length g.variables.items) o → HasTooManyVariables g.variables.items (or_end o (end seen))
-        by None y = absurd y
-        by (Some c) y = y
-
-    pub answer-many : (seen : SolverPast) → IsHistory (workings frame_tables) (handled_in es d g).next seen → None ≡ next_for es d g seen → MAX_INDEX < length g.variables.items → HasTooManyVariables g.variables.items ((handled_in es d g).next seen)
-    answer-many seen t e lt =
-        let a = ends-answer g.variables.items (mode_at_end g.mode b) seen in
-        subst (HasTooManyVariables g.variables.items) (sym (ap (wanted frame_tables) a.is) ∙ answers seen t e) lt
 
 -- ---- candidates are over the goal's variables and their own
 unmap : {A B : Type 0} (P : B → Type 0) (f : A → B) (xs : List A) → Every P (map f xs) → Every (λ x. P (f x)) xs

@@ -1,9 +1,8 @@
 -- A walk over the impls that can match a goal, from one to the next.
-use Rattle.std.proofs.Common.{◌≡◌, ℕ, zero, suc, length, Bool, true, false, cond, ◌&&◌, arith, List, [], ◌∷◌, Option, Some, None, refl, sym, ap, subst, ◌∙◌}
+use Rattle.std.proofs.Common.{◌≡◌, ℕ, Bool, true, false, cond, ◌&&◌, arith, List, [], ◌∷◌, Option, Some, None, refl, sym, ap, subst, ◌∙◌}
 use Rattle.std.proofs.lemmas.Bool.Decides.{nat_tests}
 use Rattle.std.specs.Prelude.{◌==◌, filter, if◌then◌else◌}
 use Rattle.std.specs.List.{slice_get}
-use Rattle.type_terms.specs.Trees.{Trees}
 use Rattle.type_terms.specs.Worlds.{World, ImplDecl}
 use Rattle.type_terms.specs.Terms.{Entry, trees_at}
 use Rattle.type_terms.specs.declared.ImplId.{ImplId}
@@ -12,7 +11,7 @@ use Rattle.declarations.specs.Items.{HeldImpl, impl_at}
 use Rattle.declarations.specs.Merges.{Each}
 use Rattle.declarations.specs.Relevant.{is_above, next_above}
 use Rattle.assembly_laws.specs.Asking.{GoalOverKinds, with_plain_head}
-use Rattle.assembly_laws.specs.Candidates.{kinds_of_params, by_impls, by_the_impl, can_match}
+use Rattle.assembly_laws.specs.Candidates.{by_impls, by_the_impl, can_match}
 use Rattle.built_in_candidates.proofs.Relevant.{names}
 use Rattle.candidate_assembly.specs.Headers.{CanBeCandidate}
 
@@ -89,11 +88,6 @@ one-of-number x n (i ∷ is) h = by (i.name == n) refl h (one-of-number x n is)
         let others : filter (λ (j : ImplDecl). j.name == n) is ≡ [] = cc in
         (λ t. first, none-of-number (λ j. j ≡ x) n is others)
     by false e h rest = (λ t. let bad : true ≡ false = sym t ∙ e in absurd cc, rest h)
-
--- an impl's candidate has as many variables as the impl has parameters
-pub kinds-counted : (h : Trees) (i n : ℕ) → length (kinds_of_params h i n) ≡ n
-kinds-counted h i zero = refl
-kinds-counted h i (suc n) = ap suc (kinds-counted h (suc i) n)
 
 pub at-number : (P : ImplDef → Type 0) (n : ℕ) (is : List HeldImpl) (def : ImplDef) → Each (λ i. P i.def) is → Some def ≡ impl_at n is → P def
 at-number P n [] def h e = absurd cc

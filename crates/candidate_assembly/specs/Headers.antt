@@ -1,9 +1,8 @@
 -- Impls whose parameters can be made unknowns of a candidate.
-use Rattle.std.specs.Prelude.{◌≡◌, ◌+◌, ◌<◌, ◌==◌, ◌&&◌, ℕ, List, length, map, filter, Option, Some, None}
+use Rattle.std.specs.Prelude.{◌≡◌, ◌==◌, ◌&&◌, ℕ, List, length, map, filter, Option}
 use Rattle.type_terms.specs.Worlds.{ImplDecl}
 use Rattle.type_terms.specs.Terms.{Entry, trees_at}
 use Rattle.type_terms.specs.declared.ImplId.{ImplId}
-use Rattle.type_terms.specs.declared.TheConstants.{MAX_INDEX}
 use Rattle.infer_table.specs.declared.canonical.CanonicalVarKind.{CanonicalVarKind}
 use Rattle.infer_table.specs.declared.canonical.CanonicalVarKind.TheVariants.{Ty, Const as ConstVar, Region}
 use Rattle.declarations.specs.declared.items.GenericParamKind.{GenericParamKind}
@@ -16,7 +15,7 @@ use Rattle.declarations.specs.Items.{Items, written}
 use Rattle.declarations.specs.Merges.{Each}
 use Rattle.declarations.specs.Relevant.{is_above}
 use Rattle.assembly_laws.specs.Asking.{GoalOverKinds, with_plain_head}
-use Rattle.assembly_laws.specs.Candidates.{Candidate, can_match, kinds_of_params}
+use Rattle.assembly_laws.specs.Candidates.{can_match, kinds_of_params}
 use Rattle.assembly_laws.specs.DeclaredWell.{IsDeclaredWell}
 
 -- The kind of the unknown that stands for a parameter.
@@ -56,8 +55,3 @@ impls_above last is = filter (λ i. is_above last i.name) is
 -- The numbers of the impls that can match.
 abbrev pub matching_in : List Entry → Items → GoalOverKinds → List ℕ
 matching_in es d a = map (λ (i : ImplDecl). i.name) (filter (λ (i : ImplDecl). (i.header.trait == a.reference.trait) && can_match a.reference.args i.header.args) (written es d).impls)
-
--- The candidate has so many variables of its own that there are no numbers for them behind n others.
-abbrev pub HasTooMany : ℕ → Option Candidate → Type 0
-HasTooMany n None = ⊥
-HasTooMany n (Some c) = MAX_INDEX < n + length c.kinds

@@ -1,5 +1,5 @@
 -- What comes next for a goal in code, after each history that the candidates that were considered show.
-use Rattle.std.specs.Prelude.{◌≡◌, Bool, if◌then◌else◌, List, length, map, Option, Some, None, option_map}
+use Rattle.std.specs.Prelude.{◌≡◌, Bool, if◌then◌else◌, List, map, Option, Some, None, option_map}
 use Rattle.type_terms.specs.Terms.{Entry}
 use Rattle.infer_table.specs.Inputs.{form_of}
 use Rattle.infer_table.specs.declared.certainty.TypingMode.{TypingMode}
@@ -19,7 +19,6 @@ use Rattle.assembly_laws.specs.Candidates.{Candidate, unsure}
 use Rattle.assembly_laws.specs.Solver.{SolverPast}
 use Rattle.candidate_assembly.specs.Fitting.{solving_of}
 use Rattle.built_in_candidates.specs.Goals.{asked_of, candidate_of}
-use Rattle.candidate_assembly.specs.Headers.{HasTooMany}
 use Rattle.candidate_assembly.specs.Sections.{early, late, is_first, next_inside, next_outside, next_in, decided, next_candidate}
 use Rattle.candidate_assembly.specs.Solving.{meaning_for, solver_for}
 
@@ -34,10 +33,6 @@ ForEachHistory es d g done P = (seen : SolverPast) → Shows (map (shown_by es) 
 -- The candidate is the one that is next in each of them; if there is none, none is.
 abbrev pub IsNextBy : (SolverPast → Option Candidate) → List Entry → Items → CanonicalInput → List Considered → List Entry → Option CandidateSpec → Type 0
 IsNextBy next old d g done new o = ForEachHistory old d g done (λ seen. option_map (candidate_of (written old d) g.goal.predicate.trait_ref.def_id.index new) o ≡ next seen)
-
--- It has more variables of its own than there are numbers for, in each of them.
-abbrev pub RunsOutBy : (SolverPast → Option Candidate) → List Entry → Items → CanonicalInput → List Considered → Type 0
-RunsOutBy next es d g done = ForEachHistory es d g done (λ seen. HasTooMany (length g.variables.items) (next seen))
 
 -- ---- what is next for the goal
 abbrev pub early_in : List Entry → Items → CanonicalInput → SolverPast → Option Candidate

@@ -1,11 +1,11 @@
 //! How the candidates of a goal are assembled: one after the other, each told by those that were considered.
 
-ghost use Rattle.std.specs.Prelude.{◌≡◌, ◌==◌, ◌⊎◌, ℕ, None, true, false, length, map, IfOk, IfSome, Err, option_map};
+ghost use Rattle.term_folds.specs.Growth.{Grew, FullAtLimit};
+ghost use Rattle.std.specs.Prelude.{◌≡◌, ◌==◌, ℕ, None, true, false, map, IfOk, IfSome, option_map, IfErr};
 ghost use Rattle.std.specs.List.{slice_get};
 ghost use Rattle.type_terms.specs.Worlds.{World};
 ghost use Rattle.type_terms.specs.Rules.{unsize};
-ghost use Rattle.type_terms.specs.Terms.{Keeps, trees_at};
-ghost use Rattle.type_terms.specs.Failures.{SomeKindIsFull};
+ghost use Rattle.type_terms.specs.Terms.{trees_at};
 ghost use Rattle.term_folds.specs.Signatures.{StartsWithType};
 ghost use Rattle.infer_table.specs.Goals.{GoalHeld};
 ghost use Rattle.evaluation.specs.Readings.{SpecHeld};
@@ -19,7 +19,7 @@ ghost use Rattle.assembly_laws.specs.Solver.{is_clause};
 ghost use Rattle.built_in_candidates.specs.Constituents.{CanBeConsidered};
 ghost use Rattle.candidate_assembly.specs.Counted.{is_of, count_from, last_from, ends_by_impl, ForEachPast};
 ghost use Rattle.built_in_candidates.specs.Goals.{asked_of, candidate_of};
-ghost use Rattle.candidate_assembly.specs.Headers.{HaveCandidates, HasTooMany, impls_above};
+ghost use Rattle.candidate_assembly.specs.Headers.{HaveCandidates, impls_above};
 ghost use Rattle.built_in_candidates.specs.Objects.{ObjectIsApplied};
 ghost use Rattle.candidate_assembly.specs.Sections.{considered_from, last_impl, is_built_in, misc_is_bound};
 ghost use Rattle.built_in_candidates.specs.Unsizing.{CanUnsize};
@@ -123,13 +123,12 @@ pub fn assemble_param_env_candidates(
     done: &[Considered],
 ) -> Result<Option<CandidateSpec>, Fault>
     requires { GoalHeld cx.old.entries goal.now.goal }
-    ensures keeps { Keeps cx.old.entries cx.new.entries }
-    ensures limit { cx.new.limit ≡ cx.old.limit }
+    ensures grew { Grew cx.old cx.new }
     ensures held { IfOk result (λ o. IfSome o (SpecHeld cx.new.entries)) }
     ensures is { let a = asked_of cx.old.entries goal.now in
         IfOk result (λ o. (V : World) → ForEachPast cx.old.entries done.now (λ seen. option_map (candidate_of V a.reference.trait cx.new.entries) o
         ≡ slice_get (by_clauses V a (clauses a)) (considered_from is_clause seen))) }
-    ensures full { result ≡ Err Fault.Full → SomeKindIsFull cx.new.entries cx.new.limit }
+    ensures full { IfErr result (FullAtLimit cx.new) }
 {
     let place = considered_from(done, Section::WhereClauses, false);
     consider_param_env_candidate(alloc, cx, goal, place)
@@ -163,13 +162,12 @@ pub fn assemble_builtin_impl_candidates(
     requires object { ObjectIsApplied declarations.now (trees_at cx.old.entries goal.now.goal.predicate.trait_ref.args.0) }
     requires unsizing { (goal.now.goal.predicate.trait_ref.def_id.index == unsize) ≡ true
         → CanUnsize declarations.now (self_of (asked_of cx.old.entries goal.now)) }
-    ensures keeps { Keeps cx.old.entries cx.new.entries }
-    ensures limit { cx.new.limit ≡ cx.old.limit }
+    ensures grew { Grew cx.old cx.new }
     ensures held { IfOk result (λ o. IfSome o (SpecHeld cx.new.entries)) }
     ensures is { let V = written cx.old.entries declarations.now in let a = asked_of cx.old.entries goal.now in
         IfOk result (λ o. ForEachPast cx.old.entries done.now (λ seen. option_map (candidate_of V a.reference.trait cx.new.entries) o
         ≡ slice_get (built_in V a) (considered_from (is_built_in (misc_is_bound a)) seen))) }
-    ensures full { result ≡ Err Fault.Full → SomeKindIsFull cx.new.entries cx.new.limit }
+    ensures full { IfErr result (FullAtLimit cx.new) }
 {
     let place = considered_from(done, Section::BuiltInRules, misc_is_bound(cx, goal));
     consider_builtin_candidate(alloc, cx, declarations, goal, place)
@@ -188,17 +186,13 @@ pub fn assemble_impl_candidates(
     requires first { StartsWithType (trees_at cx.old.entries goal.now.goal.predicate.trait_ref.args.0) }
     requires declared { AreHeld cx.old.entries declarations.now }
     requires impls { HaveCandidates cx.old.entries declarations.now }
-    ensures keeps { Keeps cx.old.entries cx.new.entries }
-    ensures limit { cx.new.limit ≡ cx.old.limit }
+    ensures grew { Grew cx.old cx.new }
     ensures held { IfOk result (λ o. IfSome o (SpecHeld cx.new.entries)) }
     ensures is { let V = written cx.old.entries declarations.now in let a = asked_of cx.old.entries goal.now in
         IfOk result (λ o. ForEachPast cx.old.entries done.now (λ seen. option_map (candidate_of V a.reference.trait cx.new.entries) o
         ≡ slice_get (by_impls V a (impls_above (last_impl seen) V.impls)) 0)) }
     ensures rises { Rises (map (λ i. i.id) declarations.now.impls) }
-    ensures full { let V = written cx.old.entries declarations.now in let a = asked_of cx.old.entries goal.now in
-        result ≡ Err Fault.Full → SomeKindIsFull cx.new.entries cx.new.limit
-        ⊎ ForEachPast cx.old.entries done.now
-        (λ seen. HasTooMany (length goal.now.variables.items) (slice_get (by_impls V a (impls_above (last_impl seen) V.impls)) 0)) }
+    ensures full { IfErr result (FullAtLimit cx.new) }
 {
     let last = last_impl(done);
     next_impl_candidate(alloc, cx, declarations, goal, last)

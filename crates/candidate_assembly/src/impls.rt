@@ -1,10 +1,9 @@
 //! Candidates by impls.
-ghost use Rattle.std.specs.Prelude.{◌≡◌, ◌⊎◌, ◌+◌, ◌<◌, length, map, IfOk, IfSome, Err, option_map};
+ghost use Rattle.term_folds.specs.Growth.{Grew, FullAtLimit};
+ghost use Rattle.std.specs.Prelude.{◌≡◌, map, IfOk, IfSome, option_map, IfErr};
 ghost use Rattle.std.specs.List.{slice_get};
 ghost use Rattle.type_terms.specs.Worlds.{World};
-ghost use Rattle.type_terms.specs.Terms.{Keeps, trees_at};
-ghost use Rattle.type_terms.specs.declared.TheConstants.{MAX_INDEX};
-ghost use Rattle.type_terms.specs.Failures.{SomeKindIsFull};
+ghost use Rattle.type_terms.specs.Terms.{trees_at};
 ghost use Rattle.term_folds.specs.Signatures.{StartsWithType};
 ghost use Rattle.infer_table.specs.Goals.{GoalHeld};
 ghost use Rattle.evaluation.specs.Readings.{SpecHeld};
@@ -15,7 +14,7 @@ ghost use Rattle.declarations.specs.Merges.{Rises};
 ghost use Rattle.declarations.specs.Relevant.{next_above};
 ghost use Rattle.assembly_laws.specs.Candidates.{rules_behind, by_the_impl, by_impls};
 ghost use Rattle.built_in_candidates.specs.Goals.{asked_of, candidate_of};
-ghost use Rattle.candidate_assembly.specs.Headers.{var_kind, StandInHeader, SpeaksOfParameters, HaveCandidates, HasTooMany, impls_above, matching_in};
+ghost use Rattle.candidate_assembly.specs.Headers.{var_kind, StandInHeader, SpeaksOfParameters, HaveCandidates, impls_above, matching_in};
 
 use crate::instances::{all_with_arguments, variable_kinds, variables_behind, with_arguments};
 use built_in_candidates::parts::nested_goals;
@@ -47,15 +46,14 @@ fn instance_behind(
 ) -> Result<Instance, Fault>
     requires held { ImplHeld cx.old.entries def.now }
     requires speaks { SpeaksOfParameters cx.old.entries def.now }
-    ensures keeps { Keeps cx.old.entries cx.new.entries }
-    ensures limit { cx.new.limit ≡ cx.old.limit }
+    ensures grew { Grew cx.old cx.new }
     ensures header_held { IfOk result (λ n. ReferenceHeld cx.new.entries n.header) }
     ensures clauses_held { IfOk result (λ n. TraitRefsHeld cx.new.entries n.clauses.items) }
     ensures variables { IfOk result (λ n. n.variables.items ≡ map var_kind def.now.params.items) }
     ensures header { IfOk result (λ n. reference_in cx.new.entries n.header ≡ rules_behind others (reference_in cx.old.entries def.now.header)) }
     ensures clauses { IfOk result (λ n. references_in cx.new.entries n.clauses.items
         ≡ map (rules_behind others) (references_in cx.old.entries def.now.clauses.items)) }
-    ensures full { result ≡ Err Fault.Full → SomeKindIsFull cx.new.entries cx.new.limit ⊎ (MAX_INDEX < others + length def.now.params.items) }
+    ensures full { IfErr result (FullAtLimit cx.new) }
 {
     let variables = variable_kinds(alloc, &def.params)?;
     let values = variables_behind(alloc, cx, others, &variables)?;
@@ -82,14 +80,12 @@ pub fn consider_impl_candidate(
     requires held { ImplHeld cx.old.entries def.now }
     requires params { StandInHeader cx.old.entries def.now }
     requires speaks { SpeaksOfParameters cx.old.entries def.now }
-    ensures keeps { Keeps cx.old.entries cx.new.entries }
-    ensures limit { cx.new.limit ≡ cx.old.limit }
+    ensures grew { Grew cx.old cx.new }
     ensures held { IfOk result (SpecHeld cx.new.entries) }
     ensures is { IfOk result (λ s. (V : World)
         → candidate_of V goal.now.goal.predicate.trait_ref.def_id.index cx.new.entries s
         ≡ by_the_impl V (asked_of cx.old.entries goal.now) (impl_in cx.old.entries id def.now)) }
-    ensures full { result ≡ Err Fault.Full
-        → SomeKindIsFull cx.new.entries cx.new.limit ⊎ (MAX_INDEX < length goal.now.variables.items + length def.now.params.items) }
+    ensures full { IfErr result (FullAtLimit cx.new) }
 {
     let instance = instance_behind(alloc, cx, goal.variables.len(), def)?;
     let asked = goal.goal.predicate.trait_ref.args;
@@ -136,16 +132,13 @@ pub fn next_impl_candidate(
     requires first { StartsWithType (trees_at cx.old.entries goal.now.goal.predicate.trait_ref.args.0) }
     requires declared { AreHeld cx.old.entries declarations.now }
     requires impls { HaveCandidates cx.old.entries declarations.now }
-    ensures keeps { Keeps cx.old.entries cx.new.entries }
-    ensures limit { cx.new.limit ≡ cx.old.limit }
+    ensures grew { Grew cx.old cx.new }
     ensures held { IfOk result (λ o. IfSome o (SpecHeld cx.new.entries)) }
     ensures is { let V = written cx.old.entries declarations.now in
         IfOk result (λ o. option_map (candidate_of V goal.now.goal.predicate.trait_ref.def_id.index cx.new.entries) o
         ≡ slice_get (by_impls V (asked_of cx.old.entries goal.now) (impls_above last V.impls)) 0) }
     ensures rises { Rises (map (λ i. i.id) declarations.now.impls) }
-    ensures full { let V = written cx.old.entries declarations.now in
-        result ≡ Err Fault.Full → SomeKindIsFull cx.new.entries cx.new.limit
-        ⊎ HasTooMany (length goal.now.variables.items) (slice_get (by_impls V (asked_of cx.old.entries goal.now) (impls_above last V.impls)) 0) }
+    ensures full { IfErr result (FullAtLimit cx.new) }
 {
     match next_matching_impl(cx, declarations, goal, last) {
         Some(id) => match declarations.impl_def(id) {

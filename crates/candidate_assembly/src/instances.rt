@@ -1,13 +1,12 @@
 //! The variables that stand for an impl's parameters, and its references with these in their places.
-ghost use Rattle.std.specs.Prelude.{◌≡◌, ◌⊎◌, ◌+◌, ◌<◌, length, map, IfOk, IfErr, Err, None};
+ghost use Rattle.term_folds.specs.Growth.{Grew, FullAtLimit};
+ghost use Rattle.std.specs.Prelude.{◌≡◌, map, IfOk, IfErr, None};
 ghost use Rattle.type_terms.specs.Trees.{outer_binder};
 ghost use Rattle.type_terms.specs.Worlds.{with_args, all_with_args};
-ghost use Rattle.type_terms.specs.Terms.{Keeps, Has, args_lists, trees_at};
+ghost use Rattle.type_terms.specs.Terms.{Has, args_lists, trees_at};
 ghost use Rattle.type_terms.specs.Kinds.{ArgsHeld};
-ghost use Rattle.type_terms.specs.declared.TheConstants.{MAX_INDEX};
 ghost use Rattle.type_terms.specs.declared.Fault.TheVariants.{Memory};
 ghost use Rattle.term_folds.specs.Arguments.{first_misfit};
-ghost use Rattle.type_terms.specs.Failures.{SomeKindIsFull};
 ghost use Rattle.infer_table.specs.Raw.{variables_from};
 ghost use Rattle.infer_table.specs.Values.{values_of};
 ghost use Rattle.declarations.specs.Items.{reference_in};
@@ -57,23 +56,22 @@ pub(crate) fn variable_kinds(
     Ok(found)
 }
 
-/// The canonical variables of these kinds, behind this many others. `Full` comes also where there are no numbers for them.
+/// The canonical variables of these kinds, behind this many others. `Memory` comes also where there are no numbers for them.
 pub(crate) fn variables_behind(
     alloc: Global,
     cx: &mut Interner,
     others: usize,
     kinds: &[CanonicalVarKind],
 ) -> Result<Vec<GenericArgKind>, Fault>
-    ensures keeps { Keeps cx.old.entries cx.new.entries }
-    ensures limit { cx.new.limit ≡ cx.old.limit }
+    ensures grew { Grew cx.old cx.new }
     ensures held { IfOk result (λ r. ArgsHeld cx.new.entries r.items) }
     ensures values { IfOk result (λ r. values_of cx.new.entries r.items ≡ variables_from others kinds.now) }
-    ensures full { result ≡ Err Fault.Full → SomeKindIsFull cx.new.entries cx.new.limit ⊎ (MAX_INDEX < others + length kinds.now) }
+    ensures full { IfErr result (FullAtLimit cx.new) }
 {
     let mut values = Vec::new(alloc);
     for (place, kind) in kinds.iter().enumerate() {
         if others >= MAX_INDEX as usize || place >= MAX_INDEX as usize - others {
-            return Err(Fault::Full);
+            return Err(Fault::Memory);
         }
         let variable = BoundVar {
             index: (others + place) as u32,
@@ -95,11 +93,10 @@ pub(crate) fn with_arguments(
     requires args { Has cx.old.entries args_lists args.0 }
     requires closed { outer_binder (trees_at cx.old.entries args.0) ≡ 0 }
     requires fits { first_misfit (trees_at cx.old.entries args.0) (trees_at cx.old.entries trait_ref.args.0) ≡ None }
-    ensures keeps { Keeps cx.old.entries cx.new.entries }
-    ensures limit { cx.new.limit ≡ cx.old.limit }
+    ensures grew { Grew cx.old cx.new }
     ensures held { IfOk result (ReferenceHeld cx.new.entries) }
     ensures is { IfOk result (λ r. reference_in cx.new.entries r ≡ with_args (trees_at cx.old.entries args.0) (reference_in cx.old.entries trait_ref)) }
-    ensures full { result ≡ Err Fault.Full → SomeKindIsFull cx.new.entries cx.new.limit }
+    ensures full { IfErr result (FullAtLimit cx.new) }
 {
     closed_arguments_are_in_range();
     match EarlyBinder::bind(trait_ref).instantiate(alloc, cx, args) {
@@ -121,12 +118,11 @@ pub(crate) fn all_with_arguments(
     requires args { Has cx.old.entries args_lists args.0 }
     requires closed { outer_binder (trees_at cx.old.entries args.0) ≡ 0 }
     requires fits { Each (λ b. first_misfit (trees_at cx.old.entries args.0) (trees_at cx.old.entries b.args.0) ≡ None) references.now }
-    ensures keeps { Keeps cx.old.entries cx.new.entries }
-    ensures limit { cx.new.limit ≡ cx.old.limit }
+    ensures grew { Grew cx.old cx.new }
     ensures held { IfOk result (λ v. TraitRefsHeld cx.new.entries v.items) }
     ensures are { IfOk result (λ v. references_in cx.new.entries v.items
         ≡ all_with_args (trees_at cx.old.entries args.0) (references_in cx.old.entries references.now)) }
-    ensures full { result ≡ Err Fault.Full → SomeKindIsFull cx.new.entries cx.new.limit }
+    ensures full { IfErr result (FullAtLimit cx.new) }
 {
     let mut found = Vec::new(alloc);
     let mut left = references;

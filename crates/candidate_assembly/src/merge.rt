@@ -1,10 +1,9 @@
 //! How the candidates that were considered become the answer of a trait goal.
 
-ghost use Rattle.std.specs.Prelude.{◌≡◌, ◌⊎◌, ◌<◌, length, List, ◌&&◌, false, IfOk, IfSome, Err, map, reverse, option_map, is_some};
+ghost use Rattle.term_folds.specs.Growth.{Grew, FullAtLimit};
+ghost use Rattle.std.specs.Prelude.{◌≡◌, List, ◌&&◌, false, IfOk, IfSome, map, reverse, option_map, is_some, IfErr};
 ghost use Rattle.std.specs.List.{list_any};
-ghost use Rattle.type_terms.specs.Terms.{Entry, Keeps};
-ghost use Rattle.type_terms.specs.declared.TheConstants.{MAX_INDEX};
-ghost use Rattle.type_terms.specs.Failures.{SomeKindIsFull};
+ghost use Rattle.type_terms.specs.Terms.{Entry};
 ghost use Rattle.infer_table.specs.declared.certainty.TypingMode.TheVariants.{PostAnalysis};
 ghost use Rattle.infer_table.specs.Responses.{ResponseHeld, answer_trees};
 ghost use Rattle.evaluation.specs.Readings.{ConsideredHeld, HandlerStepHeld};
@@ -179,12 +178,11 @@ fn merge_from(
 ) -> Result<HandlerStep, Fault>
     requires held { ConsideredHeld cx.old.entries done.now }
     requires fits { ConsideredFits cx.old.entries done.now }
-    ensures keeps { Keeps cx.old.entries cx.new.entries }
-    ensures limit { cx.new.limit ≡ cx.old.limit }
+    ensures grew { Grew cx.old cx.new }
     ensures held { IfOk result (HandlerStepHeld cx.new.entries) }
     ensures fits { IfOk result (StepFits variables.now cx.new.entries) }
     ensures is { IfOk result (MergesFrom sources variables.now cx.old.entries done.now cx.new.entries) }
-    ensures full { result ≡ Err Fault.Full → SomeKindIsFull cx.new.entries cx.new.limit ⊎ (MAX_INDEX < length variables.now) }
+    ensures full { IfErr result (FullAtLimit cx.new) }
 {
     let responses = responses_from(alloc, done, sources)?;
     match merged(alloc, cx, variables, &responses)? {
@@ -203,12 +201,11 @@ fn take_clause(
 ) -> Result<HandlerStep, Fault>
     requires held { ConsideredHeld cx.old.entries done.now }
     requires fits { ConsideredFits cx.old.entries done.now }
-    ensures keeps { Keeps cx.old.entries cx.new.entries }
-    ensures limit { cx.new.limit ≡ cx.old.limit }
+    ensures grew { Grew cx.old cx.new }
     ensures held { IfOk result (HandlerStepHeld cx.new.entries) }
     ensures fits { IfOk result (StepFits variables.now cx.new.entries) }
     ensures is { IfOk result (IsEnd (clause_taken variables.now) cx.old.entries done.now cx.new.entries) }
-    ensures full { result ≡ Err Fault.Full → SomeKindIsFull cx.new.entries cx.new.limit ⊎ (MAX_INDEX < length variables.now) }
+    ensures full { IfErr result (FullAtLimit cx.new) }
 {
     match first_applicable_clause(cx, done) {
         Some((response, number)) => {
@@ -247,12 +244,11 @@ fn merge_preferred(
 ) -> Result<HandlerStep, Fault>
     requires held { ConsideredHeld cx.old.entries done.now }
     requires fits { ConsideredFits cx.old.entries done.now }
-    ensures keeps { Keeps cx.old.entries cx.new.entries }
-    ensures limit { cx.new.limit ≡ cx.old.limit }
+    ensures grew { Grew cx.old cx.new }
     ensures held { IfOk result (HandlerStepHeld cx.new.entries) }
     ensures fits { IfOk result (StepFits variables.now cx.new.entries) }
     ensures is { IfOk result (IsEnd (end_in PostAnalysis variables.now) cx.old.entries done.now cx.new.entries) }
-    ensures full { result ≡ Err Fault.Full → SomeKindIsFull cx.new.entries cx.new.limit ⊎ (MAX_INDEX < length variables.now) }
+    ensures full { IfErr result (FullAtLimit cx.new) }
 {
     if holds_from(done, Sources::Trivial) {
         return merge_from(alloc, cx, variables, done, Sources::Trivial);
@@ -270,8 +266,8 @@ fn merge_preferred(
 /// merged; else all that remain are merged: no impl beside a bound of a `dyn` that gives no types and consts, and no global
 /// where-clause beside anything else that holds. (`EvalCtxt::merge_trait_candidates` of the original.)
 ///
-/// `Full` comes where there are more variables than numbers for them or one of the interner's tables is full, `Memory` where
-/// memory is refused.
+/// `Full` comes where one of the interner's tables is full, `Memory` where memory is refused or there are more variables than numbers
+/// for them.
 pub fn merge_trait_candidates(
     alloc: Global,
     cx: &mut Interner,
@@ -281,12 +277,11 @@ pub fn merge_trait_candidates(
 ) -> Result<HandlerStep, Fault>
     requires held { ConsideredHeld cx.old.entries done.now }
     requires fits { ConsideredFits cx.old.entries done.now }
-    ensures keeps { Keeps cx.old.entries cx.new.entries }
-    ensures limit { cx.new.limit ≡ cx.old.limit }
+    ensures grew { Grew cx.old cx.new }
     ensures held { IfOk result (HandlerStepHeld cx.new.entries) }
     ensures fits { IfOk result (StepFits variables.now cx.new.entries) }
     ensures is { IfOk result (IsEnd (end_in mode variables.now) cx.old.entries done.now cx.new.entries) }
-    ensures full { result ≡ Err Fault.Full → SomeKindIsFull cx.new.entries cx.new.limit ⊎ (MAX_INDEX < length variables.now) }
+    ensures full { IfErr result (FullAtLimit cx.new) }
 {
     match mode {
         TypingMode::Coherence => merge_from(alloc, cx, variables, done, Sources::All),

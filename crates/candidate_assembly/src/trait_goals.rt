@@ -1,15 +1,14 @@
 //! What comes next for a trait goal: a candidate, or the answer.
-ghost use Rattle.std.specs.Prelude.{◌≡◌, ◌⊎◌, ◌==◌, ◌&&◌, not, length, map, Some, Bool, List, Err, IfErr, IfOk, IfSome, is_some, option_map};
+ghost use Rattle.term_folds.specs.Growth.{Grew, FullAtLimit};
+ghost use Rattle.std.specs.Prelude.{◌≡◌, ◌==◌, ◌&&◌, not, length, map, Some, Bool, List, IfErr, IfOk, IfSome, is_some, option_map};
 ghost use Rattle.std.specs.List.{list_any, slice_get};
-ghost use Rattle.type_terms.specs.Terms.{Entry, Keeps};
+ghost use Rattle.type_terms.specs.Terms.{Entry};
 ghost use Rattle.type_terms.specs.declared.Fault.TheVariants.{Memory};
-ghost use Rattle.type_terms.specs.Failures.{SomeKindIsFull};
 ghost use Rattle.infer_table.specs.Goals.{GoalHeld};
 ghost use Rattle.infer_table.specs.Responses.{ResponseHeld, answer_trees};
 ghost use Rattle.evaluation.specs.Readings.{ConsideredHeld, ResultHeld, SpecHeld, HandlerStepHeld};
 ghost use Rattle.goal_frames.specs.Fitting.{ConsideredFits, ResultFits, StepFits};
 ghost use Rattle.evaluation.specs.StepReadings.{result_read, shown_by, spec_read, HasHistory, IsNextAfter};
-ghost use Rattle.goal_frames.specs.Shortages.{NextRunsOut};
 ghost use Rattle.evaluation.specs.TableAnswers.{IsWellFormed};
 ghost use Rattle.declarations.specs.Items.{written};
 ghost use Rattle.assembly_laws.specs.Knowing.{is_knowable};
@@ -17,7 +16,7 @@ ghost use Rattle.assembly_laws.specs.Candidates.{unsure, by_objects};
 ghost use Rattle.assembly_laws.specs.Solver.{says_nothing, is_non_global, is_settled};
 ghost use Rattle.candidate_assembly.specs.Counted.{ForEachPast};
 ghost use Rattle.built_in_candidates.specs.Goals.{asked_of, candidate_of};
-ghost use Rattle.candidate_assembly.specs.Nexts.{handled_in, IsNextBy, RunsOutBy, early_in, late_in, late_unless, until, next_inside_in, next_outside_in, next_decided, next_undecided, next_for, mode_at_end};
+ghost use Rattle.candidate_assembly.specs.Nexts.{handled_in, IsNextBy, early_in, late_in, late_unless, until, next_inside_in, next_outside_in, next_decided, next_undecided, next_for, mode_at_end};
 ghost use Rattle.candidate_assembly.specs.Ready.{AreReadyDeclarations, Decides, IsWellPosedGoal};
 ghost use Rattle.candidate_assembly.specs.Sections.{is_unknowable, is_bound, is_first, misc_is_bound, considered_from};
 
@@ -131,13 +130,12 @@ fn assemble_object_bound_candidates(
     done: &[Considered],
 ) -> Result<Option<CandidateSpec>, Fault>
     requires { IsWellPosedGoal cx.old.entries declarations.now goal.now }
-    ensures keeps { Keeps cx.old.entries cx.new.entries }
-    ensures limit { cx.new.limit ≡ cx.old.limit }
+    ensures grew { Grew cx.old cx.new }
     ensures held { IfOk result (λ o. IfSome o (SpecHeld cx.new.entries)) }
     ensures is { let V = written cx.old.entries declarations.now in let a = asked_of cx.old.entries goal.now in
         IfOk result (λ o. ForEachPast cx.old.entries done.now (λ seen. option_map (candidate_of V a.reference.trait cx.new.entries) o
         ≡ slice_get (by_objects V a) (considered_from (is_bound (misc_is_bound a)) seen))) }
-    ensures full { result ≡ Err Fault.Full → SomeKindIsFull cx.new.entries cx.new.limit }
+    ensures full { IfErr result (FullAtLimit cx.new) }
 {
     let place = considered_from(done, Section::ObjectBounds, misc_is_bound(cx, goal));
     consider_object_bound_candidate(alloc, cx, declarations, goal, place)
@@ -153,11 +151,10 @@ fn early_candidate(
 ) -> Result<Option<CandidateSpec>, Fault>
     requires decided { IsWellPosedGoal cx.old.entries declarations.now goal.now }
     requires done { ConsideredHeld cx.old.entries done.now }
-    ensures keeps { Keeps cx.old.entries cx.new.entries }
-    ensures limit { cx.new.limit ≡ cx.old.limit }
+    ensures grew { Grew cx.old cx.new }
     ensures held { IfOk result (λ o. IfSome o (SpecHeld cx.new.entries)) }
     ensures is { IfOk result (IsNextBy (early_in cx.old.entries declarations.now goal.now) cx.old.entries declarations.now goal.now done.now cx.new.entries) }
-    ensures full { result ≡ Err Fault.Full → SomeKindIsFull cx.new.entries cx.new.limit }
+    ensures full { IfErr result (FullAtLimit cx.new) }
 {
     match assemble_param_env_candidates(alloc, cx, goal, done)? {
         Some(candidate) => Ok(Some(candidate)),
@@ -175,12 +172,10 @@ fn late_candidate(
 ) -> Result<Option<CandidateSpec>, Fault>
     requires decided { IsWellPosedGoal cx.old.entries declarations.now goal.now }
     requires done { ConsideredHeld cx.old.entries done.now }
-    ensures keeps { Keeps cx.old.entries cx.new.entries }
-    ensures limit { cx.new.limit ≡ cx.old.limit }
+    ensures grew { Grew cx.old cx.new }
     ensures held { IfOk result (λ o. IfSome o (SpecHeld cx.new.entries)) }
     ensures is { IfOk result (IsNextBy (late_in cx.old.entries declarations.now goal.now) cx.old.entries declarations.now goal.now done.now cx.new.entries) }
-    ensures full { result ≡ Err Fault.Full → SomeKindIsFull cx.new.entries cx.new.limit
-        ⊎ RunsOutBy (late_in cx.old.entries declarations.now goal.now) cx.old.entries declarations.now goal.now done.now }
+    ensures full { IfErr result (FullAtLimit cx.new) }
 {
     match assemble_impl_candidates(alloc, cx, declarations, goal, done)? {
         Some(candidate) => Ok(Some(candidate)),
@@ -199,13 +194,11 @@ fn late_candidate_unless(
 ) -> Result<Option<CandidateSpec>, Fault>
     requires decided { IsWellPosedGoal cx.old.entries declarations.now goal.now }
     requires done { ConsideredHeld cx.old.entries done.now }
-    ensures keeps { Keeps cx.old.entries cx.new.entries }
-    ensures limit { cx.new.limit ≡ cx.old.limit }
+    ensures grew { Grew cx.old cx.new }
     ensures held { IfOk result (λ o. IfSome o (SpecHeld cx.new.entries)) }
     ensures is { IfOk result
         (IsNextBy (late_unless stops cx.old.entries declarations.now goal.now) cx.old.entries declarations.now goal.now done.now cx.new.entries) }
-    ensures full { result ≡ Err Fault.Full → SomeKindIsFull cx.new.entries cx.new.limit
-        ⊎ RunsOutBy (late_unless stops cx.old.entries declarations.now goal.now) cx.old.entries declarations.now goal.now done.now }
+    ensures full { IfErr result (FullAtLimit cx.new) }
 {
     if stops {
         Ok(None)
@@ -225,13 +218,11 @@ fn candidate_until(
 ) -> Result<Option<CandidateSpec>, Fault>
     requires decided { IsWellPosedGoal cx.old.entries declarations.now goal.now }
     requires done { ConsideredHeld cx.old.entries done.now }
-    ensures keeps { Keeps cx.old.entries cx.new.entries }
-    ensures limit { cx.new.limit ≡ cx.old.limit }
+    ensures grew { Grew cx.old cx.new }
     ensures held { IfOk result (λ o. IfSome o (SpecHeld cx.new.entries)) }
     ensures is { IfOk result
         (IsNextBy (until stops cx.old.entries declarations.now goal.now) cx.old.entries declarations.now goal.now done.now cx.new.entries) }
-    ensures full { result ≡ Err Fault.Full → SomeKindIsFull cx.new.entries cx.new.limit
-        ⊎ RunsOutBy (until stops cx.old.entries declarations.now goal.now) cx.old.entries declarations.now goal.now done.now }
+    ensures full { IfErr result (FullAtLimit cx.new) }
 {
     match early_candidate(alloc, cx, declarations, goal, done)? {
         Some(candidate) => Ok(Some(candidate)),
@@ -250,13 +241,11 @@ fn candidate_in_coherence(
 ) -> Result<Option<CandidateSpec>, Fault>
     requires decided { IsWellPosedGoal cx.old.entries declarations.now goal.now }
     requires done { ConsideredHeld cx.old.entries done.now }
-    ensures keeps { Keeps cx.old.entries cx.new.entries }
-    ensures limit { cx.new.limit ≡ cx.old.limit }
+    ensures grew { Grew cx.old cx.new }
     ensures held { IfOk result (λ o. IfSome o (SpecHeld cx.new.entries)) }
     ensures is { IfOk result
         (IsNextBy (next_inside_in cx.old.entries declarations.now goal.now) cx.old.entries declarations.now goal.now done.now cx.new.entries) }
-    ensures full { result ≡ Err Fault.Full → SomeKindIsFull cx.new.entries cx.new.limit
-        ⊎ RunsOutBy (next_inside_in cx.old.entries declarations.now goal.now) cx.old.entries declarations.now goal.now done.now }
+    ensures full { IfErr result (FullAtLimit cx.new) }
 {
     if begins_unknowable(alloc, cx, declarations, goal, done)? {
         let candidate = consider_coherence_unknowable_candidate(alloc, cx, declarations, goal)?;
@@ -279,13 +268,11 @@ fn candidate_outside_coherence(
     requires decided { IsWellPosedGoal cx.old.entries declarations.now goal.now }
     requires done { ConsideredHeld cx.old.entries done.now }
     requires fits { ConsideredFits cx.old.entries done.now }
-    ensures keeps { Keeps cx.old.entries cx.new.entries }
-    ensures limit { cx.new.limit ≡ cx.old.limit }
+    ensures grew { Grew cx.old cx.new }
     ensures held { IfOk result (λ o. IfSome o (SpecHeld cx.new.entries)) }
     ensures is { IfOk result
         (IsNextBy (next_outside_in cx.old.entries declarations.now goal.now) cx.old.entries declarations.now goal.now done.now cx.new.entries) }
-    ensures full { result ≡ Err Fault.Full → SomeKindIsFull cx.new.entries cx.new.limit
-        ⊎ RunsOutBy (next_outside_in cx.old.entries declarations.now goal.now) cx.old.entries declarations.now goal.now done.now }
+    ensures full { IfErr result (FullAtLimit cx.new) }
 {
     let settled = is_settled(cx, done);
     candidate_until(alloc, cx, declarations, goal, done, settled)
@@ -303,13 +290,11 @@ fn decided_candidate(
     requires decided { IsWellPosedGoal cx.old.entries declarations.now goal.now }
     requires done { ConsideredHeld cx.old.entries done.now }
     requires fits { ConsideredFits cx.old.entries done.now }
-    ensures keeps { Keeps cx.old.entries cx.new.entries }
-    ensures limit { cx.new.limit ≡ cx.old.limit }
+    ensures grew { Grew cx.old cx.new }
     ensures held { IfOk result (λ o. IfSome o (SpecHeld cx.new.entries)) }
     ensures is { IfOk result
         (IsNextBy (next_decided cx.old.entries declarations.now goal.now) cx.old.entries declarations.now goal.now done.now cx.new.entries) }
-    ensures full { result ≡ Err Fault.Full → SomeKindIsFull cx.new.entries cx.new.limit
-        ⊎ RunsOutBy (next_decided cx.old.entries declarations.now goal.now) cx.old.entries declarations.now goal.now done.now }
+    ensures full { IfErr result (FullAtLimit cx.new) }
 {
     if ends_by_impl(done) {
         return late_candidate(alloc, cx, declarations, goal, done);
@@ -341,8 +326,8 @@ fn undecided_candidate(alloc: Global, done: &[Considered]) -> Option<CandidateSp
 /// Then come where-clauses, built-in rules, impls, and bounds of the `dyn` that is the self type. Outside coherence no impl or bound
 /// comes where a where-clause has settled the goal. A goal that is not decided has one candidate, which is not sure.
 ///
-/// `Full` comes where one of the interner's tables is full, or the impl that is next has more parameters than there are numbers for
-/// behind the goal's variables; `Memory` where memory is refused.
+/// `Full` comes where one of the interner's tables is full; `Memory` where memory is refused, or the impl that is next has more
+/// parameters than there are numbers for behind the goal's variables.
 pub fn assemble_and_evaluate_candidates(
     alloc: Global,
     cx: &mut Interner,
@@ -356,12 +341,10 @@ pub fn assemble_and_evaluate_candidates(
     requires decides { Decides cx.old.entries declarations.now goal.now decided }
     requires done { ConsideredHeld cx.old.entries done.now }
     requires fits { ConsideredFits cx.old.entries done.now }
-    ensures keeps { Keeps cx.old.entries cx.new.entries }
-    ensures limit { cx.new.limit ≡ cx.old.limit }
+    ensures grew { Grew cx.old cx.new }
     ensures held { IfOk result (λ o. IfSome o (SpecHeld cx.new.entries)) }
     ensures is { IfOk result (IsNextBy (next_for cx.old.entries declarations.now goal.now) cx.old.entries declarations.now goal.now done.now cx.new.entries) }
-    ensures full { result ≡ Err Fault.Full → SomeKindIsFull cx.new.entries cx.new.limit
-        ⊎ RunsOutBy (next_for cx.old.entries declarations.now goal.now) cx.old.entries declarations.now goal.now done.now }
+    ensures full { IfErr result (FullAtLimit cx.new) }
 {
     if decided {
         decided_candidate(alloc, cx, declarations, goal, done)
@@ -399,8 +382,8 @@ fn stays_decided(
 /// What the frame of a trait goal is to do next, after these candidates were considered, the oldest first: to consider the next one,
 /// or to answer with the merge of their responses (`EvalCtxt::compute_trait_goal`).
 ///
-/// `Full` comes where one of the interner's tables is full, or where there are no numbers for the variables of what is next;
-/// `Memory` where memory is refused.
+/// `Full` comes where one of the interner's tables is full; `Memory` where memory is refused, or there are no numbers for the variables
+/// of what is next.
 pub fn compute_trait_goal(
     alloc: Global,
     cx: &mut Interner,
@@ -413,13 +396,11 @@ pub fn compute_trait_goal(
     requires done { ConsideredHeld cx.old.entries done.now }
     requires fits { ConsideredFits cx.old.entries done.now }
     requires history { HasHistory cx.old.entries (handled_in cx.old.entries declarations.now goal.now) done.now }
-    ensures keeps { Keeps cx.old.entries cx.new.entries }
-    ensures limit { cx.new.limit ≡ cx.old.limit }
+    ensures grew { Grew cx.old cx.new }
     ensures held { IfOk result (HandlerStepHeld cx.new.entries) }
     ensures fits { IfOk result (StepFits goal.now.variables.items cx.new.entries) }
     ensures next { IfOk result (IsNextAfter cx.old.entries (handled_in cx.old.entries declarations.now goal.now) done.now cx.new.entries) }
-    ensures full { result ≡ Err Fault.Full → SomeKindIsFull cx.new.entries cx.new.limit
-        ⊎ NextRunsOut cx.old.entries (handled_in cx.old.entries declarations.now goal.now) goal.now.variables.items done.now }
+    ensures full { IfErr result (FullAtLimit cx.new) }
 {
     let decided = stays_decided(cx, declarations, goal, done);
     match assemble_and_evaluate_candidates(alloc, cx, declarations, goal, decided, done)? {

@@ -192,7 +192,8 @@ fn yes_line(
     requires asked { (q : Question) × IsQuestion workspace.now number q }
     requires held { ArgsHeld cx.now.entries values.now }
     ensures { (q : Question) → IsQuestion workspace.now number q
-        → IfOk result (λ text. text.items ≡ output_text (yes number (names.answer_values workspace.now q (map (λ v. erase (arg_trees cx.now.entries v)) values.now)))) }
+        → IfOk result (λ text. text.items
+        ≡ output_text (yes number (names.answer_values workspace.now q (map (λ v. erase (arg_trees cx.now.entries v)) values.now)))) }
 {
     cx.lawful();
     let question = &workspace.question_entries()[number as usize - 1];

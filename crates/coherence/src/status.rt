@@ -24,10 +24,10 @@ pub enum RunFault {
     /// The writer answered an error, whatever its kind, or took no byte.
     #[error("an answer could not be written")]
     Write,
-    /// A request for memory was refused.
+    /// A request for memory was refused, or there were no numbers for so many variables.
     #[error("out of memory")]
     Memory,
-    /// A table of terms was full.
+    /// A table of terms, of goals or of answers was full.
     #[error("a table is full")]
     Full,
 }

@@ -1,6 +1,6 @@
 -- Supertraits with the arguments of a reference.
-use Rattle.std.proofs.Common.{◌≡◌, ℕ, List, [], ◌∷◌, ◌++◌, refl, ap, ◌∙◌, Ok, Err}
-use Rattle.std.specs.Prelude.{Result, IsErrAnd}
+use Rattle.std.proofs.Common.{◌≡◌, ℕ, List, [], ◌∷◌, ◌++◌, refl, ap, sym, ◌∙◌, Ok, Err}
+use Rattle.std.specs.Prelude.{Result, IfErr, IsErrAnd}
 use Rattle.type_terms.specs.declared.Fault.{Fault}
 use Rattle.type_terms.specs.declared.Fault.TheVariants.{Full}
 use Rattle.type_terms.specs.Trees.{Trees, none, instantiate}
@@ -55,6 +55,6 @@ one-more now new k rs r y ys all h e f =
     one-behind new rs r ys ∙ ap (λ x. references_in new rs ++ x ∷ ys) e ∙ ap (λ l. l ++ y ∷ ys) (all-same now new k rs h) ∙ f
 
 -- a fault that a `?` hands on
-pub handed-on : {T A : Type 0} (r : Result T Fault) {x : Fault} → IsErrAnd r (λ y. y ≡ x) → (x ≡ Full → A) → r ≡ Err Full → A
-handed-on (Ok y) h f q = absurd h
-handed-on (Err y) h f q = f cc
+pub at-limit : {T A : Type 0} (r : Result T Fault) {x : Fault} → IsErrAnd r (λ y. y ≡ x) → (x ≡ Full → A) → IfErr r (λ y. y ≡ Full → A)
+at-limit (Ok y) h f = tt
+at-limit (Err y) h f = λ q. f (sym h ∙ q)

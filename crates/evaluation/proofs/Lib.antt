@@ -73,4 +73,3 @@ pub mod OpenRounds
 pub mod OpenCandidates
 pub mod OpenBeginnings
 pub mod OpenQuestions
-pub mod OpenShortages

@@ -1,6 +1,5 @@
 -- How candidates begin, and that what waits is what replaying gives.
-use Rattle.std.proofs.Common.{◌≡◌, false, List, [], ◌∷◌, ◌++◌, map, Option, Some, None, Result, Ok, Err, refl, sym, ◌∙◌, ap, subst, append_assoc}
-use Rattle.std.specs.Prelude.{IfOk}
+use Rattle.std.proofs.Common.{◌≡◌, false, List, [], ◌∷◌, ◌++◌, map, Option, Some, None, Result, Ok, Err, refl, sym, ◌∙◌, ap, subst}
 use Rattle.type_terms.specs.Terms.{Entry, Keeps}
 use Rattle.infer_table.specs.Unification.{table_trees}
 use Rattle.infer_table.specs.Values.{values_of}
@@ -28,13 +27,9 @@ use Rattle.evaluation.specs.Rounds.{Rounds, rounds}
 use Rattle.evaluation.specs.Script.{Script, done, ask, followed}
 use Rattle.evaluation.specs.Trial.{SpecTrees, premises_trees, answered, asked, candidate}
 use Rattle.evaluation.specs.OpenCandidates.{CandidateAsking, finished, rest_script, rounds_script, after_reply, StandsAt, OpenHeld}
-use Rattle.evaluation.specs.OpenShortages.{OpenRunsOut, RunsOutOnly}
 use Rattle.evaluation.specs.Replayed.{after, IsReplayed, EndsAsReplayed, ResumingReplays, BeginningReplays}
-use Rattle.evaluation.specs.Shortages.{CandidateRunsOut}
 use Rattle.evaluation.proofs.Ending.{script-refused}
-use Rattle.evaluation.proofs.OpenQuestions.{ok-more}
 use Rattle.evaluation.proofs.OpenCandidates.{after-later}
-use Rattle.evaluation.proofs.OpenShortages.{only-more, open-earlier}
 use Rattle.evaluation.proofs.OpenRounds.{followed-alike, rounds-go-on}
 
 -- ---- replies
@@ -68,27 +63,24 @@ module _ (mode : TypingMode) (kinds : List CanonicalVarKind) (s : SpecTrees) whe
   whole = candidate mode (begun kinds) s
 
   as-replayed : (es : List Entry) (replies : List (Option AnswerTrees)) (result : Result CandidateStep EvalError) → StandsAt es (after whole replies) result
-      → IfOk result (RunsOutOnly (λ more. CandidateRunsOut mode kinds s (replies ++ more)) es) → EndsAsReplayed mode kinds s es replies result
-  as-replayed es replies (Err (Fault fault)) h l = tt
-  as-replayed es replies (Err NoSolution) h l =
+      → EndsAsReplayed mode kinds s es replies result
+  as-replayed es replies (Err (Fault fault)) h = tt
+  as-replayed es replies (Err NoSolution) h =
       let there = run-after-done whole replies None h in subst RunIsRefused (sym there.1) tt
-  as-replayed es replies (Ok (IsReady answer)) h l =
+  as-replayed es replies (Ok (IsReady answer)) h =
       let there = run-after-done whole replies (Some (answer_trees es answer)) h in subst (EndsIn (λ a more. answer_trees es answer ≡ a)) (sym there.1) refl
-  as-replayed es replies (Ok (Ask waiting input source)) h l = (
+  as-replayed es replies (Ok (Ask waiting input source)) h = (
     subst (λ r. Awaits r (question_of es input source)) (sym (run-after-ask whole replies (question_of es input source) (after_reply es waiting) h)) refl,
-    record { question = question_of es input source; waits = h; runs_out = l },
+    record { question = question_of es input source; waits = h },
   )
 
 pub resuming-replays : ResumingReplays
-resuming-replays mode kinds s old new replies o a result w h l =
+resuming-replays mode kinds s old new replies o a result w h =
     let on = after-more (candidate mode (begun kinds) s) replies a ∙ ap (λ z. after z (a ∷ [])) w.waits ∙ after-none (after_reply old o a) in
     as-replayed mode kinds s new (replies ++ a ∷ []) result (subst (λ z. StandsAt new z result) (sym on) h)
-    (ok-more (RunsOutOnly (λ more. OpenRunsOut old o (a ∷ more)) new) (RunsOutOnly (λ more. CandidateRunsOut mode kinds s ((replies ++ a ∷ []) ++ more)) new)
-    (only-more (λ more. OpenRunsOut old o (a ∷ more)) (λ more. CandidateRunsOut mode kinds s ((replies ++ a ∷ []) ++ more))
-    (λ more x. subst (CandidateRunsOut mode kinds s) (sym (append_assoc replies (a ∷ []) more)) (w.runs_out (a ∷ more) x)) new) result l)
 
 pub beginning-replays : BeginningReplays
-beginning-replays mode kinds s es result h l = as-replayed mode kinds s es [] result (subst (λ z. StandsAt es z result) (sym (after-none (candidate mode (begun kinds) s))) h) l
+beginning-replays mode kinds s es result h = as-replayed mode kinds s es [] result (subst (λ z. StandsAt es z result) (sym (after-none (candidate mode (begun kinds) s))) h)
 
 -- what waits stays so while the interner grows
 pub replayed-later : (mode : TypingMode) (kinds : List CanonicalVarKind) (s : SpecTrees) (old new : List Entry) (k : Keeps old new) (replies : List (Option AnswerTrees)) (o : OpenCandidate) → OpenHeld old o
@@ -96,7 +88,6 @@ pub replayed-later : (mode : TypingMode) (kinds : List CanonicalVarKind) (s : Sp
 replayed-later mode kinds s old new k replies o h r = record {
   question = r.question;
   waits = r.waits ∙ ap (ask r.question) (λ i a. sym (after-later old new k o h a) i);
-  runs_out = λ more x. r.runs_out more (open-earlier old new k o h more x);
 }
 
 -- where all rounds are still to come

@@ -98,7 +98,7 @@ module _ (es : List Entry) (e : Evaluation) (limit : ℕ) (r : OpenRound) where
   abbrev after-rounds : Option (Rounds (evaluation e.mode)) → CandidateAsking
   after-rounds = finished e.mode e.variables.items (values_of es e.own.items) e.certainty
 
-  pub last-round : (ls : List NestedGoal) → goals_trees es ls ≡ goals_trees es (map nested_goal r.left.items) → r.changed ≡ false
+  last-round : (ls : List NestedGoal) → goals_trees es ls ≡ goals_trees es (map nested_goal r.left.items) → r.changed ≡ false
       → rest_of (evaluation e.mode) this-round [] (table_trees es e.table) ≡ done (Some (record { table = table_trees es e.table; left = goals_trees es ls; certainty = certainty_with ls r.certainty }))
   last-round [] q f = (rounds-go-on (evaluation e.mode)).settled this-round (table_trees es e.table) (sym q) f
   last-round (n ∷ ns) q f = (rounds-go-on (evaluation e.mode)).unsure this-round (nested_trees es n) (goals_trees es ns) (table_trees es e.table) (sym q) f
@@ -134,7 +134,7 @@ module _ (old new : List Entry) (k : Keeps old new) (o : OpenCandidate) (h : Ope
   abbrev at-end : Option (Rounds (evaluation o.evaluation.mode)) → CandidateAsking
   at-end = finished o.evaluation.mode o.evaluation.variables.items (values_of old o.evaluation.own.items) o.evaluation.certainty
 
-  pub applies : (u : Option TableTrees) → with_response old o.evaluation.table o.values.items r ≡ u
+  applies : (u : Option TableTrees) → with_response old o.evaluation.table o.values.items r ≡ u
       → (evaluation o.evaluation.mode).apply (table_trees old o.evaluation.table) (nested_trees old (nested_goal o.goal)) the-answer ≡ u
   applies u e = sym (ap (λ vs. put_into (table_trees old o.evaluation.table) vs the-answer) h.values_are) ∙ e
 
@@ -149,7 +149,7 @@ module _ (old new : List Entry) (k : Keeps old new) (o : OpenCandidate) (h : Ope
     abbrev earlier : SoFar (evaluation o.evaluation.mode) → CandidateAsking
     earlier s = followed at-end (rest_of (evaluation o.evaluation.mode) s (premises_trees old o.goals.items) (table_trees new T))
 
-    pub definite-later : (b : Bool) → is_definite new r ≡ b → is_yes (evaluation o.evaluation.mode) the-answer ≡ b
+    definite-later : (b : Bool) → is_definite new r ≡ b → is_yes (evaluation o.evaluation.mode) the-answer ≡ b
     definite-later b e = ap (λ vs. is_certain r.certainty && not (not (is_identity_modulo_regions 0 vs))) (sym (values-later old new k r.var_values.items hr.values)) ∙ e
 
     dropped-so : is_definite new r ≡ true → after_reply old o (Some the-answer) ≡ earlier before
@@ -178,7 +178,7 @@ module _ (old new : List Entry) (k : Keeps old new) (o : OpenCandidate) (h : Ope
     in-new-terms s b e = λ i. followed (finished o.evaluation.mode o.evaluation.variables.items (values-later old new k o.evaluation.own.items h.evaluation.own i) o.evaluation.certainty)
         (rest_of (evaluation o.evaluation.mode) (e i) (pg i) (table_trees new T))
 
-    pub same-so-far : (s : OpenRound) → s ≡ o.round → so_far o.evaluation.mode new o.rounds_left s ≡ before
+    same-so-far : (s : OpenRound) → s ≡ o.round → so_far o.evaluation.mode new o.rounds_left s ≡ before
     same-so-far s e = ap (so_far o.evaluation.mode new o.rounds_left) e ∙ (λ i. record { limit = o.rounds_left; left = pl i; changed = o.round.changed; certainty = o.round.certainty })
 
     one-kept : (ls : List (GoalSource × Goal)) → ls ≡ o.round.left.items ++ o.goal ∷ [] → premises_trees new ls ≡ premises_trees old o.round.left.items ++ nested_trees old (nested_goal o.goal) ∷ []
@@ -188,7 +188,7 @@ module _ (old new : List Entry) (k : Keeps old new) (o : OpenCandidate) (h : Ope
         ∙ map-append (nested_trees new) (map nested_goal o.round.left.items) (nested_goal o.goal ∷ [])
         ∙ (λ i. pl i ++ goal-trees-later old new k (nested_goal o.goal) h.goal i ∷ [])
 
-    pub kept-so-far : (s : OpenRound) → s.left.items ≡ o.round.left.items ++ o.goal ∷ [] → s.changed ≡ o.round.changed || brings_values new r → s.certainty ≡ joined o.round.certainty r.certainty
+    kept-so-far : (s : OpenRound) → s.left.items ≡ o.round.left.items ++ o.goal ∷ [] → s.changed ≡ o.round.changed || brings_values new r → s.certainty ≡ joined o.round.certainty r.certainty
         → so_far o.evaluation.mode new o.rounds_left s ≡ with_goal (evaluation o.evaluation.mode) before (nested_trees old (nested_goal o.goal)) the-answer
     kept-so-far s l c q =
         let came : s.changed ≡ o.round.changed || brings_values old r = c ∙ ap (λ vs. o.round.changed || not (is_identity_modulo_regions 0 vs)) (values-later old new k r.var_values.items hr.values) in

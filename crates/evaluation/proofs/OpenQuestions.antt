@@ -7,7 +7,7 @@ use Rattle.evaluation.specs.declared.resuming.CandidateStep.{CandidateStep}
 use Rattle.evaluation.specs.declared.resuming.CandidateStep.TheVariants.{Ready as IsReady, Ask}
 use Rattle.evaluation.specs.declared.resuming.OpenCandidate.{OpenCandidate}
 use Rattle.evaluation.specs.declared.resuming.OpenRound.{OpenRound}
-use Rattle.evaluation.specs.OpenCandidates.{most_questions, questions_left, AsksAtMost}
+use Rattle.evaluation.specs.OpenCandidates.{most_questions, questions_left, CandidateIsOver, AsksAtMost}
 use Rattle.evaluation.specs.Trial.{premises_trees}
 
 -- a round that ends begins the next one with the goals that stay
@@ -27,6 +27,11 @@ most-begins goals = omega arith
 pub asks-fewer : (m n : ℕ) → m ≤ n → (s : CandidateStep) → AsksAtMost m s → AsksAtMost n s
 asks-fewer m n le (IsReady answer) a = tt
 asks-fewer m n le (Ask waiting input source) a = omega (arith, le, a)
+
+-- one that has answered asks none
+pub over-most : (n : ℕ) (s : CandidateStep) → CandidateIsOver s → AsksAtMost n s
+over-most n (IsReady answer) h = tt
+over-most n (Ask waiting input source) h = absurd h
 
 -- the goals that stay are one more at most
 pub one-more-left : (o : OpenCandidate) (s : OpenRound) (d b : Bool) → d ≡ b → (d ≡ true → s ≡ o.round) → (d ≡ false → s.left.items ≡ o.round.left.items ++ o.goal ∷ [])

@@ -49,5 +49,4 @@ pub mod Candidates
 pub mod StepReadings
 pub mod OpenRounds
 pub mod OpenCandidates
-pub mod OpenShortages
 pub mod Replayed

@@ -18,7 +18,6 @@ use Rattle.evaluation.specs.declared.candidate.HandlerStep.TheVariants.{Consider
 use Rattle.evaluation.specs.declared.goal.GoalSource.{GoalSource}
 use Rattle.evaluation.specs.declared.goal.GoalSource.TheVariants.{Misc, ImplWhereBound}
 use Rattle.evaluation.specs.Lists.{Every}
-use Rattle.evaluation.specs.Candidate.{Considered}
 
 -- the goal is one of this trait
 abbrev pub IsOfTrait : ℕ → CanonicalForm → Type 0

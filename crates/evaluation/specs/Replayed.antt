@@ -1,5 +1,5 @@
 -- Candidates that go on where they stopped, against candidates that are evaluated anew over all their replies.
-use Rattle.std.specs.Prelude.{◌≡◌, List, [], ◌∷◌, ◌++◌, Option, Result, Ok, Err, IfOk}
+use Rattle.std.specs.Prelude.{◌≡◌, List, [], ◌∷◌, ◌++◌, Option, Result, Ok, Err}
 use Rattle.type_terms.specs.Terms.{Entry}
 use Rattle.infer_table.specs.Responses.{AnswerTrees, answer_trees}
 use Rattle.infer_table.specs.declared.canonical.CanonicalVarKind.{CanonicalVarKind}
@@ -13,10 +13,8 @@ use Rattle.evaluation.specs.Ends.{RunIsRefused, Awaits, EndsIn}
 use Rattle.evaluation.specs.Evaluating.{AskedQuestion, question_of}
 use Rattle.evaluation.specs.Frames.{begun}
 use Rattle.evaluation.specs.OpenCandidates.{after_reply, StandsAt}
-use Rattle.evaluation.specs.OpenShortages.{OpenRunsOut, RunsOutOnly}
 use Rattle.evaluation.specs.Replays.{run}
 use Rattle.evaluation.specs.Script.{Script, done, ask}
-use Rattle.evaluation.specs.Shortages.{CandidateRunsOut}
 use Rattle.evaluation.specs.Trial.{SpecTrees, candidate}
 
 -- what is left of a script after these answers, the oldest first
@@ -27,11 +25,10 @@ after (ask q k) (a ∷ answers) = after (k a) answers
 
 module _ (mode : TypingMode) (kinds : List CanonicalVarKind) (s : SpecTrees) where
   -- a candidate that waits has had these replies: it waits where evaluating the candidate of a goal, with variables of these kinds, over
-  -- them does, and comes to places where numbers are used up only where that does over more replies
+  -- them does
   pub record IsReplayed (es : List Entry) (replies : List (Option AnswerTrees)) (o : OpenCandidate) : Type 0 where
     pub question : AskedQuestion
     pub waits : after (candidate mode (begun kinds) s) replies ≡ ask question (after_reply es o)
-    pub runs_out : (more : List (Option AnswerTrees)) → OpenRunsOut es o more → CandidateRunsOut mode kinds s (replies ++ more)
 
   -- how a call that goes on ends: as evaluating the candidate anew over these replies does
   abbrev pub EndsAsReplayed : List Entry → List (Option AnswerTrees) → Result CandidateStep EvalError → Type 0
@@ -44,11 +41,10 @@ module _ (mode : TypingMode) (kinds : List CanonicalVarKind) (s : SpecTrees) whe
 abbrev pub BeginningReplays : Type 0
 BeginningReplays =
     (mode : TypingMode) (kinds : List CanonicalVarKind) (s : SpecTrees) (es : List Entry) (result : Result CandidateStep EvalError)
-    → StandsAt es (candidate mode (begun kinds) s) result → IfOk result (RunsOutOnly (CandidateRunsOut mode kinds s) es) → EndsAsReplayed mode kinds s es [] result
+    → StandsAt es (candidate mode (begun kinds) s) result → EndsAsReplayed mode kinds s es [] result
 
 -- one that goes on has had one more
 abbrev pub ResumingReplays : Type 0
 ResumingReplays =
     (mode : TypingMode) (kinds : List CanonicalVarKind) (s : SpecTrees) (old new : List Entry) (replies : List (Option AnswerTrees)) (o : OpenCandidate) (a : Option AnswerTrees) (result : Result CandidateStep EvalError)
-    → IsReplayed mode kinds s old replies o → StandsAt new (after_reply old o a) result → IfOk result (RunsOutOnly (λ more. OpenRunsOut old o (a ∷ more)) new)
-    → EndsAsReplayed mode kinds s new (replies ++ a ∷ []) result
+    → IsReplayed mode kinds s old replies o → StandsAt new (after_reply old o a) result → EndsAsReplayed mode kinds s new (replies ++ a ∷ []) result

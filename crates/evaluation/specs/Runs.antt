@@ -28,7 +28,6 @@ use Rattle.evaluation.specs.OwnAnswers.{answer_of}
 use Rattle.evaluation.specs.Replays.{Run, run}
 use Rattle.evaluation.specs.Responses.{content}
 use Rattle.evaluation.specs.Rounds.{Round, Rounds, round, rounds}
-use Rattle.evaluation.specs.Shortages.{HasNoAnswer}
 use Rattle.evaluation.specs.Trial.{equations_trees, premises_trees, spec_trees, asked, candidate}
 use Rattle.evaluation.specs.TrialEnds.{trial_trees}
 
@@ -57,10 +56,6 @@ with_response es t values r = put_into (table_trees es t) (values_of es values) 
 -- the answer of this certainty that a context gives of itself
 abbrev pub own_answer : List Entry → Context → Certainty → AnswerTrees
 own_answer es c certainty = answer_of c.variables (values_of es c.values) (table_trees es c.table) certainty
-
--- there are no numbers for it
-abbrev pub HasNoOwnAnswer : List Entry → Context → Certainty → Type 0
-HasNoOwnAnswer es c certainty = HasNoAnswer c.variables (values_of es c.values) (table_trees es c.table) certainty
 
 -- what is merged says all that this response says, and nothing is merged where there is none
 abbrev pub SaysAllOf : Option CanonicalResponse → Option (CanonicalResponse × MergeCandidateInfo) → Type 0

@@ -1,11 +1,11 @@
 //! Answers applied to the goal that was asked.
-ghost use Rattle.std.specs.Prelude.{◌≡◌, ◌⊎◌, ℕ, ◌<◌, ◌≤◌, List, ◌++◌, length, get_or, IfOk, IfErr, IfSome, OnOk, OnErr, Err, Some, None, unwrap_or, ◌==◌, if◌then◌else◌};
+ghost use Rattle.term_folds.specs.Growth.{Grew, FullAtLimit};
+ghost use Rattle.std.specs.Prelude.{◌≡◌, ℕ, ◌<◌, ◌≤◌, List, ◌++◌, length, get_or, IfOk, IfErr, IfSome, OnOk, OnErr, Err, Some, None, unwrap_or, ◌==◌, if◌then◌else◌};
 ghost use Rattle.std.specs.Option.{option_or};
 ghost use Rattle.indexmap.specs.IndexSet.{insert_all};
 ghost use Rattle.type_terms.specs.Label.{Sort};
-ghost use Rattle.type_terms.specs.Terms.{Entry, Keeps, Has, args_lists};
+ghost use Rattle.type_terms.specs.Terms.{Entry, Has, args_lists};
 ghost use Rattle.type_terms.specs.Kinds.{ArgHeld, ArgsHeld, args_trees, bound_label};
-ghost use Rattle.type_terms.specs.Failures.{SomeKindIsFull};
 ghost use Rattle.infer_table.specs.Solutions.{HasNoSolution};
 ghost use Rattle.infer_table.specs.Content.{content, variables_of, Ready, Grows, AllConstraintsHeld};
 ghost use Rattle.infer_table.specs.Unification.{table_trees};
@@ -14,10 +14,10 @@ ghost use Rattle.infer_table.specs.Values.{value_of, values_of, filled};
 ghost use Rattle.infer_table.specs.Constraints.{constraints_trees};
 ghost use Rattle.infer_table.specs.Responses.{ResponseHeld, Records};
 ghost use Rattle.infer_table.specs.Applying.{root_labels, canonical_number, original_of, next_unknown, with_unknown, unknowns_of, table_after};
-ghost use Rattle.infer_table.specs.Shortages.{HasNoUnknown};
+ghost use Rattle.infer_table.specs.Shortages.{EqFullAtLimit};
 ghost use Rattle.infer_table.specs.Covers.{IsOfKnown, IsWellPosed};
 ghost use Rattle.infer_table.specs.Equated.{MakesEqual};
-ghost use Rattle.infer_table.specs.AnswersApplied.{known_in, values_put_in, with_unknowns_put_in, answered_constraints, left_by_answer, equated_in_turn, TurnsRunOut, UnknownsRunOut, NumbersRunOut, EquatesAnswer, RulesOutAnswer, AgreesWithNone, AgreedGoOn};
+ghost use Rattle.infer_table.specs.AnswersApplied.{known_in, values_put_in, with_unknowns_put_in, answered_constraints, left_by_answer, equated_in_turn, EquatesAnswer, RulesOutAnswer, AgreesWithNone, AgreedGoOn};
 
 use infer_table::canonical::CanonicalVarKind;
 use infer_table::certainty::EqError;
@@ -84,7 +84,8 @@ fn known_values(
 ) -> Result<Vec<Option<GenericArgKind>>, AllocError>
     requires { ArgsHeld cx.now.entries values.now }
     ensures count { IfOk result (λ r. length r.items ≡ count) }
-    ensures known { IfOk result (λ r. (i : ℕ) → i < count → get_or r.items i None ≡ original_of i (root_labels (values_of cx.now.entries values.now)) originals.now) }
+    ensures known { IfOk result (λ r. (i : ℕ) → i < count
+        → get_or r.items i None ≡ original_of i (root_labels (values_of cx.now.entries values.now)) originals.now) }
 {
     let mut known = vec![in alloc; None; count]?;
     for (value, original) in values.iter().zip(originals) {
@@ -102,8 +103,7 @@ fn new_unknown(
 ) -> Result<GenericArgKind, Fault>
     requires ready { Ready cx.old.entries table.old }
     ensures ready { Ready cx.new.entries table.new }
-    ensures keeps { Keeps cx.old.entries cx.new.entries }
-    ensures limit { cx.new.limit ≡ cx.old.limit }
+    ensures grew { Grew cx.old cx.new }
     ensures is { IfOk result (λ a. (es : List Entry) → value_of cx.new.entries a ≡ next_unknown (table_trees es table.old) kind) }
     ensures held { IfOk result (λ a. ArgHeld cx.new.entries a) }
     ensures made { OnOk result ((es : List Entry) → table_trees es table.new ≡ with_unknown (table_trees es table.old) kind) }
@@ -111,7 +111,7 @@ fn new_unknown(
     ensures constraints { table.new.constraints ≡ table.old.constraints }
     ensures grows { Grows table.old table.new }
     ensures refused { OnErr result (table.new ≡ table.old) }
-    ensures full { result ≡ Err Fault.Full → SomeKindIsFull cx.new.entries cx.new.limit ⊎ ((es : List Entry) → HasNoUnknown None (table_trees es table.old) kind) }
+    ensures full { IfErr result (FullAtLimit cx.new) }
 {
     match kind {
         CanonicalVarKind::Ty | CanonicalVarKind::PlaceholderTy => {
@@ -139,16 +139,16 @@ fn value_or_unknown(
     requires ready { Ready cx.old.entries table.old }
     requires known { IfSome known (λ a. ArgHeld cx.old.entries a) }
     ensures ready { Ready cx.new.entries table.new }
-    ensures keeps { Keeps cx.old.entries cx.new.entries }
-    ensures limit { cx.new.limit ≡ cx.old.limit }
-    ensures is { IfOk result (λ a. (es : List Entry) → value_of cx.new.entries a ≡ unwrap_or (known_in cx.old.entries known) (next_unknown (table_trees es table.old) kind)) }
+    ensures grew { Grew cx.old cx.new }
+    ensures is { IfOk result (λ a. (es : List Entry)
+        → value_of cx.new.entries a ≡ unwrap_or (known_in cx.old.entries known) (next_unknown (table_trees es table.old) kind)) }
     ensures held { IfOk result (λ a. ArgHeld cx.new.entries a) }
     ensures made { OnOk result ((es : List Entry) → table_trees es table.new ≡ table_after (known_in cx.old.entries known) (table_trees es table.old) kind) }
     ensures bindings { table.new.values ≡ table.old.values }
     ensures constraints { table.new.constraints ≡ table.old.constraints }
     ensures grows { Grows table.old table.new }
     ensures refused { OnErr result (table.new ≡ table.old) }
-    ensures full { result ≡ Err Fault.Full → SomeKindIsFull cx.new.entries cx.new.limit ⊎ ((es : List Entry) → HasNoUnknown (known_in cx.old.entries known) (table_trees es table.old) kind) }
+    ensures full { IfErr result (FullAtLimit cx.new) }
 {
     match known {
         Some(value) => Ok(value),
@@ -169,15 +169,14 @@ fn values_to_apply(
     requires response { ResponseHeld cx.old.entries response.now }
     requires ready { Ready cx.old.entries table.old }
     ensures ready { Ready cx.new.entries table.new }
-    ensures keeps { Keeps cx.old.entries cx.new.entries }
-    ensures limit { cx.new.limit ≡ cx.old.limit }
+    ensures grew { Grew cx.old cx.new }
     ensures bindings { table.new.values ≡ table.old.values }
     ensures constraints { table.new.constraints ≡ table.old.constraints }
     ensures grows { Grows table.old table.new }
     ensures made { OnOk result (table_trees cx.old.entries table.new ≡ with_unknowns_put_in cx.old.entries table.old original_values.now response.now) }
     ensures held { IfOk result (λ r. ArgsHeld cx.new.entries r.items) }
     ensures values { IfOk result (λ r. values_of cx.new.entries r.items ≡ values_put_in cx.old.entries table.old original_values.now response.now) }
-    ensures full { result ≡ Err Fault.Full → SomeKindIsFull cx.new.entries cx.new.limit ⊎ UnknownsRunOut cx.old.entries table.old original_values.now response.now }
+    ensures full { IfErr result (FullAtLimit cx.new) }
 {
     let count = response.variables.len();
     let known = known_values(alloc, cx, count, &response.var_values, original_values)?;
@@ -198,11 +197,10 @@ fn fill_values(
 ) -> Result<Vec<GenericArgKind>, Fault>
     requires values { ArgsHeld cx.old.entries values.now }
     requires terms { ArgsHeld cx.old.entries terms.now }
-    ensures keeps { Keeps cx.old.entries cx.new.entries }
-    ensures limit { cx.new.limit ≡ cx.old.limit }
+    ensures grew { Grew cx.old cx.new }
     ensures held { IfOk result (λ r. ArgsHeld cx.new.entries r.items) }
     ensures filled { IfOk result (λ r. args_trees cx.new.entries r.items ≡ filled (values_of cx.old.entries values.now) (args_trees cx.old.entries terms.now)) }
-    ensures full { result ≡ Err Fault.Full → SomeKindIsFull cx.new.entries cx.new.limit }
+    ensures full { IfErr result (FullAtLimit cx.new) }
 {
     let terms = cx.mk_args(Vec::from_slice(alloc, terms)?)?;
     let filled = terms.fold_with(alloc, cx, &CanonicalInstantiator { values })?;
@@ -225,14 +223,14 @@ fn fill_response(
 ) -> Result<FilledResponse, Fault>
     requires values { ArgsHeld cx.old.entries values.now }
     requires response { ResponseHeld cx.old.entries response.now }
-    ensures keeps { Keeps cx.old.entries cx.new.entries }
-    ensures limit { cx.new.limit ≡ cx.old.limit }
+    ensures grew { Grew cx.old cx.new }
     ensures values_held { IfOk result (λ r. ArgsHeld cx.new.entries r.var_values.items) }
     ensures constraints_held { IfOk result (λ r. AllConstraintsHeld cx.new.entries r.region_constraints.items) }
-    ensures values { IfOk result (λ r. args_trees cx.new.entries r.var_values.items ≡ filled (values_of cx.old.entries values.now) (args_trees cx.old.entries response.now.var_values.items)) }
+    ensures values { IfOk result (λ r. args_trees cx.new.entries r.var_values.items
+        ≡ filled (values_of cx.old.entries values.now) (args_trees cx.old.entries response.now.var_values.items)) }
     ensures constraints { IfOk result (λ r. constraints_trees cx.new.entries r.region_constraints.items
         ≡ filled (values_of cx.old.entries values.now) (constraints_trees cx.old.entries response.now.region_constraints.items)) }
-    ensures full { result ≡ Err Fault.Full → SomeKindIsFull cx.new.entries cx.new.limit }
+    ensures full { IfErr result (FullAtLimit cx.new) }
 {
     let var_values = fill_values(alloc, cx, values, &response.var_values)?;
     let folder = CanonicalInstantiator { values };
@@ -255,13 +253,14 @@ fn equate_values(
     requires ready { Ready cx.old.entries table.old }
     ensures ready { Ready cx.new.entries table.new }
     ensures grows { Grows table.old table.new }
-    ensures keeps { Keeps cx.old.entries cx.new.entries }
-    ensures limit { cx.new.limit ≡ cx.old.limit }
-    ensures equates { OnOk result (MakesEqual cx.old.entries table.old cx.new.entries table.new (args_trees cx.old.entries left.now) (args_trees cx.old.entries right.now)) }
-    ensures never { result ≡ Err EqError.NoSolution → HasNoSolution (content cx.old.entries table.old.values) (args_trees cx.old.entries left.now) (args_trees cx.old.entries right.now) }
+    ensures grew { Grew cx.old cx.new }
+    ensures equates { OnOk result
+        (MakesEqual cx.old.entries table.old cx.new.entries table.new (args_trees cx.old.entries left.now) (args_trees cx.old.entries right.now)) }
+    ensures never { result ≡ Err EqError.NoSolution
+        → HasNoSolution (content cx.old.entries table.old.values) (args_trees cx.old.entries left.now) (args_trees cx.old.entries right.now) }
     ensures exact { OnOk result (equated_in_turn cx.old.entries table.old left.now right.now ≡ Some (table_trees cx.new.entries table.new)) }
     ensures refusal { result ≡ Err EqError.NoSolution → equated_in_turn cx.old.entries table.old left.now right.now ≡ None }
-    ensures full { result ≡ Err (EqError.Fault Fault.Full) → SomeKindIsFull cx.new.entries cx.new.limit ⊎ TurnsRunOut cx.old.entries table.old left.now right.now }
+    ensures full { IfErr result (EqFullAtLimit cx.new) }
 {
     cx.lawful();
     if left.len() != right.len() {
@@ -279,7 +278,8 @@ fn record_constraints(table: &mut InferCtxt, constraints: &[RegionConstraint]) -
     ensures grows { Grows table.old table.new }
     ensures kept { table.new ≡ record table.old { constraints = table.new.constraints } }
     ensures fault { IfErr result (λ e. e ≡ Fault.Memory) }
-    ensures recorded { OnOk result (table.new ≡ record table.old { constraints = insert_all ⟦<RegionConstraint as PartialEq>⟧.eq table.old.constraints constraints.now }) }
+    ensures recorded { OnOk result (table.new
+        ≡ record table.old { constraints = insert_all ⟦<RegionConstraint as PartialEq>⟧.eq table.old.constraints constraints.now }) }
 {
     for constraint in constraints {
         table.register_region_constraint(*constraint)?;
@@ -300,15 +300,16 @@ fn apply(
     requires ready { Ready cx.old.entries table.old }
     ensures ready { Ready cx.new.entries table.new }
     ensures grows { Grows table.old table.new }
-    ensures unknowns { OnOk result ((k : Sort) → unknowns_of (with_unknowns_put_in cx.old.entries table.old original_values.now response.now) k ≤ variables_of table.new k) }
-    ensures keeps { Keeps cx.old.entries cx.new.entries }
-    ensures limit { cx.new.limit ≡ cx.old.limit }
+    ensures unknowns { OnOk result ((k : Sort)
+        → unknowns_of (with_unknowns_put_in cx.old.entries table.old original_values.now response.now) k ≤ variables_of table.new k) }
+    ensures grew { Grew cx.old cx.new }
     ensures equates { OnOk result (EquatesAnswer cx.old.entries table.old original_values.now response.now (content cx.new.entries table.new.values)) }
     ensures never { result ≡ Err EqError.NoSolution → RulesOutAnswer cx.old.entries table.old original_values.now response.now }
     ensures exact { OnOk result (left_by_answer cx.old.entries table.old original_values.now response.now ≡ Some (table_trees cx.new.entries table.new)) }
     ensures refusal { result ≡ Err EqError.NoSolution → left_by_answer cx.old.entries table.old original_values.now response.now ≡ None }
-    ensures constraints { OnOk result (Records cx.new.entries table.old.constraints table.new.constraints (answered_constraints cx.old.entries table.old original_values.now response.now)) }
-    ensures full { result ≡ Err (EqError.Fault Fault.Full) → SomeKindIsFull cx.new.entries cx.new.limit ⊎ NumbersRunOut cx.old.entries table.old original_values.now response.now }
+    ensures constraints { OnOk result (Records cx.new.entries table.old.constraints table.new.constraints
+        (answered_constraints cx.old.entries table.old original_values.now response.now)) }
+    ensures full { IfErr result (EqFullAtLimit cx.new) }
 {
     let values = values_to_apply(alloc, cx, table, original_values, response)?;
     let filled = fill_response(alloc, cx, &values, response)?;
@@ -330,7 +331,7 @@ fn apply(
 ///
 /// Afterwards the solutions of the table are those from before that make the values equal; `NoSolution` comes exactly
 /// where there is none. After a refusal the table is as it was; the interner may hold more terms. `Fault(Full)` comes
-/// only where some kind of term has reached its limit, or where a new unknown or a lifetime variable has no number.
+/// only where some kind of term has reached its limit, `Fault(Memory)` also where a new unknown or a lifetime variable has no number.
 ///
 /// What is left, lifetimes and recorded constraints included, is a function of the trees of the goal's values, of the
 /// answer and of what the table held (`applied`), and so is a refusal: no handle decides anything. The values are made
@@ -348,11 +349,11 @@ pub fn instantiate_and_apply_query_response(
     requires ready { Ready cx.old.entries table.old }
     ensures ready { Ready cx.new.entries table.new }
     ensures grows { Grows table.old table.new }
-    ensures keeps { Keeps cx.old.entries cx.new.entries }
-    ensures limit { cx.new.limit ≡ cx.old.limit }
+    ensures grew { Grew cx.old cx.new }
 
     // The new unknowns are variables of the table.
-    ensures unknowns { OnOk result ((k : Sort) → unknowns_of (with_unknowns_put_in cx.old.entries table.old original_values.now response.now) k ≤ variables_of table.new k) }
+    ensures unknowns { OnOk result ((k : Sort)
+        → unknowns_of (with_unknowns_put_in cx.old.entries table.old original_values.now response.now) k ≤ variables_of table.new k) }
 
     // The solutions are those from before that make the values equal, and there is none where it says so.
     ensures equates { OnOk result (EquatesAnswer cx.old.entries table.old original_values.now response.now (content cx.new.entries table.new.values)) }
@@ -362,18 +363,20 @@ pub fn instantiate_and_apply_query_response(
     // not refused for want of a solution. The table speaks of its own unknowns alone, as it did before.
     ensures kept { OnOk result (AgreedGoOn cx.old.entries table.old original_values.now response.now (content cx.new.entries table.new.values)) }
     ensures accepted { result ≡ Err EqError.NoSolution → AgreesWithNone cx.old.entries table.old original_values.now response.now }
-    ensures known { OnOk result (IsWellPosed cx.old.entries table.old original_values.now response.now → IsOfKnown (variables_of table.new) (content cx.new.entries table.new.values)) }
+    ensures known { OnOk result (IsWellPosed cx.old.entries table.old original_values.now response.now
+        → IsOfKnown (variables_of table.new) (content cx.new.entries table.new.values)) }
 
     // What is left, and whether it is refused, is a function of trees.
     ensures exact { OnOk result (left_by_answer cx.old.entries table.old original_values.now response.now ≡ Some (table_trees cx.new.entries table.new)) }
     ensures refusal { result ≡ Err EqError.NoSolution → left_by_answer cx.old.entries table.old original_values.now response.now ≡ None }
 
     // The answer's constraints come last, and none is recorded that is there.
-    ensures constraints { OnOk result (Records cx.new.entries table.old.constraints table.new.constraints (answered_constraints cx.old.entries table.old original_values.now response.now)) }
+    ensures constraints { OnOk result (Records cx.new.entries table.old.constraints table.new.constraints
+        (answered_constraints cx.old.entries table.old original_values.now response.now)) }
     ensures refused { OnErr result (table.new ≡ table.old) }
 
-    // A full table names the error only where some kind of term has reached its limit, or where a number is missing.
-    ensures full { result ≡ Err (EqError.Fault Fault.Full) → SomeKindIsFull cx.new.entries cx.new.limit ⊎ NumbersRunOut cx.old.entries table.old original_values.now response.now }
+    // A full table names the error only where some kind of term has reached its limit.
+    ensures full { IfErr result (EqFullAtLimit cx.new) }
 {
     cx.lawful();
     let place = table.snapshot();

@@ -1,10 +1,8 @@
 //! The context of an evaluation: the table, and the goals that are still to be asked.
-ghost use Rattle.std.specs.Prelude.{◌≡◌, ◌<◌, ◌⊎◌, List, [], ◌∷◌, ◌++◌, map, take, length, OnOk, OnErr, IfOk, IfErr, Err};
-ghost use Rattle.type_terms.specs.Terms.{Entry, Keeps};
+ghost use Rattle.term_folds.specs.Growth.{Grew, FullAtLimit};
+ghost use Rattle.std.specs.Prelude.{◌≡◌, List, [], ◌∷◌, ◌++◌, map, take, length, OnOk, OnErr, IfOk, IfErr, Err};
+ghost use Rattle.type_terms.specs.Terms.{Entry};
 ghost use Rattle.type_terms.specs.Kinds.{ArgHeld, ArgsHeld, arg_trees};
-ghost use Rattle.type_terms.specs.declared.TheConstants.{MAX_INDEX};
-ghost use Rattle.type_terms.specs.Failures.{SomeKindIsFull};
-ghost use Rattle.infer_table.specs.Numbers.{RunsOut};
 ghost use Rattle.infer_table.specs.Solutions.{HasNoSolution};
 ghost use Rattle.infer_table.specs.Content.{content, Ready, Grows};
 ghost use Rattle.type_terms.specs.Trees.{none};
@@ -16,9 +14,9 @@ ghost use Rattle.evaluation.specs.Context.{Context, IsReadyContext, nested_goal}
 ghost use Rattle.evaluation.specs.OwnAnswers.{SaysWhatIsKnown, OwnAnswerSaysNothing, OwnAnswerSays, known_answer};
 ghost use Rattle.infer_table.specs.Unification.{table_trees};
 ghost use Rattle.evaluation.specs.declared.TheConstants.{FIXPOINT_STEP_LIMIT};
-ghost use Rattle.evaluation.specs.Shortages.{KnowsTooMuch, GoalsRunOut, CallRunsOut};
-ghost use Rattle.infer_table.specs.Equated.{only_equation, MakesEqual, LeavesTheOlder};
-ghost use Rattle.evaluation.specs.Runs.{own_rounds, own_answer, HasNoOwnAnswer};
+ghost use Rattle.evaluation.specs.Shortages.{EvalFullAtLimit};
+ghost use Rattle.infer_table.specs.Equated.{MakesEqual, LeavesTheOlder};
+ghost use Rattle.evaluation.specs.Runs.{own_rounds, own_answer};
 ghost use Rattle.evaluation.specs.Ends.{CallEnds, AnswerEnds, AnswerHeld};
 ghost use Rattle.evaluation.specs.Steps.{RoundsEnd, RoundsHeld, IsUndone};
 ghost use Rattle.evaluation.specs.Probes.{TakesBoth, Returns, IsUndoable};
@@ -175,8 +173,8 @@ impl EvalCtxt {
     /// Makes the two equal in the context's table. Two lifetimes that differ are recorded as equal and refuse nothing.
     ///
     /// Afterwards the solutions of the table are those from before that make the two equal; `NoSolution` comes exactly where
-    /// there is none. `Full` comes only where some kind of term has reached the interner's limit, or lifetimes get no numbers.
-    /// After a refusal the context is as before; the interner may hold more terms.
+    /// there is none. `Full` comes only where some kind of term has reached the interner's limit, `Memory` also where lifetimes get
+    /// no numbers. After a refusal the context is as before; the interner may hold more terms.
     pub fn eq(
         &mut self,
         cx: &mut Interner,
@@ -188,17 +186,18 @@ impl EvalCtxt {
         requires ready { IsReadyContext cx.old.entries self.old }
         ensures ready { IsReadyContext cx.new.entries self.new }
         ensures grows { Grows self.old.table self.new.table }
-        ensures keeps { Keeps cx.old.entries cx.new.entries }
-        ensures limit { cx.new.limit ≡ cx.old.limit }
+        ensures grew { Grew cx.old cx.new }
 
         // Nothing but the table changes.
         ensures rest { self.new ≡ record self.old { table = self.new.table } }
-        ensures equates { OnOk result (MakesEqual cx.old.entries self.old.table cx.new.entries self.new.table (arg_trees cx.old.entries left) (arg_trees cx.old.entries right)) }
-        ensures older { OnOk result (LeavesTheOlder cx.old.entries self.old.table cx.new.entries self.new.table (arg_trees cx.old.entries left) (arg_trees cx.old.entries right)) }
-        ensures never { result ≡ Err EvalError.NoSolution → HasNoSolution (content cx.old.entries self.old.table.values) (arg_trees cx.old.entries left) (arg_trees cx.old.entries right) }
+        ensures equates { OnOk result
+            (MakesEqual cx.old.entries self.old.table cx.new.entries self.new.table (arg_trees cx.old.entries left) (arg_trees cx.old.entries right)) }
+        ensures older { OnOk result
+            (LeavesTheOlder cx.old.entries self.old.table cx.new.entries self.new.table (arg_trees cx.old.entries left) (arg_trees cx.old.entries right)) }
+        ensures never { result ≡ Err EvalError.NoSolution
+            → HasNoSolution (content cx.old.entries self.old.table.values) (arg_trees cx.old.entries left) (arg_trees cx.old.entries right) }
         ensures refused { OnErr result (self.new ≡ self.old) }
-        ensures full { result ≡ Err (EvalError.Fault Fault.Full) → SomeKindIsFull cx.new.entries cx.new.limit
-            ⊎ RunsOut (table_trees cx.old.entries self.old.table) (only_equation cx.old.entries left right) }
+        ensures full { IfErr result (EvalFullAtLimit cx.new) }
     {
         match self.table.eq(cx, left, right) {
             Ok(()) => Ok(()),
@@ -220,15 +219,16 @@ impl EvalCtxt {
         requires ready { IsReadyContext cx.old.entries self.old }
         ensures ready { IsReadyContext cx.new.entries self.new }
         ensures grows { Grows self.old.table self.new.table }
-        ensures keeps { Keeps cx.old.entries cx.new.entries }
-        ensures limit { cx.new.limit ≡ cx.old.limit }
+        ensures grew { Grew cx.old cx.new }
         ensures rest { self.new ≡ record self.old { table = self.new.table } }
-        ensures equates { OnOk result (MakesEqual cx.old.entries self.old.table cx.new.entries self.new.table (arg_trees cx.old.entries left) (arg_trees cx.old.entries right)) }
-        ensures older { OnOk result (LeavesTheOlder cx.old.entries self.old.table cx.new.entries self.new.table (arg_trees cx.old.entries left) (arg_trees cx.old.entries right)) }
-        ensures never { result ≡ Err EvalError.NoSolution → HasNoSolution (content cx.old.entries self.old.table.values) (arg_trees cx.old.entries left) (arg_trees cx.old.entries right) }
+        ensures equates { OnOk result
+            (MakesEqual cx.old.entries self.old.table cx.new.entries self.new.table (arg_trees cx.old.entries left) (arg_trees cx.old.entries right)) }
+        ensures older { OnOk result
+            (LeavesTheOlder cx.old.entries self.old.table cx.new.entries self.new.table (arg_trees cx.old.entries left) (arg_trees cx.old.entries right)) }
+        ensures never { result ≡ Err EvalError.NoSolution
+            → HasNoSolution (content cx.old.entries self.old.table.values) (arg_trees cx.old.entries left) (arg_trees cx.old.entries right) }
         ensures refused { OnErr result (self.new ≡ self.old) }
-        ensures full { result ≡ Err (EvalError.Fault Fault.Full) → SomeKindIsFull cx.new.entries cx.new.limit
-            ⊎ RunsOut (table_trees cx.old.entries self.old.table) (only_equation cx.old.entries left right) }
+        ensures full { IfErr result (EvalFullAtLimit cx.new) }
     {
         self.eq(cx, left, right)
     }
@@ -247,23 +247,21 @@ impl EvalCtxt {
     /// The context's own answer where the evaluation is given up for this cause: it is not sure, and says what is known so far
     /// of the input's variables and of lifetimes; an overflow says nothing of them.
     ///
-    /// `Full` comes only where the interner or the numbers of variables are used up, `Memory` where memory is refused. The
-    /// original's `forced_ambiguity`.
+    /// `Full` comes only where some kind of term has reached the interner's limit, `Memory` where memory is refused, or where there
+    /// are no numbers for the answer's variables. The original's `forced_ambiguity`.
     pub fn forced_ambiguity(
         &self,
         cx: &mut Interner,
         cause: MaybeCause,
     ) -> Result<CanonicalResponse, Fault>
         requires ready { IsReadyContext cx.old.entries self.now }
-        ensures keeps { Keeps cx.old.entries cx.new.entries }
-        ensures limit { cx.new.limit ≡ cx.old.limit }
+        ensures grew { Grew cx.old cx.new }
         ensures certainty { IfOk result (λ r. r.certainty ≡ Certainty.Maybe cause) }
         ensures says { IfOk result (λ r. OwnAnswerSays cx.old.entries cx.new.entries self.now r (Certainty.Maybe cause)) }
         ensures held { IfOk result (λ r. ResponseHeld cx.new.entries r) }
         ensures is { IfOk result (λ r. answer_trees cx.new.entries r ≡ own_answer cx.old.entries self.now (Certainty.Maybe cause)) }
-        ensures full { cause ≡ MaybeCause.Overflow → result ≡ Err Fault.Full → (MAX_INDEX < length self.now.variables) ⊎ IsFull cx.new.entries cx.new.limit }
-        ensures runs_out { result ≡ Err Fault.Full → SomeKindIsFull cx.new.entries cx.new.limit
-            ⊎ HasNoOwnAnswer cx.old.entries self.now (Certainty.Maybe cause) }
+        ensures full { IfErr result (FullAtLimit cx.new) }
+        ensures overflow { cause ≡ MaybeCause.Overflow → result ≡ Err Fault.Full → IsFull cx.new.entries cx.new.limit }
     {
         self.answer(cx, Certainty::Maybe(cause))
     }
@@ -275,15 +273,13 @@ impl EvalCtxt {
         certainty: Certainty,
     ) -> Result<CanonicalResponse, Fault>
         requires ready { IsReadyContext cx.old.entries self.now }
-        ensures keeps { Keeps cx.old.entries cx.new.entries }
-        ensures limit { cx.new.limit ≡ cx.old.limit }
+        ensures grew { Grew cx.old cx.new }
         ensures certainty { IfOk result (λ r. r.certainty ≡ certainty) }
         ensures says { IfOk result (λ r. OwnAnswerSays cx.old.entries cx.new.entries self.now r certainty) }
         ensures held { IfOk result (λ r. ResponseHeld cx.new.entries r) }
         ensures is { IfOk result (λ r. answer_trees cx.new.entries r ≡ own_answer cx.old.entries self.now certainty) }
-        ensures full { certainty ≡ Certainty.Maybe MaybeCause.Overflow → result ≡ Err Fault.Full → (MAX_INDEX < length self.now.variables) ⊎ IsFull cx.new.entries cx.new.limit }
-        ensures runs_out { result ≡ Err Fault.Full → SomeKindIsFull cx.new.entries cx.new.limit
-            ⊎ HasNoOwnAnswer cx.old.entries self.now certainty }
+        ensures full { IfErr result (FullAtLimit cx.new) }
+        ensures overflow { certainty ≡ Certainty.Maybe MaybeCause.Overflow → result ≡ Err Fault.Full → IsFull cx.new.entries cx.new.limit }
     {
         match certainty {
             Certainty::Yes => self.known_answer(cx, certainty),
@@ -299,14 +295,13 @@ impl EvalCtxt {
         certainty: Certainty,
     ) -> Result<CanonicalResponse, Fault>
         requires ready { IsReadyContext cx.old.entries self.now }
-        ensures keeps { Keeps cx.old.entries cx.new.entries }
-        ensures limit { cx.new.limit ≡ cx.old.limit }
+        ensures grew { Grew cx.old cx.new }
         ensures certainty { IfOk result (λ r. r.certainty ≡ certainty) }
         ensures says { IfOk result (λ r. SaysWhatIsKnown cx.old.entries cx.new.entries self.now r) }
         ensures held { IfOk result (λ r. ResponseHeld cx.new.entries r) }
-        ensures is { IfOk result (λ r. answer_trees cx.new.entries r ≡ known_answer (values_of cx.old.entries self.now.values) (table_trees cx.old.entries self.now.table) certainty) }
-        ensures full { result ≡ Err Fault.Full → SomeKindIsFull cx.new.entries cx.new.limit
-            ⊎ KnowsTooMuch (values_of cx.old.entries self.now.values) (table_trees cx.old.entries self.now.table) }
+        ensures is { IfOk result (λ r. answer_trees cx.new.entries r
+            ≡ known_answer (values_of cx.old.entries self.now.values) (table_trees cx.old.entries self.now.table) certainty) }
+        ensures full { IfErr result (FullAtLimit cx.new) }
     {
         let alloc = *self.values.allocator();
         let answer = canonicalize_response(alloc, cx, &self.table, certainty, &self.values)?;
@@ -320,13 +315,13 @@ impl EvalCtxt {
         cx: &mut Interner,
         certainty: Certainty,
     ) -> Result<CanonicalResponse, Fault>
-        ensures keeps { Keeps cx.old.entries cx.new.entries }
-        ensures limit { cx.new.limit ≡ cx.old.limit }
+        ensures grew { Grew cx.old cx.new }
         ensures certainty { IfOk result (λ r. r.certainty ≡ certainty) }
         ensures says { IfOk result (λ r. OwnAnswerSaysNothing cx.new.entries self.now r) }
         ensures held { IfOk result (λ r. ResponseHeld cx.new.entries r) }
-        ensures is { IfOk result (λ r. answer_trees cx.new.entries r ≡ record { kinds = self.now.variables; certainty = certainty; values = variables_from 0 self.now.variables; constraints = none }) }
-        ensures full { result ≡ Err Fault.Full → (MAX_INDEX < length self.now.variables) ⊎ IsFull cx.new.entries cx.new.limit }
+        ensures is { IfOk result (λ r. answer_trees cx.new.entries r
+            ≡ record { kinds = self.now.variables; certainty = certainty; values = variables_from 0 self.now.variables; constraints = none }) }
+        ensures full { result ≡ Err Fault.Full → IsFull cx.new.entries cx.new.limit }
     {
         let alloc = *self.values.allocator();
         let variables = Vec::from_slice(alloc, &self.variables)?;
@@ -338,8 +333,9 @@ impl EvalCtxt {
     /// In a round each goal is asked in order, and its answer is put into the table. A definite yes drops its goal. The last
     /// round is one in which no answer gave values to types or constants; after `FIXPOINT_STEP_LIMIT` rounds the certainty is
     /// an overflow. Once it is `Ready`, the table holds what was put into it, the nested goals are those that are left, and
-    /// the replies are used up. `NoSolution` comes where a goal was refused, and `Full` only where the interner or the numbers of
-    /// variables are used up. `Ask` asks for a reply; then, and after any refusal, the context is as before.
+    /// the replies are used up. `NoSolution` comes where a goal was refused, and `Full` only where some kind of term has reached the
+    /// interner's limit; where variables get no numbers, `Memory` comes. `Ask` asks for a reply; then, and after any refusal, the
+    /// context is as before.
     pub fn try_evaluate_added_goals(
         &mut self,
         cx: &mut Interner,
@@ -347,10 +343,9 @@ impl EvalCtxt {
         requires ready { IsReadyContext cx.old.entries self.old }
         ensures ready { IsReadyContext cx.new.entries self.new }
         ensures grows { Grows self.old.table self.new.table }
-        ensures keeps { Keeps cx.old.entries cx.new.entries }
-        ensures limit { cx.new.limit ≡ cx.old.limit }
+        ensures grew { Grew cx.old cx.new }
         ensures runs { CallEnds self.old.mode cx.new.entries self.old self.new (own_rounds cx.old.entries self.old) result }
-        ensures full { result ≡ Err (EvalError.Fault Fault.Full) → SomeKindIsFull cx.new.entries cx.new.limit ⊎ GoalsRunOut cx.old.entries self.old }
+        ensures full { IfErr result (EvalFullAtLimit cx.new) }
     {
         let evaluated = self.evaluate_nested_goals(cx)?;
         match evaluated {
@@ -372,11 +367,10 @@ impl EvalCtxt {
         requires ready { IsReadyContext cx.old.entries self.old }
         ensures ready { IsReadyContext cx.new.entries self.new }
         ensures grows { Grows self.old.table self.new.table }
-        ensures keeps { Keeps cx.old.entries cx.new.entries }
-        ensures limit { cx.new.limit ≡ cx.old.limit }
+        ensures grew { Grew cx.old cx.new }
         ensures held { IfOk result (λ s. AnswerHeld cx.new.entries s) }
         ensures runs { AnswerEnds self.old.mode cx.new.entries self.old self.new certainty (own_rounds cx.old.entries self.old) result }
-        ensures full { result ≡ Err (EvalError.Fault Fault.Full) → SomeKindIsFull cx.new.entries cx.new.limit ⊎ CallRunsOut cx.old.entries self.old certainty }
+        ensures full { IfErr result (EvalFullAtLimit cx.new) }
     {
         let before = self.table.snapshot();
         let evaluated = self.evaluate_nested_goals(cx)?;
@@ -402,13 +396,12 @@ impl EvalCtxt {
         requires ready { IsReadyContext cx.old.entries self.old }
         ensures ready { IsReadyContext cx.new.entries self.new }
         ensures grows { Grows self.old.table self.new.table }
-        ensures keeps { Keeps cx.old.entries cx.new.entries }
-        ensures limit { cx.new.limit ≡ cx.old.limit }
+        ensures grew { Grew cx.old cx.new }
         ensures held { IfOk result (λ e. RoundsHeld cx.new.entries e) }
         ensures rest { self.new ≡ record self.old { table = self.new.table } }
         ensures undone { IsUndone self.old self.new result }
         ensures runs { RoundsEnd self.old.mode cx.new.entries self.new.table (own_rounds cx.old.entries self.old) result }
-        ensures full { result ≡ Err (EvalError.Fault Fault.Full) → SomeKindIsFull cx.new.entries cx.new.limit ⊎ GoalsRunOut cx.old.entries self.old }
+        ensures full { IfErr result (EvalFullAtLimit cx.new) }
     {
         let before = self.table.snapshot();
         match self.run_rounds(cx) {
@@ -429,12 +422,11 @@ impl EvalCtxt {
         requires ready { IsReadyContext cx.old.entries self.old }
         ensures ready { IsReadyContext cx.new.entries self.new }
         ensures grows { Grows self.old.table self.new.table }
-        ensures keeps { Keeps cx.old.entries cx.new.entries }
-        ensures limit { cx.new.limit ≡ cx.old.limit }
+        ensures grew { Grew cx.old cx.new }
         ensures held { IfOk result (λ e. RoundsHeld cx.new.entries e) }
         ensures rest { self.new ≡ record self.old { table = self.new.table } }
         ensures runs { RoundsEnd self.old.mode cx.new.entries self.new.table (own_rounds cx.old.entries self.old) result }
-        ensures full { result ≡ Err (EvalError.Fault Fault.Full) → SomeKindIsFull cx.new.entries cx.new.limit ⊎ GoalsRunOut cx.old.entries self.old }
+        ensures full { IfErr result (EvalFullAtLimit cx.new) }
     {
         let alloc = *self.values.allocator();
         let goals = self.nested_goals.clone()?;
@@ -490,7 +482,8 @@ fn push_goals(
     source: GoalSource,
     goals: Vec<Goal>,
 ) -> Result<(), Fault>
-    ensures added { OnOk result (map nested_goal nested_goals.new.items ≡ map nested_goal nested_goals.old.items ++ map (λ g. nested_goal (source, g)) goals.items) }
+    ensures added { OnOk result (map nested_goal nested_goals.new.items
+        ≡ map nested_goal nested_goals.old.items ++ map (λ g. nested_goal (source, g)) goals.items) }
     ensures kept { take (length nested_goals.old.items) nested_goals.new.items ≡ nested_goals.old.items }
     ensures fault { IfErr result (λ e. e ≡ Fault.Memory) }
 {

@@ -1,15 +1,14 @@
 //! The merge of the responses of candidates.
 
-ghost use Rattle.std.specs.Prelude.{◌≡◌, ◌<◌, ◌⊎◌, Bool, List, [], None, Err, map, length, position, IfOk, IfErr, IfSome, option_map, ◌↔◌};
+ghost use Rattle.term_folds.specs.Growth.{Grew};
+ghost use Rattle.std.specs.Prelude.{◌≡◌, Bool, List, [], None, Err, map, position, IfOk, IfErr, IfSome, option_map, ◌↔◌};
 ghost use Rattle.std.specs.List.{list_all, All};
 ghost use Rattle.infer_table.specs.declared.certainty.Certainty.{Certainty};
 ghost use Rattle.infer_table.specs.Certainties.{all_joined, unsettled};
 ghost use Rattle.evaluation.specs.Merge.{merge_info, merge_by};
 ghost use Rattle.evaluation.specs.Runs.{SaysAllOf};
 ghost use Rattle.evaluation.specs.Responses.{is_always_applicable, ValuesHeld};
-ghost use Rattle.type_terms.specs.Terms.{Keeps};
 ghost use Rattle.type_terms.specs.Kinds.{ArgsHeld};
-ghost use Rattle.type_terms.specs.declared.TheConstants.{MAX_INDEX};
 ghost use Rattle.infer_table.specs.Values.{values_of};
 ghost use Rattle.infer_table.specs.Raw.{variables_from, IsFull};
 
@@ -64,8 +63,10 @@ pub fn try_merge_candidates(
     responses: &[CanonicalResponse],
 ) -> Result<Option<(CanonicalResponse, MergeCandidateInfo)>, Fault>
     requires { All (ValuesHeld cx.now.entries) responses.now }
-    ensures info { IfOk result (λ merged. option_map (λ x. x.1) merged ≡ merge_info (is_always_applicable cx.now.entries) ⟦<CanonicalResponse as PartialEq>⟧.eq responses.now) }
-    ensures response { IfOk result (λ merged. SaysAllOf (merge_by (is_always_applicable cx.now.entries) ⟦<CanonicalResponse as PartialEq>⟧.eq responses.now) merged) }
+    ensures info { IfOk result (λ merged. option_map (λ x. x.1) merged
+        ≡ merge_info (is_always_applicable cx.now.entries) ⟦<CanonicalResponse as PartialEq>⟧.eq responses.now) }
+    ensures response { IfOk result
+        (λ merged. SaysAllOf (merge_by (is_always_applicable cx.now.entries) ⟦<CanonicalResponse as PartialEq>⟧.eq responses.now) merged) }
     ensures fault { IfErr result (λ fault. fault ≡ Fault.Memory) }
 {
     if let Some(place) = first_always_applicable(cx, responses) {
@@ -105,22 +106,21 @@ pub fn ambiguous_certainty(responses: &[CanonicalResponse]) -> Certainty
 /// The response that stands for all of these where there is no merge, to a goal with variables of these kinds: it is not sure,
 /// gives no values and constrains no lifetime. (`EvalCtxt::bail_with_ambiguity` of the original.)
 ///
-/// `Full` comes where there are more variables than numbers for them or one of the interner's tables is full, `Memory` where
-/// memory is refused.
+/// `Full` comes where one of the interner's tables is full, `Memory` where there are more variables than numbers for them or memory
+/// is refused.
 pub fn bail_with_ambiguity(
     alloc: Global,
     cx: &mut Interner,
     variables: &[CanonicalVarKind],
     responses: &[CanonicalResponse],
 ) -> Result<CanonicalResponse, Fault>
-    ensures keeps { Keeps cx.old.entries cx.new.entries }
-    ensures limit { cx.new.limit ≡ cx.old.limit }
+    ensures grew { Grew cx.old cx.new }
     ensures variables { IfOk result (λ r. r.variables.items ≡ variables.now) }
     ensures certainty { IfOk result (λ r. r.certainty ≡ unsettled (all_joined (map (λ x. x.certainty) responses.now))) }
     ensures constraints { IfOk result (λ r. r.region_constraints.items ≡ []) }
     ensures held { IfOk result (λ r. ArgsHeld cx.new.entries r.var_values.items) }
     ensures values { IfOk result (λ r. values_of cx.new.entries r.var_values.items ≡ variables_from 0 variables.now) }
-    ensures full { result ≡ Err Fault.Full → (MAX_INDEX < length variables.now) ⊎ IsFull cx.new.entries cx.new.limit }
+    ensures full { result ≡ Err Fault.Full → IsFull cx.new.entries cx.new.limit }
 {
     let certainty = ambiguous_certainty(responses);
     let variables = Vec::from_slice(alloc, variables)?;
@@ -135,15 +135,14 @@ pub fn flounder(
     variables: &[CanonicalVarKind],
     responses: &[CanonicalResponse],
 ) -> Result<Option<CanonicalResponse>, Fault>
-    ensures keeps { Keeps cx.old.entries cx.new.entries }
-    ensures limit { cx.new.limit ≡ cx.old.limit }
+    ensures grew { Grew cx.old cx.new }
     ensures none { IfOk result (λ answer. answer ≡ None ↔ (responses.now ≡ [])) }
     ensures variables { IfOk result (λ answer. IfSome answer (λ r. r.variables.items ≡ variables.now)) }
     ensures certainty { IfOk result (λ answer. IfSome answer (λ r. r.certainty ≡ unsettled (all_joined (map (λ x. x.certainty) responses.now)))) }
     ensures constraints { IfOk result (λ answer. IfSome answer (λ r. r.region_constraints.items ≡ [])) }
     ensures held { IfOk result (λ answer. IfSome answer (λ r. ArgsHeld cx.new.entries r.var_values.items)) }
     ensures values { IfOk result (λ answer. IfSome answer (λ r. values_of cx.new.entries r.var_values.items ≡ variables_from 0 variables.now)) }
-    ensures full { result ≡ Err Fault.Full → (MAX_INDEX < length variables.now) ⊎ IsFull cx.new.entries cx.new.limit }
+    ensures full { result ≡ Err Fault.Full → IsFull cx.new.entries cx.new.limit }
 {
     if responses.is_empty() {
         return Ok(None);

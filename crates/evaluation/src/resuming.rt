@@ -1,20 +1,16 @@
 //! Candidates whose evaluation goes on where it stopped.
-ghost use Rattle.std.specs.Prelude.{◌≡◌, ◌⊎◌, ℕ, ◌+◌, ◌*◌, length, ◌∷◌, ◌++◌, [], ◌||◌, true, false, map, option_map, IfOk, IfErr, Some, Err};
-ghost use Rattle.type_terms.specs.Terms.{Keeps};
+ghost use Rattle.term_folds.specs.Growth.{Grew};
+ghost use Rattle.std.specs.Prelude.{◌≡◌, ℕ, ◌+◌, ◌*◌, length, ◌∷◌, ◌++◌, [], ◌||◌, true, false, map, option_map, IfOk, IfErr, Some, Err};
 ghost use Rattle.type_terms.specs.Kinds.{ArgsHeld};
-ghost use Rattle.type_terms.specs.Failures.{SomeKindIsFull};
 ghost use Rattle.infer_table.specs.Certainties.{joined};
-ghost use Rattle.infer_table.specs.Unification.{table_trees};
-ghost use Rattle.infer_table.specs.Values.{values_of};
 ghost use Rattle.infer_table.specs.Responses.{answer_trees};
 ghost use Rattle.evaluation.specs.Context.{NestedHeld, GoalIsHeld, nested_goal};
 ghost use Rattle.evaluation.specs.Evaluating.{certainty_with};
 ghost use Rattle.evaluation.specs.declared.TheConstants.{FIXPOINT_STEP_LIMIT};
 ghost use Rattle.evaluation.specs.Readings.{ResultHeld};
-ghost use Rattle.evaluation.specs.Shortages.{HasNoAnswer};
+ghost use Rattle.evaluation.specs.Shortages.{EvalFullAtLimit};
 ghost use Rattle.evaluation.specs.Script.{done};
 ghost use Rattle.evaluation.specs.OpenCandidates.{answer_with, rest_script, rounds_script, after_reply, StandsAt, EvaluationHeld, OpenHeld, CandidateHeld, CandidateIsOver, brings_values, is_definite, most_questions, questions_left, AsksAtMost};
-ghost use Rattle.evaluation.specs.OpenShortages.{RestRunsOut, WholeRunsOut, OpenRunsOut, RunsOutOnly};
 ghost use Rattle.evaluation.specs.Replayed.{BeginningReplays, ResumingReplays};
 
 use crate::FIXPOINT_STEP_LIMIT;
@@ -136,7 +132,8 @@ impl OpenRound {
         requires { ArgsHeld cx.now.entries response.now.var_values.items }
         ensures dropped { is_definite cx.now.entries response.now ≡ true → IfOk result (λ r. r ≡ self) }
         ensures left { is_definite cx.now.entries response.now ≡ false → IfOk result (λ r. r.left.items ≡ self.left.items ++ goal ∷ []) }
-        ensures changed { is_definite cx.now.entries response.now ≡ false → IfOk result (λ r. r.changed ≡ self.changed || brings_values cx.now.entries response.now) }
+        ensures changed { is_definite cx.now.entries response.now ≡ false
+            → IfOk result (λ r. r.changed ≡ self.changed || brings_values cx.now.entries response.now) }
         ensures certainty { is_definite cx.now.entries response.now ≡ false → IfOk result (λ r. r.certainty ≡ joined self.certainty response.now.certainty) }
         ensures fault { IfErr result (λ e. e ≡ Fault.Memory) }
     {
@@ -173,14 +170,11 @@ impl Evaluation {
         requires left { NestedHeld cx.old.entries (map nested_goal round.left.items) }
         requires goal { GoalIsHeld cx.old.entries (nested_goal goal) }
         requires goals { NestedHeld cx.old.entries (map nested_goal goals.items) }
-        ensures keeps { Keeps cx.old.entries cx.new.entries }
-        ensures limit { cx.new.limit ≡ cx.old.limit }
+        ensures grew { Grew cx.old cx.new }
         ensures held { IfOk result (λ s. CandidateHeld cx.new.entries s) }
         ensures stands { StandsAt cx.new.entries (rest_script cx.old.entries self rounds_left round (goal ∷ goals.items)) result }
         ensures most { IfOk result (AsksAtMost (most_questions rounds_left (length round.left.items) (length goals.items + 1))) }
-        ensures full { result ≡ Err (EvalError.Fault Fault.Full) → SomeKindIsFull cx.new.entries cx.new.limit
-            ⊎ RestRunsOut cx.old.entries self rounds_left round (goal ∷ goals.items) [] }
-        ensures later { IfOk result (RunsOutOnly (RestRunsOut cx.old.entries self rounds_left round (goal ∷ goals.items)) cx.new.entries) }
+        ensures full { IfErr result (EvalFullAtLimit cx.new) }
     {
         let asked = question_for(alloc, cx, self.mode, &self.table, &goal)?;
         let Canonicalized { input, values } = asked;
@@ -199,13 +193,11 @@ impl Evaluation {
     /// The answer, as sure as the candidate and its goals together.
     fn answer(self, cx: &mut Interner, of_goals: Certainty) -> Result<CandidateStep, EvalError>
         requires evaluation { EvaluationHeld cx.old.entries self }
-        ensures keeps { Keeps cx.old.entries cx.new.entries }
-        ensures limit { cx.new.limit ≡ cx.old.limit }
+        ensures grew { Grew cx.old cx.new }
         ensures held { IfOk result (λ s. CandidateHeld cx.new.entries s) }
         ensures stands { StandsAt cx.new.entries (done (Some (answer_with cx.old.entries self of_goals))) result }
         ensures over { IfOk result CandidateIsOver }
-        ensures full { result ≡ Err (EvalError.Fault Fault.Full) → SomeKindIsFull cx.new.entries cx.new.limit
-            ⊎ HasNoAnswer self.variables.items (values_of cx.old.entries self.own.items) (table_trees cx.old.entries self.table) (joined self.certainty of_goals) }
+        ensures full { IfErr result (EvalFullAtLimit cx.new) }
     {
         let Evaluation {
             mode,
@@ -231,14 +223,11 @@ impl Evaluation {
         requires evaluation { EvaluationHeld cx.old.entries self }
         requires left { NestedHeld cx.old.entries (map nested_goal round.left.items) }
         requires goals { NestedHeld cx.old.entries (map nested_goal goals.items) }
-        ensures keeps { Keeps cx.old.entries cx.new.entries }
-        ensures limit { cx.new.limit ≡ cx.old.limit }
+        ensures grew { Grew cx.old cx.new }
         ensures held { IfOk result (λ s. CandidateHeld cx.new.entries s) }
         ensures stands { StandsAt cx.new.entries (rest_script cx.old.entries self rounds_left round goals.items) result }
         ensures most { IfOk result (AsksAtMost (most_questions rounds_left (length round.left.items) (length goals.items))) }
-        ensures full { result ≡ Err (EvalError.Fault Fault.Full) → SomeKindIsFull cx.new.entries cx.new.limit
-            ⊎ RestRunsOut cx.old.entries self rounds_left round goals.items [] }
-        ensures later { IfOk result (RunsOutOnly (RestRunsOut cx.old.entries self rounds_left round goals.items) cx.new.entries) }
+        ensures full { IfErr result (EvalFullAtLimit cx.new) }
     {
         if let Some(goal) = goals.pop_front() {
             return self.ask(alloc, cx, rounds_left, round, goal, goals);
@@ -263,14 +252,11 @@ impl Evaluation {
     ) -> Result<CandidateStep, EvalError>
         requires evaluation { EvaluationHeld cx.old.entries self }
         requires goals { NestedHeld cx.old.entries (map nested_goal goals.items) }
-        ensures keeps { Keeps cx.old.entries cx.new.entries }
-        ensures limit { cx.new.limit ≡ cx.old.limit }
+        ensures grew { Grew cx.old cx.new }
         ensures held { IfOk result (λ s. CandidateHeld cx.new.entries s) }
         ensures stands { StandsAt cx.new.entries (rounds_script cx.old.entries self goals.items) result }
         ensures most { IfOk result (AsksAtMost (FIXPOINT_STEP_LIMIT * length goals.items)) }
-        ensures full { result ≡ Err (EvalError.Fault Fault.Full) → SomeKindIsFull cx.new.entries cx.new.limit
-            ⊎ WholeRunsOut cx.old.entries self goals.items [] }
-        ensures later { IfOk result (RunsOutOnly (WholeRunsOut cx.old.entries self goals.items) cx.new.entries) }
+        ensures full { IfErr result (EvalFullAtLimit cx.new) }
     {
         let round = OpenRound::new(alloc);
         self.go_on(alloc, cx, FIXPOINT_STEP_LIMIT - 1, round, goals)
@@ -282,7 +268,7 @@ impl OpenCandidate {
     ///
     /// The candidate goes on in its table, as evaluating it anew over all replies so far would (`resuming_replays`), and no reply is
     /// put in twice. `NoSolution` says that the goal was refused, or that the answer cannot be put into the table. `Full` comes only
-    /// where some kind of term has reached the interner's limit, or numbers are used up.
+    /// where some kind of term has reached the interner's limit, `Memory` also where variables get no numbers.
     pub fn resume(
         self,
         alloc: Global,
@@ -291,18 +277,13 @@ impl OpenCandidate {
     ) -> Result<CandidateStep, EvalError>
         requires held { OpenHeld cx.old.entries self }
         requires reply { ResultHeld cx.old.entries reply }
-        ensures keeps { Keeps cx.old.entries cx.new.entries }
-        ensures limit { cx.new.limit ≡ cx.old.limit }
+        ensures grew { Grew cx.old cx.new }
         ensures held { IfOk result (λ s. CandidateHeld cx.new.entries s) }
         ensures stands { StandsAt cx.new.entries (after_reply cx.old.entries self (option_map (answer_trees cx.old.entries) reply)) result }
 
         // It asks fewer questions than it could before.
         ensures fewer { IfOk result (λ s. (n : ℕ) → n + 1 ≡ questions_left self → AsksAtMost n s) }
-        ensures full { result ≡ Err (EvalError.Fault Fault.Full) → SomeKindIsFull cx.new.entries cx.new.limit
-            ⊎ OpenRunsOut cx.old.entries self (option_map (answer_trees cx.old.entries) reply ∷ []) }
-
-        // Over more replies it comes to no other place where numbers are used up.
-        ensures later { IfOk result (RunsOutOnly (λ more. OpenRunsOut cx.old.entries self (option_map (answer_trees cx.old.entries) reply ∷ more)) cx.new.entries) }
+        ensures full { IfErr result (EvalFullAtLimit cx.new) }
     {
         let OpenCandidate {
             mut evaluation,
@@ -321,8 +302,7 @@ impl OpenCandidate {
     }
 }
 
-/// A candidate that goes on ends, or waits, as evaluating it anew over all its replies does, and numbers are used up only where they
-/// are used up then.
+/// A candidate that goes on ends, or waits, as evaluating it anew over all its replies does.
 pub fn resuming_replays()
     ensures begins { BeginningReplays }
     ensures goes_on { ResumingReplays }

@@ -1,30 +1,27 @@
 //! Candidates: how their evaluation begins, and evaluated anew over the replies that are there.
-ghost use Rattle.std.specs.Prelude.{◌≡◌, ◌⊎◌, ◌*◌, length, map, List, [], ◌∷◌, ◌++◌, OnOk, IfOk, IfErr, Option, Some, None, option_map, Err};
-ghost use Rattle.type_terms.specs.Terms.{Entry, Keeps};
+ghost use Rattle.term_folds.specs.Growth.{Grew, FullAtLimit};
+ghost use Rattle.std.specs.Prelude.{◌≡◌, ◌*◌, length, map, List, [], ◌∷◌, ◌++◌, OnOk, IfOk, IfErr, Option, Some, None, option_map, Err};
+ghost use Rattle.type_terms.specs.Terms.{Entry};
 ghost use Rattle.type_terms.specs.Kinds.{ArgHeld, ArgsHeld, arg_trees};
-ghost use Rattle.type_terms.specs.Failures.{SomeKindIsFull};
 ghost use Rattle.infer_table.specs.Content.{Ready, IsHeldConstraint, AllConstraintsHeld};
 ghost use Rattle.infer_table.specs.Unification.{table_trees, unified};
 ghost use Rattle.infer_table.specs.Goals.{GoalHeld};
 ghost use Rattle.infer_table.specs.Values.{value_of, values_of, filled};
 ghost use Rattle.infer_table.specs.Applied.{with_constraints};
 ghost use Rattle.infer_table.specs.Applying.{next_unknown, with_unknown};
-ghost use Rattle.infer_table.specs.Numbers.{RunsOut};
-ghost use Rattle.infer_table.specs.Responses.{AnswerTrees, answer_trees};
-ghost use Rattle.infer_table.specs.Shortages.{HasNoUnknown};
+ghost use Rattle.infer_table.specs.Responses.{answer_trees};
 ghost use Rattle.evaluation.specs.Lists.{Every};
 ghost use Rattle.evaluation.specs.Readings.{EquationHeld, SpecHeld, ResultHeld};
 ghost use Rattle.evaluation.specs.Context.{IsReadyContext};
 ghost use Rattle.evaluation.specs.Ends.{AnswerHeld};
 ghost use Rattle.evaluation.specs.Evaluating.{goals_trees, replies_trees};
 ghost use Rattle.evaluation.specs.Frames.{begun, fresh, equate, unknowns, with_unknowns, solved};
-ghost use Rattle.evaluation.specs.Shortages.{LackNumbers, BeginningRunsOut, SolvingRunsOut, NestedRunsOut, CandidateRunsOut};
+ghost use Rattle.evaluation.specs.Shortages.{EvalFullAtLimit};
 ghost use Rattle.evaluation.specs.Runs.{candidate_of, nested_of, equations_filled, equation_filled, constraints_filled, premises_filled};
 ghost use Rattle.evaluation.specs.Trial.{asked, candidate, equations_trees, premises_trees, spec_trees};
 ghost use Rattle.evaluation.specs.TrialEnds.{trial_trees, IsTried, CandidateEnds};
 ghost use Rattle.evaluation.specs.Context.{NestedHeld, nested_goal};
 ghost use Rattle.evaluation.specs.OpenCandidates.{StandsAt, CandidateHeld, AsksAtMost};
-ghost use Rattle.evaluation.specs.OpenShortages.{RunsOutOnly};
 ghost use Rattle.evaluation.specs.declared.TheConstants.{FIXPOINT_STEP_LIMIT};
 
 use crate::candidate::CandidateSpec;
@@ -64,8 +61,7 @@ struct Trial {
 /// candidate's own variables become new unknowns. Its equations are to hold, one after the other, its constraints on lifetimes
 /// are recorded, and its nested goals are asked in rounds. `NoSolution` says that an equation or a goal was refused: want of
 /// room or memory is a fault, and refuses no candidate. `Full` comes only where some kind of term has reached the interner's
-/// limit, or the evaluation over trees comes to a place where numbers are used up. The answer is no surer than the candidate
-/// can be.
+/// limit, `Memory` also where variables get no numbers. The answer is no surer than the candidate can be.
 ///
 /// What comes of it is a function of trees: no handle decides anything. `EvalCtxt::probe_trait_candidate` of the original.
 pub fn evaluate_candidate(
@@ -77,12 +73,10 @@ pub fn evaluate_candidate(
 ) -> Result<EvalStep<CanonicalResponse>, EvalError>
     requires spec { SpecHeld cx.old.entries spec.now }
     requires replies { Every (ResultHeld cx.old.entries) replies.now }
-    ensures keeps { Keeps cx.old.entries cx.new.entries }
-    ensures limit { cx.new.limit ≡ cx.old.limit }
+    ensures grew { Grew cx.old cx.new }
     ensures held { IfOk result (λ s. AnswerHeld cx.new.entries s) }
     ensures runs { CandidateEnds cx.new.entries (candidate_of cx.old.entries input.now spec.now replies.now) result }
-    ensures full { result ≡ Err (EvalError.Fault Fault.Full) → SomeKindIsFull cx.new.entries cx.new.limit
-        ⊎ CandidateRunsOut input.now.mode input.now.variables.items (spec_trees cx.old.entries spec.now) (replies_trees cx.old.entries replies.now) }
+    ensures full { IfErr result (EvalFullAtLimit cx.new) }
 {
     let trial = try_candidate(alloc, cx, input, spec)?;
     evaluate_nested(alloc, cx, trial, input, spec, replies)
@@ -96,16 +90,15 @@ fn try_candidate(
     spec: &CandidateSpec,
 ) -> Result<Trial, EvalError>
     requires spec { SpecHeld cx.old.entries spec.now }
-    ensures keeps { Keeps cx.old.entries cx.new.entries }
-    ensures limit { cx.new.limit ≡ cx.old.limit }
+    ensures grew { Grew cx.old cx.new }
     ensures ready { IfOk result (λ t. Ready cx.new.entries t.table) }
     ensures own { IfOk result (λ t. ArgsHeld cx.new.entries t.own.items) }
     ensures values { IfOk result (λ t. ArgsHeld cx.new.entries t.values.items) }
-    ensures tried { IfOk result (λ t. IsTried input.now.variables.items (spec_trees cx.old.entries spec.now) (trial_trees cx.new.entries input.now.variables.items t)) }
+    ensures tried { IfOk result
+        (λ t. IsTried input.now.variables.items (spec_trees cx.old.entries spec.now) (trial_trees cx.new.entries input.now.variables.items t)) }
     ensures refused { result ≡ Err EvalError.NoSolution →
         equate (fresh (begun input.now.variables.items) spec.now.variables.items) (equations_trees cx.old.entries spec.now.equations.items) ≡ None }
-    ensures full { result ≡ Err (EvalError.Fault Fault.Full) → SomeKindIsFull cx.new.entries cx.new.limit
-        ⊎ ((rs : List (Option AnswerTrees)) → CandidateRunsOut input.now.mode input.now.variables.items (spec_trees cx.old.entries spec.now) rs) }
+    ensures full { IfErr result (EvalFullAtLimit cx.new) }
 {
     let mut trial = begin(alloc, cx, input, &spec.variables)?;
     equate_all(alloc, cx, &mut trial.table, &trial.values, &spec.equations)?;
@@ -126,13 +119,12 @@ fn begin(
     input: &CanonicalInput,
     variables: &[CanonicalVarKind],
 ) -> Result<Trial, Fault>
-    ensures keeps { Keeps cx.old.entries cx.new.entries }
-    ensures limit { cx.new.limit ≡ cx.old.limit }
+    ensures grew { Grew cx.old cx.new }
     ensures ready { IfOk result (λ t. Ready cx.new.entries t.table) }
     ensures own { IfOk result (λ t. ArgsHeld cx.new.entries t.own.items) }
     ensures values { IfOk result (λ t. ArgsHeld cx.new.entries t.values.items) }
     ensures is { IfOk result (λ t. trial_trees cx.new.entries input.now.variables.items t ≡ fresh (begun input.now.variables.items) variables.now) }
-    ensures full { result ≡ Err Fault.Full → SomeKindIsFull cx.new.entries cx.new.limit ⊎ BeginningRunsOut input.now.variables.items variables.now }
+    ensures full { IfErr result (FullAtLimit cx.new) }
 {
     let mut table = InferCtxt::new(alloc);
     let own = next_values(alloc, cx, &mut table, &input.variables)?;
@@ -152,12 +144,12 @@ fn add_unknowns(
     requires ready { Ready cx.old.entries table.old }
     requires held { ArgsHeld cx.old.entries values.old.items }
     ensures ready { Ready cx.new.entries table.new }
-    ensures keeps { Keeps cx.old.entries cx.new.entries }
-    ensures limit { cx.new.limit ≡ cx.old.limit }
+    ensures grew { Grew cx.old cx.new }
     ensures held { OnOk result (ArgsHeld cx.new.entries values.new.items) }
-    ensures values { OnOk result (values_of cx.new.entries values.new.items ≡ values_of cx.old.entries values.old.items ++ unknowns (table_trees cx.old.entries table.old) kinds.now) }
+    ensures values { OnOk result (values_of cx.new.entries values.new.items
+        ≡ values_of cx.old.entries values.old.items ++ unknowns (table_trees cx.old.entries table.old) kinds.now) }
     ensures made { OnOk result (table_trees cx.new.entries table.new ≡ with_unknowns (table_trees cx.old.entries table.old) kinds.now) }
-    ensures full { result ≡ Err Fault.Full → SomeKindIsFull cx.new.entries cx.new.limit ⊎ LackNumbers (table_trees cx.old.entries table.old) kinds.now }
+    ensures full { IfErr result (FullAtLimit cx.new) }
 {
     for kind in kinds {
         let unknown = new_unknown(cx, table, *kind)?;
@@ -174,12 +166,11 @@ fn new_unknown(
 ) -> Result<GenericArgKind, Fault>
     requires ready { Ready cx.old.entries table.old }
     ensures ready { Ready cx.new.entries table.new }
-    ensures keeps { Keeps cx.old.entries cx.new.entries }
-    ensures limit { cx.new.limit ≡ cx.old.limit }
+    ensures grew { Grew cx.old cx.new }
     ensures is { IfOk result (λ a. (es : List Entry) → value_of cx.new.entries a ≡ next_unknown (table_trees es table.old) kind) }
     ensures held { IfOk result (λ a. ArgHeld cx.new.entries a) }
     ensures made { OnOk result ((es : List Entry) → table_trees es table.new ≡ with_unknown (table_trees es table.old) kind) }
-    ensures full { result ≡ Err Fault.Full → SomeKindIsFull cx.new.entries cx.new.limit ⊎ ((es : List Entry) → HasNoUnknown None (table_trees es table.old) kind) }
+    ensures full { IfErr result (FullAtLimit cx.new) }
 {
     match kind {
         CanonicalVarKind::Ty | CanonicalVarKind::PlaceholderTy => {
@@ -209,12 +200,12 @@ fn equate_all(
     requires values { ArgsHeld cx.old.entries values.now }
     requires equations { Every (EquationHeld cx.old.entries) equations.now }
     ensures ready { Ready cx.new.entries table.new }
-    ensures keeps { Keeps cx.old.entries cx.new.entries }
-    ensures limit { cx.new.limit ≡ cx.old.limit }
-    ensures solved { OnOk result (solved (table_trees cx.old.entries table.old) (equations_filled cx.old.entries values.now equations.now) ≡ Some (table_trees cx.new.entries table.new)) }
-    ensures refused { result ≡ Err EvalError.NoSolution → solved (table_trees cx.old.entries table.old) (equations_filled cx.old.entries values.now equations.now) ≡ None }
-    ensures full { result ≡ Err (EvalError.Fault Fault.Full) → SomeKindIsFull cx.new.entries cx.new.limit
-        ⊎ SolvingRunsOut (table_trees cx.old.entries table.old) (equations_filled cx.old.entries values.now equations.now) }
+    ensures grew { Grew cx.old cx.new }
+    ensures solved { OnOk result (solved (table_trees cx.old.entries table.old) (equations_filled cx.old.entries values.now equations.now)
+        ≡ Some (table_trees cx.new.entries table.new)) }
+    ensures refused { result ≡ Err EvalError.NoSolution
+        → solved (table_trees cx.old.entries table.old) (equations_filled cx.old.entries values.now equations.now) ≡ None }
+    ensures full { IfErr result (EvalFullAtLimit cx.new) }
 {
     for equation in equations {
         equate(alloc, cx, table, values, equation)?;
@@ -234,12 +225,12 @@ fn equate(
     requires values { ArgsHeld cx.old.entries values.now }
     requires equation { EquationHeld cx.old.entries equation.now }
     ensures ready { Ready cx.new.entries table.new }
-    ensures keeps { Keeps cx.old.entries cx.new.entries }
-    ensures limit { cx.new.limit ≡ cx.old.limit }
-    ensures solved { OnOk result (unified (table_trees cx.old.entries table.old) (equation_filled cx.old.entries values.now equation.now) ≡ Some (table_trees cx.new.entries table.new)) }
-    ensures refused { result ≡ Err EvalError.NoSolution → unified (table_trees cx.old.entries table.old) (equation_filled cx.old.entries values.now equation.now) ≡ None }
-    ensures full { result ≡ Err (EvalError.Fault Fault.Full) → SomeKindIsFull cx.new.entries cx.new.limit
-        ⊎ RunsOut (table_trees cx.old.entries table.old) (equation_filled cx.old.entries values.now equation.now) }
+    ensures grew { Grew cx.old cx.new }
+    ensures solved { OnOk result (unified (table_trees cx.old.entries table.old) (equation_filled cx.old.entries values.now equation.now)
+        ≡ Some (table_trees cx.new.entries table.new)) }
+    ensures refused { result ≡ Err EvalError.NoSolution
+        → unified (table_trees cx.old.entries table.old) (equation_filled cx.old.entries values.now equation.now) ≡ None }
+    ensures full { IfErr result (EvalFullAtLimit cx.new) }
 {
     let left = fill(alloc, cx, values, equation.left)?;
     let right = fill(alloc, cx, values, equation.right)?;
@@ -258,11 +249,10 @@ fn fill(
 ) -> Result<GenericArgKind, Fault>
     requires values { ArgsHeld cx.old.entries values.now }
     requires term { ArgHeld cx.old.entries term }
-    ensures keeps { Keeps cx.old.entries cx.new.entries }
-    ensures limit { cx.new.limit ≡ cx.old.limit }
+    ensures grew { Grew cx.old cx.new }
     ensures held { IfOk result (λ a. ArgHeld cx.new.entries a) }
     ensures filled { IfOk result (λ a. arg_trees cx.new.entries a ≡ filled (values_of cx.old.entries values.now) (arg_trees cx.old.entries term)) }
-    ensures full { result ≡ Err Fault.Full → SomeKindIsFull cx.new.entries cx.new.limit }
+    ensures full { IfErr result (FullAtLimit cx.new) }
 {
     term.fold_with(alloc, cx, &CanonicalInstantiator { values })
 }
@@ -279,10 +269,10 @@ fn record_constraints(
     requires values { ArgsHeld cx.old.entries values.now }
     requires constraints { AllConstraintsHeld cx.old.entries constraints.now }
     ensures ready { Ready cx.new.entries table.new }
-    ensures keeps { Keeps cx.old.entries cx.new.entries }
-    ensures limit { cx.new.limit ≡ cx.old.limit }
-    ensures recorded { OnOk result (table_trees cx.new.entries table.new ≡ with_constraints (constraints_filled cx.old.entries values.now constraints.now) (table_trees cx.old.entries table.old)) }
-    ensures full { result ≡ Err Fault.Full → SomeKindIsFull cx.new.entries cx.new.limit }
+    ensures grew { Grew cx.old cx.new }
+    ensures recorded { OnOk result (table_trees cx.new.entries table.new
+        ≡ with_constraints (constraints_filled cx.old.entries values.now constraints.now) (table_trees cx.old.entries table.old)) }
+    ensures full { IfErr result (FullAtLimit cx.new) }
 {
     for constraint in constraints {
         record_constraint(alloc, cx, table, values, *constraint)?;
@@ -302,10 +292,10 @@ fn record_constraint(
     requires values { ArgsHeld cx.old.entries values.now }
     requires constraint { IsHeldConstraint cx.old.entries constraint }
     ensures ready { Ready cx.new.entries table.new }
-    ensures keeps { Keeps cx.old.entries cx.new.entries }
-    ensures limit { cx.new.limit ≡ cx.old.limit }
-    ensures recorded { OnOk result (table_trees cx.new.entries table.new ≡ with_constraints (constraints_filled cx.old.entries values.now (constraint ∷ [])) (table_trees cx.old.entries table.old)) }
-    ensures full { result ≡ Err Fault.Full → SomeKindIsFull cx.new.entries cx.new.limit }
+    ensures grew { Grew cx.old cx.new }
+    ensures recorded { OnOk result (table_trees cx.new.entries table.new
+        ≡ with_constraints (constraints_filled cx.old.entries values.now (constraint ∷ [])) (table_trees cx.old.entries table.old)) }
+    ensures full { IfErr result (FullAtLimit cx.new) }
 {
     let constraint = constraint.fold_with(alloc, cx, &CanonicalInstantiator { values })?;
     cx.lawful();
@@ -326,13 +316,10 @@ fn evaluate_nested(
     requires values { ArgsHeld cx.old.entries trial.values.items }
     requires goals { Every (λ n. GoalHeld cx.old.entries n.1) spec.now.nested_goals.items }
     requires replies { Every (ResultHeld cx.old.entries) replies.now }
-    ensures keeps { Keeps cx.old.entries cx.new.entries }
-    ensures limit { cx.new.limit ≡ cx.old.limit }
+    ensures grew { Grew cx.old cx.new }
     ensures held { IfOk result (λ s. AnswerHeld cx.new.entries s) }
     ensures runs { CandidateEnds cx.new.entries (nested_of cx.old.entries input.now spec.now trial replies.now) result }
-    ensures full { result ≡ Err (EvalError.Fault Fault.Full) → SomeKindIsFull cx.new.entries cx.new.limit
-        ⊎ NestedRunsOut input.now.mode (premises_trees cx.old.entries spec.now.nested_goals.items) spec.now.certainty
-        (trial_trees cx.old.entries input.now.variables.items trial) (replies_trees cx.old.entries replies.now) }
+    ensures full { IfErr result (EvalFullAtLimit cx.new) }
 {
     let Trial { table, own, values } = trial;
     let variables = Vec::from_slice(alloc, &input.variables)?;
@@ -353,12 +340,12 @@ fn add_goals(
     requires ready { IsReadyContext cx.old.entries context.old }
     requires values { ArgsHeld cx.old.entries values.now }
     requires goals { Every (λ n. GoalHeld cx.old.entries n.1) goals.now }
-    ensures keeps { Keeps cx.old.entries cx.new.entries }
-    ensures limit { cx.new.limit ≡ cx.old.limit }
+    ensures grew { Grew cx.old cx.new }
     ensures ready { OnOk result (IsReadyContext cx.new.entries context.new) }
     ensures rest { OnOk result (context.new ≡ record context.old { nested = context.new.nested }) }
-    ensures added { OnOk result (goals_trees cx.new.entries context.new.nested ≡ goals_trees cx.old.entries context.old.nested ++ premises_filled cx.old.entries values.now goals.now) }
-    ensures full { result ≡ Err Fault.Full → SomeKindIsFull cx.new.entries cx.new.limit }
+    ensures added { OnOk result (goals_trees cx.new.entries context.new.nested
+        ≡ goals_trees cx.old.entries context.old.nested ++ premises_filled cx.old.entries values.now goals.now) }
+    ensures full { IfErr result (FullAtLimit cx.new) }
 {
     for nested in goals {
         let goal = instantiate_with_values(alloc, cx, &nested.1, values)?;
@@ -374,8 +361,10 @@ fn add_replies(
     replies: &[Option<CanonicalResponse>],
 ) -> Result<(), Fault>
     ensures rest { OnOk result (context.new ≡ record context.old { replies = context.new.replies }) }
-    ensures added { OnOk result ((es : List Entry) → replies_trees es context.new.replies ≡ replies_trees es context.old.replies ++ replies_trees es replies.now) }
-    ensures held { OnOk result ((es : List Entry) → Every (ResultHeld es) context.old.replies → Every (ResultHeld es) replies.now → Every (ResultHeld es) context.new.replies) }
+    ensures added { OnOk result ((es : List Entry)
+        → replies_trees es context.new.replies ≡ replies_trees es context.old.replies ++ replies_trees es replies.now) }
+    ensures held { OnOk result ((es : List Entry) → Every (ResultHeld es) context.old.replies → Every (ResultHeld es) replies.now
+        → Every (ResultHeld es) context.new.replies) }
     ensures fault { IfErr result (λ e. e ≡ Fault.Memory) }
 {
     for reply in replies {
@@ -421,16 +410,11 @@ pub fn begin_candidate(
     spec: &CandidateSpec,
 ) -> Result<CandidateStep, EvalError>
     requires spec { SpecHeld cx.old.entries spec.now }
-    ensures keeps { Keeps cx.old.entries cx.new.entries }
-    ensures limit { cx.new.limit ≡ cx.old.limit }
+    ensures grew { Grew cx.old cx.new }
     ensures held { IfOk result (λ s. CandidateHeld cx.new.entries s) }
     ensures stands { StandsAt cx.new.entries (candidate input.now.mode (begun input.now.variables.items) (spec_trees cx.old.entries spec.now)) result }
     ensures most { IfOk result (AsksAtMost (FIXPOINT_STEP_LIMIT * length spec.now.nested_goals.items)) }
-    ensures full { result ≡ Err (EvalError.Fault Fault.Full) → SomeKindIsFull cx.new.entries cx.new.limit
-        ⊎ CandidateRunsOut input.now.mode input.now.variables.items (spec_trees cx.old.entries spec.now) [] }
-
-    // Over more replies it comes to no other place where numbers are used up.
-    ensures later { IfOk result (RunsOutOnly (CandidateRunsOut input.now.mode input.now.variables.items (spec_trees cx.old.entries spec.now)) cx.new.entries) }
+    ensures full { IfErr result (EvalFullAtLimit cx.new) }
 {
     let trial = try_candidate(alloc, cx, input, spec)?;
     open_nested(alloc, cx, trial, input, spec)
@@ -448,16 +432,12 @@ fn open_nested(
     requires own { ArgsHeld cx.old.entries trial.own.items }
     requires values { ArgsHeld cx.old.entries trial.values.items }
     requires goals { Every (λ n. GoalHeld cx.old.entries n.1) spec.now.nested_goals.items }
-    ensures keeps { Keeps cx.old.entries cx.new.entries }
-    ensures limit { cx.new.limit ≡ cx.old.limit }
+    ensures grew { Grew cx.old cx.new }
     ensures held { IfOk result (λ s. CandidateHeld cx.new.entries s) }
     ensures stands { StandsAt cx.new.entries (asked input.now.mode (premises_trees cx.old.entries spec.now.nested_goals.items) spec.now.certainty
         (trial_trees cx.old.entries input.now.variables.items trial)) result }
     ensures most { IfOk result (AsksAtMost (FIXPOINT_STEP_LIMIT * length spec.now.nested_goals.items)) }
-    ensures full { result ≡ Err (EvalError.Fault Fault.Full) → SomeKindIsFull cx.new.entries cx.new.limit
-        ⊎ NestedRunsOut input.now.mode (premises_trees cx.old.entries spec.now.nested_goals.items) spec.now.certainty (trial_trees cx.old.entries input.now.variables.items trial) [] }
-    ensures later { IfOk result (RunsOutOnly (NestedRunsOut input.now.mode (premises_trees cx.old.entries spec.now.nested_goals.items) spec.now.certainty
-        (trial_trees cx.old.entries input.now.variables.items trial)) cx.new.entries) }
+    ensures full { IfErr result (EvalFullAtLimit cx.new) }
 {
     let Trial { table, own, values } = trial;
     let variables = Vec::from_slice(alloc, &input.variables)?;
@@ -481,11 +461,10 @@ fn fill_goals(
 ) -> Result<VecDeque<(GoalSource, Goal)>, Fault>
     requires values { ArgsHeld cx.old.entries values.now }
     requires goals { Every (λ n. GoalHeld cx.old.entries n.1) goals.now }
-    ensures keeps { Keeps cx.old.entries cx.new.entries }
-    ensures limit { cx.new.limit ≡ cx.old.limit }
+    ensures grew { Grew cx.old cx.new }
     ensures held { IfOk result (λ gs. NestedHeld cx.new.entries (map nested_goal gs.items)) }
     ensures filled { IfOk result (λ gs. premises_trees cx.new.entries gs.items ≡ premises_filled cx.old.entries values.now goals.now) }
-    ensures full { result ≡ Err Fault.Full → SomeKindIsFull cx.new.entries cx.new.limit }
+    ensures full { IfErr result (FullAtLimit cx.new) }
 {
     let mut filled = VecDeque::new(alloc);
     for premise in goals {

@@ -6,7 +6,6 @@ pub mod Graphs
 pub mod Listings
 pub mod Behind
 pub mod Asked
-pub mod Shortages
 pub mod Sound
 pub mod Widths
 pub mod Same

@@ -1,8 +1,9 @@
 -- What a frame does with what its open candidate came to.
 use Rattle.std.proofs.Common.{◌≡◌, ◌∙◌, ℕ, ◌+◌, ◌-◌, ◌*◌, ◌<◌, length, List, [], ◌∷◌, ◌++◌, map, refl, sym, ap, subst, arith, Option, Some, None, Result, Ok, Err}
-use Rattle.std.specs.Prelude.{IfOk}
-use Rattle.type_terms.specs.Terms.{Entry, Keeps}
+use Rattle.std.specs.Prelude.{IfOk, IfErr}
+use Rattle.type_terms.specs.Terms.{Terms, Entry, Keeps}
 use Rattle.type_terms.specs.declared.Fault.{Fault}
+use Rattle.term_folds.specs.Growth.{FullAtLimit}
 use Rattle.infer_table.specs.declared.input.CanonicalInput.{CanonicalInput}
 use Rattle.infer_table.specs.declared.response.CanonicalResponse.{CanonicalResponse}
 use Rattle.infer_table.specs.Responses.{AnswerTrees, answer_trees}
@@ -12,6 +13,7 @@ use Rattle.search_graph.specs.declared.delegate.Request.TheVariants.{Evaluate, F
 use Rattle.evaluation.specs.declared.candidate.CandidateSource.{CandidateSource}
 use Rattle.evaluation.specs.declared.candidate.CandidateSpec.{CandidateSpec}
 use Rattle.evaluation.specs.declared.error.EvalError.{EvalError}
+use Rattle.evaluation.specs.declared.error.EvalError.TheVariants as Eval
 use Rattle.evaluation.specs.declared.error.EvalError.TheVariants.{NoSolution}
 use Rattle.evaluation.specs.declared.goal.GoalSource.{GoalSource}
 use Rattle.evaluation.specs.declared.resuming.CandidateStep.{CandidateStep}
@@ -24,10 +26,9 @@ use Rattle.evaluation.specs.declared.TheConstants.{FIXPOINT_STEP_LIMIT}
 use Rattle.evaluation.specs.History.{Reply, position, CameInOrder}
 use Rattle.evaluation.specs.Lists.{Every}
 use Rattle.evaluation.specs.OpenCandidates.{CandidateHeld, StandsAt, after_reply, questions_left, AsksAtMost}
-use Rattle.evaluation.specs.OpenShortages.{OpenRunsOut, RunsOutOnly}
 use Rattle.evaluation.specs.Promises.{frame_of_goal, Anything}
 use Rattle.evaluation.specs.Readings.{is_coinductive_step}
-use Rattle.evaluation.specs.Shortages.{CandidateRunsOut}
+use Rattle.evaluation.specs.Shortages.{EvalFullAtLimit}
 use Rattle.evaluation.specs.StepReadings.{ShownCandidate, shown_by, spec_read}
 use Rattle.evaluation.specs.TableOperations.{begin}
 use Rattle.evaluation.specs.Tables.{frame_tables}
@@ -58,9 +59,8 @@ every-last P (y ∷ xs) x h p = (h.0, every-last P xs x h.1 p)
 module _ (h : Handled frame_tables) (goal : CanonicalInput) (xs : List ShownCandidate) (new : List Entry) (step : Result CandidateStep EvalError) where
   -- a candidate that was entered
   pub begun-comes : (old : List Entry) (s : CandidateSpec) → IsOver goal.variables.items old s → StandsAt new (candidate goal.mode (begun goal.variables.items) (spec_trees old s)) step
-      → IfOk step (RunsOutOnly (CandidateRunsOut goal.mode goal.variables.items (spec_trees old s)) new)
       → (p : FrameStanding) → IsInside h xs (spec_read old h.coinductive s) [] p → ComesTo h new goal xs s.source step p
-  begun-comes old s over stands later p i = record {
+  begun-comes old s over stands p i = record {
     opened = record {
       spec = spec_read old h.coinductive s;
       source_is = refl;
@@ -69,15 +69,15 @@ module _ (h : Handled frame_tables) (goal : CanonicalInput) (xs : List ShownCand
       replies = [];
       fit = tt;
     };
-    ends = beginning-replays goal.mode goal.variables.items (spec_trees old s) new step stands later;
+    ends = beginning-replays goal.mode goal.variables.items (spec_trees old s) new step stands;
     inside = i;
   }
 
   -- and one that goes on
   pub resumed-comes : (old : List Entry) (source : CandidateSource) (waiting : OpenCandidate) (a : Answer) (q : FrameStanding) (w : IsWaiting h old goal xs source waiting q) → AnswerFits a
-      → StandsAt new (after_reply old waiting a) step → IfOk step (RunsOutOnly (λ more. OpenRunsOut old waiting (a ∷ more)) new)
+      → StandsAt new (after_reply old waiting a) step
       → (p : FrameStanding) → IsInside h xs w.opened.spec (w.opened.replies ++ a ∷ []) p → ComesTo h new goal xs source step p
-  resumed-comes old source waiting a q w fits stands later p i = record {
+  resumed-comes old source waiting a q w fits stands p i = record {
     opened = record {
       spec = w.opened.spec;
       source_is = w.opened.source_is;
@@ -86,7 +86,7 @@ module _ (h : Handled frame_tables) (goal : CanonicalInput) (xs : List ShownCand
       replies = w.opened.replies ++ a ∷ [];
       fit = every-last AnswerFits w.opened.replies a w.opened.fit fits;
     };
-    ends = resuming-replays goal.mode goal.variables.items w.opened.evaluated old new w.opened.replies waiting a step w.replayed stands later;
+    ends = resuming-replays goal.mode goal.variables.items w.opened.evaluated old new w.opened.replies waiting a step w.replayed stands;
     inside = i;
   }
 
@@ -174,6 +174,12 @@ module _ (h : Handled frame_tables) (old new : List Entry) (k : Keeps old new) (
     pub open-steps : (r : Result (Request CanonicalInput (Option CanonicalResponse)) Fault) → IfOk r (λ q. GoesOnWith old new h moving source step after q) → IfOk r (FrameSteps old h f said new after)
     open-steps (Ok q) goes = (open-asks q goes).1
     open-steps (Err e) goes = tt
+
+-- a fault of the open candidate is the frame's
+pub candidate-fault : {T : Type 0} (t : Terms) (r : Result T Fault) (step : Result CandidateStep EvalError) → ((fault : Fault) → r ≡ Err fault → step ≡ Err (Eval.Fault fault)) → IfErr step (EvalFullAtLimit t)
+    → IfErr r (FullAtLimit t)
+candidate-fault t (Ok q) step f h = tt
+candidate-fault t (Err e) step f h = λ q. subst (λ s. IfErr s (EvalFullAtLimit t)) (f e refl) h (ap Eval.Fault q)
 
 -- what holds over all interners holds over these
 pub goes-at : {T E : Type 0} (P : List Entry → List Entry → T → Type 0) (a b : List Entry) (r : Result T E) → IfOk r (λ q. (old new : List Entry) → P old new q) → IfOk r (P a b)

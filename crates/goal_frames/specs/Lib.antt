@@ -11,7 +11,6 @@ pub mod Forms
 pub mod Fitting
 pub mod Places
 pub mod Frames
-pub mod Shortages
 pub mod HandlerPrograms
 pub mod Steps
 pub mod Stores

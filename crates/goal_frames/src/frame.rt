@@ -1,8 +1,8 @@
 //! The frame of a goal.
 
-ghost use Rattle.std.specs.Prelude.{◌≡◌, ◌⊎◌, [], Err, IfOk, IfSome, drop, option_map, List};
-ghost use Rattle.type_terms.specs.Terms.{Entry, Keeps};
-ghost use Rattle.type_terms.specs.Failures.{SomeKindIsFull};
+ghost use Rattle.term_folds.specs.Growth.{Grew, FullAtLimit};
+ghost use Rattle.std.specs.Prelude.{◌≡◌, [], Err, IfOk, IfErr, IfSome, drop, option_map, List};
+ghost use Rattle.type_terms.specs.Terms.{Entry};
 ghost use Rattle.infer_table.specs.Goals.{GoalHeld};
 ghost use Rattle.infer_table.specs.Canonical.{CanonicalForm};
 ghost use Rattle.infer_table.specs.declared.certainty.TypingMode.{TypingMode};
@@ -12,7 +12,6 @@ ghost use Rattle.goal_frames.specs.Meanings.{goal_meaning};
 ghost use Rattle.goal_frames.specs.Fitting.{ResultFits};
 ghost use Rattle.goal_frames.specs.Places.{FrameStanding};
 ghost use Rattle.goal_frames.specs.Frames.{FrameHeld, HasHeard, ReplyIsDue, ReplyIsMade, RequestHeld, FrameSteps, AsksHandler, AsksAt, GoesOnWith, IgnoresAt, IsAtStep, IsFinishingWith, reply_read};
-ghost use Rattle.goal_frames.specs.Shortages.{NextRunsOut, FrameRunsOut};
 ghost use Rattle.goal_frames.specs.Steps.{AsksFewer};
 
 use crate::handler::GoalHandler;
@@ -134,15 +133,13 @@ impl GoalFrame {
         requires reply { ReplyIsMade cx.old.entries reply }
         requires due { ReplyIsDue cx.old.entries (goal_meaning H.meaning handler.now cx.old.entries self.old.goal) self.old (reply_read cx.old.entries reply) }
         ensures goal { self.new.goal ≡ self.old.goal }
-        ensures keeps { Keeps cx.old.entries cx.new.entries }
-        ensures limit { cx.new.limit ≡ cx.old.limit }
+        ensures grew { Grew cx.old cx.new }
         ensures held { IfOk result (RequestHeld cx.new.entries) }
         ensures steps { IfOk result (let h = goal_meaning H.meaning handler.now cx.old.entries self.old.goal in
             FrameSteps cx.old.entries h self.old (reply_read cx.old.entries reply) cx.new.entries self.new) }
 
-        // `Full` comes only where some kind of term has reached the interner's limit, or numbers are used up.
-        ensures full { result ≡ Err Fault.Full → SomeKindIsFull cx.new.entries cx.new.limit
-            ⊎ FrameRunsOut cx.old.entries (goal_meaning H.meaning handler.now cx.old.entries self.old.goal) self.old reply }
+        // `Full` comes only where some kind of term has reached the interner's limit.
+        ensures full { IfErr result (FullAtLimit cx.new) }
 
         // The open candidate has fewer questions left.
         ensures fewer { IfOk result (λ _. AsksFewer self.old.place self.new.place) }
@@ -183,14 +180,11 @@ impl GoalFrame {
         requires held { FrameHeld cx.old.entries self.old }
         requires between { (p : FrameStanding) × AsksHandler cx.old.entries (goal_meaning H.meaning handler.now cx.old.entries self.old.goal) self.old p }
         ensures goal { self.new.goal ≡ self.old.goal }
-        ensures keeps { Keeps cx.old.entries cx.new.entries }
-        ensures limit { cx.new.limit ≡ cx.old.limit }
+        ensures grew { Grew cx.old cx.new }
         ensures held { IfOk result (λ q. FrameHeld cx.new.entries self.new × RequestHeld cx.new.entries q) }
         ensures asks { IfOk result (λ q. let h = goal_meaning H.meaning handler.now cx.old.entries self.old.goal in
             (p : FrameStanding) → AsksHandler cx.old.entries h self.old p → AsksAt self.old.goal.mode cx.new.entries h self.new q p) }
-        ensures full { result ≡ Err Fault.Full → SomeKindIsFull cx.new.entries cx.new.limit
-            ⊎ NextRunsOut cx.old.entries
-            (goal_meaning H.meaning handler.now cx.old.entries self.old.goal) self.old.goal.variables.items self.old.considered.items }
+        ensures full { IfErr result (FullAtLimit cx.new) }
     {
         match handler.step(alloc, cx, &self.goal, &self.considered)? {
             HandlerStep::Consider(spec) => {

@@ -1,8 +1,8 @@
 //! Handlers of goals: what the rules of goals are, for the frames that evaluate them.
 
-ghost use Rattle.std.specs.Prelude.{◌≡◌, ◌⊎◌, List, Err, IfOk};
-ghost use Rattle.type_terms.specs.Terms.{Entry, Keeps};
-ghost use Rattle.type_terms.specs.Failures.{SomeKindIsFull};
+ghost use Rattle.term_folds.specs.Growth.{Grew, FullAtLimit};
+ghost use Rattle.std.specs.Prelude.{◌≡◌, List, IfOk, IfErr};
+ghost use Rattle.type_terms.specs.Terms.{Entry};
 ghost use Rattle.infer_table.specs.declared.certainty.TypingMode.{TypingMode};
 ghost use Rattle.infer_table.specs.Canonical.{CanonicalForm};
 ghost use Rattle.infer_table.specs.Goals.{GoalHeld};
@@ -11,7 +11,6 @@ ghost use Rattle.evaluation.specs.Readings.{IsOfTrait, ConsideredHeld, HandlerSt
 ghost use Rattle.evaluation.specs.Tables.{frame_tables};
 ghost use Rattle.evaluation.specs.StepReadings.{HasHistory, IsNextAfter};
 ghost use Rattle.goal_frames.specs.Fitting.{ConsideredFits, StepFits};
-ghost use Rattle.goal_frames.specs.Shortages.{NextRunsOut};
 ghost use Rattle.goal_frames.specs.Meanings.{HandlerMeaning, goal_meaning};
 ghost use Rattle.goal_frames.specs.HandlerPrograms.{HandlerIsLawful, HandlersArePrograms};
 ghost use Rattle.goal_frames.specs.Steps.{StepsFall};
@@ -48,17 +47,15 @@ pub trait GoalHandler {
         requires done { ConsideredHeld cx.old.entries done.now }
         requires fits { ConsideredFits cx.old.entries done.now }
         requires history { HasHistory cx.old.entries (goal_meaning meaning self.now cx.old.entries goal.now) done.now }
-        ensures keeps { Keeps cx.old.entries cx.new.entries }
-        ensures limit { cx.new.limit ≡ cx.old.limit }
+        ensures grew { Grew cx.old cx.new }
         ensures held { IfOk result (HandlerStepHeld cx.new.entries) }
         ensures fits { IfOk result (StepFits goal.now.variables.items cx.new.entries) }
 
         // It is what comes next in each history that the candidates show.
         ensures next { IfOk result (IsNextAfter cx.old.entries (goal_meaning meaning self.now cx.old.entries goal.now) done.now cx.new.entries) }
 
-        // `Full` comes only where some kind of term has reached the interner's limit, or there is no number for a variable.
-        ensures full { result ≡ Err Fault.Full → SomeKindIsFull cx.new.entries cx.new.limit
-            ⊎ NextRunsOut cx.old.entries (goal_meaning meaning self.now cx.old.entries goal.now) goal.now.variables.items done.now };
+        // `Full` comes only where some kind of term has reached the interner's limit.
+        ensures full { IfErr result (FullAtLimit cx.new) };
 
     /// Whether the trait is coinductive: a goal of it holds if it needs nothing but itself.
     fn trait_is_coinductive(&self, def_id: TraitId) -> bool

@@ -1,9 +1,7 @@
 //! The merge of responses, as handlers answer with it.
 
-ghost use Rattle.std.specs.Prelude.{◌≡◌, ◌⊎◌, ◌<◌, length, Err, IfOk};
-ghost use Rattle.type_terms.specs.Terms.{Keeps};
-ghost use Rattle.type_terms.specs.declared.TheConstants.{MAX_INDEX};
-ghost use Rattle.type_terms.specs.Failures.{SomeKindIsFull};
+ghost use Rattle.term_folds.specs.Growth.{Grew, FullAtLimit};
+ghost use Rattle.std.specs.Prelude.{◌≡◌, IfOk, IfErr};
 ghost use Rattle.infer_table.specs.Responses.{ResponseHeld, answer_trees};
 ghost use Rattle.evaluation.specs.Lists.{Every};
 ghost use Rattle.evaluation.specs.Readings.{ResultHeld};
@@ -21,8 +19,8 @@ use type_terms::interner::Interner;
 /// The merge of the responses to a goal with variables of these kinds, or what stands for them where there is none; no response
 /// where there are none. (`EvalCtxt::try_merge_candidates` of the original, and `flounder` behind it.)
 ///
-/// `Full` comes where there are more variables than numbers for them or one of the interner's tables is full, `Memory` where
-/// memory is refused.
+/// `Full` comes where one of the interner's tables is full, `Memory` where there are more variables than numbers for them or memory
+/// is refused.
 pub fn merged(
     alloc: Global,
     cx: &mut Interner,
@@ -31,11 +29,10 @@ pub fn merged(
 ) -> Result<Option<CanonicalResponse>, Fault>
     requires held { Every (ResponseHeld cx.old.entries) responses.now }
     requires fits { Every (λ r. IsWellFormed (answer_trees cx.old.entries r)) responses.now }
-    ensures keeps { Keeps cx.old.entries cx.new.entries }
-    ensures limit { cx.new.limit ≡ cx.old.limit }
+    ensures grew { Grew cx.old cx.new }
     ensures held { IfOk result (ResultHeld cx.new.entries) }
     ensures is { IfOk result (λ r. result_read cx.new.entries r ≡ merge_of cx.old.entries variables.now responses.now) }
-    ensures full { result ≡ Err Fault.Full → SomeKindIsFull cx.new.entries cx.new.limit ⊎ (MAX_INDEX < length variables.now) }
+    ensures full { IfErr result (FullAtLimit cx.new) }
 {
     cx.lawful();
     let merged = try_merge_candidates(alloc, cx, responses)?;

@@ -1,5 +1,5 @@
 -- Frames that are walked, step by step.
-use Rattle.std.proofs.Common.{◌≡◌, ◌≤◌, ◌<◌, Bool, true, false, List, [], ◌∷◌, ◌++◌, length, refl, sym, ap, subst, ◌∙◌, Option, arith}
+use Rattle.std.proofs.Common.{◌≡◌, ◌≤◌, true, false, [], ◌∷◌, length, refl, sym, ap, subst, ◌∙◌, Option}
 use Rattle.search_graph.specs.declared.candidates.Candidates.{Candidates}
 use Rattle.search_graph.specs.declared.delegate.Reply.{Reply}
 use Rattle.search_graph.specs.declared.delegate.Reply.TheVariants.{Begin, Result, Entered, Finished}
@@ -7,8 +7,6 @@ use Rattle.search_graph.specs.declared.delegate.Request.{Request}
 use Rattle.search_graph.specs.declared.delegate.Request.TheVariants.{Evaluate, EnterCandidate, FinishCandidate, IgnoreCandidate, Done}
 use Rattle.search_graph.specs.declared.path_kind.PathKind.{PathKind}
 use Rattle.search_graph.specs.Meaning.{Meaning, Keeps, IsRequest, request_of, reply_of, is_open, finished, IsDue, IsDueAt, Steps}
-use Rattle.infer_table.specs.Responses.{AnswerTrees}
-use Rattle.evaluation.specs.Readings.{SpecHeld}
 use Rattle.goal_frames.specs.Frames.{FrameHeld}
 use Rattle.goal_frames.specs.Meanings.{HandlerMeaning}
 use Rattle.goal_frames.specs.declared.frame.GoalFrame.{GoalFrame}

@@ -1,7 +1,6 @@
 -- What walks keep.
-use Rattle.std.proofs.Common.{◌≡◌, ◌≤◌, ◌⊎◌, inl, inr, List, [], ◌∷◌, ◌++◌, refl, sym, ap, subst, ◌∙◌, Option, None, Some, IfSome, arith}
+use Rattle.std.proofs.Common.{◌≡◌, ◌⊎◌, inl, inr, List, [], ◌∷◌, ◌++◌, refl, sym, subst, ◌∙◌, Option, None, Some, IfSome}
 use Rattle.std.proofs.Math.Nat.{le_refl}
-use Rattle.type_terms.specs.Label.{Sort}
 use Rattle.type_terms.specs.Terms.{Entry, Has, Keeps, args_lists}
 use Rattle.type_terms.specs.Kept.{has-later}
 use Rattle.term_folds.specs.declared.predicate.TraitRef.{TraitRef}
@@ -14,7 +13,6 @@ use Rattle.infer_table.proofs.TableFacts.{ready-grow}
 use Rattle.search_graph.specs.Meaning as Search
 use Rattle.search_graph.specs.SearchState.{SearchState}
 use Rattle.search_graph.proofs.Graphs.{Keeps-refl, Keeps-trans}
-use Rattle.evaluation.specs.Lists.{Every}
 use Rattle.goal_frames.specs.Meanings.{HandlerMeaning}
 use Rattle.search_graph.specs.Cache.{AreJustified}
 use Rattle.goal_frames.specs.declared.store.InputId.{InputId}

@@ -1,7 +1,7 @@
 //! A candidate, opened over the table of the one who asks.
 
-ghost use Rattle.std.specs.Prelude.{◌≡◌, IfOk, IfSome};
-ghost use Rattle.type_terms.specs.Terms.{Keeps};
+ghost use Rattle.term_folds.specs.Growth.{Grew};
+ghost use Rattle.std.specs.Prelude.{IfOk, IfSome};
 ghost use Rattle.type_terms.specs.Kinds.{ArgHeld, ArgsHeld};
 ghost use Rattle.infer_table.specs.Content.{Ready, Grows};
 ghost use Rattle.infer_table.specs.Goals.{GoalHeld};
@@ -30,8 +30,7 @@ fn fill(
 ) -> Result<GenericArgKind, Fault>
     requires values { ArgsHeld cx.old.entries values.now }
     requires term { ArgHeld cx.old.entries term }
-    ensures keeps { Keeps cx.old.entries cx.new.entries }
-    ensures limit { cx.new.limit ≡ cx.old.limit }
+    ensures grew { Grew cx.old cx.new }
     ensures held { IfOk result (ArgHeld cx.new.entries) }
 {
     term.fold_with(alloc, cx, &CanonicalInstantiator { values })
@@ -50,8 +49,7 @@ fn equate(
     requires equation { EquationHeld cx.old.entries equation.now }
     ensures ready { Ready cx.new.entries table.new }
     ensures grows { Grows table.old table.new }
-    ensures keeps { Keeps cx.old.entries cx.new.entries }
-    ensures limit { cx.new.limit ≡ cx.old.limit }
+    ensures grew { Grew cx.old cx.new }
 {
     let left = fill(alloc, cx, values, equation.left)?;
     let right = fill(alloc, cx, values, equation.right)?;
@@ -75,8 +73,7 @@ fn equate_all(
     requires equations { Every (EquationHeld cx.old.entries) equations.now }
     ensures ready { Ready cx.new.entries table.new }
     ensures grows { Grows table.old table.new }
-    ensures keeps { Keeps cx.old.entries cx.new.entries }
-    ensures limit { cx.new.limit ≡ cx.old.limit }
+    ensures grew { Grew cx.old cx.new }
 {
     for equation in equations {
         if !equate(alloc, cx, table, values, equation)? {
@@ -98,8 +95,7 @@ fn values_of(
     requires values { ArgsHeld cx.old.entries values.now }
     ensures ready { Ready cx.new.entries table.new }
     ensures grows { Grows table.old table.new }
-    ensures keeps { Keeps cx.old.entries cx.new.entries }
-    ensures limit { cx.new.limit ≡ cx.old.limit }
+    ensures grew { Grew cx.old cx.new }
     ensures held { IfOk result (λ all. ArgsHeld cx.new.entries all.items) }
 {
     let own = next_values(alloc, cx, table, &spec.variables)?;
@@ -117,8 +113,7 @@ fn fill_goals(
 ) -> Result<Vec<Goal>, Fault>
     requires values { ArgsHeld cx.old.entries values.now }
     requires goals { Every (λ n. GoalHeld cx.old.entries n.1) goals.now }
-    ensures keeps { Keeps cx.old.entries cx.new.entries }
-    ensures limit { cx.new.limit ≡ cx.old.limit }
+    ensures grew { Grew cx.old cx.new }
     ensures held { IfOk result (λ gs. GoalsHeld cx.new.entries gs.items) }
 {
     let mut filled = Vec::new(alloc);
@@ -145,8 +140,7 @@ pub(crate) fn open_candidate(
     requires spec { SpecHeld cx.old.entries spec.now }
     ensures ready { Ready cx.new.entries table.new }
     ensures grows { Grows table.old table.new }
-    ensures keeps { Keeps cx.old.entries cx.new.entries }
-    ensures limit { cx.new.limit ≡ cx.old.limit }
+    ensures grew { Grew cx.old cx.new }
     ensures held { IfOk result (λ o. IfSome o (λ gs. GoalsHeld cx.new.entries gs.items)) }
 {
     let all = values_of(alloc, cx, table, values, spec)?;

@@ -1,5 +1,5 @@
 -- Values made equal in turn, and what an applied answer leaves.
-use Rattle.std.proofs.Common.{◌≡◌, ℕ, suc, ◌+◌, ◌<◌, List, [], ◌∷◌, ◌++◌, length, drop, get_or, Option, Some, None, refl, ap, sym, ◌∙◌}
+use Rattle.std.proofs.Common.{◌≡◌, ℕ, suc, ◌+◌, ◌<◌, List, [], ◌∷◌, length, drop, get_or, Option, Some, None, refl, ap, sym, ◌∙◌}
 use Rattle.std.specs.Prelude.{option_map, option_and_then}
 use Rattle.type_terms.specs.Trees.{Trees, none, tree, ◌+++◌, Single}
 use Rattle.type_terms.specs.Terms.{Entry, Keeps, Lawful}

@@ -13,7 +13,6 @@ use Rattle.infer_table.specs.Content.{IsUnbound}
 use Rattle.infer_table.specs.Opened.{opened, is_opened}
 use Rattle.infer_table.specs.Resolving.{is_root, followed}
 use Rattle.infer_table.specs.Unification.{TableTrees, Extends, equal_constraint, is_recorded, recorded_once, with_binding, with_equal, with_regions, term_sort, variable_at, binds, head_of, object_parts, parts_of, Worklist, pairs, Outcome, refused, onward, bound_to, in_pairs, by_parts, by_variables, by_sort, compared, step}
-use Rattle.infer_table.specs.Numbers.{RunsOut, later}
 use Rattle.infer_table.specs.WellFormed.{is_numbered, IsOfTerms, AllSame}
 use Rattle.infer_table.specs.Worklists.{RunReaches}
 use Rattle.infer_table.specs.Related.{HasParts, RegionsAreRecorded, Rests, rest_none, rest_same, rest_recorded, rest_waiting, rest_parts}
@@ -207,10 +206,6 @@ module _ (t : TableTrees) (ok : IsOfTerms t) where
   same-passed s u v (pass_none w) h g a = a
   same-passed s u v (pass {left = left} e rest q p) h g a =
       let f = step-terms t e.0 e.1 rest left t ok h q in (f.1 s g (same-passed s left v p f.0 g a)).1
-
-  pub out-passed : (u v : Worklist) → Passes t u v → RunsOut t v → RunsOut t u
-  out-passed u v (pass_none w) r = r
-  out-passed u v (pass {left = left} e rest q p) r = later false q (out-passed left v p r)
 
 -- ---- what a step leaves of its equation
 -- a binder of no lifetimes opens nothing

@@ -1,5 +1,5 @@
 -- Pairs that an equation has related, from step to step.
-use Rattle.std.proofs.Common.{◌≡◌, ℕ, zero, suc, ◌+◌, ◌<◌, ◌≤◌, Bool, true, false, refl, ap, sym, ◌∙◌, arith, List, [], ◌∷◌, ◌++◌, length, length-append, take, subst, ◌⊎◌, inl, inr, if◌then◌else◌, eqb-true}
+use Rattle.std.proofs.Common.{◌≡◌, ℕ, suc, ◌+◌, ◌<◌, ◌≤◌, Bool, true, false, refl, ap, sym, ◌∙◌, arith, List, [], ◌∷◌, ◌++◌, length, length-append, subst, ◌⊎◌, inl, inr, if◌then◌else◌, eqb-true}
 use Rattle.std.proofs.lemmas.List.{append_assoc}
 use Rattle.type_terms.specs.Trees.{Trees, none, ◌+++◌}
 use Rattle.type_terms.proofs.TreeLaws.{append-none}
@@ -9,12 +9,10 @@ use Rattle.type_terms.specs.Kept.{has-later, trees-later}
 use Rattle.infer_table.specs.Constraints.{constraints_trees}
 use Rattle.infer_table.specs.Content.{Table, content, Ready, Grows}
 use Rattle.infer_table.specs.Equations.{EquationsHeld, SameSolutions, MakesProgress}
-use Rattle.infer_table.specs.Equated.{EquationsRunOut}
-use Rattle.infer_table.specs.Numbers.{RunsOut}
 use Rattle.infer_table.specs.WellFormed.{is_numbered}
 use Rattle.infer_table.specs.Unification.{TableTrees, table_trees, Worklist, onward, step}
 use Rattle.infer_table.specs.Worklists.{equation_trees, worklist_on, worklist, RunReaches, RunStands}
-use Rattle.std.specs.Prelude.{Option, Result, Ok, Err, IsErrAnd, OnOk, OnErr, nat_eq, cond, ◌&&◌}
+use Rattle.std.specs.Prelude.{Option, Result, Ok, Err, OnOk, OnErr, nat_eq, cond, ◌&&◌}
 use Rattle.std.specs.List.{list_any}
 use Rattle.std.specs.HashSet.{HashSet, contains, Updates, IsUnchanged}
 use Rattle.infer_table.specs.Growth.{grows-refl}
@@ -26,7 +24,7 @@ use Rattle.infer_table.specs.declared.related.Related.{Related}
 use Rattle.infer_table.proofs.Places.{ArePairsOfTrees, arg-term, one-tree, ready-terms}
 use Rattle.infer_table.proofs.RunFacts.{worklist-last}
 use Rattle.infer_table.proofs.StepFacts.{drop-same, drop-advances}
-use Rattle.infer_table.proofs.RelatedFacts.{IsNext, rests-on, rests-more, Leaves, step-leaves, Passes, passes, reaches-passed, same-passed, out-passed}
+use Rattle.infer_table.proofs.RelatedFacts.{IsNext, rests-on, rests-more, Leaves, step-leaves, Passes, passes, reaches-passed, same-passed}
 
 -- ---- lists
 pub worklist-length : (es : List Entry) (todo : List Equation) → length (worklist es todo) ≡ length todo
@@ -250,18 +248,8 @@ module _ (es : List Entry) (law : Lawful es) (t : Table) (ready : Ready es t) (t
       reaches-passed (table_trees es t) (ready-terms es law t ready) end (equation_trees es q ∷ worklist es todo) (worklist es todo) (passed (worklist es todo) all-pairs) all-pairs
       (subst (λ (w : Worklist). RunReaches end (table_trees es t) w) (worklist-last es todo q) r)
 
-  pub skip-out : EquationsRunOut es t todo → EquationsRunOut es t (todo ++ q ∷ [])
-  skip-out r =
-      subst (λ (w : Worklist). RunsOut (table_trees es t) w) (sym (worklist-last es todo q))
-      (out-passed (table_trees es t) (ready-terms es law t ready) (equation_trees es q ∷ worklist es todo) (worklist es todo) (passed (worklist es todo) all-pairs) r)
-
   pub skip-same : SameSolutions es t (todo ++ q ∷ []) es t todo
   skip-same = drop-same es t todo q (λ s g. (same-passed (table_trees es t) (ready-terms es law t ready) s (equation_trees es q ∷ []) [] (passed [] (one-pair [] tt)) (one-pair [] tt) g tt).0)
 
   pub skip-advances : MakesProgress es t (todo ++ q ∷ []) es t todo false
   skip-advances = drop-advances es t todo q t refl law ready hl
-
--- an error that is handed on as it is
-pub handed-same : {T E A : Type 0} (r : Result T E) {x y : E} → IsErrAnd r (λ z. z ≡ x) → (◌≡◌ {A = Result T E} (Err x) (Err y) → A) → r ≡ Err y → A
-handed-same (Ok z) h f q = absurd h
-handed-same (Err z) h f q = f (sym (ap Err h) ∙ q)

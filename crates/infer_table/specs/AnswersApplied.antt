@@ -11,9 +11,8 @@ use Rattle.infer_table.specs.Unification.{TableTrees, table_trees}
 use Rattle.infer_table.specs.Values.{Value, sort_of_arg, value_of, values_of, filled}
 use Rattle.infer_table.specs.Raw.{sort_of_kind}
 use Rattle.infer_table.specs.Responses.{answer_trees}
-use Rattle.infer_table.specs.Applying.{known_value, applied_values, applied_table}
+use Rattle.infer_table.specs.Applying.{applied_values, applied_table}
 use Rattle.infer_table.specs.Applied.{solved_in_turn, applied}
-use Rattle.infer_table.specs.Shortages.{SomeHasNoUnknown, SomeRunsOut, IsOutOfNumbers}
 use Rattle.infer_table.specs.Covers.{Agrees, AreNumbered, AreKnown, Continues, IsOfKnown, HaveSameSolutions, IsWellPosed}
 use Rattle.infer_table.specs.declared.canonical.CanonicalVarKind.{CanonicalVarKind}
 use Rattle.infer_table.specs.declared.response.CanonicalResponse.{CanonicalResponse}
@@ -46,19 +45,6 @@ equated_in_turn es t left right = solved_in_turn (table_trees es t) (args_trees 
 -- what is left once the answer is applied; none where it is refused
 abbrev pub left_by_answer : List Entry → Table → List GenericArgKind → CanonicalResponse → Option TableTrees
 left_by_answer es t originals r = applied (table_trees es t) (values_of es originals) (answer_trees es r)
-
--- ---- numbers
--- none is left for one of the new unknowns
-abbrev pub UnknownsRunOut : List Entry → Table → List GenericArgKind → CanonicalResponse → Type 0
-UnknownsRunOut es t originals r = SomeHasNoUnknown (known_value (answer_trees es r) (values_of es originals)) (table_trees es t) 0 r.variables.items
-
--- none is left for the lifetimes of some pair of values
-abbrev pub TurnsRunOut : List Entry → Table → List GenericArgKind → List GenericArgKind → Type 0
-TurnsRunOut es t left right = SomeRunsOut (table_trees es t) (args_trees es left) (args_trees es right)
-
--- none is left for one of the new unknowns, or for lifetimes once values are made equal
-abbrev pub NumbersRunOut : List Entry → Table → List GenericArgKind → CanonicalResponse → Type 0
-NumbersRunOut es t originals r = IsOutOfNumbers (table_trees es t) (values_of es originals) (answer_trees es r)
 
 -- ---- solutions
 -- the solutions of `new` are those of the table that make the goal's values equal to the answer's

@@ -1,16 +1,14 @@
 -- What equations leave of a table, in terms of an interner's handles.
-use Rattle.std.specs.Prelude.{◌≡◌, ℕ, ◌+◌, ◌<◌, Bool, List, [], ◌∷◌}
+use Rattle.std.specs.Prelude.{◌≡◌, ℕ, Bool, List, [], ◌∷◌}
 use Rattle.type_terms.specs.Trees.{Trees, erase}
 use Rattle.type_terms.specs.Terms.{Entry, trees_at}
 use Rattle.type_terms.specs.Kinds.{arg_trees}
-use Rattle.type_terms.specs.declared.TheConstants.{MAX_INDEX}
 use Rattle.type_terms.specs.declared.kinds.Ty.{Ty}
 use Rattle.type_terms.specs.declared.kinds.GenericArgKind.{GenericArgKind}
 use Rattle.infer_table.specs.Solutions.{resolved, Equates, OlderStays, AreEquivalent}
 use Rattle.infer_table.specs.Content.{Table, content, Ready}
 use Rattle.infer_table.specs.Equations.{weight}
-use Rattle.infer_table.specs.Unification.{table_trees, Worklist, Outcome, binds, onward, step, by_parts}
-use Rattle.infer_table.specs.Numbers.{HasNoNumbers, RunsOut}
+use Rattle.infer_table.specs.Unification.{table_trees, Worklist, Outcome, onward, step, by_parts}
 use Rattle.infer_table.specs.Worklists.{equation_trees, worklist}
 use Rattle.infer_table.specs.declared.terms.Equation.{Equation}
 
@@ -34,23 +32,6 @@ weight_over es t todo = weight (content es t.values) es todo
 -- one equation and no other, as trees
 abbrev pub only_equation : List Entry → GenericArgKind → GenericArgKind → Worklist
 only_equation es a b = (arg_trees es a, arg_trees es b) ∷ []
-
--- ---- numbers for lifetimes
--- how many lifetimes two types themselves bind
-abbrev pub lifetimes_bound : List Entry → Ty → Ty → ℕ
-lifetimes_bound es a b = binds (trees_at es a.0) + binds (trees_at es b.0)
-
--- n more lifetime variables are more than there are numbers left
-abbrev pub LifetimesRunOut : Table → ℕ → Type 0
-LifetimesRunOut t n = MAX_INDEX < t.region_vars + n
-
--- the lifetimes that the two sides of the equation bind get no numbers
-abbrev pub EquationHasNoNumbers : List Entry → Table → Equation → Type 0
-EquationHasNoNumbers es t e = HasNoNumbers (table_trees es t) (equation_trees es e)
-
--- the steps on the equations come to one whose lifetimes get none
-abbrev pub EquationsRunOut : List Entry → Table → List Equation → Type 0
-EquationsRunOut es t todo = RunsOut (table_trees es t) (worklist es todo)
 
 -- ---- the tables before and after
 -- the second table's solutions are those of the first that make the two terms equal

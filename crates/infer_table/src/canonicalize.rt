@@ -1,16 +1,15 @@
 //! Answers put into canonical form.
-ghost use Rattle.std.specs.Prelude.{◌≡◌, ◌≤◌, ◌⊎◌, ℕ, List, [], length, IfOk, IfErr, Err, map, Some};
+ghost use Rattle.term_folds.specs.Growth.{Grew, FullAtLimit};
+ghost use Rattle.std.specs.Prelude.{◌≡◌, ℕ, List, [], IfOk, IfErr, map, Some};
 ghost use Rattle.type_terms.specs.Trees.{◌+++◌};
-ghost use Rattle.type_terms.specs.Terms.{Keeps, Has, args_lists, trees_at};
+ghost use Rattle.type_terms.specs.Terms.{Has, args_lists, trees_at};
 ghost use Rattle.type_terms.specs.Kinds.{ArgsHeld, args_trees};
-ghost use Rattle.type_terms.specs.declared.TheConstants.{MAX_INDEX};
-ghost use Rattle.type_terms.specs.Failures.{SomeKindIsFull};
 ghost use Rattle.infer_table.specs.Canonical.{canonical_form, kind_of_leaf, HasNoCanonical};
 ghost use Rattle.infer_table.specs.Content.{Ready, AllConstraintsHeld};
 ghost use Rattle.infer_table.specs.Constraints.{constraints_trees};
 ghost use Rattle.infer_table.specs.Leaves.{AreLeaves, OpenAreLeaves, labels};
 ghost use Rattle.infer_table.specs.Responses.{as_goal, response_form, answer_leaves, ResponseHeld};
-ghost use Rattle.infer_table.specs.TableSays.{values_resolved, answer_given, given_leaves, numbered_values, numbered_constraints};
+ghost use Rattle.infer_table.specs.TableSays.{values_resolved, answer_given, numbered_values, numbered_constraints};
 ghost use Rattle.infer_table.specs.AnswersApplied.{AgreesWithAll};
 ghost use Rattle.infer_table.specs.Covers.{AreNumbered};
 
@@ -38,7 +37,8 @@ fn collect_leaves(
     requires values { Has cx.now.entries args_lists values.0 }
     requires constraints { AllConstraintsHeld cx.now.entries constraints.now }
     ensures listed { IfOk result (λ s. AreLeaves cx.now.entries s.leaves.keys) }
-    ensures leaves { IfOk result (λ s. labels cx.now.entries s.leaves.keys ≡ answer_leaves (trees_at cx.now.entries values.0 +++ constraints_trees cx.now.entries constraints.now)) }
+    ensures leaves { IfOk result (λ s. labels cx.now.entries s.leaves.keys
+        ≡ answer_leaves (trees_at cx.now.entries values.0 +++ constraints_trees cx.now.entries constraints.now)) }
     ensures only { IfOk result (λ s. OpenAreLeaves kind_of_leaf (trees_at cx.now.entries values.0)) }
     ensures memory { IfErr result (λ e. e ≡ Fault.Memory) }
 {
@@ -60,8 +60,8 @@ fn collect_leaves(
 /// recorded constraints are numbered: each unknown, parameter, placeholder and lifetime by first occurrence, `'static`
 /// as any other lifetime. So two answers are equal exactly if a renaming carries the one to the other.
 /// An answer whose certainty is an overflow is to say nothing of values or lifetimes: for it `response_no_constraints_raw`
-/// is asked, over the variables of the goal. `Full` comes only where some kind of term has reached its limit or there
-/// are as many leaves as numbers for them, `Memory` where memory is refused. `make_canonical_response` with
+/// is asked, over the variables of the goal. `Full` comes only where some kind of term has reached its limit,
+/// `Memory` where memory is refused or there are as many leaves as numbers for them. `make_canonical_response` with
 /// `canonicalize_response` of the original.
 pub fn canonicalize_response(
     alloc: Global,
@@ -72,8 +72,7 @@ pub fn canonicalize_response(
 ) -> Result<CanonicalResponse, Fault>
     requires ready { Ready cx.old.entries table.now }
     requires held { ArgsHeld cx.old.entries values.now }
-    ensures keeps { Keeps cx.old.entries cx.new.entries }
-    ensures limit { cx.new.limit ≡ cx.old.limit }
+    ensures grew { Grew cx.old cx.new }
     ensures certainty { IfOk result (λ r. r.certainty ≡ certainty) }
     ensures held { IfOk result (λ r. ResponseHeld cx.new.entries r) }
 
@@ -82,14 +81,17 @@ pub fn canonicalize_response(
 
     // Its values are the resolved values and its constraints the resolved constraints, numbered.
     ensures values { IfOk result (λ r. args_trees cx.new.entries r.var_values.items ≡ numbered_values cx.old.entries table.now values.now) }
-    ensures constraints { IfOk result (λ r. constraints_trees cx.new.entries r.region_constraints.items ≡ numbered_constraints cx.old.entries table.now values.now) }
+    ensures constraints { IfOk result (λ r. constraints_trees cx.new.entries r.region_constraints.items
+        ≡ numbered_constraints cx.old.entries table.now values.now) }
 
     // The answer agrees with each solution of the table, and its variables are of its kinds.
-    ensures agrees { IfOk result (λ r. HasNoCanonical (values_resolved cx.old.entries table.now values.now) → AgreesWithAll cx.old.entries table.now values.now cx.new.entries r) }
-    ensures numbered { IfOk result (λ r. HasNoCanonical (values_resolved cx.old.entries table.now values.now) → AreNumbered r.variables.items (args_trees cx.new.entries r.var_values.items)) }
+    ensures agrees { IfOk result (λ r. HasNoCanonical (values_resolved cx.old.entries table.now values.now)
+        → AgreesWithAll cx.old.entries table.now values.now cx.new.entries r) }
+    ensures numbered { IfOk result (λ r. HasNoCanonical (values_resolved cx.old.entries table.now values.now)
+        → AreNumbered r.variables.items (args_trees cx.new.entries r.var_values.items)) }
 
-    // A full table names the error only where some kind of term has reached its limit, or where the leaves are too many.
-    ensures full { result ≡ Err Fault.Full → SomeKindIsFull cx.new.entries cx.new.limit ⊎ (MAX_INDEX ≤ length (given_leaves cx.old.entries table.now values.now)) }
+    // A full table names the error only where some kind of term has reached its limit.
+    ensures full { IfErr result (FullAtLimit cx.new) }
 {
     let given = cx.mk_args(Vec::from_slice(alloc, values)?)?;
     let resolved = table.eager_resolve_vars(cx, given)?;

@@ -198,6 +198,7 @@ impl Canonicalizer<'_> {
         requires leaf { IsLeaf cx.now.entries leaf }
         ensures place { IfOk result (λ v. v.index ≡ place_of (leaf_label cx.now.entries leaf) (labels cx.now.entries self.now.leaves.now.keys)) }
         ensures many { OnErr result (MAX_INDEX ≤ length self.now.leaves.now.keys) }
+        ensures fault { IfErr result (λ e. e ≡ Fault.Memory) }
     {
         cx.lawful();
         let place = match self.leaves.get_index_of(&leaf) {
@@ -205,7 +206,7 @@ impl Canonicalizer<'_> {
             None => self.leaves.len(),
         };
         if place >= MAX_INDEX as usize {
-            return Err(Fault::Full);
+            return Err(Fault::Memory);
         }
         Ok(BoundVar {
             index: place as u32,
@@ -215,7 +216,6 @@ impl Canonicalizer<'_> {
 
 impl TypeFolder for Canonicalizer<'_> {
     ghost use Rattle.std.proofs.Common.{refl};
-    ghost use Rattle.type_terms.specs.declared.TheConstants.{MAX_INDEX};
     ghost use Rattle.term_folds.specs.Folds.{none_above};
     ghost use Rattle.infer_table.specs.Leaves.{numbering};
     ghost use Rattle.infer_table.specs.LeafLaws.{numbering-bounds, numbering-once, leaves-later, numbering-later};
@@ -223,8 +223,6 @@ impl TypeFolder for Canonicalizer<'_> {
     ghost ready = { λ f es. AreLeaves es f.leaves.now.keys };
 
     ghost action = { λ f es bs t. numbering f.in_clause (labels es f.leaves.now.keys) bs t };
-
-    ghost refuses = { λ f. MAX_INDEX ≤ length f.leaves.now.keys };
 
     ghost fuel = { λ _ _ _. 0 };
 

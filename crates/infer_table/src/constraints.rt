@@ -1,6 +1,6 @@
 //! Lists of constraints on lifetimes, resolved and folded.
+ghost use Rattle.term_folds.specs.Growth.{Grew, FullAtLimit};
 ghost use Rattle.std.specs.Prelude.{◌≡◌, ℕ, List, [], ◌∷◌, ◌++◌, IfOk, OnOk, OnErr, IfErr, Err, ◌⊎◌};
-ghost use Rattle.type_terms.specs.Terms.{Keeps};
 ghost use Rattle.type_terms.specs.Failures.{SomeKindIsFull};
 ghost use Rattle.infer_table.specs.Solutions.{resolved};
 ghost use Rattle.infer_table.specs.Content.{content, Ready, AllConstraintsHeld};
@@ -24,11 +24,11 @@ pub(crate) fn resolve_constraints(
 ) -> Result<Vec<RegionConstraint>, Fault>
     requires ready { Ready cx.old.entries table.now }
     requires held { AllConstraintsHeld cx.old.entries constraints.now }
-    ensures keeps { Keeps cx.old.entries cx.new.entries }
-    ensures limit { cx.new.limit ≡ cx.old.limit }
+    ensures grew { Grew cx.old cx.new }
     ensures held { IfOk result (λ r. AllConstraintsHeld cx.new.entries r.items) }
-    ensures resolved { IfOk result (λ r. constraints_trees cx.new.entries r.items ≡ resolved (content cx.old.entries table.now.values) (constraints_trees cx.old.entries constraints.now)) }
-    ensures full { result ≡ Err Fault.Full → SomeKindIsFull cx.new.entries cx.new.limit }
+    ensures resolved { IfOk result (λ r. constraints_trees cx.new.entries r.items
+        ≡ resolved (content cx.old.entries table.now.values) (constraints_trees cx.old.entries constraints.now)) }
+    ensures full { IfErr result (FullAtLimit cx.new) }
 {
     let mut resolved = Vec::new(alloc);
     for constraint in constraints {
@@ -47,8 +47,7 @@ pub fn fold_constraints<F: TypeFolder>(
 ) -> Result<Vec<RegionConstraint>, Fault>
     requires ready { F.ready folder.now cx.old.entries }
     requires held { AllConstraintsHeld cx.old.entries constraints.now }
-    ensures keeps { Keeps cx.old.entries cx.new.entries }
-    ensures limit { cx.new.limit ≡ cx.old.limit }
+    ensures grew { Grew cx.old cx.new }
     ensures held { IfOk result (λ r. AllConstraintsHeld cx.new.entries r.items) }
     ensures folded { IfOk result (λ r. ConstraintsFold (F.action folder.now cx.old.entries) cx.old.entries constraints.now cx.new.entries r.items) }
     ensures full { result ≡ Err Fault.Full → SomeKindIsFull cx.new.entries cx.new.limit ⊎ F.refuses folder.now }

@@ -1,9 +1,7 @@
 //! Canonical goals.
-ghost use Rattle.std.specs.Prelude.{◌≡◌, ◌≤◌, ◌↔◌, ◌⊎◌, ℕ, List, length, IfOk, IfErr, Err, IsTrue, IsSome, map, Some};
-ghost use Rattle.type_terms.specs.Terms.{Keeps};
+ghost use Rattle.term_folds.specs.Growth.{Grew, FullAtLimit};
+ghost use Rattle.std.specs.Prelude.{◌≡◌, ◌↔◌, ℕ, List, IfOk, IfErr, IsTrue, IsSome, map, Some};
 ghost use Rattle.type_terms.specs.Kinds.{ArgsHeld};
-ghost use Rattle.type_terms.specs.declared.TheConstants.{MAX_INDEX};
-ghost use Rattle.type_terms.specs.Failures.{SomeKindIsFull};
 ghost use Rattle.infer_table.specs.Content.{Ready};
 ghost use Rattle.infer_table.specs.Canonical.{canonical_label, goal_leaves, renamed, kind_of_leaf};
 ghost use Rattle.infer_table.specs.Goals.{GoalHeld, PredicateHeld, goal_trees, predicate_trees};
@@ -78,9 +76,8 @@ pub struct Canonicalized {
 ///
 /// `(?7, ?9, ?7): Show` and `(?3, ?4, ?3): Show` both give `(^0, ^1, ^0): Show`, and so does `(?7, ?9, ?8): Show`
 /// where ?8 stands for ?7. A parameter and a placeholder are one kind, and so are all lifetimes; `'static` is
-/// numbered too, but not in where-clauses. `Full` comes only where some kind of term has reached its limit or there are
-/// as many leaves as numbers for them, `Memory` where memory is refused. The original's
-/// `Canonicalizer::canonicalize_input`.
+/// numbered too, but not in where-clauses. `Full` comes only where some kind of term has reached its limit, `Memory` where
+/// memory is refused or there are as many leaves as numbers for them. The original's `Canonicalizer::canonicalize_input`.
 ///
 /// A goal without unknowns, parameters or lifetimes is its own form, by one look at the flags of each where-clause and at
 /// those of the predicate, however large they are. In any other goal a predicate without them is one look too, and so is
@@ -95,8 +92,7 @@ pub fn canonicalize_goal(
     requires held { GoalHeld cx.old.entries goal.now }
     requires ready { Ready cx.old.entries table.now }
     ensures ready { Ready cx.new.entries table.now }
-    ensures keeps { Keeps cx.old.entries cx.new.entries }
-    ensures limit { cx.new.limit ≡ cx.old.limit }
+    ensures grew { Grew cx.old cx.new }
     ensures mode { IfOk result (λ r. r.input.mode ≡ mode) }
 
     // The form is that of the resolved goal's trees.
@@ -113,8 +109,8 @@ pub fn canonicalize_goal(
     // Put in for the variables, they give the resolved goal back.
     ensures back { IfOk result (λ r. GivesBack cx.new.entries r (resolved_goal cx.old.entries table.now goal.now)) }
 
-    // A full table names the error only where some kind of term has reached its limit, or where the leaves are too many.
-    ensures full { result ≡ Err Fault.Full → SomeKindIsFull cx.new.entries cx.new.limit ⊎ (MAX_INDEX ≤ length (goal_leaves (resolved_goal cx.old.entries table.now goal.now))) }
+    // A full table names the error only where some kind of term has reached its limit.
+    ensures full { IfErr result (FullAtLimit cx.new) }
 {
     if is_closed_goal(cx, goal) {
         return own_form(alloc, mode, goal);
@@ -167,8 +163,7 @@ fn canonicalize_resolved(
     goal: &Goal,
 ) -> Result<Canonicalized, Fault>
     requires { GoalHeld cx.old.entries goal.now }
-    ensures keeps { Keeps cx.old.entries cx.new.entries }
-    ensures limit { cx.new.limit ≡ cx.old.limit }
+    ensures grew { Grew cx.old cx.new }
     ensures mode { IfOk result (λ r. r.input.mode ≡ mode) }
 
     // The form is that of the goal's trees.
@@ -182,8 +177,8 @@ fn canonicalize_resolved(
     // Put in for the variables, they give the goal back.
     ensures back { IfOk result (λ r. GivesBack cx.new.entries r (goal_trees cx.old.entries goal.now)) }
 
-    // A full table names the error only where some kind of term has reached its limit, or where the leaves are too many.
-    ensures full { result ≡ Err Fault.Full → SomeKindIsFull cx.new.entries cx.new.limit ⊎ (MAX_INDEX ≤ length (goal_leaves (goal_trees cx.old.entries goal.now))) }
+    // A full table names the error only where some kind of term has reached its limit.
+    ensures full { IfErr result (FullAtLimit cx.new) }
 {
     cx.lawful();
     let collected = collect_leaves(alloc, cx, goal)?;
@@ -267,11 +262,11 @@ fn number_leaves(
 ) -> Result<Goal, Fault>
     requires goal { GoalHeld cx.old.entries goal.now }
     requires listed { AreLeaves cx.old.entries leaves.now.keys }
-    ensures keeps { Keeps cx.old.entries cx.new.entries }
-    ensures limit { cx.new.limit ≡ cx.old.limit }
+    ensures grew { Grew cx.old cx.new }
     ensures held { IfOk result (λ r. GoalHeld cx.new.entries r) }
-    ensures numbered { IfOk result (λ r. goal_trees cx.new.entries r ≡ renamed (canonical_label (labels cx.old.entries leaves.now.keys)) (goal_trees cx.old.entries goal.now)) }
-    ensures full { result ≡ Err Fault.Full → SomeKindIsFull cx.new.entries cx.new.limit ⊎ (MAX_INDEX ≤ length leaves.now.keys) }
+    ensures numbered { IfOk result (λ r. goal_trees cx.new.entries r
+        ≡ renamed (canonical_label (labels cx.old.entries leaves.now.keys)) (goal_trees cx.old.entries goal.now)) }
+    ensures full { IfErr result (FullAtLimit cx.new) }
 {
     let predicate = number_predicate(alloc, cx, leaves, goal.predicate)?;
     let in_clauses = Canonicalizer {
@@ -294,11 +289,11 @@ fn number_predicate(
 ) -> Result<TraitPredicate, Fault>
     requires held { PredicateHeld cx.old.entries predicate }
     requires listed { AreLeaves cx.old.entries leaves.now.keys }
-    ensures keeps { Keeps cx.old.entries cx.new.entries }
-    ensures limit { cx.new.limit ≡ cx.old.limit }
+    ensures grew { Grew cx.old cx.new }
     ensures held { IfOk result (λ r. PredicateHeld cx.new.entries r) }
-    ensures numbered { IfOk result (λ r. predicate_trees cx.new.entries r ≡ numbered_by (labels cx.old.entries leaves.now.keys) (predicate_trees cx.old.entries predicate)) }
-    ensures full { result ≡ Err Fault.Full → SomeKindIsFull cx.new.entries cx.new.limit ⊎ (MAX_INDEX ≤ length leaves.now.keys) }
+    ensures numbered { IfOk result (λ r. predicate_trees cx.new.entries r
+        ≡ numbered_by (labels cx.old.entries leaves.now.keys) (predicate_trees cx.old.entries predicate)) }
+    ensures full { IfErr result (FullAtLimit cx.new) }
 {
     if is_closed(predicate.flags(cx), false) {
         return Ok(predicate);

@@ -1,10 +1,10 @@
 //! Canonical variables replaced by values.
-ghost use Rattle.std.specs.Prelude.{◌≡◌, ℕ, List, IfOk, IfSome, Err, option_map};
+ghost use Rattle.term_folds.specs.Growth.{Grew, FullAtLimit};
+ghost use Rattle.std.specs.Prelude.{◌≡◌, ℕ, List, IfOk, IfErr, IfSome, option_map};
 ghost use Rattle.std.specs.List.{slice_get};
 ghost use Rattle.type_terms.specs.Label.{of_type, of_const, of_lifetime, canonical};
-ghost use Rattle.type_terms.specs.Terms.{Entry, Keeps, Has, types, consts, trees_at};
+ghost use Rattle.type_terms.specs.Terms.{Entry, Has, types, consts, trees_at};
 ghost use Rattle.type_terms.specs.Kinds.{ArgsHeld, RegionHeld, region_trees};
-ghost use Rattle.type_terms.specs.Failures.{SomeKindIsFull};
 ghost use Rattle.infer_table.specs.Goals.{GoalHeld, goal_trees};
 ghost use Rattle.infer_table.specs.Values.{values_of, value_for, goal_filled, are_unbound_flags};
 
@@ -50,7 +50,8 @@ impl CanonicalInstantiator<'_> {
     }
 
     fn ty_value(&self, variable: BoundVar) -> Option<Ty>
-        ensures value { (es : List Entry) → value_for (values_of es self.now.values.now) (canonical of_type variable.index) ≡ option_map (λ x. trees_at es x.0) result }
+        ensures value { (es : List Entry)
+            → value_for (values_of es self.now.values.now) (canonical of_type variable.index) ≡ option_map (λ x. trees_at es x.0) result }
         ensures held { (es : List Entry) → ArgsHeld es self.now.values.now → IfSome result (λ x. Has es types x.0) }
     {
         match self.value(variable) {
@@ -64,7 +65,8 @@ impl CanonicalInstantiator<'_> {
     }
 
     fn const_value(&self, variable: BoundVar) -> Option<Const>
-        ensures value { (es : List Entry) → value_for (values_of es self.now.values.now) (canonical of_const variable.index) ≡ option_map (λ x. trees_at es x.0) result }
+        ensures value { (es : List Entry)
+            → value_for (values_of es self.now.values.now) (canonical of_const variable.index) ≡ option_map (λ x. trees_at es x.0) result }
         ensures held { (es : List Entry) → ArgsHeld es self.now.values.now → IfSome result (λ x. Has es consts x.0) }
     {
         match self.value(variable) {
@@ -78,7 +80,8 @@ impl CanonicalInstantiator<'_> {
     }
 
     fn region_value(&self, variable: BoundVar) -> Option<Region>
-        ensures value { (es : List Entry) → value_for (values_of es self.now.values.now) (canonical of_lifetime variable.index) ≡ option_map (λ x. region_trees x) result }
+        ensures value { (es : List Entry)
+            → value_for (values_of es self.now.values.now) (canonical of_lifetime variable.index) ≡ option_map (λ x. region_trees x) result }
         ensures held { (es : List Entry) → ArgsHeld es self.now.values.now → IfSome result (λ x. RegionHeld x.kind) }
     {
         match self.value(variable) {
@@ -190,11 +193,10 @@ pub fn instantiate_with_values(
 ) -> Result<Goal, Fault>
     requires goal { GoalHeld cx.old.entries goal.now }
     requires values { ArgsHeld cx.old.entries values.now }
-    ensures keeps { Keeps cx.old.entries cx.new.entries }
-    ensures limit { cx.new.limit ≡ cx.old.limit }
+    ensures grew { Grew cx.old cx.new }
     ensures held { IfOk result (λ r. GoalHeld cx.new.entries r) }
     ensures filled { IfOk result (λ r. goal_trees cx.new.entries r ≡ goal_filled (values_of cx.old.entries values.now) (goal_trees cx.old.entries goal.now)) }
-    ensures full { result ≡ Err Fault.Full → SomeKindIsFull cx.new.entries cx.new.limit }
+    ensures full { IfErr result (FullAtLimit cx.new) }
 {
     goal.fold_with(alloc, cx, &CanonicalInstantiator { values })
 }

@@ -25,7 +25,8 @@ impl InferCtxt {
     pub(crate) fn occurs(&self, cx: &Interner, variable: TyVid, ty: Ty) -> Result<bool, AllocError>
         requires held { Has cx.now.entries types ty.0 }
         requires ready { Ready cx.now.entries self.now }
-        ensures found { IfOk result (λ b. b ≡ occurs of_type variable.index (resolved (content cx.now.entries self.now.values) (trees_at cx.now.entries ty.0))) }
+        ensures found { IfOk result (λ b. b
+            ≡ occurs of_type variable.index (resolved (content cx.now.entries self.now.values) (trees_at cx.now.entries ty.0))) }
         ensures proper { IfOk result (λ b. b ≡ false → IsProper (trees_at cx.now.entries ty.0)) }
     {
         let mut entered = Entered::new(self.alloc);
@@ -52,8 +53,10 @@ impl InferCtxt {
     ) -> Result<bool, AllocError>
         requires held { Has cx.now.entries types ty.0 }
         requires ready { Ready cx.now.entries self.now }
-        ensures found { IfOk result (λ b. b ≡ true → occurs of_type variable.index (resolved (content cx.now.entries self.now.values) (trees_at cx.now.entries ty.0)) ≡ true) }
-        ensures looked { IfOk result (λ b. b ≡ false → LooksAt cx.now.entries (content cx.now.entries self.now.values) variable.index ty entered.old entered.new todo.old.items todo.new.items) }
+        ensures found { IfOk result (λ b. b ≡ true
+            → occurs of_type variable.index (resolved (content cx.now.entries self.now.values) (trees_at cx.now.entries ty.0)) ≡ true) }
+        ensures looked { IfOk result (λ b. b ≡ false
+            → LooksAt cx.now.entries (content cx.now.entries self.now.values) variable.index ty entered.old entered.new todo.old.items todo.new.items) }
     {
         cx.lawful();
         type_has_kind(cx, ty);
@@ -84,7 +87,8 @@ impl InferCtxt {
     ) -> Result<(), AllocError>
         requires held { ArgsHeld cx.now.entries args.now }
         requires ready { Ready cx.now.entries self.now }
-        ensures pushed { OnOk result (Pushes cx.now.entries (content cx.now.entries self.now.values) variable.index (args_trees cx.now.entries args.now) todo.old.items todo.new.items) }
+        ensures pushed { OnOk result (Pushes cx.now.entries (content cx.now.entries self.now.values) variable.index
+            (args_trees cx.now.entries args.now) todo.old.items todo.new.items) }
     {
         cx.lawful();
         'parts: for arg in args {

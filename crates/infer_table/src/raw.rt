@@ -1,14 +1,15 @@
 //! The answer that says nothing.
-ghost use Rattle.std.specs.Prelude.{◌≡◌, ℕ, ◌<◌, List, [], IfOk, OnErr, Err, length, ◌⊎◌};
-ghost use Rattle.type_terms.specs.Label.{canonical};
-ghost use Rattle.type_terms.specs.Trees.{leaf};
-ghost use Rattle.type_terms.specs.Terms.{Keeps, types, consts, held};
+ghost use Rattle.term_folds.specs.Growth.{Grew};
+ghost use Rattle.std.specs.Prelude.{◌≡◌, ℕ, ◌<◌, List, [], IfOk, OnErr, Err};
+ghost use Rattle.type_terms.specs.Terms.{types, consts, held};
 ghost use Rattle.type_terms.specs.Kinds.{ArgHeld, ArgsHeld, args_trees};
 ghost use Rattle.type_terms.specs.declared.TheConstants.{MAX_INDEX};
 ghost use Rattle.infer_table.specs.Values.{value_of, values_of};
 ghost use Rattle.infer_table.specs.Raw.{variable_value, variables_from, IsFull};
 ghost use Rattle.infer_table.specs.Covers.{AreNumbered};
 ghost use Rattle.infer_table.specs.AnswersApplied.{AgreesWithAllOf};
+ghost use Rattle.type_terms.specs.Label.{canonical};
+ghost use Rattle.type_terms.specs.Trees.{leaf};
 
 use crate::canonical::CanonicalVarKind;
 use crate::certainty::Certainty;
@@ -28,8 +29,7 @@ pub fn canonical_variable(
 ) -> Result<GenericArgKind, Fault>
     ensures is { IfOk result (λ a. value_of cx.new.entries a ≡ variable_value kind variable.index) }
     ensures held { IfOk result (λ a. ArgHeld cx.new.entries a) }
-    ensures keeps { Keeps cx.old.entries cx.new.entries }
-    ensures limit { cx.new.limit ≡ cx.old.limit }
+    ensures grew { Grew cx.old cx.new }
     ensures full { result ≡ Err Fault.Full → IsFull cx.new.entries cx.new.limit }
 {
     let index = BoundVarIndexKind::Canonical;
@@ -54,16 +54,15 @@ pub fn canonical_variable(
 /// variables of the goal that was asked. Whoever builds answers asks for it in that case; `canonicalize_response`
 /// does not look at the certainty.
 ///
-/// `Full` comes where there are more variables than numbers for them or one of the interner's tables is full,
-/// `Memory` where memory is refused. `response_no_constraints_raw` of the original.
+/// `Full` comes where one of the interner's tables is full, `Memory` where memory is refused or there are more variables
+/// than numbers for them. `response_no_constraints_raw` of the original.
 pub fn response_no_constraints_raw(
     alloc: Global,
     cx: &mut Interner,
     variables: Vec<CanonicalVarKind>,
     certainty: Certainty,
 ) -> Result<CanonicalResponse, Fault>
-    ensures keeps { Keeps cx.old.entries cx.new.entries }
-    ensures limit { cx.new.limit ≡ cx.old.limit }
+    ensures grew { Grew cx.old cx.new }
     ensures variables { IfOk result (λ r. r.variables ≡ variables) }
     ensures certainty { IfOk result (λ r. r.certainty ≡ certainty) }
     ensures constraints { IfOk result (λ r. r.region_constraints.items ≡ []) }
@@ -73,12 +72,12 @@ pub fn response_no_constraints_raw(
     // Its variables are of its kinds, and it agrees with all values of their sorts.
     ensures numbered { IfOk result (λ r. AreNumbered r.variables.items (args_trees cx.new.entries r.var_values.items)) }
     ensures agrees { IfOk result (λ r. AgreesWithAllOf variables.items (args_trees cx.new.entries r.var_values.items)) }
-    ensures full { result ≡ Err Fault.Full → (MAX_INDEX < length variables.items) ⊎ IsFull cx.new.entries cx.new.limit }
+    ensures full { result ≡ Err Fault.Full → IsFull cx.new.entries cx.new.limit }
 {
     let mut var_values = Vec::new(alloc);
     for (place, kind) in variables.iter().enumerate() {
         if place >= MAX_INDEX as usize {
-            return Err(Fault::Full);
+            return Err(Fault::Memory);
         }
         let variable = BoundVar {
             index: place as u32,

@@ -74,7 +74,8 @@ impl Related {
 
     /// The equation is of a pair that was related to its end.
     pub fn is_settled(&self, equation: Equation) -> bool
-        ensures settled { IsTrue result → (es : List Entry) (t : Table) (todo : Worklist) → Tracks es t todo self.now → RestsIn es t [] (equation_trees es equation ∷ []) }
+        ensures settled { IsTrue result → (es : List Entry) (t : Table) (todo : Worklist) → Tracks es t todo self.now
+            → RestsIn es t [] (equation_trees es equation ∷ []) }
     {
         match equation.left {
             GenericArgKind::Ty(left) => match equation.right {
@@ -120,7 +121,8 @@ impl Related {
     /// The pairs that were begun and have no parts left are related to their end, where so many equations are left, and the table has so
     /// many variables of lifetimes. Those that opened lifetimes are not kept.
     pub fn finish(&mut self, left: usize, lifetimes: u32)
-        ensures tracks { (es : List Entry) (t : Table) (todo : Worklist) → Tracks es t todo self.old → length todo ≡ left → lifetimes ≡ t.region_vars → TracksOpen es t todo self.new }
+        ensures tracks { (es : List Entry) (t : Table) (todo : Worklist) → Tracks es t todo self.old → length todo ≡ left → lifetimes ≡ t.region_vars
+            → TracksOpen es t todo self.new }
     {
         'done: while let Some(last) = self.begun.pop() {
             if last.left < left {

@@ -1,7 +1,6 @@
 //! Variables replaced by their values, all the way.
-ghost use Rattle.std.specs.Prelude.{◌≡◌, List, IfOk, Err};
-ghost use Rattle.type_terms.specs.Terms.{Keeps};
-ghost use Rattle.type_terms.specs.Failures.{SomeKindIsFull};
+ghost use Rattle.term_folds.specs.Growth.{Grew, FullAtLimit};
+ghost use Rattle.std.specs.Prelude.{◌≡◌, List, IfOk, IfErr};
 ghost use Rattle.type_terms.specs.Pieces.{each_piece};
 ghost use Rattle.infer_table.specs.Solutions.{resolved};
 ghost use Rattle.infer_table.specs.Content.{content, Ready};
@@ -123,13 +122,13 @@ impl InferCtxt {
         requires held { T.held value cx.old.entries }
         requires ready { Ready cx.old.entries self.now }
         ensures ready { Ready cx.new.entries self.now }
-        ensures keeps { Keeps cx.old.entries cx.new.entries }
-        ensures limit { cx.new.limit ≡ cx.old.limit }
+        ensures grew { Grew cx.old cx.new }
         ensures held { IfOk result (λ r. T.held r cx.new.entries) }
         ensures outline { IfOk result (λ r. T.outline r ≡ T.outline value) }
         // Each part is the part as it was, with the values in the place of variables.
-        ensures resolved { IfOk result (λ r. T.pieces r cx.new.entries ≡ each_piece (λ d t. resolved (content cx.old.entries self.now.values) t) (T.pieces value cx.old.entries)) }
-        ensures full { result ≡ Err Fault.Full → SomeKindIsFull cx.new.entries cx.new.limit }
+        ensures resolved { IfOk result (λ r. T.pieces r cx.new.entries
+            ≡ each_piece (λ d t. resolved (content cx.old.entries self.now.values) t) (T.pieces value cx.old.entries)) }
+        ensures full { IfErr result (FullAtLimit cx.new) }
     {
         value.fold_with(self.alloc, cx, &EagerResolver { table: self })
     }

@@ -31,5 +31,6 @@ pub fn known_unknowns_laws()
     ensures empty { (counts : Sort → ℕ) → IsOfKnown counts [] }
     ensures more { (counts more : Sort → ℕ) (bs : List Binding) → ((k : Sort) → counts k ≤ more k) → IsOfKnown counts bs → IsOfKnown more bs }
     ensures terms { (counts more : Sort → ℕ) (t : Trees) → ((k : Sort) → counts k ≤ more k) → AreKnown counts t → AreKnown more t }
-    ensures equated { (counts : Sort → ℕ) (old new : List Binding) (a b : Trees) → Equates old new a b → AreKnown counts a → AreKnown counts b → IsOfKnown counts old → IsOfKnown counts new }
+    ensures equated { (counts : Sort → ℕ) (old new : List Binding) (a b : Trees) → Equates old new a b → AreKnown counts a → AreKnown counts b
+        → IsOfKnown counts old → IsOfKnown counts new }
 {}

@@ -1,14 +1,13 @@
 //! Canonical variables replaced by new unknowns.
-ghost use Rattle.std.specs.Prelude.{◌≡◌, IfOk, OnOk, OnErr, IsErr, IfErr, Err, ◌↔◌, ◌≤◌, ◌⊎◌};
-ghost use Rattle.type_terms.specs.Terms.{Keeps};
+ghost use Rattle.term_folds.specs.Growth.{Grew, FullAtLimit};
+ghost use Rattle.std.specs.Prelude.{◌≡◌, IfOk, OnOk, OnErr, IsErr, IfErr, Err, ◌↔◌, ◌≤◌};
 ghost use Rattle.type_terms.specs.Kinds.{ArgsHeld};
 ghost use Rattle.type_terms.specs.declared.TheConstants.{MAX_INDEX};
-ghost use Rattle.type_terms.specs.Failures.{SomeKindIsFull};
 ghost use Rattle.infer_table.specs.Content.{Ready, Grows};
 ghost use Rattle.infer_table.specs.Goals.{GoalHeld, goal_trees};
 ghost use Rattle.infer_table.specs.Leaves.{AreLeaves, IsLeaf, labels, leaf_label};
 ghost use Rattle.infer_table.specs.Values.{values_of, goal_filled};
-ghost use Rattle.infer_table.specs.Unknowns.{next_label, with_next, next_labels, with_each, HasNoNumber, SomeHasNoNumber};
+ghost use Rattle.infer_table.specs.Unknowns.{next_label, with_next, next_labels, with_each};
 
 use crate::canonical::CanonicalVarKind;
 use crate::goal::Goal;
@@ -31,8 +30,8 @@ pub struct Instantiated {
 ///
 /// An unknown type becomes a new type variable, an unknown constant a new constant variable, and a lifetime a new
 /// lifetime variable. A type or constant that stands for any becomes the placeholder with its variable's place, which
-/// stands nowhere else in the goal. `Full` comes only where some kind of term has reached its limit or there is no
-/// number left for a variable, `Memory` where memory is refused. After a refusal the table is as before. The
+/// stands nowhere else in the goal. `Full` comes only where some kind of term has reached its limit, `Memory`
+/// where memory is refused or there is no number left for a variable. After a refusal the table is as before. The
 /// original's `instantiate_canonical`.
 pub fn instantiate_canonical(
     alloc: Global,
@@ -43,8 +42,7 @@ pub fn instantiate_canonical(
     requires held { GoalHeld cx.old.entries input.now.goal }
     requires ready { Ready cx.old.entries table.old }
     ensures ready { Ready cx.new.entries table.new }
-    ensures keeps { Keeps cx.old.entries cx.new.entries }
-    ensures limit { cx.new.limit ≡ cx.old.limit }
+    ensures grew { Grew cx.old cx.new }
 
     // The values are new unknowns, in the order of the variables.
     ensures held { IfOk result (λ r. AreLeaves cx.new.entries r.values.items) }
@@ -56,10 +54,11 @@ pub fn instantiate_canonical(
 
     // The goal is the form with the values put in.
     ensures goal { IfOk result (λ r. GoalHeld cx.new.entries r.goal) }
-    ensures filled { IfOk result (λ r. goal_trees cx.new.entries r.goal ≡ goal_filled (values_of cx.new.entries r.values.items) (goal_trees cx.old.entries input.now.goal)) }
+    ensures filled { IfOk result (λ r. goal_trees cx.new.entries r.goal
+        ≡ goal_filled (values_of cx.new.entries r.values.items) (goal_trees cx.old.entries input.now.goal)) }
 
-    // A full table names the error only where some kind of term has reached its limit, or where a number is missing.
-    ensures full { result ≡ Err Fault.Full → SomeKindIsFull cx.new.entries cx.new.limit ⊎ SomeHasNoNumber table.old 0 input.now.variables.items }
+    // A full table names the error only where some kind of term has reached its limit.
+    ensures full { IfErr result (FullAtLimit cx.new) }
 {
     let place = table.snapshot();
     match instantiate_in(alloc, cx, table, input) {
@@ -81,16 +80,16 @@ fn instantiate_in(
     requires held { GoalHeld cx.old.entries input.now.goal }
     requires ready { Ready cx.old.entries table.old }
     ensures ready { Ready cx.new.entries table.new }
-    ensures keeps { Keeps cx.old.entries cx.new.entries }
-    ensures limit { cx.new.limit ≡ cx.old.limit }
+    ensures grew { Grew cx.old cx.new }
     ensures held { IfOk result (λ r. AreLeaves cx.new.entries r.values.items) }
     ensures args { IfOk result (λ r. ArgsHeld cx.new.entries r.values.items) }
     ensures unknowns { IfOk result (λ r. labels cx.new.entries r.values.items ≡ next_labels table.old 0 input.now.variables.items) }
     ensures made { OnOk result (table.new ≡ with_each table.old input.now.variables.items) }
     ensures grows { Grows table.old table.new }
     ensures goal { IfOk result (λ r. GoalHeld cx.new.entries r.goal) }
-    ensures filled { IfOk result (λ r. goal_trees cx.new.entries r.goal ≡ goal_filled (values_of cx.new.entries r.values.items) (goal_trees cx.old.entries input.now.goal)) }
-    ensures full { result ≡ Err Fault.Full → SomeKindIsFull cx.new.entries cx.new.limit ⊎ SomeHasNoNumber table.old 0 input.now.variables.items }
+    ensures filled { IfOk result (λ r. goal_trees cx.new.entries r.goal
+        ≡ goal_filled (values_of cx.new.entries r.values.items) (goal_trees cx.old.entries input.now.goal)) }
+    ensures full { IfErr result (FullAtLimit cx.new) }
 {
     let values = next_values(alloc, cx, table, &input.variables)?;
     let goal = instantiate_with_values(alloc, cx, &input.goal, &values)?;
@@ -110,14 +109,13 @@ pub fn next_values(
 ) -> Result<Vec<GenericArgKind>, Fault>
     requires { Ready cx.old.entries table.old }
     ensures ready { Ready cx.new.entries table.new }
-    ensures keeps { Keeps cx.old.entries cx.new.entries }
-    ensures limit { cx.new.limit ≡ cx.old.limit }
+    ensures grew { Grew cx.old cx.new }
     ensures held { IfOk result (λ xs. AreLeaves cx.new.entries xs.items) }
     ensures args { IfOk result (λ xs. ArgsHeld cx.new.entries xs.items) }
     ensures unknowns { IfOk result (λ xs. labels cx.new.entries xs.items ≡ next_labels table.old 0 variables.now) }
     ensures made { OnOk result (table.new ≡ with_each table.old variables.now) }
     ensures grows { Grows table.old table.new }
-    ensures full { result ≡ Err Fault.Full → SomeKindIsFull cx.new.entries cx.new.limit ⊎ SomeHasNoNumber table.old 0 variables.now }
+    ensures full { IfErr result (FullAtLimit cx.new) }
 {
     let mut values = Vec::new(alloc);
     'variables: for (place, kind) in variables.iter().enumerate() {
@@ -136,13 +134,12 @@ fn next_value(
 ) -> Result<GenericArgKind, Fault>
     requires { Ready cx.old.entries table.old }
     ensures ready { Ready cx.new.entries table.new }
-    ensures keeps { Keeps cx.old.entries cx.new.entries }
-    ensures limit { cx.new.limit ≡ cx.old.limit }
+    ensures grew { Grew cx.old cx.new }
     ensures leaf { IfOk result (λ x. IsLeaf cx.new.entries x) }
     ensures label { IfOk result (λ x. leaf_label cx.new.entries x ≡ next_label table.old place kind) }
     ensures made { OnOk result (table.new ≡ with_next table.old kind) }
     ensures refused { OnErr result (table.new ≡ table.old) }
-    ensures full { result ≡ Err Fault.Full → SomeKindIsFull cx.new.entries cx.new.limit ⊎ HasNoNumber table.old place kind }
+    ensures full { IfErr result (FullAtLimit cx.new) }
 {
     match kind {
         CanonicalVarKind::Ty => Ok(GenericArgKind::Ty(table.next_ty_var(cx)?)),
@@ -159,15 +156,15 @@ fn next_value(
     }
 }
 
-/// The number of the placeholder for the variable at this place.
+/// The number of the placeholder for the variable at this place; `Memory` where there is none.
 fn placeholder_index(place: usize) -> Result<u32, Fault>
     ensures number { IfOk result (λ index. index ≡ place) }
-    ensures full { IsErr result ↔ (MAX_INDEX ≤ place) }
-    ensures fault { IfErr result (λ e. e ≡ Fault.Full) }
+    ensures refused_only { IsErr result ↔ (MAX_INDEX ≤ place) }
+    ensures fault { IfErr result (λ e. e ≡ Fault.Memory) }
 {
     if place < MAX_INDEX as usize {
         Ok(place as u32)
     } else {
-        Err(Fault::Full)
+        Err(Fault::Memory)
     }
 }

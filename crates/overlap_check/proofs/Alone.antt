@@ -2,21 +2,20 @@
 use Rattle.std.proofs.Common.{◌≡◌, ℕ, true, List, [], ◌∷◌, ◌++◌, filter, refl, ap, sym, ◌∙◌, subst, ◌⊎◌, inl, inr, ◌==◌}
 use Rattle.type_terms.specs.Label.{of_type, bool, adt, tuple, infer}
 use Rattle.type_terms.specs.Trees.{Trees, none, tree, leaf, ◌+++◌, arguments, instantiate}
-use Rattle.type_terms.specs.Worlds.{World, ImplDecl, Reference, view_of}
+use Rattle.type_terms.specs.Worlds.{World, ImplDecl, Reference}
 use Rattle.type_terms.specs.Rules.{Rule, rules, impl_rules, built_in_rules, clause_rules, strict_supertraits, by_impl, fn_once, asked}
 use Rattle.type_terms.specs.Proofs.{In, Every, HasProof}
 use Rattle.type_terms.specs.Elaborated.{HasElaboratedProof}
 use Rattle.type_terms.specs.Renumbering.{Renumbering, View, HoldsView, renumbered_reference, renumbered_rule, asker_in_set}
 use Rattle.type_terms.specs.LinkedSet.{LinkedSet, Unknown}
 use Rattle.type_terms.specs.Worked.{base, first, T, applied, impl_of}
-use Rattle.type_terms.proofs.Members.{in-append, in-cases, in-flat, in-map, in-nothing, filter-in, self-number, not-both}
+use Rattle.type_terms.proofs.Members.{in-append, in-cases, in-flat, in-nothing, filter-in, self-number, not-both}
 use Rattle.type_terms.proofs.Fitting.{impl-rule}
 use Rattle.type_terms.proofs.ElaboratedProofs.{elaborated-rule, elaborated-supers}
-use Rattle.type_terms.proofs.NoHolds.{every-member, supers-of-view}
+use Rattle.type_terms.proofs.NoHolds.{every-member}
 use Rattle.type_terms.proofs.SupersProved.{supers-proved-for-all}
 use Rattle.type_terms.proofs.ViewLaws.{view-gives-or-unknown, known-in-set, proved-in-set, super-in-set}
 use Rattle.type_terms.proofs.RenumberedTrees.{over-closed}
-use Rattle.type_terms.proofs.RenumberedRules.{over-supers}
 use Rattle.overlap_check.specs.Verdicts.{placed}
 use Rattle.overlap_check.specs.Questions.{FitKinds, filled_reference}
 use Rattle.overlap_check.specs.Worked.{alone_view, fn_of_char, fn_is_sub, ProvedAloneAndRefuted}

@@ -2,16 +2,15 @@
 use Rattle.std.proofs.Common.{◌≡◌, ℕ, zero, ◌<◌, ◌≤◌, ◌+◌, Bool, true, false, ◌||◌, ◌==◌, List, [], ◌∷◌, map, Option, Some, None, Result, Ok, Err, refl, sym, ap, ◌∙◌, subst, arith, ◌⊎◌, inl, inr}
 use Rattle.std.proofs.lemmas.Bool.Decides.{nat_tests}
 use Rattle.std.proofs.Math.Nat.{min-le_right}
-use Rattle.std.specs.Prelude.{if◌then◌else◌, IfOk, IfErr}
+use Rattle.std.specs.Prelude.{if◌then◌else◌, IfOk}
 use Rattle.type_terms.specs.Trees.{Trees, erase, instantiate}
 use Rattle.type_terms.specs.Erased.{erased_reference, erased_impl}
 use Rattle.type_terms.specs.Proofs.{In}
 use Rattle.type_terms.specs.Walks.{trait_is, visited, until_decisive, ends_local, walk, keeps_orphan_rule}
 use Rattle.type_terms.specs.Worlds.{World, Reference, ImplDecl}
-use Rattle.type_terms.proofs.Members.{here, there, in-filter, filter-in, in-cases, in-nothing}
+use Rattle.type_terms.proofs.Members.{here, in-filter, filter-in, in-cases, in-nothing}
 use Rattle.type_terms.specs.Terms.{Entry, Keeps, Lawful, trees_at}
 use Rattle.type_terms.specs.declared.Fault.{Fault}
-use Rattle.type_terms.specs.declared.Fault.TheVariants.{Full, Memory}
 use Rattle.type_terms.specs.declared.ImplId.{ImplId}
 use Rattle.type_terms.specs.declared.TheConstants.{MAX_INDEX}
 use Rattle.type_terms.specs.declared.kinds.Ty.{Ty}
@@ -26,9 +25,9 @@ use Rattle.orphan_check.specs.declared.errors.OrphanCheckErr.{OrphanCheckErr}
 use Rattle.orphan_check.proofs.Visiting.{erased-visits}
 use Rattle.overlap_check.specs.OpenedHeaders.{opened}
 use Rattle.overlap_check.specs.Verdicts.{BreaksOrphanRule, KeepsOrphanRule, IsFirstOrphan}
-use Rattle.overlap_check.specs.Fresh.{SomeHaveNoNumber, HasArguments}
+use Rattle.overlap_check.specs.Fresh.{HasArguments}
 use Rattle.overlap_check.specs.Headers.{sorts_of_impl, unknowns_for, empty_table, IsHeaderOver}
-use Rattle.overlap_check.specs.Orphans.{HoldsParams, HeaderHoldsParams, AreWrittenWell, IsWalkError, IsHeaderError, IsErrorOf, SomeHeaderRunsOut, error_in}
+use Rattle.overlap_check.specs.Orphans.{HoldsParams, HeaderHoldsParams, AreWrittenWell, IsWalkError, IsHeaderError, IsErrorOf, error_in}
 use Rattle.overlap_check.specs.Written.{IsWrittenWell}
 use Rattle.overlap_check.specs.declared.header.ImplHeader.{ImplHeader}
 use Rattle.overlap_check.proofs.Headers.{same-entries, header-later, well-later}
@@ -43,14 +42,10 @@ first_id = record { index = 0; in_range = min-le_right 0 MAX_INDEX }
 pub own-keeps : (V : World) (c : ℕ) (r : Reference) → true ≡ trait_is (λ x. x.home == c) V r.trait → keeps_orphan_rule V c r ≡ true
 own-keeps V c r e = ap (λ x. x || ends_local (walk V c r)) (sym e)
 
--- what is answered, and a fault that is no shortage
+-- what is answered
 pub ok-then : {A : Type 0} (P Q : A → Type 0) (r : Result A Fault) → ((x : A) → P x → Q x) → IfOk r P → IfOk r Q
 ok-then P Q (Ok x) f h = f x h
 ok-then P Q (Err e) f h = tt
-
-pub memory-alone : {A B : Type 0} (r : Result A Fault) → IfErr r (λ fault. fault ≡ Memory) → r ≡ Err Full → B
-memory-alone (Ok x) h q = cc
-memory-alone (Err e) h q = cc
 
 module _ (old : List Entry) (lawful : Lawful old) (d : Items) (held : AreHeld old d) (def : ImplDef) (h : ImplHeld old def) (w : IsWrittenWell old def) (p : HeaderHoldsParams old def) where
   abbrev V : World
@@ -97,7 +92,7 @@ module _ (old : List Entry) (lawful : Lawful old) (d : Items) (held : AreHeld ol
         by (Some e) q = (by-walk foreign false q.0, ap (orphan_error V d.local) (sym is-opened) ∙ q.1)
 
 -- ---- the impl of a number
-found-each : (P : ImplDef → Type 0) (n : ℕ) (def : ImplDef) (is : List HeldImpl) → Each (λ i. P i.def) is → Some def ≡ impl_at n is → P def
+pub found-each : (P : ImplDef → Type 0) (n : ℕ) (def : ImplDef) (is : List HeldImpl) → Each (λ i. P i.def) is → Some def ≡ impl_at n is → P def
 found-each P n def [] h e = cc
 found-each P n def (i ∷ is) h e = by (n == i.id.index) e (found-each P n def is h.1)
   where
@@ -105,19 +100,8 @@ found-each P n def (i ∷ is) h e = by (n == i.id.index) e (found-each P n def i
     by true e rest = let same : i.def ≡ def = cc in subst P same h.0
     by false e rest = rest e
 
-pub found-in : (n : ℕ) (def : ImplDef) (is : List HeldImpl) → Some def ≡ impl_at n is → (i : HeldImpl) × In i is × (i.def ≡ def)
-found-in n def [] e = cc
-found-in n def (i ∷ is) e = by (n == i.id.index) e (found-in n def is)
-  where
-    by : (b : Bool) → Some def ≡ (if b then Some i.def else impl_at n is) → (Some def ≡ impl_at n is → (j : HeldImpl) × In j is × (j.def ≡ def)) → (j : HeldImpl) × In j (i ∷ is) × (j.def ≡ def)
-    by true e rest = let same : i.def ≡ def = cc in (i, here i is, same)
-    by false e rest = let f = rest e in (f.0, there f.0 i is f.1, f.2)
-
 pub found-well : (es : List Entry) (d : Items) → AreWrittenWell es d → (n : ℕ) (def : ImplDef) → Some def ≡ impl_at n d.impls → IsWrittenWell es def × HeaderHoldsParams es def
 found-well es d h n def e = found-each (λ (x : ImplDef). IsWrittenWell es x × HeaderHoldsParams es x) n def d.impls h e
-
-pub found-runs-out : (d : Items) (n : ℕ) (def : ImplDef) → Some def ≡ impl_at n d.impls → SomeHaveNoNumber empty_table (sorts_of_impl def) → SomeHeaderRunsOut d
-found-runs-out d n def e h = let f = found-in n def d.impls e in (f.0, f.1, subst (λ (x : ImplDef). SomeHaveNoNumber empty_table (sorts_of_impl x)) (sym f.2) h)
 
 same-number : (x y : ℕ) → x ≡ y → (x == y) ≡ true
 same-number x y e = grind (arith, nat_tests)

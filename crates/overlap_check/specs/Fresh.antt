@@ -1,9 +1,8 @@
 -- Fresh unknowns for the parameters of impls.
-use Rattle.std.specs.Prelude.{◌≡◌, ◌+◌, ◌≤◌, ◌⊎◌, false, List, [], ◌∷◌, Some}
+use Rattle.std.specs.Prelude.{◌≡◌, ◌+◌, false, List, [], ◌∷◌, Some}
 use Rattle.type_terms.specs.Label.{Sort, of_type, of_const, of_lifetime, infer, param}
 use Rattle.type_terms.specs.Trees.{Trees, none, tree, erase_label}
 use Rattle.type_terms.specs.LinkedSet.{is_stray}
-use Rattle.type_terms.specs.declared.TheConstants.{MAX_INDEX}
 use Rattle.term_folds.specs.Arguments.{sort_at}
 use Rattle.infer_table.specs.Content.{Table, variables_of}
 
@@ -22,15 +21,6 @@ with_unknowns t (k ∷ ks) = with_unknowns (with_unknown t k) ks
 abbrev pub fresh_unknowns : Table → List Sort → Trees
 fresh_unknowns t [] = none
 fresh_unknowns t (k ∷ ks) = tree (infer k (variables_of t k)) none (fresh_unknowns (with_unknown t k) ks)
-
--- There is no number left for one more unknown of the sort.
-abbrev pub HasNoFreshNumber : Table → Sort → Type 0
-HasNoFreshNumber t k = MAX_INDEX ≤ variables_of t k
-
--- There is none for one of these.
-abbrev pub SomeHaveNoNumber : Table → List Sort → Type 0
-SomeHaveNoNumber t [] = ⊥
-SomeHaveNoNumber t (k ∷ ks) = HasNoFreshNumber t k ⊎ SomeHaveNoNumber (with_unknown t k) ks
 
 -- Each parameter that stands in the trees is a leaf with an argument of its sort in the row, and no other place is open there but those
 -- of lifetimes.

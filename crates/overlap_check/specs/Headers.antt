@@ -1,5 +1,5 @@
 -- Pairs of impls over the terms of an interner: with unknowns for their parameters, and with equal headers.
-use Rattle.std.specs.Prelude.{◌≡◌, zero, false, List, [], map, Some, ◌⊎◌}
+use Rattle.std.specs.Prelude.{◌≡◌, zero, false, List, [], map, Some}
 use Rattle.type_terms.specs.Label.{Sort}
 use Rattle.type_terms.specs.Trees.{Trees, erase, instantiate, some_node}
 use Rattle.type_terms.specs.Erased.{erased_impl}
@@ -14,13 +14,12 @@ use Rattle.infer_table.specs.Canonical.{HasNoCanonical}
 use Rattle.infer_table.specs.Content.{Table, content, variables_of, Ready, Grows}
 use Rattle.infer_table.specs.Covers.{AreKnown, IsOfKnown}
 use Rattle.infer_table.specs.Unification.{table_trees}
-use Rattle.infer_table.specs.Shortages.{SomeRunsOut}
 use Rattle.declarations.specs.Applied.{sort_of_param, references_in, TraitRefsHeld}
 use Rattle.declarations.specs.Held.{ReferenceHeld}
 use Rattle.declarations.specs.Items.{reference_in, impl_in}
 use Rattle.declarations.specs.Merges.{Each}
 use Rattle.declarations.specs.declared.items.ImplDef.{ImplDef}
-use Rattle.overlap_check.specs.Fresh.{with_unknowns, fresh_unknowns, SomeHaveNoNumber}
+use Rattle.overlap_check.specs.Fresh.{with_unknowns, fresh_unknowns}
 use Rattle.overlap_check.specs.Goals.{unknown_kinds, HasGoals}
 use Rattle.overlap_check.specs.declared.header.ImplHeader.{ImplHeader}
 use Rattle.overlap_check.specs.declared.intersection.ImplIntersection.{ImplIntersection}
@@ -66,13 +65,6 @@ left_args es w = instantiate zero (unknowns_for empty_table w) (trees_at es w.he
 
 abbrev pub right_args : List Entry → ImplDef → ImplDef → Trees
 right_args es w x = instantiate zero (unknowns_for (with_unknowns_for empty_table w) x) (trees_at es x.header.args.0)
-
--- No number is left for an unknown of a parameter, or for one of a lifetime that is met when the headers are made equal.
-abbrev pub PairRunsOut : List Entry → ImplDef → ImplDef → Type 0
-PairRunsOut es w x =
-    SomeHaveNoNumber empty_table (sorts_of_impl w)
-    ⊎ SomeHaveNoNumber (with_unknowns_for empty_table w) (sorts_of_impl x)
-    ⊎ SomeRunsOut (table_trees es (pair_table w x)) (left_args es w) (right_args es w x)
 
 -- Whatever their numbers are, the impls have no common instance.
 abbrev pub AreDisjointImpls : List Entry → ImplDef → ImplDef → Type 0

@@ -18,8 +18,7 @@ use Rattle.orphan_check.specs.declared.errors.OrphanCheckErr.{OrphanCheckErr}
 use Rattle.orphan_check.specs.declared.errors.OrphanCheckErr.TheVariants.{NonLocalInputType, UncoveredTyParams}
 use Rattle.overlap_check.specs.OpenedHeaders.{is_param, opened}
 use Rattle.overlap_check.specs.Verdicts.{KeepsOrphanRule, BreaksOrphanRule, IsFirstOrphan}
-use Rattle.overlap_check.specs.Fresh.{SomeHaveNoNumber}
-use Rattle.overlap_check.specs.Headers.{sorts_of_impl, empty_table}
+use Rattle.overlap_check.specs.Headers.{sorts_of_impl}
 use Rattle.overlap_check.specs.Written.{IsWrittenWell}
 
 -- Each parameter that is a type or a constant stands in the trees as such: T and N do in `[T; N]`.
@@ -62,7 +61,3 @@ IsErrorOf V c n es (Some e) = (i : ImplDecl) × (i.name ≡ n) × BreaksOrphanRu
 abbrev pub IsFirstError : World → ℕ → List Entry → Option (ImplId × OrphanCheckErr Ty) → Type 0
 IsFirstError V c es None = KeepsOrphanRule V c
 IsFirstError V c es (Some x) = IsFirstOrphan V c x.0.index (error_in es x.1)
-
--- No number is left for an unknown of a parameter of one of the impls.
-abbrev pub SomeHeaderRunsOut : Items → Type 0
-SomeHeaderRunsOut d = (i : HeldImpl) × In i d.impls × SomeHaveNoNumber empty_table (sorts_of_impl i.def)

@@ -1,5 +1,5 @@
 -- What a verdict on a crate promises. V is the view of the crate c, without lifetimes.
-use Rattle.std.specs.Prelude.{◌≡◌, ℕ, ◌<◌, ◌≤◌, true, false, List, [], map, Some}
+use Rattle.std.specs.Prelude.{◌≡◌, ℕ, ◌≤◌, true, false, List, [], map, Some}
 use Rattle.type_terms.specs.Worlds.{World, Reference, ImplDecl, with_args}
 use Rattle.type_terms.specs.Proofs.{In, Every}
 use Rattle.type_terms.specs.Elaborated.{HasElaboratedProof}

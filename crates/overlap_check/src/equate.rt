@@ -1,13 +1,11 @@
 //! Headers made equal.
-ghost use Rattle.std.specs.Prelude.{◌≡◌, ◌≢◌, ◌⊎◌, OnOk, OnErr, Err, Some};
-ghost use Rattle.type_terms.specs.Terms.{Keeps};
+ghost use Rattle.std.specs.Prelude.{◌≡◌, ◌≢◌, ◌⊎◌, OnOk, OnErr, Err, Some, IfErr};
 ghost use Rattle.type_terms.specs.Kinds.{ArgsHeld, args_trees};
-ghost use Rattle.type_terms.specs.declared.Fault.TheVariants.{Full};
-ghost use Rattle.type_terms.specs.Failures.{SomeKindIsFull};
+ghost use Rattle.term_folds.specs.Growth.{Grew};
 ghost use Rattle.infer_table.specs.Applied.{solved_in_turn};
 ghost use Rattle.infer_table.specs.Content.{Ready, Grows, content};
 ghost use Rattle.infer_table.specs.Equated.{MakesEqual};
-ghost use Rattle.infer_table.specs.Shortages.{SomeRunsOut};
+ghost use Rattle.infer_table.specs.Shortages.{EqFullAtLimit};
 ghost use Rattle.infer_table.specs.Solutions.{HasNoSolution};
 ghost use Rattle.infer_table.specs.Unification.{table_trees};
 ghost use Rattle.declarations.specs.Held.{ReferenceHeld};
@@ -32,16 +30,14 @@ fn equate_args(
     requires ready { Ready cx.old.entries table.old }
     ensures ready { Ready cx.new.entries table.new }
     ensures grows { Grows table.old table.new }
-    ensures keeps { Keeps cx.old.entries cx.new.entries }
-    ensures limit { cx.new.limit ≡ cx.old.limit }
+    ensures grew { Grew cx.old cx.new }
     ensures equates { OnOk result
         (MakesEqual cx.old.entries table.old cx.new.entries table.new (args_trees cx.old.entries left.now) (args_trees cx.old.entries right.now)) }
     ensures never { result ≡ Err EqError.NoSolution
         → HasNoSolution (content cx.old.entries table.old.values) (args_trees cx.old.entries left.now) (args_trees cx.old.entries right.now) }
     ensures exact { OnOk result (solved_in_turn (table_trees cx.old.entries table.old)
         (args_trees cx.old.entries left.now) (args_trees cx.old.entries right.now) ≡ Some (table_trees cx.new.entries table.new)) }
-    ensures full { result ≡ Err (EqError.Fault Full) → SomeKindIsFull cx.new.entries cx.new.limit
-        ⊎ SomeRunsOut (table_trees cx.old.entries table.old) (args_trees cx.old.entries left.now) (args_trees cx.old.entries right.now) }
+    ensures full { IfErr result (EqFullAtLimit cx.new) }
 {
     cx.lawful();
     let mut left_rest = left;
@@ -64,8 +60,8 @@ fn equate_args(
 /// Makes two headers equal, with values for as few unknowns as that takes (`equate_impl_headers`).
 ///
 /// Afterwards the solutions of the table are those from before that make the arguments equal. `NoSolution` comes where the headers
-/// are of two traits, or where there is no solution. `Fault(Full)` comes only where some kind of term has reached its limit or there
-/// is no number left for a lifetime, `Fault(Memory)` where memory is refused. After a refusal the table is as before.
+/// are of two traits, or where there is no solution. `Fault(Full)` comes only where some kind of term has reached its limit,
+/// `Fault(Memory)` where memory is refused or no number is left for a lifetime. After a refusal the table is as before.
 pub fn equate_impl_headers(
     alloc: Global,
     cx: &mut Interner,
@@ -78,8 +74,7 @@ pub fn equate_impl_headers(
     requires ready { Ready cx.old.entries table.old }
     ensures ready { Ready cx.new.entries table.new }
     ensures grows { Grows table.old table.new }
-    ensures keeps { Keeps cx.old.entries cx.new.entries }
-    ensures limit { cx.new.limit ≡ cx.old.limit }
+    ensures grew { Grew cx.old cx.new }
     ensures one_trait { OnOk result (left.trait_ref.def_id.index ≡ right.trait_ref.def_id.index) }
     ensures equates { OnOk result (MakesEqual cx.old.entries table.old cx.new.entries table.new (args_at cx.old.entries left) (args_at cx.old.entries right)) }
     ensures never { result ≡ Err EqError.NoSolution → (left.trait_ref.def_id.index ≢ right.trait_ref.def_id.index)
@@ -87,8 +82,7 @@ pub fn equate_impl_headers(
     ensures exact { OnOk result (solved_in_turn (table_trees cx.old.entries table.old) (args_at cx.old.entries left) (args_at cx.old.entries right)
         ≡ Some (table_trees cx.new.entries table.new)) }
     ensures refused { OnErr result (table.new ≡ table.old) }
-    ensures full { result ≡ Err (EqError.Fault Full) → SomeKindIsFull cx.new.entries cx.new.limit
-        ⊎ SomeRunsOut (table_trees cx.old.entries table.old) (args_at cx.old.entries left) (args_at cx.old.entries right) }
+    ensures full { IfErr result (EqFullAtLimit cx.new) }
 {
     cx.lawful();
     if left.trait_ref.def_id != right.trait_ref.def_id {

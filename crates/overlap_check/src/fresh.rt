@@ -1,13 +1,13 @@
 //! Fresh unknowns for the parameters of impls.
-ghost use Rattle.std.specs.Prelude.{◌≡◌, ◌⊎◌, map, IfOk, OnOk, Err};
+ghost use Rattle.std.specs.Prelude.{◌≡◌, map, IfOk, OnOk, IfErr};
 ghost use Rattle.type_terms.specs.Label.{infer};
 ghost use Rattle.type_terms.specs.Trees.{leaf};
-ghost use Rattle.type_terms.specs.Terms.{Keeps, Has, args_lists, trees_at};
+ghost use Rattle.type_terms.specs.Terms.{Has, args_lists, trees_at};
 ghost use Rattle.type_terms.specs.Kinds.{ArgHeld, arg_trees};
-ghost use Rattle.type_terms.specs.Failures.{SomeKindIsFull};
+ghost use Rattle.term_folds.specs.Growth.{Grew, FullAtLimit};
 ghost use Rattle.infer_table.specs.Content.{Ready, variables_of};
 ghost use Rattle.declarations.specs.Applied.{sort_of_param};
-ghost use Rattle.overlap_check.specs.Fresh.{with_unknown, with_unknowns, fresh_unknowns, HasNoFreshNumber, SomeHaveNoNumber};
+ghost use Rattle.overlap_check.specs.Fresh.{with_unknown, with_unknowns, fresh_unknowns};
 
 use declarations::items::GenericParamKind;
 use infer_table::infer_ctxt::InferCtxt;
@@ -24,12 +24,11 @@ fn var_for_param(
 ) -> Result<GenericArgKind, Fault>
     requires { Ready cx.old.entries table.old }
     ensures ready { Ready cx.new.entries table.new }
-    ensures keeps { Keeps cx.old.entries cx.new.entries }
-    ensures limit { cx.new.limit ≡ cx.old.limit }
+    ensures grew { Grew cx.old cx.new }
     ensures held { IfOk result (λ arg. ArgHeld cx.new.entries arg) }
     ensures is { IfOk result (λ arg. arg_trees cx.new.entries arg ≡ leaf (infer (sort_of_param kind) (variables_of table.old (sort_of_param kind)))) }
     ensures made { OnOk result (table.new ≡ with_unknown table.old (sort_of_param kind)) }
-    ensures full { result ≡ Err Fault.Full → SomeKindIsFull cx.new.entries cx.new.limit ⊎ HasNoFreshNumber table.old (sort_of_param kind) }
+    ensures full { IfErr result (FullAtLimit cx.new) }
 {
     match kind {
         GenericParamKind::Lifetime => {
@@ -49,8 +48,8 @@ fn var_for_param(
 
 /// A new unknown of the table for each of an item's parameters, in order (`fresh_args_for_item`).
 ///
-/// `Full` comes only where some kind of term has reached its limit or there is no number left for an unknown, `Memory` where memory
-/// is refused. After a refusal the table may have some of the unknowns.
+/// `Full` comes only where some kind of term has reached its limit, `Memory` where memory is refused or no number is left for an
+/// unknown. After a refusal the table may have some of the unknowns.
 pub fn fresh_args_for_item(
     alloc: Global,
     cx: &mut Interner,
@@ -59,12 +58,11 @@ pub fn fresh_args_for_item(
 ) -> Result<GenericArgs, Fault>
     requires { Ready cx.old.entries table.old }
     ensures ready { Ready cx.new.entries table.new }
-    ensures keeps { Keeps cx.old.entries cx.new.entries }
-    ensures limit { cx.new.limit ≡ cx.old.limit }
+    ensures grew { Grew cx.old cx.new }
     ensures held { IfOk result (λ args. Has cx.new.entries args_lists args.0) }
     ensures are { IfOk result (λ args. trees_at cx.new.entries args.0 ≡ fresh_unknowns table.old (map sort_of_param params.now)) }
     ensures made { OnOk result (table.new ≡ with_unknowns table.old (map sort_of_param params.now)) }
-    ensures full { result ≡ Err Fault.Full → SomeKindIsFull cx.new.entries cx.new.limit ⊎ SomeHaveNoNumber table.old (map sort_of_param params.now) }
+    ensures full { IfErr result (FullAtLimit cx.new) }
 {
     let mut unknowns = Vec::new(alloc);
     let mut left = params;

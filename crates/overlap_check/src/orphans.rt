@@ -1,18 +1,17 @@
 //! The orphan check of the impls that a crate writes.
-ghost use Rattle.std.specs.Prelude.{◌≡◌, ◌==◌, ◌≤◌, ◌+◌, ◌⊎◌, false, [], IfOk, IfErr, IfSome, Err, List};
+ghost use Rattle.std.specs.Prelude.{◌≡◌, ◌==◌, ◌≤◌, ◌+◌, false, [], IfOk, IfErr, IfSome, List};
 ghost use Rattle.type_terms.specs.Erased.{erased_reference};
 ghost use Rattle.type_terms.specs.Walks.{trait_is};
-ghost use Rattle.type_terms.specs.Terms.{Entry, Keeps, trees_at};
+ghost use Rattle.type_terms.specs.Terms.{Entry, trees_at};
 ghost use Rattle.type_terms.specs.declared.Fault.TheVariants.{Memory};
 ghost use Rattle.type_terms.specs.declared.TheConstants.{MAX_INDEX};
-ghost use Rattle.type_terms.specs.Failures.{SomeKindIsFull};
+ghost use Rattle.term_folds.specs.Growth.{Grew, FullAtLimit};
 ghost use Rattle.infer_table.specs.Content.{Ready};
 ghost use Rattle.declarations.specs.Held.{AreHeld, ImplHeld, ReferenceHeld};
 ghost use Rattle.declarations.specs.Items.{IsAbove, declared, reference_in};
 ghost use Rattle.orphan_check.specs.Held.{ErrorHeld};
-ghost use Rattle.overlap_check.specs.Fresh.{SomeHaveNoNumber};
-ghost use Rattle.overlap_check.specs.Headers.{empty_table, sorts_of_impl};
-ghost use Rattle.overlap_check.specs.Orphans.{AreWrittenWell, HeaderHoldsParams, IsErrorOf, IsFirstError, IsHeaderError, IsWalkError, SomeHeaderRunsOut};
+ghost use Rattle.overlap_check.specs.Headers.{empty_table};
+ghost use Rattle.overlap_check.specs.Orphans.{AreWrittenWell, HeaderHoldsParams, IsErrorOf, IsFirstError, IsHeaderError, IsWalkError};
 ghost use Rattle.overlap_check.specs.Written.{IsWrittenWell};
 
 use crate::header::fresh_impl_header;
@@ -96,13 +95,12 @@ fn fresh_header_error(
     requires impl_held { ImplHeld cx.old.entries def.now }
     requires written { IsWrittenWell cx.old.entries def.now }
     requires params { HeaderHoldsParams cx.old.entries def.now }
-    ensures keeps { Keeps cx.old.entries cx.new.entries }
-    ensures limit { cx.new.limit ≡ cx.old.limit }
+    ensures grew { Grew cx.old cx.new }
     ensures held { IfOk result (λ found. IfSome found (ErrorHeld cx.new.entries)) }
     ensures found { trait_is (λ x. x.home == declarations.now.local) (declared cx.old.entries declarations.now) def.now.header.def_id.index ≡ false
         → IfOk result (IsHeaderError (declared cx.old.entries declarations.now) declarations.now.local
         (erased_reference (reference_in cx.old.entries def.now.header)) cx.new.entries) }
-    ensures full { result ≡ Err Fault.Full → SomeKindIsFull cx.new.entries cx.new.limit ⊎ SomeHaveNoNumber empty_table (sorts_of_impl def.now) }
+    ensures full { IfErr result (FullAtLimit cx.new) }
 {
     cx.lawful();
     let header = fresh_impl_header(alloc, cx, table, def)?;
@@ -113,8 +111,8 @@ fn fresh_header_error(
 ///
 /// A header of a local trait keeps it, and so does one whose walk, with an unknown for each parameter, ends at a local type.
 ///
-/// `Full` comes only where some kind of term has reached its limit or there is no number left for an unknown, `Memory` where memory is
-/// refused.
+/// `Full` comes only where some kind of term has reached its limit, `Memory` where memory is refused or no number is left for an
+/// unknown.
 pub fn header_error(
     alloc: Global,
     cx: &mut Interner,
@@ -125,12 +123,11 @@ pub fn header_error(
     requires impl_held { ImplHeld cx.old.entries def.now }
     requires written { IsWrittenWell cx.old.entries def.now }
     requires params { HeaderHoldsParams cx.old.entries def.now }
-    ensures keeps { Keeps cx.old.entries cx.new.entries }
-    ensures limit { cx.new.limit ≡ cx.old.limit }
+    ensures grew { Grew cx.old cx.new }
     ensures held { IfOk result (λ found. IfSome found (ErrorHeld cx.new.entries)) }
     ensures found { IfOk result (IsHeaderError (declared cx.old.entries declarations.now) declarations.now.local
         (erased_reference (reference_in cx.old.entries def.now.header)) cx.new.entries) }
-    ensures full { result ≡ Err Fault.Full → SomeKindIsFull cx.new.entries cx.new.limit ⊎ SomeHaveNoNumber empty_table (sorts_of_impl def.now) }
+    ensures full { IfErr result (FullAtLimit cx.new) }
 {
     if trait_is_local(declarations, def.header.def_id) {
         return Ok(None);
@@ -148,11 +145,10 @@ fn impl_error(
 ) -> Result<Option<OrphanCheckErr<Ty>>, Fault>
     requires held { AreHeld cx.old.entries declarations.now }
     requires written { AreWrittenWell cx.old.entries declarations.now }
-    ensures keeps { Keeps cx.old.entries cx.new.entries }
-    ensures limit { cx.new.limit ≡ cx.old.limit }
+    ensures grew { Grew cx.old cx.new }
     ensures held { IfOk result (λ found. IfSome found (ErrorHeld cx.new.entries)) }
     ensures found { IfOk result (IsErrorOf (declared cx.old.entries declarations.now) declarations.now.local id.index cx.new.entries) }
-    ensures full { result ≡ Err Fault.Full → SomeKindIsFull cx.new.entries cx.new.limit ⊎ SomeHeaderRunsOut declarations.now }
+    ensures full { IfErr result (FullAtLimit cx.new) }
 {
     let Some(def) = declarations.impl_def(id) else {
         return Ok(None);
@@ -167,8 +163,8 @@ fn impl_error(
 /// The first impl of the crate that asks whose header breaks the orphan rule, by rising number, with the error; `None` where all keep
 /// it. The numbers of impls are below `end`.
 ///
-/// `Full` comes only where some kind of term has reached its limit or there is no number left for an unknown, `Memory` where memory is
-/// refused.
+/// `Full` comes only where some kind of term has reached its limit, `Memory` where memory is refused or no number is left for an
+/// unknown.
 pub fn first_orphan(
     alloc: Global,
     cx: &mut Interner,
@@ -179,11 +175,10 @@ pub fn first_orphan(
     requires written { AreWrittenWell cx.old.entries declarations.now }
     requires numbered { IsAbove end declarations.now }
     requires in_range { end ≤ MAX_INDEX + 1 }
-    ensures keeps { Keeps cx.old.entries cx.new.entries }
-    ensures limit { cx.new.limit ≡ cx.old.limit }
+    ensures grew { Grew cx.old cx.new }
     ensures held { IfOk result (λ found. IfSome found (λ x. ErrorHeld cx.new.entries x.1)) }
     ensures first { IfOk result (IsFirstError (declared cx.old.entries declarations.now) declarations.now.local cx.new.entries) }
-    ensures full { result ≡ Err Fault.Full → SomeKindIsFull cx.new.entries cx.new.limit ⊎ SomeHeaderRunsOut declarations.now }
+    ensures full { IfErr result (FullAtLimit cx.new) }
 {
     for index in 0..end {
         let id = ImplId { index };

@@ -1,5 +1,6 @@
 -- What is known of a result, made of what is known of it.
-use Rattle.std.specs.Prelude.{Option, Some, None, Result, Ok, Err, IfOk, IfSome}
+use Rattle.std.specs.Prelude.{◌≡◌, Option, Some, None, Result, Ok, Err, IfOk, IfErr, IfSome}
+use Rattle.std.proofs.Common.{ap}
 
 pub mapped : {A F : Type 0} (P Q : A → Type 0) (r : Result A F) → ((v : A) → P v → Q v) → IfOk r P → IfOk r Q
 mapped P Q (Ok v) f p = f v p
@@ -22,3 +23,8 @@ pub mapped-some : {A F : Type 0} (P Q : A → Type 0) (r : Result (Option A) F) 
 mapped-some P Q (Ok (Some v)) f p = f v p
 mapped-some P Q (Ok None) f p = tt
 mapped-some P Q (Err e) f p = tt
+
+-- of the error itself
+pub of-error : {A F G : Type 0} (x : F) (r : Result A F) → (r ≡ Err x → G) → IfErr r (λ e. e ≡ x → G)
+of-error x (Ok v) f = tt
+of-error x (Err e) f = λ q. f (ap Err q)

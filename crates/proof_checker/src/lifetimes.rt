@@ -1,7 +1,6 @@
 //! References compared up to lifetimes.
-ghost use Rattle.std.specs.Prelude.{◌≡◌, true, Err, IfOk};
-ghost use Rattle.type_terms.specs.Failures.{SomeKindIsFull};
-ghost use Rattle.type_terms.specs.Terms.{Keeps};
+ghost use Rattle.std.specs.Prelude.{◌≡◌, true, IfOk, IfErr};
+ghost use Rattle.term_folds.specs.Growth.{Grew, FullAtLimit};
 ghost use Rattle.declarations.specs.Held.{ReferenceHeld};
 ghost use Rattle.proof_checker.specs.Steps.{term_of};
 
@@ -34,11 +33,10 @@ fn without_lifetimes(
     reference: TraitRef,
 ) -> Result<TraitRef, Fault>
     requires { ReferenceHeld cx.old.entries reference }
-    ensures keeps { Keeps cx.old.entries cx.new.entries }
-    ensures limit { cx.new.limit ≡ cx.old.limit }
+    ensures grew { Grew cx.old cx.new }
     ensures held { IfOk result (ReferenceHeld cx.new.entries) }
     ensures is { IfOk result (λ r. term_of cx.new.entries r ≡ term_of cx.old.entries reference) }
-    ensures full { result ≡ Err Fault.Full → SomeKindIsFull cx.new.entries cx.new.limit }
+    ensures full { IfErr result (FullAtLimit cx.new) }
 {
     fold_regions(alloc, cx, reference, &AllStatic)
 }
@@ -52,10 +50,9 @@ pub(crate) fn are_one(
 ) -> Result<bool, Fault>
     requires one { ReferenceHeld cx.old.entries one }
     requires other { ReferenceHeld cx.old.entries other }
-    ensures keeps { Keeps cx.old.entries cx.new.entries }
-    ensures limit { cx.new.limit ≡ cx.old.limit }
+    ensures grew { Grew cx.old cx.new }
     ensures one { IfOk result (λ b. b ≡ true → term_of cx.old.entries one ≡ term_of cx.old.entries other) }
-    ensures full { result ≡ Err Fault.Full → SomeKindIsFull cx.new.entries cx.new.limit }
+    ensures full { IfErr result (FullAtLimit cx.new) }
 {
     if one.def_id.index != other.def_id.index {
         return Ok(false);

@@ -158,7 +158,8 @@ pub fn explain_breaking(
     number: u32,
 ) -> Result<Option<BreakingCause>, Fault>
     requires { IsSectionOf session.old.declarations session.old.of_crate section }
-    ensures cause { IfOk result (IsCauseAt (view_in session.old.declarations session.old.of_crate) session.old.of_crate (section_headers session.old.declarations section) number) }
+    ensures cause { IfOk result
+        (IsCauseAt (view_in session.old.declarations session.old.of_crate) session.old.of_crate (section_headers session.old.declarations section) number) }
     ensures stays { StaysOn session.old session.new }
 {
     breaking_cause(&mut session.cx, session.workspace, section, number)

@@ -1,7 +1,7 @@
 //! The where-clauses of two impls, walked where their headers are equal.
 
-ghost use Rattle.std.specs.Prelude.{◌≡◌, IfOk, IfSome};
-ghost use Rattle.type_terms.specs.Terms.{Keeps};
+ghost use Rattle.std.specs.Prelude.{IfOk, IfSome};
+ghost use Rattle.term_folds.specs.Growth.{Grew};
 ghost use Rattle.declarations.specs.Applied.{TraitRefsHeld};
 ghost use Rattle.declarations.specs.Held.{ImplHeld, ReferenceHeld};
 ghost use Rattle.infer_table.specs.Content.{Ready};
@@ -42,8 +42,7 @@ fn common_header(
     requires right_held { ImplHeld cx.old.entries right.now }
     requires left_written { IsWrittenWell cx.old.entries left.now }
     requires right_written { IsWrittenWell cx.old.entries right.now }
-    ensures keeps { Keeps cx.old.entries cx.new.entries }
-    ensures limit { cx.new.limit ≡ cx.old.limit }
+    ensures grew { Grew cx.old cx.new }
     ensures held { IfOk result (λ o. IfSome o (ReferenceHeld cx.new.entries)) }
 {
     cx.lawful();

@@ -1,7 +1,8 @@
 //! The steps of a proof that a walk found.
 
-ghost use Rattle.std.specs.Prelude.{◌≡◌, IfOk, IfSome};
-ghost use Rattle.type_terms.specs.Terms.{Has, Keeps, args_lists};
+ghost use Rattle.std.specs.Prelude.{IfOk, IfSome};
+ghost use Rattle.type_terms.specs.Terms.{Has, args_lists};
+ghost use Rattle.term_folds.specs.Growth.{Grew};
 ghost use Rattle.declarations.specs.Applied.{TraitRefsHeld, HaveBounds};
 ghost use Rattle.declarations.specs.Held.{AreHeld, ImplHeld, ReferenceHeld};
 ghost use Rattle.declarations.specs.Merges.{Each};
@@ -50,8 +51,7 @@ fn impl_args(
     requires written { IsWrittenWell cx.old.entries def.now }
     requires reference { ReferenceHeld cx.old.entries reference }
     ensures table { Ready cx.new.entries table.new }
-    ensures keeps { Keeps cx.old.entries cx.new.entries }
-    ensures limit { cx.new.limit ≡ cx.old.limit }
+    ensures grew { Grew cx.old cx.new }
     ensures held { IfOk result (λ o. IfSome o (λ a. Has cx.new.entries args_lists a.0)) }
 {
     let header = fresh_impl_header(alloc, cx, table, def)?;
@@ -105,8 +105,7 @@ fn clause_place(
 ) -> Result<Option<usize>, Fault>
     requires clauses { TraitRefsHeld cx.old.entries clauses.now }
     requires reference { ReferenceHeld cx.old.entries reference }
-    ensures keeps { Keeps cx.old.entries cx.new.entries }
-    ensures limit { cx.new.limit ≡ cx.old.limit }
+    ensures grew { Grew cx.old cx.new }
 {
     for place in 0..clauses.len() {
         if by_clause(alloc, cx, clauses, reference, place)? {
@@ -128,8 +127,7 @@ fn supertrait_place(
     requires bounds { HaveBounds cx.old.entries declarations.now }
     requires clauses { TraitRefsHeld cx.old.entries clauses.now }
     requires reference { ReferenceHeld cx.old.entries reference }
-    ensures keeps { Keeps cx.old.entries cx.new.entries }
-    ensures limit { cx.new.limit ≡ cx.old.limit }
+    ensures grew { Grew cx.old cx.new }
 {
     for place in 0..clauses.len() {
         if by_supertrait(alloc, cx, declarations, clauses, reference, place)? {
@@ -151,8 +149,7 @@ fn clause_way(
     requires bounds { HaveBounds cx.old.entries declarations.now }
     requires clauses { TraitRefsHeld cx.old.entries clauses.now }
     requires reference { ReferenceHeld cx.old.entries reference }
-    ensures keeps { Keeps cx.old.entries cx.new.entries }
-    ensures limit { cx.new.limit ≡ cx.old.limit }
+    ensures grew { Grew cx.old cx.new }
     ensures held { IfOk result (WayHeld cx.new.entries) }
 {
     if let Some(place) = clause_place(alloc, cx, clauses, reference)? {
@@ -191,8 +188,7 @@ fn row_way(
 ) -> Result<Way, Fault>
     requires declared { AreHeld cx.old.entries declarations.now }
     requires reference { ReferenceHeld cx.old.entries reference }
-    ensures keeps { Keeps cx.old.entries cx.new.entries }
-    ensures limit { cx.new.limit ≡ cx.old.limit }
+    ensures grew { Grew cx.old cx.new }
     ensures held { IfOk result (WayHeld cx.new.entries) }
 {
     match by_built_in(alloc, cx, declarations, reference)? {

@@ -1,5 +1,5 @@
 -- The solution that gives a closed term to each unknown without value.
-use Rattle.std.proofs.Common.{◌≡◌, ◌||◌, ℕ, true, false, not, List, [], ◌∷◌, map, refl, sym, ap, ◌∙◌, IsTrue}
+use Rattle.std.proofs.Common.{◌≡◌, ◌||◌, ℕ, false, not, List, [], ◌∷◌, map, refl, sym, ap, IsTrue}
 use Rattle.type_terms.specs.Label.{Label, Sort, of_type, of_const, of_lifetime, bool, value, static, fn_ptr, principal, param, placeholder, infer, canonical, bound}
 use Rattle.type_terms.specs.Trees.{Trees, none, tree, leaf, erase, erase_label, some_node}
 use Rattle.type_terms.specs.Terms.{Entry}

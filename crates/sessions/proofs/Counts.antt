@@ -1,12 +1,11 @@
 -- How many unknowns of each kind there are.
-use Rattle.std.proofs.Common.{◌≡◌, ℕ, zero, suc, ◌+◌, ◌≤◌, ◌<◌, Bool, true, false, if◌then◌else◌, List, [], ◌∷◌, ◌++◌, length, map, take, get_or, refl, sym, ap, ◌∙◌, arith}
-use Rattle.std.proofs.lemmas.Grind.{common_steps}
+use Rattle.std.proofs.Common.{◌≡◌, ℕ, zero, suc, ◌+◌, ◌<◌, Bool, true, false, if◌then◌else◌, List, [], ◌∷◌, ◌++◌, length, map, take, get_or, refl, sym, ap, ◌∙◌, arith}
 use Rattle.type_terms.specs.Label.{Sort, of_type, of_const, of_lifetime}
 use Rattle.type_terms.specs.Trees.{is_sort}
 use Rattle.type_terms.specs.declared.kinds.GenericArgKind.{GenericArgKind}
 use Rattle.term_folds.specs.Arguments.{arg_sort}
 use Rattle.type_terms.proofs.Items.{take-push}
-use Rattle.infer_table.specs.Content.{Table, variables_of}
+use Rattle.infer_table.specs.Content.{Table}
 use Rattle.sessions.specs.Tables.{count_of, table_of}
 
 -- one more
@@ -48,20 +47,6 @@ one-more-lifetime t u ks e f =
     e ∙ ap (λ (z : Table). record z { region_vars = z.region_vars + 1 }) f
     ∙ same-table _ _ _ _ _ _ (sym (count-push of_type ks of_lifetime ∙ as-before (count_of of_type ks))) (sym (count-push of_const ks of_lifetime ∙ as-before (count_of of_const ks))) (sym (count-push of_lifetime ks of_lifetime))
 
--- there are no more of one kind than of all
-pub count-few : (s : Sort) (ks : List Sort) → count_of s ks ≤ length ks
-count-few s [] = omega arith
-count-few s (k ∷ ks) = by (is_sort k s) (count-few s ks)
-  where
-    by : (b : Bool) → count_of s ks ≤ length ks → (if b then suc (count_of s ks) else count_of s ks) ≤ suc (length ks)
-    by true h = omega (arith, h)
-    by false h = omega (arith, h)
-
-pub variables-are : (ks : List Sort) (s : Sort) → variables_of (table_of ks) s ≡ count_of s ks
-variables-are ks of_type = refl
-variables-are ks of_const = refl
-variables-are ks of_lifetime = refl
-
 -- ---- the kinds of those before a place
 map-push : (xs : List GenericArgKind) (x : GenericArgKind) → map arg_sort (xs ++ x ∷ []) ≡ map arg_sort xs ++ arg_sort x ∷ []
 map-push [] x = refl
@@ -69,17 +54,3 @@ map-push (y ∷ xs) x = ap (λ l. arg_sort y ∷ l) (map-push xs x)
 
 pub sorts-push : (xs : List GenericArgKind) (i : ℕ) (x : GenericArgKind) → i < length xs → x ≡ get_or xs i x → map arg_sort (take (i + 1) xs) ≡ map arg_sort (take i xs) ++ arg_sort x ∷ []
 sorts-push xs i x lt is = ap (map arg_sort) (take-push xs i x lt ∙ ap (λ z. take i xs ++ z ∷ []) (sym is)) ∙ map-push (take i xs) x
-
-length-sorts : (xs : List GenericArgKind) → length (map arg_sort xs) ≡ length xs
-length-sorts [] = refl
-length-sorts (x ∷ xs) = ap suc (length-sorts xs)
-
-length-few : (i : ℕ) (xs : List GenericArgKind) → length (take i xs) ≤ length xs
-length-few i xs = grind (arith, common_steps)
-
-pub sorts-few : (s : Sort) (xs : List GenericArgKind) (i : ℕ) → count_of s (map arg_sort (take i xs)) ≤ length xs
-sorts-few s xs i =
-    let a = count-few s (map arg_sort (take i xs)) in
-    let b = length-sorts (take i xs) in
-    let c = length-few i xs in
-    omega (arith, a, b, c)

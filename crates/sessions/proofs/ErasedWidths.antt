@@ -3,7 +3,7 @@ use Rattle.std.proofs.Common.{◌≡◌, ◌+◌, Bool, ℕ, zero, suc, max, Lis
 use Rattle.std.specs.Prelude.{◌==◌, filter, fold}
 use Rattle.std.specs.List.{flat_map}
 use Rattle.type_terms.specs.Label.{Label, of_lifetime, fn_ptr, principal, param, placeholder, infer, canonical, bound}
-use Rattle.type_terms.specs.Trees.{Trees, none, tree, ◌+++◌, erase, erase_label}
+use Rattle.type_terms.specs.Trees.{Trees, none, tree, erase, erase_label}
 use Rattle.type_terms.specs.Erased.{erased_reference, erased_struct, erased_trait, erased_impl}
 use Rattle.type_terms.specs.Rules.{written_supertraits, strict_supertraits_within, together}
 use Rattle.type_terms.specs.Worlds.{World, Reference, StructDecl, TraitDecl, ImplDecl, traits_named, all_with_args}

@@ -1,9 +1,9 @@
 -- The frames of a session's questions are within numbers of what the crate sees, of the question and of the depth.
-use Rattle.std.proofs.Common.{◌≡◌, ◌≤◌, ◌+◌, ◌*◌, ℕ, zero, suc, max, List, [], ◌∷◌, ◌⊎◌, inl, inr, Some, length, false, arith, refl, sym, ap, subst}
+use Rattle.std.proofs.Common.{◌≡◌, ◌≤◌, ◌+◌, ◌*◌, ℕ, zero, suc, max, List, [], ◌∷◌, inl, inr, Some, length, false, arith, refl, sym, ap, subst}
 use Rattle.std.proofs.Math.Nat.{le_refl, mul-le-mul_left}
 use Rattle.type_terms.specs.Label.{Label, Sort, of_type, of_const, of_lifetime}
 use Rattle.type_terms.specs.Trees.{Trees, none, tree, IsA}
-use Rattle.type_terms.specs.Worlds.{World, Reference, TraitDecl, with_args}
+use Rattle.type_terms.specs.Worlds.{World, Reference, TraitDecl}
 use Rattle.type_terms.specs.Proofs.{In}
 use Rattle.type_terms.specs.Terms.{Entry}
 use Rattle.infer_table.specs.Canonical.{GoalTrees, canonical_form, canonical_label, goal_leaves, kind_in_clause, kind_of_leaf, relabeled}

@@ -1,5 +1,5 @@
 -- The frames of a goal that is asked again and again.
-use Rattle.std.proofs.Common.{◌≡◌, ◌≤◌, ◌<◌, ◌+◌, ◌-◌, ◌⊎◌, inl, inr, ℕ, zero, suc, List, Some, arith, subst, refl, sym}
+use Rattle.std.proofs.Common.{◌≡◌, ◌≤◌, ◌<◌, ◌+◌, ◌-◌, inl, inr, ℕ, zero, suc, List, Some, arith, subst}
 use Rattle.std.proofs.Math.Nat.{le_refl, le_trans, le-add_right, add-le-add}
 use Rattle.type_terms.specs.Label.{Sort}
 use Rattle.infer_table.specs.Canonical.{GoalTrees}
@@ -19,7 +19,6 @@ use Rattle.solver_context.specs.declared.context.SolverCx.{SolverCx}
 use Rattle.goal_frames.specs.Meanings.{HandlerMeaning}
 use Rattle.sessions.specs.Frames.{AreTermsOfSorts, frames_for, resolved_over, AskingsStartFrames, AskingsOf, StartsFramesOfAsking, IsLeftByAnswer, SettlesInFrames}
 use Rattle.sessions.specs.Proving.{asked_outside}
-use Rattle.sessions.specs.Settling.{HasAsked}
 use Rattle.sessions.specs.declared.settling.TheConstants.{MAX_ASKINGS}
 
 -- an asking less is left

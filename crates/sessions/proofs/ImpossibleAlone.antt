@@ -13,13 +13,10 @@ use Rattle.infer_table.specs.Goals.{goal_resolved, goal_trees}
 use Rattle.infer_table.specs.Inputs.{IsWithoutCanonical}
 use Rattle.infer_table.specs.Kept.{content-kept}
 use Rattle.infer_table.specs.Responses.{AnswerTrees}
-use Rattle.infer_table.specs.Shortages.{IsOutOfNumbers}
 use Rattle.infer_table.specs.Solutions.{Assignment, Binding, Solves, resolved}
-use Rattle.infer_table.specs.Unification.{TableTrees, table_trees}
 use Rattle.infer_table.specs.declared.certainty.TypingMode.{TypingMode}
 use Rattle.infer_table.specs.declared.certainty.TypingMode.TheVariants.{Coherence}
 use Rattle.infer_table.specs.declared.goal.Goal.{Goal}
-use Rattle.infer_table.proofs.PairFacts.{table-kept}
 use Rattle.infer_table.proofs.SolutionLaws.{resolved-none, resolved-rigid}
 use Rattle.declarations.specs.Held.{ReferenceHeld}
 use Rattle.declarations.specs.Items.{reference_in}
@@ -38,11 +35,10 @@ use Rattle.solver_context.specs.declared.outcome.RootError.{RootError}
 use Rattle.solver_context.specs.declared.outcome.RootError.TheVariants.{Conflict}
 use Rattle.solver_context.specs.Contexts.{Asked, entries_of}
 use Rattle.solver_context.specs.Evaluations.{IsFoundBySearch, asked_in}
-use Rattle.solver_context.specs.Roots.{AtProvedSolutions, goal_in, fact_under, values_in}
+use Rattle.solver_context.specs.Roots.{AtProvedSolutions, fact_under}
 use Rattle.solver_context.specs.Searching.{of_term, solver_meaning}
-use Rattle.solver_context.specs.Shortages.{RootRunsOut, GoalHasNoForm, form, answer}
 use Rattle.goal_frames.specs.Meanings.{HandlerMeaning}
-use Rattle.sessions.specs.Impossible.{alone, resolved_alone, asked_alone, HasNoProofInWorlds, IsImpossible, SearchAnswers, SearchLeavesOpen, IsNoRefusal, GoalRunsOut}
+use Rattle.sessions.specs.Impossible.{alone, resolved_alone, asked_alone, HasNoProofInWorlds, IsImpossible, SearchLeavesOpen, IsNoRefusal}
 
 -- ---- what became of a goal
 -- what holds where a call says true, or false
@@ -112,22 +108,9 @@ NoProofAt handled counts bs g =
     IsOfKnown counts bs → AreKnown counts (resolved bs g.args) → HasNoCanonical (resolved bs g.args) → let h = handled Coherence (canonical_form (goal_resolved bs (alone g))) in
     (x : h.World) (s : Assignment) → Solves s bs → h.Proves x (fact_under s (alone g)) → ⊥
 
-pub runs-out-for : (P Q : AnswerTrees → Type 0) (t u : TableTrees) (g h : GoalTrees) → t ≡ u → g ≡ h → ((a : AnswerTrees) → P a → Q a) → RootRunsOut P t g → RootRunsOut Q u h
-runs-out-for P Q t u g h p q f (form x) = form (subst GoalHasNoForm q x)
-runs-out-for P Q t u g h p q f (answer a x o) = answer a (f a x) (subst (λ z. IsOutOfNumbers z (values_in h) a) p (subst (λ z. IsOutOfNumbers t (values_in z) a) q o))
-
 module _ {Handler : Type 0} (handler : HandlerMeaning Handler) where
   abbrev m : Search.Meaning (SolverCx Handler) InputId (Option ResponseId) GoalFrame
   m = solver_meaning handler
-
-  -- the table has no numbers for what was asked by a goal in code
-  pub root-runs-out : (c : SolverCx Handler) (s : SearchState) (t : Table) (g : Goal) (r : TraitRef) → goal_trees (entries_of c) g ≡ alone (reference_in (entries_of c) r)
-      → (P : AnswerTrees → Type 0) → ((a : AnswerTrees) → P a → IsFoundBySearch m (m.world c) s.root_depth (asked_in Coherence (entries_of c) t g) (Some a))
-      → RootRunsOut P (table_trees (entries_of c) t) (goal_in (entries_of c) t g) → GoalRunsOut handler c s t r
-  root-runs-out c s t g r e P f =
-      let same : goal_in (entries_of c) t g ≡ resolved_alone (entries_of c) t r = ap (goal_resolved (content (entries_of c) t.values)) e in
-      runs-out-for P (SearchAnswers handler c s t r) (table_trees (entries_of c) t) (table_trees (entries_of c) t) (goal_in (entries_of c) t g) (resolved_alone (entries_of c) t r) refl same
-      (λ a x. subst (λ z. IsFoundBySearch m (m.world c) s.root_depth (Coherence, canonical_form z) (Some a)) same (f a x))
 
   abbrev AnsweredAt : AnswerTrees → handler.goals.World → ℕ → Asked → Type 0
   AnsweredAt a w depth g = IsFoundBySearch m w depth g (Some a)
@@ -152,17 +135,8 @@ module _ {Handler : Type 0} (handler : HandlerMeaning Handler) where
     asked : asked_alone (entries_of d) t r ≡ asked_alone (entries_of c) t r
     asked = asked-later (entries_of c) (entries_of d) entries t tr r held
 
-    answered-before : (a : AnswerTrees) → SearchAnswers handler d u t r a → SearchAnswers handler c s t r a
-    answered-before a = at-all (AnsweredAt a) _ _ _ _ _ _ k.world depth asked
-
     pub open-before : SearchLeavesOpen handler d u v r → SearchLeavesOpen handler c s t r
     open-before x = at-all OpenAt _ _ _ _ _ _ k.world depth asked (subst (λ z. SearchLeavesOpen handler d u z r) same x)
-
-    pub runs-out-before : GoalRunsOut handler d u v r → GoalRunsOut handler c s t r
-    runs-out-before x =
-        runs-out-for (SearchAnswers handler d u t r) (SearchAnswers handler c s t r) (table_trees (entries_of d) t) (table_trees (entries_of c) t)
-        (resolved_alone (entries_of d) t r) (resolved_alone (entries_of c) t r) (table-kept (entries_of c) (entries_of d) entries t tr)
-        (resolved-later (entries_of c) (entries_of d) entries t tr r held) answered-before (subst (λ z. GoalRunsOut handler d u z r) same x)
 
     pub impossible-before : IsImpossible handler d v r → IsImpossible handler c t r
     impossible-before f = λ o x.

@@ -49,7 +49,7 @@ use Rattle.overlap_check.specs.Written.{IsWrittenWell}
 use Rattle.overlap_check.specs.declared.intersection.ImplIntersection.{ImplIntersection}
 use Rattle.overlap_check.proofs.Contracts.{refused-real}
 use Rattle.overlap_check.proofs.Instances.{nth-shut, shut-stays}
-use Rattle.overlap_check.proofs.Judged.{found-in, found-well}
+use Rattle.overlap_check.proofs.Judged.{found-each, found-well}
 use Rattle.overlap_check.proofs.Verdicts.{passes, refuses}
 use Rattle.overlap_check.proofs.Written.{each-in}
 use Rattle.text_definitions.specs.Declarations.{Declarations}
@@ -87,9 +87,7 @@ module _ (es : List Entry) (d : Items) (k j : ImplId) (w x : ImplDef) (at : IsPa
 
 -- ---- what was found
 found-free : (es : List Entry) (d : Items) → Each (λ (i : HeldImpl). IsWithoutVariables es i.def) d.impls → (n : ℕ) (def : ImplDef) → Some def ≡ impl_at n d.impls → IsWithoutVariables es def
-found-free es d h n def e =
-    let f = found-in n def d.impls e in
-    subst (IsWithoutVariables es) f.2 (each-in (λ (i : HeldImpl). IsWithoutVariables es i.def) d.impls f.0 h f.1)
+found-free es d h n def e = found-each (IsWithoutVariables es) n def d.impls h e
 
 module _ (old new : List Entry) (d : Items) (k j : ImplId) (w x : ImplDef) (at : IsPairAt old d k j w x) (free : Each (λ (i : HeldImpl). IsWithoutVariables old i.def) d.impls) where
   pub found-ok : (r : Result (Option ImplIntersection) Fault) → IfOk r (λ o. IfSome o (IsIntersection old w x new)) → IfOk r (λ o. IfSome o (IsSolved old w x new))

@@ -3,7 +3,7 @@ use Rattle.std.proofs.Common.{◌≡◌, ◌==◌, ℕ, suc, List, [], ◌∷◌
 use Rattle.std.specs.List.{flat_map}
 use Rattle.type_terms.specs.Trees.{Trees, none, tree}
 use Rattle.type_terms.specs.Worlds.{World, CrateDecl, Reference}
-use Rattle.type_terms.specs.Rules.{Rule, by_clause, rules, impl_rules, built_in_rules, plain_rules, clause_rules, super_rules, same_reference, strict_supertraits, sized, unsize, sized_rules, unsize_rules, object_rules, auto_rules, auto_rules_plain, is_auto, is_written}
+use Rattle.type_terms.specs.Rules.{Rule, by_clause, rules, impl_rules, built_in_rules, plain_rules, clause_rules, super_rules, same_reference, strict_supertraits, sized, unsize, auto_rules, is_auto, is_written}
 use Rattle.type_terms.specs.Proofs.{ProofEntry, In, Follows}
 use Rattle.type_terms.specs.Terms as terms
 use Rattle.type_terms.proofs.OtherImpls.{supers-same, sized-same, plain-same, unsize-same, object-same}

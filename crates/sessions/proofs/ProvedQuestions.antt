@@ -2,7 +2,7 @@
 -- without their lifetimes.
 use Rattle.std.proofs.Common.{◌≡◌, ◌-◌, ◌<◌, ℕ, suc, Bool, true, false, not, ◌||◌, if◌then◌else◌, List, [], ◌∷◌, map, refl, sym, ◌∙◌, ap, subst}
 use Rattle.std.specs.Global.{Vec}
-use Rattle.type_terms.specs.Label.{Label, Sort, of_type, of_const, of_lifetime, dynamic, fn_ptr, principal, auto_trait, of_trait, predicate, param, placeholder, infer, canonical, bound}
+use Rattle.type_terms.specs.Label.{Label, Sort, of_type, of_const, of_lifetime, dynamic, principal, auto_trait, of_trait, predicate, param, placeholder, infer, canonical, bound}
 use Rattle.type_terms.specs.Proofs.{In, HasProof}
 use Rattle.type_terms.specs.Rules.{elaborated}
 use Rattle.type_terms.specs.Erased.{erased_reference}

@@ -1,10 +1,9 @@
 -- Askings, one after the other.
-use Rattle.std.proofs.Common.{◌≡◌, ◌∙◌, Bool, true, false, ◌&&◌, not, refl, sym, ap, subst, List, Option, Some, Result, Ok, ◌⊎◌, inl, inr}
+use Rattle.std.proofs.Common.{◌≡◌, ◌∙◌, Bool, true, false, ◌&&◌, not, refl, sym, ap, subst, List, Option, Some, Result, Ok}
 use Rattle.type_terms.specs.Terms.{Entry, Keeps}
 use Rattle.search_graph.specs.Cache.{KnownResult}
 use Rattle.search_graph.specs.SearchState.{SearchState}
 use Rattle.search_graph.proofs.Graphs.{Keeps-refl, Keeps-trans}
-use Rattle.infer_table.specs.Canonical.{GoalTrees}
 use Rattle.infer_table.specs.Certainties.{is_certain}
 use Rattle.infer_table.specs.Content.{Table, content, Ready}
 use Rattle.infer_table.specs.Goals.{GoalHeld, goal_trees}
@@ -13,7 +12,6 @@ use Rattle.infer_table.specs.Inputs.{IsWithoutCanonical}
 use Rattle.infer_table.specs.Kept.{content-kept}
 use Rattle.infer_table.specs.Responses.{AnswerTrees}
 use Rattle.infer_table.specs.Solutions.{Assignment, Solves}
-use Rattle.infer_table.specs.Unification.{TableTrees}
 use Rattle.infer_table.specs.WithoutCanonical.{HaveNoCanonical}
 use Rattle.infer_table.specs.declared.certainty.Certainty.{Certainty}
 use Rattle.infer_table.specs.declared.certainty.Certainty.TheVariants.{Yes, Maybe}
@@ -31,10 +29,9 @@ use Rattle.goal_frames.specs.declared.store.ResponseId.{ResponseId}
 use Rattle.solver_context.specs.Changes.{changed}
 use Rattle.solver_context.specs.Contexts.{entries_of}
 use Rattle.solver_context.specs.Roots.{fact_under, SolutionsAreProved}
-use Rattle.solver_context.specs.Shortages.{RootRunsOut, form, answer}
 use Rattle.solver_context.specs.declared.context.SolverCx.{SolverCx}
 use Rattle.goal_frames.specs.Meanings.{HandlerMeaning}
-use Rattle.sessions.specs.Settling.{m, HasAsked, IsProvedBy, AskingRunsOut, SomeAskingRunsOut}
+use Rattle.sessions.specs.Settling.{m, HasAsked, IsProvedBy}
 
 -- ---- answers that are no definite yes
 values-true : (b : Bool) → changed b ≡ Changed.Yes → b ≡ true
@@ -54,16 +51,6 @@ unsure (Maybe cause) b n = refl
 
 pub not-definite-unsure : (a : AnswerTrees) → (a.certainty ≡ Yes → ⊥) → is_yes_answer frame_tables (Some a) ≡ false
 not-definite-unsure a n = unsure a.certainty (not (has_values a)) n
-
--- ---- where numbers run out
-pub runs-out-more : {A : Type 0} {P Q : AnswerTrees → Type 0} {t : TableTrees} {g : GoalTrees} → A ⊎ RootRunsOut P t g → ((a : AnswerTrees) → P a → Q a) → A ⊎ RootRunsOut Q t g
-runs-out-more (inl x) f = inl x
-runs-out-more (inr (form h)) f = inr (form h)
-runs-out-more (inr (answer a p h)) f = inr (answer a (f a p) h)
-
-pub or-else : {A B C : Type 0} → A ⊎ B → (B → C) → A ⊎ C
-or-else (inl x) f = inl x
-or-else (inr y) f = inr (f y)
 
 pub ok-same : {A E : Type 0} {x y : A} → ◌≡◌ {A = Result A E} (Ok x) (Ok y) → x ≡ y
 ok-same e = cc
@@ -121,20 +108,3 @@ module _ {Handler : Type 0} (handler : HandlerMeaning Handler) where
   pub proved-once : (w : handler.goals.World) (c d : SolverCx Handler) (t u : Table) (q : Goal) → ((s : Assignment) → Solves s (content (entries_of d) u.values) → Solves s (content (entries_of c) t.values))
       → SolutionsAreProved (handler.goals.Rule w) (handler.goals.coinductive w) (entries_of c) t q → IsProvedBy handler w c t d u q
   proved-once w c d t u q narrows p = λ no clean s solves. p (resolving-keeps-out (content (entries_of c) t.values) (goal_trees (entries_of c) q) no clean) s (narrows s solves)
-
-  -- ---- shortages
-  pub first-out : (g : SearchState) (ks : List (KnownResult InputId (Option ResponseId))) (c d : SolverCx Handler) (t : Table) (q : Goal) → Keeps (entries_of c) (entries_of d) → AskingRunsOut handler c g t q
-      → SomeAskingRunsOut handler g ks c t q d
-  first-out g ks c d t q k h = record { graph_then = g; known_then = ks; context_then = c; table_then = t; asked = asked-nothing g ks c t; runs_out = h; known = k }
-
-  pub later-out : (f g : SearchState) (ks ls : List (KnownResult InputId (Option ResponseId))) (c d e : SolverCx Handler) (t u : Table) (q : Goal) → Asked f ks c t g ls d u
-      → SomeAskingRunsOut handler g ls d u q e → SomeAskingRunsOut handler f ks c t q e
-  later-out f g ks ls c d e t u q a h = record {
-    graph_then = h.graph_then;
-    known_then = h.known_then;
-    context_then = h.context_then;
-    table_then = h.table_then;
-    asked = asked-further f g h.graph_then ks ls h.known_then c d h.context_then t u h.table_then a h.asked;
-    runs_out = h.runs_out;
-    known = h.known;
-  }

@@ -11,7 +11,6 @@ use Rattle.infer_table.specs.Covers.{IsOfKnown}
 use Rattle.infer_table.specs.Goals.{goal_resolved}
 use Rattle.infer_table.specs.Responses.{AnswerTrees}
 use Rattle.infer_table.specs.Solutions.{Assignment, Solves}
-use Rattle.infer_table.specs.Unification.{table_trees}
 use Rattle.infer_table.specs.declared.certainty.TypingMode.{TypingMode}
 use Rattle.infer_table.specs.declared.certainty.TypingMode.TheVariants.{Coherence}
 use Rattle.declarations.specs.Items.{reference_in}
@@ -28,7 +27,6 @@ use Rattle.solver_context.specs.Evaluations.{IsFoundBySearch}
 use Rattle.solver_context.specs.Results.{IsNotPlainWithin}
 use Rattle.solver_context.specs.Roots.{fact_under}
 use Rattle.solver_context.specs.Searching.{solver_meaning, world_of}
-use Rattle.solver_context.specs.Shortages.{RootRunsOut}
 use Rattle.goal_frames.specs.Meanings.{HandlerMeaning}
 
 -- The reference as a goal without where-clauses.
@@ -69,7 +67,3 @@ module _ {Handler : Type 0} (handler : HandlerMeaning Handler) where
   abbrev pub SearchLeavesOpen : SolverCx Handler → SearchState → Table → TraitRef → Type 0
   SearchLeavesOpen c s t r =
       ((a : AnswerTrees) × SearchAnswers c s t r a) ⊎ IsNotPlainWithin (solver_meaning handler) c s (asked_alone (entries_of c) t r)
-
-  -- The table has no numbers for the goal's form, or for the answer that the search gives.
-  abbrev pub GoalRunsOut : SolverCx Handler → SearchState → Table → TraitRef → Type 0
-  GoalRunsOut c s t r = RootRunsOut (SearchAnswers c s t r) (table_trees (entries_of c) t) (resolved_alone (entries_of c) t r)

@@ -25,7 +25,6 @@ use Rattle.solver_context.specs.Evaluations.{asked_in, IsFoundBySearch}
 use Rattle.solver_context.specs.Results.{IsNotPlainWithin}
 use Rattle.solver_context.specs.Roots.{goal_in, fact_under, left_by}
 use Rattle.solver_context.specs.Searching.{solver_meaning}
-use Rattle.solver_context.specs.Shortages.{RootRunsOut}
 use Rattle.solver_context.specs.declared.context.SolverCx.{SolverCx}
 use Rattle.goal_frames.specs.Meanings.{HandlerMeaning}
 
@@ -71,18 +70,3 @@ module _ {Handler : Type 0} (handler : HandlerMeaning Handler) where
   IsUnsettled c graph t g =
       IsNotPlainWithin m c graph (asked_in PostAnalysis (entries_of c) t g)
       ⊎ ((a : AnswerTrees) × IsFoundBySearch m (m.world c) graph.root_depth (asked_in PostAnalysis (entries_of c) t g) (Some a) × (is_yes_answer frame_tables (Some a) ≡ false))
-
-  -- The table has no numbers for the goal's form, or for the answer that the search gives.
-  abbrev pub AskingRunsOut : SolverCx Handler → SearchState → Table → Goal → Type 0
-  AskingRunsOut c graph t g =
-      RootRunsOut (λ a. IsFoundBySearch m (m.world c) graph.root_depth (asked_in PostAnalysis (entries_of c) t g) (Some a)) (table_trees (entries_of c) t) (goal_in (entries_of c) t g)
-
-  -- So it is at one of the askings that begin here, in a context that becomes d.
-  pub record SomeAskingRunsOut (graph : SearchState) (ks : List (KnownResult InputId (Option ResponseId))) (c : SolverCx Handler) (t : Table) (g : Goal) (d : SolverCx Handler) : Type 0 where
-    pub graph_then : SearchState
-    pub known_then : List (KnownResult InputId (Option ResponseId))
-    pub context_then : SolverCx Handler
-    pub table_then : Table
-    pub asked : HasAsked graph ks c t graph_then known_then context_then table_then
-    pub runs_out : AskingRunsOut context_then graph_then table_then g
-    pub known : Keeps (entries_of context_then) (entries_of d)

@@ -1,8 +1,7 @@
 //! Questions in a context of the solver.
 
-ghost use Rattle.std.specs.Prelude.{◌≡◌, ◌<◌, ◌⊎◌, length, IfOk, Err};
-ghost use Rattle.type_terms.specs.Failures.{SomeKindIsFull};
-ghost use Rattle.type_terms.specs.declared.TheConstants.{MAX_INDEX};
+ghost use Rattle.std.specs.Prelude.{◌≡◌, IfOk, IfErr};
+ghost use Rattle.term_folds.specs.Growth.{FullAtLimit};
 ghost use Rattle.text_definitions.specs.Declarations.{Question};
 ghost use Rattle.view_lowering.specs.Questions.{IsQuestion, IsLowered};
 ghost use Rattle.solver_context.specs.Contexts.{IsReady, InternerGrows, Advances};
@@ -35,8 +34,7 @@ pub fn lower_in<H: GoalHandler>(
     requires question { (q : Question) × IsQuestion workspace.now number q }
     ensures advances { Advances H.meaning.IsReady cx.old cx.new }
     ensures lowered { (q : Question) → IsQuestion workspace.now number q → IfOk result (λ lowered. IsLowered cx.new.interner.entries q lowered) }
-    ensures full { (q : Question) → IsQuestion workspace.now number q → result ≡ Err Fault.Full
-        → SomeKindIsFull cx.new.interner.entries cx.new.interner.limit ⊎ (MAX_INDEX < length q.variables) }
+    ensures full { IfErr result (FullAtLimit cx.new.interner) }
 {
     rest_laws::<H>();
     let lowered = lower_question(cx.alloc, &mut cx.interner, workspace, number);

@@ -1,8 +1,9 @@
 //! The headers of a crate's impls, and the pairs that it brings together.
 
-ghost use Rattle.std.specs.Prelude.{◌≡◌, ◌≤◌, ◌+◌, ℕ, not, IfOk, IfSome, Ok, Err, None};
+ghost use Rattle.std.specs.Prelude.{◌≡◌, ◌≤◌, ◌+◌, ℕ, not, IfOk, IfErr, IfSome, Ok, None};
 ghost use Rattle.type_terms.specs.Terms.{Keeps};
 ghost use Rattle.type_terms.specs.declared.TheConstants.{MAX_INDEX};
+ghost use Rattle.term_folds.specs.Growth.{FullAtLimit};
 ghost use Rattle.declarations.specs.Items.{IsAbove};
 ghost use Rattle.orphan_check.specs.Held.{ErrorHeld};
 ghost use Rattle.overlap_check.specs.Orphans.{IsFirstError};
@@ -10,8 +11,8 @@ ghost use Rattle.text_definitions.specs.Declarations.{Declarations};
 ghost use Rattle.sessions.specs.Checking.{IsReadySolver, SolverStaysReady, HaveOwnNumbers, AreApartAt, IsFoundAt, IsJudgedAt, rules_in, solving_in};
 ghost use Rattle.sessions.specs.Promises.{view_in};
 ghost use Rattle.sessions.specs.Sessions.{SolverRests, IsSession};
-ghost use Rattle.sessions.specs.Shortages.{IsOutOf};
 ghost use Rattle.solver_context.specs.Contexts.{KeepsLimits};
+ghost use Rattle.solver_context.specs.Shortages.{ContextFullAtLimit};
 
 use crate::asked::rest_laws;
 use crate::obligations::has_impossible_obligation;
@@ -40,7 +41,7 @@ pub(crate) fn first_broken_header(
     ensures advances { SolverStaysReady cx.old cx.new }
     ensures held { IfOk result (λ found. IfSome found (λ x. ErrorHeld cx.new.interner.entries x.1)) }
     ensures first { IfOk result (IsFirstError (rules_in cx.old) cx.old.handler.declarations.local cx.new.interner.entries) }
-    ensures full { result ≡ Err Fault.Full → IsOutOf cx.new }
+    ensures full { IfErr result (FullAtLimit cx.new.interner) }
 {
     rest_laws::<Solver>();
     ready_impls_are_written_well();
@@ -61,7 +62,7 @@ pub fn intersection_at(
     ensures advances { SolverStaysReady cx.old cx.new }
     ensures apart { result ≡ Ok None → AreApartAt (rules_in cx.old) cx.old.handler.declarations.local later.index earlier.index }
     ensures found { IfOk result (λ found. IfSome found (IsFoundAt cx.old.interner.entries cx.old.handler.declarations later earlier cx.new.interner.entries)) }
-    ensures full { result ≡ Err Fault.Full → IsOutOf cx.new }
+    ensures full { IfErr result (FullAtLimit cx.new.interner) }
 {
     rest_laws::<Solver>();
     ready_impls_are_written_well();
@@ -95,7 +96,7 @@ pub(crate) fn overlap_at(
     ensures limits { KeepsLimits cx.old cx.new }
     ensures judged { (d : Declarations) (c depth : ℕ) → IsSession d c depth cx.old graph.old cache.old
         → IfOk result (IsJudgedAt depth (view_in d c) c later.index earlier.index) }
-    ensures full { result ≡ Err Fault.Full → IsOutOf cx.new }
+    ensures full { IfErr result (ContextFullAtLimit cx.new) }
 {
     rest_laws::<Solver>();
     ready_impls_are_written_well();

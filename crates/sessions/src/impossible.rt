@@ -1,13 +1,14 @@
 //! One goal, asked alone.
-ghost use Rattle.std.specs.Prelude.{◌≡◌, ◌⊎◌, IsTrue, true, false, IfOk, IfErr, Ok, Err};
+ghost use Rattle.std.specs.Prelude.{◌≡◌, IsTrue, true, false, IfOk, IfErr, Ok, Err};
 ghost use Rattle.type_terms.specs.Terms.{Keeps};
 ghost use Rattle.infer_table.specs.Content.{Table, Ready, Grows, place_in};
 ghost use Rattle.declarations.specs.Held.{ReferenceHeld};
 ghost use Rattle.search_graph.specs.Cache.{AreJustified, AreConsistent, KeepsResults};
 ghost use Rattle.search_graph.specs.Meaning as Search;
 ghost use Rattle.solver_context.specs.Contexts.{IsReady};
-ghost use Rattle.solver_context.specs.Searching.{solver_meaning, ContextIsFull};
-ghost use Rattle.sessions.specs.Impossible.{IsImpossible, SearchLeavesOpen, IsNoRefusal, GoalRunsOut};
+ghost use Rattle.solver_context.specs.Searching.{solver_meaning};
+ghost use Rattle.solver_context.specs.Shortages.{ContextFullAtLimit, RootFullAtLimit};
+ghost use Rattle.sessions.specs.Impossible.{IsImpossible, SearchLeavesOpen, IsNoRefusal};
 
 use evaluation::TypingMode;
 use goal_frames::GoalHandler;
@@ -24,8 +25,8 @@ use type_terms::Fault;
 /// Then it has no proof in any of the handler's worlds at any solution of the table. A conflict refuses nothing. The answer's values
 /// are taken back, so that the table is as before; the interner, the context's goals and answers and the cache may hold more.
 ///
-/// `Memory` comes where memory is refused, `Full` only where a table of the context is at its limit, or this one has no numbers for
-/// the goal's form or for its answer.
+/// `Memory` comes where memory is refused, or the table has no numbers for the goal's form or for its answer; `Full` only where a table
+/// of the context is at its limit.
 ///
 /// `SolverDelegateEvalExt::root_goal_may_hold_with_depth` of `rustc_next_trait_solver` asks so, and answers with the opposite.
 pub fn is_impossible<H: GoalHandler>(
@@ -57,8 +58,7 @@ pub fn is_impossible<H: GoalHandler>(
 
     // What is not has an answer of the search, or plain recursion has none within the depth.
     ensures left_open { IfOk result (λ refused. refused ≡ false → SearchLeavesOpen H.meaning cx.old graph.old table.old trait_ref) }
-    ensures full { result ≡ Err Fault.Full → ContextIsFull H.meaning cx.new
-        ⊎ GoalRunsOut H.meaning cx.old graph.old table.old trait_ref }
+    ensures full { IfErr result (ContextFullAtLimit cx.new) }
 {
     let evaluated = evaluate_alone(graph, cache, cx, table, trait_ref);
     is_refused(evaluated)
@@ -89,8 +89,7 @@ fn evaluate_alone<H: GoalHandler>(
     ensures same { table.new ≡ table.old }
     ensures impossible { result ≡ Err RootError.NoSolution → IsImpossible H.meaning cx.old table.old trait_ref }
     ensures left_open { IsNoRefusal result → SearchLeavesOpen H.meaning cx.old graph.old table.old trait_ref }
-    ensures full { result ≡ Err (RootError.Fault Fault.Full) → ContextIsFull H.meaning cx.new
-        ⊎ GoalRunsOut H.meaning cx.old graph.old table.old trait_ref }
+    ensures full { IfErr result (RootFullAtLimit cx.new) }
 {
     let goal = Goal {
         param_env: Vec::new(cx.alloc),

@@ -1,12 +1,12 @@
 //! The impls that a later version of the crate that asks adds.
 
-ghost use Rattle.std.specs.Prelude.{◌≡◌, ◌≤◌, ◌||◌, List, length, map, IfOk, Err};
-ghost use Rattle.type_terms.specs.Failures.{SomeKindIsFull};
+ghost use Rattle.std.specs.Prelude.{◌≡◌, ◌≤◌, ◌||◌, List, length, map, IfOk, IfErr};
 ghost use Rattle.type_terms.specs.Laws.{InEveryLinkedSet};
 ghost use Rattle.type_terms.specs.Erased.{erased_reference};
 ghost use Rattle.type_terms.specs.Versions.{is_addable};
 ghost use Rattle.type_terms.specs.Walks.{trait_is};
 ghost use Rattle.type_terms.specs.Terms.{Entry};
+ghost use Rattle.term_folds.specs.Growth.{FullAtLimit};
 ghost use Rattle.declarations.specs.Held.{ImplHeld, ReferenceHeld};
 ghost use Rattle.declarations.specs.Items.{declared, reference_in};
 ghost use Rattle.declarations.specs.Merges.{Each};
@@ -96,7 +96,7 @@ pub fn added_impls(
     ensures held { IfOk result (λ defs. Each (ImplHeld cx.new.interner.entries) defs.items) }
     ensures few { IfOk result (λ defs. length defs.items ≤ ENTRY_LIMIT) }
     ensures limit { cx.new.interner.limit ≡ cx.old.interner.limit }
-    ensures full { result ≡ Err Fault.Full → SomeKindIsFull cx.new.interner.entries cx.new.interner.limit }
+    ensures full { IfErr result (FullAtLimit cx.new.interner) }
 {
     rest_laws::<Solver>();
     later_impls_begin_declared();
@@ -119,7 +119,7 @@ pub(crate) fn later_answer(
     ensures advances { SolverStaysReady cx.old cx.new }
     ensures answer { IfOk result (λ a. IsAnswerOn (rules_in cx.old) cx.old.handler.declarations.local (section_headers workspace.now section) (later_of a)) }
     ensures limit { cx.new.interner.limit ≡ cx.old.interner.limit }
-    ensures full { result ≡ Err Fault.Full → SomeKindIsFull cx.new.interner.entries cx.new.interner.limit }
+    ensures full { IfErr result (FullAtLimit cx.new.interner) }
 {
     let impls = added_impls(cx, workspace, section)?;
     Ok(first_breaking(&cx.interner, &cx.handler.declarations, &impls))

@@ -1,5 +1,5 @@
 //! All goals of a pair, asked one after the other.
-ghost use Rattle.std.specs.Prelude.{◌≡◌, ◌⊎◌, IsTrue, false, IfOk, Err};
+ghost use Rattle.std.specs.Prelude.{◌≡◌, ◌⊎◌, IsTrue, false, IfOk, IfErr};
 ghost use Rattle.type_terms.specs.Proofs.{In};
 ghost use Rattle.type_terms.specs.Terms.{Keeps};
 ghost use Rattle.term_folds.specs.declared.predicate.TraitRef.{TraitRef};
@@ -9,8 +9,9 @@ ghost use Rattle.declarations.specs.Merges.{Each};
 ghost use Rattle.search_graph.specs.Cache.{AreJustified, AreConsistent, KeepsResults};
 ghost use Rattle.search_graph.specs.Meaning as Search;
 ghost use Rattle.solver_context.specs.Contexts.{IsReady};
-ghost use Rattle.solver_context.specs.Searching.{solver_meaning, ContextIsFull};
-ghost use Rattle.sessions.specs.Impossible.{IsImpossible, SearchLeavesOpen, GoalRunsOut};
+ghost use Rattle.solver_context.specs.Searching.{solver_meaning};
+ghost use Rattle.solver_context.specs.Shortages.{ContextFullAtLimit};
+ghost use Rattle.sessions.specs.Impossible.{IsImpossible, SearchLeavesOpen};
 
 use crate::impossible::is_impossible;
 use goal_frames::GoalHandler;
@@ -26,8 +27,8 @@ use type_terms::Fault;
 /// Those of the first impl are asked before those of the second one, and none after one that is impossible. What was found of the pair
 /// is as before; the interner, the context's goals and answers and the cache may hold more.
 ///
-/// `Memory` comes where memory is refused, `Full` only where a table of the context is at its limit, or that of the pair has no numbers
-/// for a goal's form or for its answer.
+/// `Memory` comes where memory is refused, or the table of the pair has no numbers for a goal's form or for its answer; `Full` only where
+/// a table of the context is at its limit.
 ///
 /// `impl_intersection_has_impossible_obligation` of the original.
 pub fn has_impossible_obligation<H: GoalHandler>(
@@ -62,8 +63,7 @@ pub fn has_impossible_obligation<H: GoalHandler>(
     ensures left_open { IfOk result (λ refused. refused ≡ false
         → Each (SearchLeavesOpen H.meaning cx.old graph.old found.old.table) found.old.left.items
         × Each (SearchLeavesOpen H.meaning cx.old graph.old found.old.table) found.old.right.items) }
-    ensures full { result ≡ Err Fault.Full → ContextIsFull H.meaning cx.new
-        ⊎ ((r : TraitRef) × (In r found.old.left.items ⊎ In r found.old.right.items) × GoalRunsOut H.meaning cx.old graph.old found.old.table r) }
+    ensures full { IfErr result (ContextFullAtLimit cx.new) }
 {
     if some_is_impossible(graph, cache, cx, &mut found.table, &found.left)? {
         return Ok(true);
@@ -96,8 +96,7 @@ fn some_is_impossible<H: GoalHandler>(
     ensures impossible { IfOk result (λ refused. IsTrue refused → (r : TraitRef) × In r references.now × IsImpossible H.meaning cx.old table.old r) }
     ensures left_open { IfOk result (λ refused. refused ≡ false
         → Each (SearchLeavesOpen H.meaning cx.old graph.old table.old) references.now) }
-    ensures full { result ≡ Err Fault.Full → ContextIsFull H.meaning cx.new
-        ⊎ ((r : TraitRef) × In r references.now × GoalRunsOut H.meaning cx.old graph.old table.old r) }
+    ensures full { IfErr result (ContextFullAtLimit cx.new) }
 {
     'references: for trait_ref in references {
         if is_impossible(graph, cache, cx, table, *trait_ref)? {

@@ -1,17 +1,16 @@
 //! Impls with placeholders in the place of their parameters.
 
-ghost use Rattle.std.specs.Prelude.{◌≡◌, ◌≤◌, ◌⊎◌, ◌+◌, length, map, IfOk, Err};
-ghost use Rattle.type_terms.specs.Failures.{SomeKindIsFull};
+ghost use Rattle.std.specs.Prelude.{◌≡◌, ◌≤◌, ◌+◌, map, IfOk, IfErr};
 ghost use Rattle.type_terms.specs.Label.{placeholder};
 ghost use Rattle.type_terms.specs.Trees.{leaf};
 ghost use Rattle.type_terms.specs.Kinds.{ArgHeld, arg_trees};
-ghost use Rattle.type_terms.specs.Terms.{Has, Keeps, args_lists, trees_at};
+ghost use Rattle.type_terms.specs.Terms.{Has, args_lists, trees_at};
 ghost use Rattle.type_terms.specs.declared.TheConstants.{MAX_INDEX};
+ghost use Rattle.term_folds.specs.Growth.{Grew, FullAtLimit};
 ghost use Rattle.declarations.specs.Applied.{sort_of_param};
 ghost use Rattle.declarations.specs.Held.{ImplHeld};
 ghost use Rattle.overlap_check.specs.Written.{IsWrittenWell};
 ghost use Rattle.sessions.specs.Placeholders.{IsOpaqueOf, placeholders_from};
-ghost use Rattle.sessions.specs.Shortages.{HasManyParams};
 
 use declarations::items::{GenericParamKind, ImplDef};
 use overlap_check::header::{instantiate_clauses, instantiate_trait_ref};
@@ -22,14 +21,14 @@ use type_terms::interner::Interner;
 use type_terms::kinds::{ConstKind, GenericArgKind, GenericArgs, TyKind};
 use type_terms::region::{Region, RegionKind};
 
-/// The next number. The fault is `Full`, where there is none.
+/// The next number. The fault is `Memory`, where there is none.
 pub(crate) fn next_number(number: u32) -> Result<u32, Fault>
     ensures next { IfOk result (λ next. next ≡ number + 1) }
-    ensures full { result ≡ Err Fault.Full → MAX_INDEX ≤ number }
+    ensures refused { IfErr result (λ fault. (fault ≡ Fault.Memory) × (MAX_INDEX ≤ number)) }
 {
     match number.checked_add(1) {
         Some(next) => Ok(next),
-        None => Err(Fault::Full),
+        None => Err(Fault::Memory),
     }
 }
 
@@ -39,11 +38,10 @@ fn placeholder_for_param(
     kind: GenericParamKind,
     place: u32,
 ) -> Result<GenericArgKind, Fault>
-    ensures keeps { Keeps cx.old.entries cx.new.entries }
-    ensures limit { cx.new.limit ≡ cx.old.limit }
+    ensures grew { Grew cx.old cx.new }
     ensures held { IfOk result (λ arg. ArgHeld cx.new.entries arg) }
     ensures is { IfOk result (λ arg. arg_trees cx.new.entries arg ≡ leaf (placeholder (sort_of_param kind) place)) }
-    ensures full { result ≡ Err Fault.Full → SomeKindIsFull cx.new.entries cx.new.limit }
+    ensures full { IfErr result (FullAtLimit cx.new) }
 {
     match kind {
         GenericParamKind::Lifetime => Ok(GenericArgKind::Lifetime(Region {
@@ -60,17 +58,16 @@ fn placeholder_for_param(
     }
 }
 
-/// The placeholders for an item's parameters, in order. The fault is a refusal of memory, or `Full`.
+/// The placeholders for an item's parameters, in order. The fault is `Memory`, also where there are no numbers for so many, or `Full`.
 fn placeholders_for_item(
     alloc: Global,
     cx: &mut Interner,
     params: &[GenericParamKind],
 ) -> Result<GenericArgs, Fault>
-    ensures keeps { Keeps cx.old.entries cx.new.entries }
-    ensures limit { cx.new.limit ≡ cx.old.limit }
+    ensures grew { Grew cx.old cx.new }
     ensures held { IfOk result (λ args. Has cx.new.entries args_lists args.0) }
     ensures are { IfOk result (λ args. trees_at cx.new.entries args.0 ≡ placeholders_from 0 (map sort_of_param params.now)) }
-    ensures full { result ≡ Err Fault.Full → SomeKindIsFull cx.new.entries cx.new.limit ⊎ (MAX_INDEX ≤ length params.now) }
+    ensures full { IfErr result (FullAtLimit cx.new) }
 {
     let mut placeholders = Vec::new(alloc);
     let mut place = 0;
@@ -102,10 +99,9 @@ pub(crate) fn opaque_impl(
 ) -> Result<OpaqueImpl, Fault>
     requires held { ImplHeld cx.old.entries def.now }
     requires written { IsWrittenWell cx.old.entries def.now }
-    ensures keeps { Keeps cx.old.entries cx.new.entries }
-    ensures limit { cx.new.limit ≡ cx.old.limit }
+    ensures grew { Grew cx.old cx.new }
     ensures is { IfOk result (IsOpaqueOf cx.old.entries def.now cx.new.entries) }
-    ensures full { result ≡ Err Fault.Full → SomeKindIsFull cx.new.entries cx.new.limit ⊎ HasManyParams def.now }
+    ensures full { IfErr result (FullAtLimit cx.new) }
 {
     cx.lawful();
     let args = placeholders_for_item(alloc, cx, &def.params)?;

@@ -1,12 +1,11 @@
 //! Questions whether a reference has a proof by what the asking crate sees.
 
-ghost use Rattle.std.specs.Prelude.{◌≡◌, ◌≤◌, ◌⊎◌, length, map, IfOk, Err};
-ghost use Rattle.type_terms.specs.Failures.{SomeKindIsFull};
+ghost use Rattle.std.specs.Prelude.{◌≡◌, map, IfOk, IfErr};
 ghost use Rattle.type_terms.specs.Trees.{some_node};
-ghost use Rattle.type_terms.specs.declared.TheConstants.{MAX_INDEX};
 ghost use Rattle.type_terms.specs.Kinds.{ArgsHeld, arg_trees};
 ghost use Rattle.type_terms.specs.Terms.{Has, Keeps, args_lists, trees_at};
 ghost use Rattle.term_folds.specs.Arguments.{arg_sort};
+ghost use Rattle.term_folds.specs.Growth.{Grew, FullAtLimit};
 ghost use Rattle.declarations.specs.Applied.{TraitRefsHeld, AreApplied, references_in};
 ghost use Rattle.declarations.specs.Elaboration.{elaborate};
 ghost use Rattle.declarations.specs.Held.{ReferenceHeld};
@@ -17,6 +16,7 @@ ghost use Rattle.sessions.specs.Goals.{goal_of};
 ghost use Rattle.text_definitions.specs.Declarations.{Question};
 ghost use Rattle.view_lowering.specs.Questions.{IsQuestion, IsLowered};
 ghost use Rattle.solver_context.specs.Contexts.{Advances, IsReady, KeepsLimits};
+ghost use Rattle.solver_context.specs.Shortages.{ContextFullAtLimit};
 ghost use Rattle.candidate_assembly.specs.Fitting.{solving_of};
 ghost use Rattle.candidate_assembly.specs.SolverMeaning.{solver_by_view};
 ghost use Rattle.sessions.specs.Frames.{SettlesInFrames, QuestionInFrames};
@@ -25,7 +25,6 @@ ghost use Rattle.sessions.specs.Proving.{AreReadOff, ClausesApply, IsAnswered, I
 ghost use Rattle.sessions.specs.Questions.{where_clauses};
 ghost use Rattle.sessions.specs.Resting.{AreAtRest};
 ghost use Rattle.sessions.specs.Sessions.{SolverRests};
-ghost use Rattle.sessions.specs.Shortages.{IsShort, HasManyVariables};
 ghost use Rattle.sessions.specs.Tables.{table_of};
 
 use crate::answers::ProveAnswer;
@@ -85,11 +84,10 @@ fn read_values(
     requires ready { Ready cx.old.entries table.now }
     requires asked { Has cx.old.entries args_lists asked.args.0 }
     requires unknowns { ArgsHeld cx.old.entries unknowns.now }
-    ensures keeps { Keeps cx.old.entries cx.new.entries }
-    ensures limit { cx.new.limit ≡ cx.old.limit }
+    ensures grew { Grew cx.old cx.new }
     ensures held { IfOk result (AnswerValuesHeld cx.new.entries) }
     ensures read { IfOk result (AreReadOff cx.old.entries table.now (trees_at cx.old.entries asked.args.0) unknowns.now cx.new.entries) }
-    ensures full { result ≡ Err Fault.Full → SomeKindIsFull cx.new.entries cx.new.limit }
+    ensures full { IfErr result (FullAtLimit cx.new) }
 {
     let proved = table.eager_resolve_vars(cx, asked.args)?;
     if has_bound_terms(cx, proved) {
@@ -114,7 +112,7 @@ fn read_values_in<H: GoalHandler>(
     ensures held { IfOk result (AnswerValuesHeld cx.new.interner.entries) }
     ensures read { IfOk result
         (AreReadOff cx.old.interner.entries table.now (trees_at cx.old.interner.entries asked.args.0) unknowns.now cx.new.interner.entries) }
-    ensures full { result ≡ Err Fault.Full → SomeKindIsFull cx.new.interner.entries cx.new.interner.limit }
+    ensures full { IfErr result (FullAtLimit cx.new.interner) }
 {
     rest_laws::<H>();
     let read = read_values(cx.alloc, &mut cx.interner, table, asked, unknowns);
@@ -122,7 +120,7 @@ fn read_values_in<H: GoalHandler>(
     read
 }
 
-/// A table for the unknowns of a question, over the interner of a context.
+/// A table for the unknowns of a question, over the interner of a context. Errors are those of `question_table`.
 pub fn question_table_in<H: GoalHandler>(
     cx: &mut SolverCx<H>,
     unknowns: &[GenericArgKind],
@@ -131,7 +129,7 @@ pub fn question_table_in<H: GoalHandler>(
     ensures advances { Advances H.meaning.IsReady cx.old cx.new }
     ensures ready { IfOk result (λ table. Ready cx.new.interner.entries table) }
     ensures is { IfOk result (λ table. table ≡ table_of (map arg_sort unknowns.now)) }
-    ensures full { result ≡ Err Fault.Full → SomeKindIsFull cx.new.interner.entries cx.new.interner.limit ⊎ (MAX_INDEX ≤ length unknowns.now) }
+    ensures full { IfErr result (FullAtLimit cx.new.interner) }
 {
     rest_laws::<H>();
     let table = question_table(cx.alloc, &mut cx.interner, unknowns);
@@ -165,7 +163,7 @@ fn ask_for<H: GoalHandler>(
         (map (arg_trees cx.old.interner.entries) unknowns.now) cx.new.interner.entries) }
     ensures frames { SettlesInFrames H.meaning (H.meaning.world cx.old.handler cx.old.interner.entries) graph.old.root_depth
         (map arg_sort unknowns.now) (goal_trees cx.old.interner.entries goal.now) graph.old graph.new }
-    ensures full { result ≡ Err Fault.Full → IsShort H.meaning cx.new }
+    ensures full { IfErr result (ContextFullAtLimit cx.new) }
 {
     rest_laws::<H>();
     match ask_until_settled(graph, cache, cx, table, goal)? {
@@ -187,7 +185,7 @@ pub fn elaborate_in(
     ensures held { IfOk result (λ v. TraitRefsHeld cx.new.interner.entries v.items) }
     ensures are { IfOk result (λ v. references_in cx.new.interner.entries v.items
         ≡ elaborate (written cx.old.interner.entries cx.old.handler.declarations) (references_in cx.old.interner.entries references.now)) }
-    ensures full { result ≡ Err Fault.Full → SomeKindIsFull cx.new.interner.entries cx.new.interner.limit }
+    ensures full { IfErr result (FullAtLimit cx.new.interner) }
 {
     rest_laws::<Solver>();
     let declarations = &cx.handler.declarations;
@@ -234,7 +232,7 @@ pub(crate) fn prove_under(
     ensures frames { SettlesInFrames solver_by_view
         (solving_of cx.old.interner.entries cx.old.handler.declarations) graph.old.root_depth (map arg_sort unknowns.now)
         (goal_of (references_in cx.old.interner.entries clauses.now) (reference_in cx.old.interner.entries asked)) graph.old graph.new }
-    ensures full { result ≡ Err Fault.Full → IsShort solver_by_view cx.new ⊎ (MAX_INDEX ≤ length unknowns.now) }
+    ensures full { IfErr result (ContextFullAtLimit cx.new) }
 {
     rest_laws::<Solver>();
     references_are_goals();
@@ -262,8 +260,7 @@ fn prove_lowered(
         → IsAnsweredBySolver (solving_of cx.old.interner.entries cx.old.handler.declarations) graph.old.root_depth q cx.new.interner.entries a) }
     ensures frames { (q : Question) → IsLowered cx.old.interner.entries q lowered.now
         → QuestionInFrames (solving_of cx.old.interner.entries cx.old.handler.declarations) graph.old.root_depth q graph.old graph.new }
-    ensures full { (q : Question) → IsLowered cx.old.interner.entries q lowered.now → result ≡ Err Fault.Full
-        → IsShort solver_by_view cx.new ⊎ HasManyVariables q }
+    ensures full { IfErr result (ContextFullAtLimit cx.new) }
 {
     rest_laws::<Solver>();
     let clauses = elaborate_in(cx, &lowered.clauses)?;
@@ -293,7 +290,7 @@ pub(crate) fn prove_question(
         → IsAnsweredBySolver (solving_of cx.old.interner.entries cx.old.handler.declarations) graph.old.root_depth q cx.new.interner.entries a) }
     ensures frames { (q : Question) → IsQuestion workspace.now number q
         → QuestionInFrames (solving_of cx.old.interner.entries cx.old.handler.declarations) graph.old.root_depth q graph.old graph.new }
-    ensures full { (q : Question) → IsQuestion workspace.now number q → result ≡ Err Fault.Full → IsShort solver_by_view cx.new ⊎ HasManyVariables q }
+    ensures full { IfErr result (ContextFullAtLimit cx.new) }
 {
     rest_laws::<Solver>();
     let lowered = lower_in(cx, workspace, number)?;

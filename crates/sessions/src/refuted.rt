@@ -1,6 +1,6 @@
 //! Questions whether a reference has a proof wherever the asking crate is linked.
 
-ghost use Rattle.std.specs.Prelude.{◌≡◌, ◌⊎◌, [], true, Ok, Err, OnOk, IfErr};
+ghost use Rattle.std.specs.Prelude.{◌≡◌, [], true, Ok, Err, OnOk, IfErr};
 ghost use Rattle.type_terms.specs.Made.{terms, is_made, is_in_range};
 ghost use Rattle.type_terms.specs.Terms.{Has, Keeps, args_lists};
 ghost use Rattle.declarations.specs.Items.{reference_in};
@@ -15,8 +15,8 @@ ghost use Rattle.sessions.specs.Asking.{HasNoProof, IsLeftOpen, IsRefusedAlone, 
 ghost use Rattle.sessions.specs.Frames.{StartsFramesOfOne};
 ghost use Rattle.sessions.specs.Impossible.{IsNoRefusal};
 ghost use Rattle.sessions.specs.Resting.{AreAtRest};
-ghost use Rattle.sessions.specs.Shortages.{IsShort, HasManyVariables};
 ghost use Rattle.solver_context.specs.Contexts.{KeepsLimits};
+ghost use Rattle.solver_context.specs.Shortages.{ContextFullAtLimit};
 
 use crate::answers::RefuteAnswer;
 use crate::asked::{lower_in, rest_laws};
@@ -63,7 +63,7 @@ fn ask_in_coherence<H: GoalHandler>(
     // After a fault too.
     ensures frames { let es = cx.old.interner.entries in
         StartsFramesOfOne H.meaning (H.meaning.world cx.old.handler es) (reference_in es asked) graph.old graph.new }
-    ensures full { result ≡ Err Fault.Full → IsShort H.meaning cx.new }
+    ensures full { IfErr result (ContextFullAtLimit cx.new) }
 {
     let goal = Goal {
         param_env: Vec::new(cx.alloc),
@@ -108,7 +108,7 @@ fn refute_lowered<H: GoalHandler>(
         → IsLeftOpen H.meaning (H.meaning.world cx.old.handler cx.old.interner.entries) graph.old.root_depth (unbound_reference q.asked) }
     ensures frames { (q : Question) → IsLowered cx.old.interner.entries q lowered.now
         → StartsFramesOfOne H.meaning (H.meaning.world cx.old.handler cx.old.interner.entries) (unbound_reference q.asked) graph.old graph.new }
-    ensures full { (q : Question) → IsLowered cx.old.interner.entries q lowered.now → result ≡ Err Fault.Full → IsShort H.meaning cx.new ⊎ HasManyVariables q }
+    ensures full { IfErr result (ContextFullAtLimit cx.new) }
 {
     rest_laws::<H>();
     let mut table = question_table_in(cx, &lowered.unknowns)?;
@@ -142,7 +142,7 @@ pub(crate) fn refute_question<H: GoalHandler>(
         → IsLeftOpen H.meaning (H.meaning.world cx.old.handler cx.old.interner.entries) graph.old.root_depth (unbound_reference q.asked) }
     ensures frames { (q : Question) → IsQuestion workspace.now number q
         → StartsFramesOfOne H.meaning (H.meaning.world cx.old.handler cx.old.interner.entries) (unbound_reference q.asked) graph.old graph.new }
-    ensures full { (q : Question) → IsQuestion workspace.now number q → result ≡ Err Fault.Full → IsShort H.meaning cx.new ⊎ HasManyVariables q }
+    ensures full { IfErr result (ContextFullAtLimit cx.new) }
 {
     rest_laws::<H>();
     let lowered = lower_in(cx, workspace, number)?;

@@ -1,6 +1,6 @@
 //! Sessions.
 
-ghost use Rattle.std.specs.Prelude.{◌≡◌, ◌⊎◌, ◌<◌, ◌≤◌, ◌+◌, ℕ, true, length, IfOk, IfSome, Ok, Err};
+ghost use Rattle.std.specs.Prelude.{◌≡◌, ◌<◌, ◌≤◌, ◌+◌, ℕ, true, length, IfOk, IfErr, IfSome, Ok, Err};
 ghost use Rattle.type_terms.specs.Failures.{SomeKindIsFull};
 ghost use Rattle.type_terms.specs.Kinds.{ArgsHeld};
 ghost use Rattle.type_terms.specs.declared.TheConstants.{MAX_INDEX};
@@ -20,7 +20,7 @@ ghost use Rattle.sessions.specs.Given.{AnswerValuesHeld, VerdictHeld, answer_in,
 ghost use Rattle.sessions.specs.Promises.{IsProved, IsRefutation, IsVerdictOf};
 ghost use Rattle.sessions.specs.Releases.{AddedImplsBreakNoUser, IsSectionOf, IsLaterAnswer, IsSupersAnswer};
 ghost use Rattle.sessions.specs.Shown.{AreProofOfQuestion};
-ghost use Rattle.sessions.specs.Shortages.{IsAtLimit, HasManyVariables};
+ghost use Rattle.sessions.specs.Shortages.{SessionFullAtLimit};
 ghost use Rattle.sessions.specs.Supertraits.{IsCheckedAt};
 ghost use Rattle.sessions.specs.Subjects.{IsOfText, AsksProof, AsksRefutation, StaysOn};
 
@@ -59,7 +59,8 @@ use workspace::Workspace;
 ///
 /// A session sees the view of its crate alone: the crate and all that it uses, directly or through others, `core` included. It lowers
 /// the view when it is made. It can be asked again after any call, one that ended with a fault too: the terms, goals and answers that
-/// a call has made stay, and what the cache holds is justified.
+/// a call has made stay, and what the cache holds is justified. A fault is `Memory` where memory is refused, and where more variables or
+/// parameters are needed than there are numbers for (`MAX_INDEX`).
 ///
 /// Its parts are public for what asks more of its search: whoever uses them leaves them as they are between two calls.
 pub struct Session<'w> {
@@ -164,7 +165,7 @@ impl<'w> Session<'w> {
         ensures stays { StaysOn self.old self.new }
 
         // `Full` comes only where a limit of the session is reached.
-        ensures full { result ≡ Err Fault.Full → IsAtLimit self.new }
+        ensures full { IfErr result (SessionFullAtLimit self.new) }
     {
         accepted_sets_have_one_impl();
         let end = self.impl_end();
@@ -195,7 +196,7 @@ impl<'w> Session<'w> {
         ensures first { IfOk result (HasOrphan self.old self.new.terms) }
         ensures held { IfOk result (λ found. IfSome found (λ x. ErrorHeld self.new.terms x.1)) }
         ensures stays { StaysOn self.old self.new }
-        ensures full { result ≡ Err Fault.Full → IsAtLimit self.new }
+        ensures full { IfErr result (SessionFullAtLimit self.new) }
     {
         rest_laws::<Solver>();
         first_broken_header(&mut self.cx, end)
@@ -209,7 +210,7 @@ impl<'w> Session<'w> {
         requires numbered { IsNumbered self.old.declarations }
         ensures found { IfOk result (HasOverlap self.old end) }
         ensures stays { StaysOn self.old self.new }
-        ensures full { result ≡ Err Fault.Full → IsAtLimit self.new }
+        ensures full { IfErr result (SessionFullAtLimit self.new) }
     {
         let impls = self.impls_by_trait(end)?;
         for index in 0..end {
@@ -260,7 +261,7 @@ impl<'w> Session<'w> {
         requires numbered { IsNumbered self.old.declarations }
         ensures found { (end : ℕ) → IfOk result (HasPartner self.old end later.index) }
         ensures stays { StaysOn self.old self.new }
-        ensures full { result ≡ Err Fault.Full → IsAtLimit self.new }
+        ensures full { IfErr result (SessionFullAtLimit self.new) }
     {
         let partners = self.partners_of(impls, later)?;
         for earlier in &partners {
@@ -276,7 +277,7 @@ impl<'w> Session<'w> {
         requires numbered { IsNumbered self.old.declarations }
         ensures judged { IfOk result (HasJudged self.old later.index earlier.index) }
         ensures stays { StaysOn self.old self.new }
-        ensures full { result ≡ Err Fault.Full → IsAtLimit self.new }
+        ensures full { IfErr result (SessionFullAtLimit self.new) }
     {
         overlap_at(
             &mut self.graph,
@@ -349,7 +350,7 @@ impl<'w> Session<'w> {
         ensures stays { StaysOn self.old self.new }
 
         // `Full` comes only where a limit of the session is reached.
-        ensures full { result ≡ Err Fault.Full → IsAtLimit self.new }
+        ensures full { IfErr result (SessionFullAtLimit self.new) }
     {
         held_sets_are_linked();
         held_sets_have_one_impl();
@@ -370,7 +371,7 @@ impl<'w> Session<'w> {
     fn header_answer(&mut self, id: ImplId) -> Result<HeaderAnswer, Fault>
         ensures checked { IfOk result (IsCheckedAt self.old.depth self.old.declarations self.old.of_crate id.index) }
         ensures stays { StaysOn self.old self.new }
-        ensures full { result ≡ Err Fault.Full → IsAtLimit self.new }
+        ensures full { IfErr result (SessionFullAtLimit self.new) }
     {
         impls_apply();
         header_answer_at(&mut self.graph, &mut self.cache, &mut self.cx, id)
@@ -399,9 +400,8 @@ impl<'w> Session<'w> {
         // The frames are those of eight askings at most, after a fault too.
         ensures frames { (q : Question) → AsksProof self.old.declarations self.old.of_crate number q → ProvesInFrames self.old q self.new }
 
-        // `Full` comes only where a limit of the session is reached, or the question has more variables than there are numbers for.
-        ensures full { (q : Question) → AsksProof self.old.declarations self.old.of_crate number q
-            → result ≡ Err Fault.Full → IsAtLimit self.new ⊎ HasManyVariables q }
+        // `Full` comes only where a limit of the session is reached.
+        ensures full { IfErr result (SessionFullAtLimit self.new) }
     {
         clauses_apply();
         yes_is_proved();
@@ -457,9 +457,8 @@ impl<'w> Session<'w> {
         // The frames are those of one asking, after a fault too.
         ensures frames { (q : Question) → AsksRefutation self.old.declarations self.old.of_crate number q → RefutesInFrames self.old q self.new }
 
-        // `Full` comes only where a limit of the session is reached, or the question has more variables than there are numbers for.
-        ensures full { (q : Question) → AsksRefutation self.old.declarations self.old.of_crate number q
-            → result ≡ Err Fault.Full → IsAtLimit self.new ⊎ HasManyVariables q }
+        // `Full` comes only where a limit of the session is reached.
+        ensures full { IfErr result (SessionFullAtLimit self.new) }
     {
         refutations_have_variables_alone();
         refute_question(

@@ -1,10 +1,10 @@
 //! A goal, asked until its answer is settled.
 
-ghost use Rattle.std.specs.Prelude.{◌≡◌, ◌-◌, ◌⊎◌, Ok, Err};
-ghost use Rattle.solver_context.specs.Searching.{ContextIsFull};
+ghost use Rattle.std.specs.Prelude.{◌≡◌, ◌-◌, Ok, IfErr};
+ghost use Rattle.solver_context.specs.Shortages.{ContextFullAtLimit};
 ghost use Rattle.sessions.specs.Frames.{AskingsOf, IsLeftByAnswer, StartsFramesOfAsking};
 ghost use Rattle.sessions.specs.declared.settling.TheConstants.{MAX_ASKINGS};
-ghost use Rattle.sessions.specs.Settling.{IsAskable, HasAsked, IsProvedBy, GoalIsRefused, IsUnsettled, AskingRunsOut, SomeAskingRunsOut};
+ghost use Rattle.sessions.specs.Settling.{IsAskable, HasAsked, IsProvedBy, GoalIsRefused, IsUnsettled};
 
 use evaluation::{Certainty, HasChanged, TypingMode};
 use goal_frames::GoalHandler;
@@ -71,8 +71,7 @@ fn ask_once<H: GoalHandler>(
     ensures changes { result ≡ Ok Asking.Changes → IsUnsettled H.meaning cx.old graph.old table.old goal.now }
     ensures unsure { result ≡ Ok Asking.IsUnsure → IsUnsettled H.meaning cx.old graph.old table.old goal.now }
     ensures refused { result ≡ Ok Asking.IsRefused → GoalIsRefused H.meaning cx.old graph.old table.old goal.now }
-    ensures full { result ≡ Err Fault.Full → ContextIsFull H.meaning cx.new
-        ⊎ AskingRunsOut H.meaning cx.old graph.old table.old goal.now }
+    ensures full { IfErr result (ContextFullAtLimit cx.new) }
     ensures frames { StartsFramesOfAsking H.meaning cx.old graph.old table.old goal.now graph.new }
     ensures left { result ≡ Ok Asking.Changes → IsLeftByAnswer H.meaning cx.old graph.old table.old goal.now cx.new table.new }
 {
@@ -99,8 +98,7 @@ fn ask_again<H: GoalHandler>(
     ensures proved { result ≡ Ok Outcome.Proved
         → IsProvedBy H.meaning (H.meaning.world cx.old.handler cx.old.interner.entries) cx.old table.old cx.new table.new goal.now }
     ensures not_unproved { result ≡ Ok Outcome.Unproved → ⊥ }
-    ensures full { result ≡ Err Fault.Full → ContextIsFull H.meaning cx.new
-        ⊎ SomeAskingRunsOut H.meaning graph.old cache.old cx.old table.old goal.now cx.new }
+    ensures full { IfErr result (ContextFullAtLimit cx.new) }
     ensures frames { AskingsOf H.meaning (MAX_ASKINGS - 1) cx.old graph.old table.old goal.now graph.new }
 {
     for _asking in 1..MAX_ASKINGS {
@@ -120,8 +118,8 @@ fn ask_again<H: GoalHandler>(
 /// `Maybe` with an answer that is not sure, with a refusal after values, with a conflict, and after eight answers with values. Where it
 /// comes, the first answer was no definite yes, or plain recursion has none within the depth.
 ///
-/// `Memory` comes where memory is refused, `Full` only where a table of the context is at its limit, or this one has no numbers for the
-/// goal's form or for its answer. Whatever comes, the goal can be asked again, and each solution of the table is one that it had before.
+/// `Memory` comes where memory is refused, or the table has no numbers for the goal's form or for its answer; `Full` only where a table
+/// of the context is at its limit. Whatever comes, the goal can be asked again, and each solution of the table is one that it had before.
 ///
 /// `evaluate_root_goal` in the loop of `rustc_trait_selection`'s `FulfillmentCtxt`, for one goal.
 pub fn ask_until_settled<H: GoalHandler>(
@@ -138,8 +136,7 @@ pub fn ask_until_settled<H: GoalHandler>(
         → IsProvedBy H.meaning (H.meaning.world cx.old.handler cx.old.interner.entries) cx.old table.old cx.new table.new goal.now }
     ensures unproved { result ≡ Ok Outcome.Unproved → GoalIsRefused H.meaning cx.old graph.old table.old goal.now }
     ensures maybe { result ≡ Ok Outcome.Maybe → IsUnsettled H.meaning cx.old graph.old table.old goal.now }
-    ensures full { result ≡ Err Fault.Full → ContextIsFull H.meaning cx.new
-        ⊎ SomeAskingRunsOut H.meaning graph.old cache.old cx.old table.old goal.now cx.new }
+    ensures full { IfErr result (ContextFullAtLimit cx.new) }
     ensures frames { AskingsOf H.meaning MAX_ASKINGS cx.old graph.old table.old goal.now graph.new }
 {
     match ask_once(graph, cache, cx, table, goal)? {

@@ -3,7 +3,7 @@
 ghost use Rattle.std.specs.Prelude.{◌≡◌, true, map, IfOk};
 ghost use Rattle.type_terms.specs.Erased.{erased_reference};
 ghost use Rattle.type_terms.specs.Kinds.{ArgHeld, ArgsHeld};
-ghost use Rattle.type_terms.specs.Terms.{Keeps};
+ghost use Rattle.term_folds.specs.Growth.{Grew};
 ghost use Rattle.declarations.specs.Applied.{TraitRefsHeld};
 ghost use Rattle.declarations.specs.Held.{ReferenceHeld};
 ghost use Rattle.declarations.specs.Items.{reference_in};
@@ -42,8 +42,7 @@ fn equate(
     requires unknown { ArgHeld cx.old.entries unknown }
     requires value { ArgHeld cx.old.entries value }
     ensures ready { Ready cx.new.entries table.new }
-    ensures keeps { Keeps cx.old.entries cx.new.entries }
-    ensures limit { cx.new.limit ≡ cx.old.limit }
+    ensures grew { Grew cx.old cx.new }
 {
     match table.eq(cx, unknown, value) {
         Ok(()) => Ok(()),
@@ -63,8 +62,7 @@ fn equate_all(
     requires unknowns { ArgsHeld cx.old.entries unknowns.now }
     requires values { ArgsHeld cx.old.entries values.now }
     ensures ready { Ready cx.new.entries table.new }
-    ensures keeps { Keeps cx.old.entries cx.new.entries }
-    ensures limit { cx.new.limit ≡ cx.old.limit }
+    ensures grew { Grew cx.old cx.new }
 {
     let mut left = unknowns;
     let mut given = values;
@@ -93,8 +91,7 @@ fn resolve_reference(
     requires reference { ReferenceHeld cx.old.entries reference }
     requires unknowns { ArgsHeld cx.old.entries unknowns.now }
     requires values { ArgsHeld cx.old.entries values.now }
-    ensures keeps { Keeps cx.old.entries cx.new.entries }
-    ensures limit { cx.new.limit ≡ cx.old.limit }
+    ensures grew { Grew cx.old cx.new }
     ensures held { IfOk result (ReferenceHeld cx.new.entries) }
     ensures resolved { IfOk result (λ r. IsResolved (reference_in cx.old.entries reference) (reference_in cx.new.entries r)) }
 {

@@ -1,22 +1,20 @@
 //! Whether the supertraits of an impl's header are proved from its where-clauses.
 
-ghost use Rattle.std.specs.Prelude.{◌≡◌, ◌≤◌, ◌⊎◌, ℕ, length, IfOk, Err};
-ghost use Rattle.type_terms.specs.Failures.{SomeKindIsFull};
+ghost use Rattle.std.specs.Prelude.{ℕ, IfOk, IfErr};
 ghost use Rattle.type_terms.specs.Terms.{Keeps};
-ghost use Rattle.type_terms.specs.declared.TheConstants.{MAX_INDEX};
+ghost use Rattle.term_folds.specs.Growth.{Grew, FullAtLimit};
 ghost use Rattle.declarations.specs.Applied.{TraitRefsHeld, references_in};
 ghost use Rattle.declarations.specs.Held.{ImplHeld, ReferenceHeld};
 ghost use Rattle.declarations.specs.Items.{reference_in, written};
 ghost use Rattle.overlap_check.specs.Written.{IsWrittenWell};
 ghost use Rattle.candidate_assembly.specs.Fitting.{solving_of};
 ghost use Rattle.candidate_assembly.specs.Ready.{AreReadyDeclarations};
-ghost use Rattle.candidate_assembly.specs.SolverMeaning.{solver_by_view};
 ghost use Rattle.text_definitions.specs.Declarations as text;
 ghost use Rattle.sessions.specs.Proving.{SolverAdvances, SolverIsReady, SolvesTheSame};
 ghost use Rattle.sessions.specs.Sessions.{SolverRests, IsSession};
-ghost use Rattle.sessions.specs.Shortages.{HasManyParams, ImplHasManyParams, IsOutOf, IsShort};
 ghost use Rattle.sessions.specs.Supertraits.{AreGoalsFor, AreOfOwn, HasApplied, ImplsApply, IsCheckedAt, IsHeaderTold, SolverTells};
 ghost use Rattle.solver_context.specs.Contexts.{KeepsLimits};
+ghost use Rattle.solver_context.specs.Shortages.{ContextFullAtLimit};
 
 use crate::answers::ProveAnswer;
 use crate::asked::rest_laws;
@@ -65,11 +63,10 @@ fn goals_of(
     requires held { ImplHeld cx.old.entries def.now }
     requires written { IsWrittenWell cx.old.entries def.now }
     requires applied { HasApplied declarations.now (reference_in cx.old.entries def.now.header) (references_in cx.old.entries def.now.clauses.items) }
-    ensures keeps { Keeps cx.old.entries cx.new.entries }
-    ensures limit { cx.new.limit ≡ cx.old.limit }
+    ensures grew { Grew cx.old cx.new }
     ensures are { IfOk result (AreGoalsFor (written cx.old.entries declarations.now)
         (reference_in cx.old.entries def.now.header) (references_in cx.old.entries def.now.clauses.items) cx.new.entries) }
-    ensures full { result ≡ Err Fault.Full → SomeKindIsFull cx.new.entries cx.new.limit ⊎ HasManyParams def.now }
+    ensures full { IfErr result (FullAtLimit cx.new) }
 {
     let opaque = opaque_impl(alloc, cx, def)?;
     let supertraits = declarations.supertraits(alloc, cx, opaque.header)?;
@@ -89,10 +86,9 @@ fn own_goals(
 ) -> Result<Option<SupertraitGoals>, Fault>
     requires ready { AreReadyDeclarations cx.old.entries declarations.now }
     requires applied { ImplsApply declarations.now (written cx.old.entries declarations.now) }
-    ensures keeps { Keeps cx.old.entries cx.new.entries }
-    ensures limit { cx.new.limit ≡ cx.old.limit }
+    ensures grew { Grew cx.old cx.new }
     ensures goals { IfOk result (AreOfOwn (written cx.old.entries declarations.now) declarations.now.local id.index cx.new.entries) }
-    ensures full { result ≡ Err Fault.Full → SomeKindIsFull cx.new.entries cx.new.limit ⊎ ImplHasManyParams declarations.now id.index }
+    ensures full { IfErr result (FullAtLimit cx.new) }
 {
     ready_impls_are_written_well();
     let Some(def) = declarations.impl_def(id) else {
@@ -113,7 +109,7 @@ pub fn own_goals_in(cx: &mut SolverCx<Solver>, id: ImplId) -> Result<Option<Supe
     ensures advances { SolverAdvances cx.old cx.new }
     ensures goals { IfOk result
         (AreOfOwn (written cx.old.interner.entries cx.old.handler.declarations) cx.old.handler.declarations.local id.index cx.new.interner.entries) }
-    ensures full { result ≡ Err Fault.Full → IsOutOf cx.new }
+    ensures full { IfErr result (FullAtLimit cx.new.interner) }
 {
     rest_laws::<Solver>();
     let declarations = &cx.handler.declarations;
@@ -141,7 +137,7 @@ fn ask_under(
     ensures limits { KeepsLimits cx.old cx.new }
     ensures told { IfOk result (SolverTells (solving_of cx.old.interner.entries cx.old.handler.declarations) graph.old.root_depth
         (references_in cx.old.interner.entries clauses.now) (reference_in cx.old.interner.entries asked)) }
-    ensures full { result ≡ Err Fault.Full → IsShort solver_by_view cx.new }
+    ensures full { IfErr result (ContextFullAtLimit cx.new) }
 {
     match prove_under(graph, cache, cx, clauses, asked, &[])? {
         ProveAnswer::Yes(_) => Ok(Outcome::Proved),
@@ -168,7 +164,7 @@ fn first_unproved(
     ensures limits { KeepsLimits cx.old cx.new }
     ensures told { IfOk result (IsHeaderTold (solving_of cx.old.interner.entries cx.old.handler.declarations) graph.old.root_depth
         (references_in cx.old.interner.entries goals.now.clauses.items) (references_in cx.old.interner.entries goals.now.supertraits.items)) }
-    ensures full { result ≡ Err Fault.Full → IsShort solver_by_view cx.new ⊎ (MAX_INDEX ≤ length goals.now.supertraits.items) }
+    ensures full { IfErr result (ContextFullAtLimit cx.new) }
 {
     let mut place = 0;
     for supertrait in &goals.supertraits {
@@ -199,7 +195,7 @@ pub(crate) fn header_answer_at(
     ensures keeps { Keeps cx.old.interner.entries cx.new.interner.entries }
     ensures limits { KeepsLimits cx.old cx.new }
     ensures checked { (d : text.Declarations) (c depth : ℕ) → IsSession d c depth cx.old graph.old cache.old → IfOk result (IsCheckedAt depth d c id.index) }
-    ensures full { result ≡ Err Fault.Full → IsOutOf cx.new }
+    ensures full { IfErr result (ContextFullAtLimit cx.new) }
 {
     rest_laws::<Solver>();
     supertraits_are_told();

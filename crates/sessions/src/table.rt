@@ -1,12 +1,10 @@
 //! The table of a question.
 
-ghost use Rattle.std.specs.Prelude.{◌≡◌, ◌≤◌, ◌⊎◌, ◌∷◌, ◌++◌, [], List, map, length, IfOk, OnOk, Err};
+ghost use Rattle.std.specs.Prelude.{◌≡◌, ◌∷◌, ◌++◌, [], List, map, IfOk, IfErr, OnOk};
 ghost use Rattle.type_terms.specs.Label.{Sort};
-ghost use Rattle.type_terms.specs.Terms.{Keeps};
-ghost use Rattle.type_terms.specs.declared.TheConstants.{MAX_INDEX};
 ghost use Rattle.term_folds.specs.Arguments.{arg_sort};
-ghost use Rattle.type_terms.specs.Failures.{SomeKindIsFull};
-ghost use Rattle.infer_table.specs.Content.{Ready, variables_of};
+ghost use Rattle.term_folds.specs.Growth.{Grew, FullAtLimit};
+ghost use Rattle.infer_table.specs.Content.{Ready};
 ghost use Rattle.sessions.specs.Tables.{table_of};
 
 use infer_table::infer_ctxt::InferCtxt;
@@ -15,14 +13,13 @@ use type_terms::Fault;
 use type_terms::interner::Interner;
 use type_terms::kinds::GenericArgKind;
 
-/// One more unknown, of the kind of this one.
+/// One more unknown, of the kind of this one. The fault is `Memory` also where there are no numbers for it.
 fn add_unknown(cx: &mut Interner, table: &mut InferCtxt, like: GenericArgKind) -> Result<(), Fault>
     requires { Ready cx.old.entries table.old }
     ensures ready { Ready cx.new.entries table.new }
-    ensures keeps { Keeps cx.old.entries cx.new.entries }
-    ensures limit { cx.new.limit ≡ cx.old.limit }
+    ensures grew { Grew cx.old cx.new }
     ensures made { OnOk result ((ks : List Sort) → table.old ≡ table_of ks → table.new ≡ table_of (ks ++ arg_sort like ∷ [])) }
-    ensures full { result ≡ Err Fault.Full → SomeKindIsFull cx.new.entries cx.new.limit ⊎ (MAX_INDEX ≤ variables_of table.old (arg_sort like)) }
+    ensures full { IfErr result (FullAtLimit cx.new) }
 {
     match like {
         GenericArgKind::Lifetime(_) => {
@@ -40,18 +37,17 @@ fn add_unknown(cx: &mut Interner, table: &mut InferCtxt, like: GenericArgKind) -
 
 /// A table for a question with these unknowns: it has as many of each kind, so that those of the question are its own.
 ///
-/// `Full` comes only where some kind of term has reached its limit or that many unknowns have no numbers, `Memory` where memory is
-/// refused.
+/// `Full` comes only where some kind of term has reached its limit, `Memory` where memory is refused or that many unknowns have no
+/// numbers.
 pub fn question_table(
     alloc: Global,
     cx: &mut Interner,
     unknowns: &[GenericArgKind],
 ) -> Result<InferCtxt, Fault>
     ensures ready { IfOk result (λ table. Ready cx.new.entries table) }
-    ensures keeps { Keeps cx.old.entries cx.new.entries }
-    ensures limit { cx.new.limit ≡ cx.old.limit }
+    ensures grew { Grew cx.old cx.new }
     ensures is { IfOk result (λ table. table ≡ table_of (map arg_sort unknowns.now)) }
-    ensures full { result ≡ Err Fault.Full → SomeKindIsFull cx.new.entries cx.new.limit ⊎ (MAX_INDEX ≤ length unknowns.now) }
+    ensures full { IfErr result (FullAtLimit cx.new) }
 {
     let mut table = InferCtxt::new(alloc);
     for unknown in unknowns {

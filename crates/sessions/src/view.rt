@@ -1,7 +1,7 @@
 //! What a session's crate sees.
 
-ghost use Rattle.std.specs.Prelude.{◌≡◌, ◌+◌, ◌<◌, ◌≤◌, length, map, IfOk, Err};
-ghost use Rattle.type_terms.specs.Failures.{SomeKindIsFull};
+ghost use Rattle.std.specs.Prelude.{◌≡◌, ◌+◌, ◌<◌, ◌≤◌, length, map, IfOk, IfErr};
+ghost use Rattle.term_folds.specs.Growth.{FullAtLimit};
 ghost use Rattle.declarations.specs.Items.{written, declared};
 ghost use Rattle.view_lowering.specs.MostTerms.{most_terms};
 ghost use Rattle.view_lowering.specs.Plain.{plainly_seen_from};
@@ -57,7 +57,7 @@ pub(crate) fn lower_view(
     ensures ready { IfOk result (λ decls. AreReadyDeclarations cx.new.entries decls) }
     ensures limit { cx.new.limit ≡ cx.old.limit }
     ensures few { length cx.new.entries ≤ length cx.old.entries + most_terms workspace.now crate_id.index }
-    ensures full { result ≡ Err Fault.Full → SomeKindIsFull cx.new.entries cx.new.limit }
+    ensures full { IfErr result (FullAtLimit cx.new) }
 {
     impls_begin_declared();
     declarations_are_ready();

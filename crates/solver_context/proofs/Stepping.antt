@@ -1,8 +1,6 @@
 -- A step of a goal's frame is a step of the search's frame.
-use Rattle.std.proofs.Common.{◌≡◌, ◌<◌, ◌∙◌, List, ◌∷◌, refl, sym, ap, subst, inl, inr, Option}
-use Rattle.std.specs.Prelude.{◌⊎◌}
+use Rattle.std.proofs.Common.{◌≡◌, ◌<◌, ◌∙◌, List, ◌∷◌, refl, sym, ap, subst, Option}
 use Rattle.type_terms.specs.Terms.{Entry, Keeps}
-use Rattle.type_terms.specs.Failures.{SomeKindIsFull}
 use Rattle.search_graph.specs.Meaning as Search
 use Rattle.search_graph.specs.declared.delegate.Reply.{Reply}
 use Rattle.search_graph.specs.declared.delegate.Reply.TheVariants.{Begin, Result, Entered, Finished, Ignored}
@@ -23,21 +21,17 @@ use Rattle.evaluation.specs.Tables.{frame_tables}
 use Rattle.goal_frames.specs.Searches.{asks, kind_of, reply_of, replies_of, request_of}
 use Rattle.goal_frames.specs.declared.frame.GoalFrame.{GoalFrame}
 use Rattle.goal_frames.specs.declared.store.ResponseId.{ResponseId}
-use Rattle.goal_frames.specs.Shortages.{FrameRunsOut}
 use Rattle.goal_frames.specs.Frames as Frames
 use Rattle.goal_frames.specs.Steps as Steps
 use Rattle.goal_frames.specs.Steps.{AsksFewer}
 use Rattle.goal_frames.proofs.Falling.{falls}
-use Rattle.goal_frames.proofs.Later.{result-later}
-use Rattle.goal_frames.proofs.Shortages.{frame-runs-out-later}
 use Rattle.goal_frames.specs.Meanings.{HandlerMeaning}
 use Rattle.solver_context.specs.declared.context.SolverCx.{SolverCx}
 use Rattle.solver_context.specs.Contexts.{Asked, entries_of, Advances, IsKeptAnswer}
 use Rattle.solver_context.specs.Answers.{reply_read, request_read}
-use Rattle.solver_context.specs.Searching.{programs, bare, bare_handles, AnyAnswer, ContextIsFull, RepliedResultIs, world_of, handles, FrameHasHeard, solver_meaning, steps_left}
-use Rattle.solver_context.specs.Shortages.{interner}
+use Rattle.solver_context.specs.Searching.{programs, bare, bare_handles, AnyAnswer, RepliedResultIs, world_of, handles, FrameHasHeard, solver_meaning, steps_left}
 use Rattle.solver_context.proofs.Due.{due-same, heard-more, came-anyhow}
-use Rattle.solver_context.proofs.Growing.{asked-later, input-later, keeps, told-there, all-told, same-world}
+use Rattle.solver_context.proofs.Growing.{asked-later, input-later, told-there, all-told, same-world}
 
 abbrev CodeReply : Type 0
 CodeReply = Reply (Option CanonicalResponse)
@@ -111,37 +105,6 @@ module _ {Handler : Type 0} (m : HandlerMeaning Handler)
       -- a reply that is due to the search's frame is due to the goal's
       pub is-due : Due → Frames.ReplyIsDue (entries_of c) (by_frame c f) f (Frames.reply_read (entries_of c) reply)
       is-due due = subst (λ h. Frames.ReplyIsDue (entries_of c) h f (Frames.reply_read (entries_of c) reply)) (of-goal g heard x) (replies_of heard, x.frame, in-order due)
-
-      module _ (d : SolverCx Handler) (a : Advances m.IsReady c d) (held : Frames.ReplyIsMade (entries_of c) reply) where
-        -- the reply says the same over the grown interner, and stays kept
-        read-later : (r : CodeReply) → Frames.ReplyIsMade (entries_of c) r → reply_read (entries_of d) r ≡ reply_read (entries_of c) r
-        read-later Begin h = refl
-        read-later (Result o) h = ap Result (result-later (entries_of c) (entries_of d) a.entries o h.0)
-        read-later Entered h = refl
-        read-later (Finished n) h = refl
-        read-later Ignored h = refl
-
-        -- the frame, as the grown context knows it, comes to where numbers are used up, if no table of the interner is at its limit
-        pub some-frame : RepliedResultIs (IsKeptAnswer m.IsReady c) (reply_read (entries_of c) reply) → Due
-            → SomeKindIsFull (entries_of d) d.interner.limit ⊎ FrameRunsOut (entries_of c) (by_frame c f) f reply → ContextIsFull m d
-        some-frame told due (inl h) = inl (interner h)
-        some-frame told due (inr n) =
-            let same = same-world m kept c d x.ready a in
-            let read = read-later reply held in
-            inr (record {
-              frame = f;
-              goal = g;
-              heard = heard;
-              is = (keeps m kept c d x.ready a).frames g heard f x;
-              reply = reply;
-              due = subst (λ w. Search.IsDueAfter (bare m.goals) w g heard (reply_read (entries_of d) reply)) (sym same)
-                  (subst (λ y. Search.IsDueAfter (bare m.goals) (world c) g heard y) (sym read)
-                  (due-same frame_tables (programs m.goals) (handles m) (bare_handles m.goals) (world c) g heard (reply_read (entries_of c) reply) due));
-              kept = subst (RepliedResultIs (IsKeptAnswer m.IsReady d)) (sym read) (told-there m kept c d x.ready a (reply_read (entries_of c) reply) told);
-              runs_out = subst (λ w. FrameRunsOut (entries_of d) (m.goals.handled w g.0 g.1) f reply) (sym same)
-                  (frame-runs-out-later (entries_of c) (entries_of d) a.entries (m.goals.handled (world c) g.0 g.1) f x.frame.held reply held
-                  (subst (λ h. FrameRunsOut (entries_of c) h f reply) (sym (of-goal g heard x)) n));
-            })
 
       module _ (d : SolverCx Handler) (a : Advances m.IsReady c d) (after : GoalFrame) (q : Request CanonicalInput (Option CanonicalResponse))
           (held : Frames.ReplyIsMade (entries_of c) reply) (told : RepliedResultIs (IsKeptAnswer m.IsReady c) (reply_read (entries_of c) reply)) (fewer : AsksFewer f.place after.place)

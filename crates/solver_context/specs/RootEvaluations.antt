@@ -1,7 +1,6 @@
 -- What `evaluate_root_goal` promises: how it leaves what it is lent, what it costs, what it says, and when it refuses or ends with a fault.
-use Rattle.std.specs.Prelude.{◌≡◌, ◌⊎◌, List, Option, Some, None, OnErr, Result, Err}
+use Rattle.std.specs.Prelude.{◌≡◌, List, Option, Some, None, IfErr, OnErr, Result, Err}
 use Rattle.type_terms.specs.Terms.{Keeps}
-use Rattle.type_terms.specs.declared.Fault.TheVariants.{Full}
 use Rattle.infer_table.specs.Content.{Table, Ready, Grows, content}
 use Rattle.infer_table.specs.Goals.{GoalHeld, goal_trees}
 use Rattle.infer_table.specs.Responses.{AnswerTrees}
@@ -22,12 +21,12 @@ use Rattle.solver_context.specs.Contexts.{Asked, entries_of, IsReady, KeepsLimit
 use Rattle.solver_context.specs.Evaluations.{asked_in, Says}
 use Rattle.solver_context.specs.Results.{FramesAreBounded, KnownIsFree, LimitsAreNoted, IsNotPlainWithin, IsResult}
 use Rattle.solver_context.specs.Roots.{goal_in, values_in, left_by, SolutionsAreProved, AtProvedSolutions, SolutionGoesOn}
-use Rattle.solver_context.specs.Searching.{solver_meaning, world_of, ContextIsFull}
-use Rattle.solver_context.specs.Shortages.{RootRunsOut}
+use Rattle.solver_context.specs.Searching.{solver_meaning, world_of}
+use Rattle.solver_context.specs.Shortages.{RootFullAtLimit}
 use Rattle.solver_context.specs.declared.context.SolverCx.{SolverCx}
 use Rattle.solver_context.specs.declared.outcome.GoalEvaluation.{GoalEvaluation}
 use Rattle.solver_context.specs.declared.outcome.RootError.{RootError}
-use Rattle.solver_context.specs.declared.outcome.RootError.TheVariants.{NoSolution, Conflict, Fault}
+use Rattle.solver_context.specs.declared.outcome.RootError.TheVariants.{NoSolution, Conflict}
 
 -- A cache as what it knows.
 abbrev pub KnownResults : Type 0
@@ -92,9 +91,8 @@ module _ {Handler : Type 0} (m : HandlerMeaning Handler) (c : SolverCx Handler) 
     pub answer : result ≡ Err NoSolution → (a : Option AnswerTrees) × IsGivenBySearch mode g a × (left_by (table_trees (entries_of c) t) (goal_in (entries_of c) t g) a ≡ None)
     pub no_proof : result ≡ Err NoSolution → AtProved m c t mode g (λ s. ⊥)
 
-  -- A goal that plain recursion answers within the depth meets no conflict. `Full` comes only where a table is at its limit: one of the
-  -- context, or this one, which has no numbers for the goal's form or for the answer that the search gives.
+  -- A goal that plain recursion answers within the depth meets no conflict. `Full` comes only where the context is at a limit.
   pub record EndsByFault (mode : TypingMode) (g : Goal) (result : Result GoalEvaluation RootError) : Type 0 where
     pub not_plain : result ≡ Err Conflict → IsNotPlainWithin (solver_meaning m) c graph (goal_asked c t mode g)
     pub conflict : result ≡ Err Conflict → HasConflict (solver_meaning m) d ls
-    pub full : result ≡ Err (Fault Full) → ContextIsFull m d ⊎ RootRunsOut (λ a. IsGivenBySearch mode g (Some a)) (table_trees (entries_of c) t) (goal_in (entries_of c) t g)
+    pub full : IfErr result (RootFullAtLimit d)

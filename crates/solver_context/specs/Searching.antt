@@ -1,11 +1,10 @@
 -- What the contexts, numbers and frames of the solver mean to a search.
-use Rattle.std.specs.Prelude.{◌≡◌, ◌⊎◌, ℕ, List, Option, Some, slice_get}
+use Rattle.std.specs.Prelude.{◌≡◌, ℕ, List, Option, Some, slice_get}
 use Rattle.type_terms.specs.Terms.{Entry}
 use Rattle.search_graph.specs.declared.delegate.Reply.{Reply}
 use Rattle.search_graph.specs.declared.delegate.Reply.TheVariants as Replied
-use Rattle.search_graph.specs.Meaning.{Meaning, AreReplies, IsDueAfter}
+use Rattle.search_graph.specs.Meaning.{Meaning, AreReplies}
 use Rattle.infer_table.specs.Inputs.{form_of}
-use Rattle.infer_table.specs.declared.response.CanonicalResponse.{CanonicalResponse}
 use Rattle.infer_table.specs.Responses.{AnswerTrees}
 use Rattle.evaluation.specs.Lists.{Every}
 use Rattle.evaluation.specs.Tables.{frame_tables}
@@ -18,12 +17,10 @@ use Rattle.goal_frames.specs.declared.frame.GoalFrame.{GoalFrame}
 use Rattle.goal_frames.specs.Frames as Frames
 use Rattle.goal_frames.specs.Meanings.{Goals, HandlerMeaning}
 use Rattle.goal_frames.specs.HandlerPrograms.{programs_of}
-use Rattle.goal_frames.specs.Shortages.{FrameRunsOut}
 use Rattle.goal_frames.specs.Steps as Steps
 use Rattle.solver_context.specs.declared.context.SolverCx.{SolverCx}
-use Rattle.solver_context.specs.Answers.{reply_read}
 use Rattle.solver_context.specs.Contexts.{Asked, entries_of, goal_of, answer_of, IsReady, IsInput, ResponseIsMade, IsKeptAnswer}
-use Rattle.solver_context.specs.Shortages.{TableIsFull}
+use Rattle.solver_context.specs.Shortages.{ContextIsFull}
 
 -- whatever is answered
 abbrev pub AnyAnswer : Asked → Option AnswerTrees → Type 0
@@ -79,21 +76,6 @@ module _ {Handler : Type 0} (m : HandlerMeaning Handler) where
     pub replies : Every (RepliedResultIs (IsKeptAnswer m.IsReady c)) heard
     pub due : AreReplies (bare m.goals) AnyAnswer (world_of c) g heard
     pub frame : Frames.HasHeard (entries_of c) (m.goals.handled (world_of c) g.0 g.1) f (replies_of heard)
-
-  -- a frame of the context comes with its next reply, which is kept, to where numbers are used up
-  pub record SomeFrameRunsOut (c : SolverCx Handler) : Type 0 where
-    pub frame : GoalFrame
-    pub goal : Asked
-    pub heard : List (Reply (Option AnswerTrees))
-    pub is : FrameHasHeard c goal heard frame
-    pub reply : Reply (Option CanonicalResponse)
-    pub due : IsDueAfter (bare m.goals) (world_of c) goal heard (reply_read (entries_of c) reply)
-    pub kept : RepliedResultIs (IsKeptAnswer m.IsReady c) (reply_read (entries_of c) reply)
-    pub runs_out : FrameRunsOut (entries_of c) (m.goals.handled (world_of c) goal.0 goal.1) frame reply
-
-  -- a table of the context is at its limit: the interner's, the store's, or that of a frame's unknowns and variables
-  abbrev pub ContextIsFull : SolverCx Handler → Type 0
-  ContextIsFull c = TableIsFull c ⊎ SomeFrameRunsOut c
 
   abbrev pub handles : Handles (SolverCx Handler) InputId (Option ResponseId) GoalFrame m.goals.World Asked (Option AnswerTrees)
   handles = record {

@@ -1,15 +1,14 @@
 //! An answer put into the table of the goal that was asked.
 
-ghost use Rattle.std.specs.Prelude.{◌≡◌, ◌⊎◌, Some, None, OnOk, OnErr, Err};
-ghost use Rattle.type_terms.specs.Terms.{Entry, Keeps};
+ghost use Rattle.term_folds.specs.Growth.{Grew};
+ghost use Rattle.std.specs.Prelude.{◌≡◌, Some, None, IfErr, OnOk, OnErr, Err};
+ghost use Rattle.type_terms.specs.Terms.{Entry};
 ghost use Rattle.type_terms.specs.Kinds.{ArgsHeld};
 ghost use Rattle.infer_table.specs.Content.{Ready, Grows, content};
 ghost use Rattle.infer_table.specs.Solutions.{Assignment, Solves};
 ghost use Rattle.infer_table.specs.Unification.{table_trees};
 ghost use Rattle.infer_table.specs.Leaves.{AreLeaves};
-ghost use Rattle.infer_table.specs.Shortages.{IsOutOfNumbers};
-ghost use Rattle.infer_table.specs.Values.{values_of};
-ghost use Rattle.type_terms.specs.Failures.{SomeKindIsFull};
+ghost use Rattle.infer_table.specs.Shortages.{EqFullAtLimit};
 ghost use Rattle.infer_table.specs.Responses.{ResponseHeld, answer_trees};
 ghost use Rattle.evaluation.specs.TableAnswers.{has_values, IsWellFormed};
 ghost use Rattle.solver_context.specs.Roots.{left_by_answer, AtAgreeingSolutions, SolutionGoesOn};
@@ -21,7 +20,6 @@ use infer_table::certainty::EqError;
 use infer_table::infer_ctxt::InferCtxt;
 use infer_table::response::CanonicalResponse;
 use std::alloc::Global;
-use type_terms::Fault;
 use type_terms::interner::Interner;
 use type_terms::kinds::GenericArgKind;
 
@@ -45,8 +43,7 @@ pub(crate) fn apply_answer(
     requires ready { Ready cx.old.entries table.old }
     ensures ready { Ready cx.new.entries table.new }
     ensures grows { Grows table.old table.new }
-    ensures keeps { Keeps cx.old.entries cx.new.entries }
-    ensures limit { cx.new.limit ≡ cx.old.limit }
+    ensures grew { Grew cx.old cx.new }
     ensures refused { OnErr result (table.new ≡ table.old) }
 
     // What is left, and whether it is refused, is a function of trees.
@@ -59,9 +56,8 @@ pub(crate) fn apply_answer(
     ensures kept { OnOk result (AtAgreeingSolutions cx.old.entries table.old values.now answer.now (λ s. SolutionGoesOn s table.old cx.new.entries table.new)) }
     ensures accepted { result ≡ Err EqError.NoSolution → AtAgreeingSolutions cx.old.entries table.old values.now answer.now (λ s. ⊥) }
 
-    // `Full` comes only where some kind of term has reached the interner's limit, or the table has no numbers for the answer.
-    ensures full { result ≡ Err (EqError.Fault Fault.Full) → SomeKindIsFull cx.new.entries cx.new.limit
-        ⊎ IsOutOfNumbers (table_trees cx.old.entries table.old) (values_of cx.old.entries values.now) (answer_trees cx.old.entries answer.now) }
+    // `Full` comes only where some kind of term has reached the interner's limit.
+    ensures full { IfErr result (EqFullAtLimit cx.new) }
 {
     cx.lawful();
     if !have_same_sorts(values, &answer.var_values) {

@@ -1,6 +1,6 @@
 //! A goal of a table as a search is asked for it.
 
-ghost use Rattle.std.specs.Prelude.{◌≡◌, ◌⊎◌, Err, IfOk};
+ghost use Rattle.std.specs.Prelude.{◌≡◌, IfErr, IfOk};
 ghost use Rattle.type_terms.specs.Terms.{Keeps};
 ghost use Rattle.type_terms.specs.Kinds.{ArgsHeld};
 ghost use Rattle.infer_table.specs.Canonical.{canonical_form, goal_leaves};
@@ -9,7 +9,7 @@ ghost use Rattle.infer_table.specs.Goals.{GoalHeld, goal_trees};
 ghost use Rattle.infer_table.specs.Leaves.{AreLeaves, labels};
 ghost use Rattle.solver_context.specs.Contexts.{goal_of, IsReady, IsInput, Advances};
 ghost use Rattle.solver_context.specs.Roots.{goal_in};
-ghost use Rattle.solver_context.specs.Shortages.{TableIsFull, GoalHasNoForm};
+ghost use Rattle.solver_context.specs.Shortages.{ContextFullAtLimit};
 
 use crate::context::SolverCx;
 use goal_frames::GoalHandler;
@@ -51,7 +51,7 @@ pub fn ask<H: GoalHandler>(
     ensures args { IfOk result (λ a. ArgsHeld cx.new.interner.entries a.values.items) }
     ensures leaves { IfOk result (λ a. AreLeaves cx.new.interner.entries a.values.items) }
     ensures values { IfOk result (λ a. labels cx.new.interner.entries a.values.items ≡ goal_leaves (goal_in cx.old.interner.entries table.now goal.now)) }
-    ensures full { result ≡ Err Fault.Full → TableIsFull cx.new ⊎ GoalHasNoForm (goal_in cx.old.interner.entries table.now goal.now) }
+    ensures full { IfErr result (ContextFullAtLimit cx.new) }
 {
     let resolved = resolve_goal(cx.alloc, &mut cx.interner, table, goal);
     cx.interner.lawful();

@@ -8,7 +8,8 @@ ghost use Rattle.goal_frames.specs.Searches.{is_ambiguous_answer, is_yes_answer}
 ghost use Rattle.goal_frames.specs.HandlerPrograms.{silent, cycle_answer};
 ghost use Rattle.solver_context.specs.Answers.{certainty_of};
 ghost use Rattle.solver_context.specs.Contexts.{goal_of, answer_of, IsInput, ResponseIsMade};
-ghost use Rattle.solver_context.specs.Searching.{solver_meaning, steps_left, ContextIsFull};
+ghost use Rattle.solver_context.specs.Searching.{solver_meaning, steps_left};
+ghost use Rattle.solver_context.specs.Shortages.{ContextIsFull};
 
 use crate::context::SolverCx;
 use crate::requests::{keep_request, read_reply};
@@ -27,8 +28,8 @@ const LEVELS_OF_A_SMALL_GOAL: usize = 16;
 ///
 /// What it means to a search is what the handler means for goals: the questions of a frame are those of the goal's frame over
 /// trees, a definite yes follows by the handler's rules, and an answer covers its goal. So all that is proved of searches
-/// holds of the answers to a handler's goals. A call answers `Full` only where a table is at its limit (`ContextIsFull`): one of
-/// the interner's, the store of goals and answers, or that of a frame's unknowns and variables, of which there are so many numbers.
+/// holds of the answers to a handler's goals. A call answers `Full` only where the context is at a limit (`ContextIsFull`): that of
+/// the interner, or of the store of goals and answers.
 ///
 /// `SearchGraphDelegate` of `rustc_next_trait_solver`.
 pub struct SolverGraph<H> {
@@ -137,7 +138,7 @@ impl<H: GoalHandler> Delegate for SolverGraph<H> {
     ) -> Result<Option<ResponseId>, Fault>
         requires { IsInput H.meaning.IsReady cx.old for_input.now }
         ensures keeps { Keeps (solver_meaning H.meaning) cx.old cx.new }
-        ensures full { result ≡ Err Fault.Full → ContextIsFull H.meaning cx.new }
+        ensures full { result ≡ Err Fault.Full → ContextIsFull cx.new }
         ensures known { IfOk result (ResponseIsMade H.meaning.IsReady cx.new) }
         ensures fair { IfOk result (λ r. let m = solver_meaning H.meaning in
             IsFair m (m.world cx.old) (goal_of cx.old for_input.now) (answer_of cx.new r)) }
@@ -162,8 +163,8 @@ impl<H: GoalHandler> Delegate for SolverGraph<H> {
 
     /// Gives the frame the reply, and keeps the goal that it asks or the answer that it gives.
     ///
-    /// `Full` comes where a table of the interner is full, as many goals or answers are kept as the limit allows, or the frame
-    /// needs more variables than there are numbers; `Memory` where memory is refused.
+    /// `Full` comes where a table of the interner is full, or as many goals or answers are kept as the limit allows; `Memory`
+    /// where memory is refused, or the frame needs more variables than there are numbers.
     fn step(
         frame: &mut GoalFrame,
         cx: &mut SolverCx<H>,
@@ -172,7 +173,7 @@ impl<H: GoalHandler> Delegate for SolverGraph<H> {
         requires due { IsDue (solver_meaning H.meaning) cx.old frame.old reply }
         requires reply { IsReply (solver_meaning H.meaning) cx.old reply }
         ensures keeps { Keeps (solver_meaning H.meaning) cx.old cx.new }
-        ensures full { result ≡ Err Fault.Full → ContextIsFull H.meaning cx.new }
+        ensures full { result ≡ Err Fault.Full → ContextIsFull cx.new }
         ensures steps { IfOk result (λ q. Steps (solver_meaning H.meaning) cx.old frame.old reply cx.new frame.new q) }
         ensures falls { IfOk result (λ q. steps_left H.meaning cx.new frame.new < steps_left H.meaning cx.old frame.old) }
     {

@@ -1,6 +1,6 @@
 //! The answer of a search to a goal.
 
-ghost use Rattle.std.specs.Prelude.{◌≡◌, IfOk, Err};
+ghost use Rattle.std.specs.Prelude.{◌≡◌, IfOk, IfErr, Err};
 ghost use Rattle.evaluation.specs.Readings.{ResultHeld};
 ghost use Rattle.goal_frames.specs.Fitting.{ResultFits};
 ghost use Rattle.evaluation.specs.StepReadings.{result_read};
@@ -8,9 +8,10 @@ ghost use Rattle.search_graph.specs.Cache.{AreJustified, AreConsistent, HasConfl
 ghost use Rattle.search_graph.specs.Meaning.{Keeps, IsFair};
 ghost use Rattle.search_graph.specs.Proof.{HasProof};
 ghost use Rattle.solver_context.specs.Contexts.{goal_of, IsReady, IsInput};
-ghost use Rattle.solver_context.specs.Searching.{solver_meaning, ContextIsFull};
+ghost use Rattle.solver_context.specs.Searching.{solver_meaning};
 ghost use Rattle.solver_context.specs.Evaluations.{IsRight};
 ghost use Rattle.solver_context.specs.Results.{FramesAreBounded, KnownIsFree, LimitsAreNoted, IsNotPlainWithin, IsResult};
+ghost use Rattle.solver_context.specs.Shortages.{RootFullAtLimit};
 
 use crate::context::SolverCx;
 use crate::graph::SolverGraph;
@@ -49,7 +50,7 @@ pub(crate) fn search<H: GoalHandler>(
     ensures not_refused { result ≡ Err RootError.NoSolution → ⊥ }
     ensures no_conflict { result ≡ Err RootError.Conflict → IsNotPlainWithin (solver_meaning H.meaning) cx.old graph.old (goal_of cx.old input) }
     ensures conflict { result ≡ Err RootError.Conflict → HasConflict (solver_meaning H.meaning) cx.new cache.new }
-    ensures full { result ≡ Err (RootError.Fault Fault.Full) → ContextIsFull H.meaning cx.new }
+    ensures full { IfErr result (RootFullAtLimit cx.new) }
 {
     handlers_are_programs::<H>();
     match graph.evaluate_goal(cache, cx, input, PathKind::Inductive) {

@@ -8,7 +8,7 @@ ghost use Rattle.evaluation.specs.TableAnswers.{without_values};
 ghost use Rattle.goal_frames.specs.HandlerPrograms.{cycle_certainty};
 ghost use Rattle.solver_context.specs.Answers.{holds_nothing};
 ghost use Rattle.solver_context.specs.Contexts.{goal_of, answer_of, IsInput, ResponseIsMade, Advances};
-ghost use Rattle.solver_context.specs.Shortages.{TableIsFull};
+ghost use Rattle.solver_context.specs.Shortages.{ContextIsFull};
 
 use crate::context::SolverCx;
 use evaluation::{has_no_inference_or_external_constraints, is_identity_modulo_regions};
@@ -50,7 +50,7 @@ pub(crate) fn silent_answer<H: GoalHandler>(
     requires { IsInput H.meaning.IsReady cx.old input }
     ensures advances { Advances H.meaning.IsReady cx.old cx.new }
     ensures is { IfOk result (λ r. ResponseIsMade H.meaning.IsReady cx.new r × (answer_of cx.new r ≡ silent (goal_of cx.old input).1 certainty)) }
-    ensures full { result ≡ Err Fault.Full → TableIsFull cx.new }
+    ensures full { result ≡ Err Fault.Full → ContextIsFull cx.new }
 {
     let variables = Vec::from_slice(cx.alloc, &cx.store.input(input).variables)?;
     let made = response_no_constraints_raw(cx.alloc, &mut cx.interner, variables, certainty);

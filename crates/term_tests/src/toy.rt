@@ -156,8 +156,10 @@ pub fn three_premises_are_asked_in_order()
     ensures refused { ToyAsks three_premises (show (atom u8)) (evaluated None ∷ evaluated yes ∷ entered ∷ begin ∷ []) finish_candidate }
 
     // In a round without values, those that are not yes stay, and an overflow among them is the cause.
-    ensures ambiguous { ToyAsks three_premises (show (atom u8)) (finished 0 ∷ evaluated yes ∷ evaluated maybe ∷ evaluated yes ∷ entered ∷ begin ∷ []) (returns maybe) }
-    ensures overflowed { ToyAsks three_premises (show (atom u8)) (finished 0 ∷ evaluated maybe ∷ evaluated overflow ∷ evaluated yes ∷ entered ∷ begin ∷ []) (returns overflow) }
+    ensures ambiguous { ToyAsks three_premises (show (atom u8))
+        (finished 0 ∷ evaluated yes ∷ evaluated maybe ∷ evaluated yes ∷ entered ∷ begin ∷ []) (returns maybe) }
+    ensures overflowed { ToyAsks three_premises (show (atom u8))
+        (finished 0 ∷ evaluated maybe ∷ evaluated overflow ∷ evaluated yes ∷ entered ∷ begin ∷ []) (returns overflow) }
 {}
 
 /// A premise that binds the unknown is asked again with its value; after eight rounds with values the answer is an overflow

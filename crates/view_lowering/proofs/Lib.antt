@@ -30,6 +30,5 @@ mod ReadySeen
 pub mod Variables
 mod QuestionTypes
 mod QuestionTexts
-mod Refusals
 pub mod LaterImpls
 mod Counts

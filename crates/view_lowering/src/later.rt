@@ -1,7 +1,6 @@
 //! The impls that a later version of a crate adds.
-ghost use Rattle.std.specs.Prelude.{◌≡◌, map, Err, IfOk};
-ghost use Rattle.type_terms.specs.Terms.{Keeps};
-ghost use Rattle.type_terms.specs.Failures.{SomeKindIsFull};
+ghost use Rattle.std.specs.Prelude.{◌≡◌, map, IfOk, IfErr};
+ghost use Rattle.term_folds.specs.Growth.{Grew, FullAtLimit};
 ghost use Rattle.declarations.specs.Held.{ImplHeld};
 ghost use Rattle.declarations.specs.Merges.{Each};
 ghost use Rattle.view_lowering.specs.Later.{added_impls, added_in, added_sorts, sorts_of_added};
@@ -28,9 +27,8 @@ pub fn lower_later(
     ensures impls { IfOk result (λ defs. map (added_in cx.new.entries) defs.items ≡ added_impls workspace.now section) }
     ensures sorts { IfOk result (λ defs. map sorts_of_added defs.items ≡ added_sorts workspace.now section) }
     ensures held { IfOk result (λ defs. Each (ImplHeld cx.new.entries) defs.items) }
-    ensures keeps { Keeps cx.old.entries cx.new.entries }
-    ensures limit { cx.new.limit ≡ cx.old.limit }
-    ensures full { result ≡ Err Fault.Full → SomeKindIsFull cx.new.entries cx.new.limit }
+    ensures grew { Grew cx.old cx.new }
+    ensures full { IfErr result (FullAtLimit cx.new) }
 {
     let mut defs = Vec::new(alloc);
     let entries = workspace.later_impls_of(section);

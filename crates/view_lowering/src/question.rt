@@ -1,11 +1,9 @@
 //! Questions.
-ghost use Rattle.std.specs.Prelude.{◌≡◌, ◌⊎◌, ◌+◌, ◌<◌, ◌≤◌, [], length, map, Err, OnOk, IfOk};
+ghost use Rattle.std.specs.Prelude.{◌≡◌, map, IfOk, IfErr};
 ghost use Rattle.text_definitions.specs.Declarations.{Question};
 ghost use Rattle.text_definitions.specs.Names.{own_from};
 ghost use Rattle.type_terms.specs.Kinds.{arg_trees, ArgsHeld, ArgHeld};
-ghost use Rattle.type_terms.specs.Terms.{Keeps};
-ghost use Rattle.type_terms.specs.declared.TheConstants.{MAX_INDEX};
-ghost use Rattle.type_terms.specs.Failures.{SomeKindIsFull};
+ghost use Rattle.term_folds.specs.Growth.{Grew, FullAtLimit};
 ghost use Rattle.workspace.specs.Made.{ReferenceMade, ReferencesMade};
 ghost use Rattle.workspace.specs.Views.{question_of, variable_of};
 ghost use Rattle.view_lowering.specs.Questions.{IsQuestion, IsLowered, IsNextUnknown};
@@ -48,10 +46,8 @@ fn next_unknown(
 ) -> Result<GenericArgKind, Fault>
     ensures is { IfOk result (λ arg. IsNextUnknown cx.new.entries kind counts.old arg counts.new) }
     ensures held { IfOk result (λ arg. ArgHeld cx.new.entries arg) }
-    ensures keeps { Keeps cx.old.entries cx.new.entries }
-    ensures limit { cx.new.limit ≡ cx.old.limit }
-    ensures counted { OnOk result (counts.new.types + counts.new.consts ≤ counts.old.types + counts.old.consts + 1) }
-    ensures full { result ≡ Err Fault.Full → SomeKindIsFull cx.new.entries cx.new.limit ⊎ (MAX_INDEX ≤ counts.old.types + counts.old.consts) }
+    ensures grew { Grew cx.old cx.new }
+    ensures full { IfErr result (FullAtLimit cx.new) }
 {
     match kind {
         ParamKind::Lifetime => Ok(GenericArgKind::Lifetime(Region {
@@ -59,7 +55,7 @@ fn next_unknown(
         })),
         ParamKind::Type => {
             if counts.types >= MAX_INDEX {
-                return Err(Fault::Full);
+                return Err(Fault::Memory);
             }
             let ty = cx.mk_ty(TyKind::Infer(TyVid {
                 index: counts.types,
@@ -69,7 +65,7 @@ fn next_unknown(
         }
         ParamKind::Const => {
             if counts.consts >= MAX_INDEX {
-                return Err(Fault::Full);
+                return Err(Fault::Memory);
             }
             let value = cx.mk_const(ConstKind::Infer(ConstVid {
                 index: counts.consts,
@@ -88,9 +84,8 @@ fn own_unknowns(
 ) -> Result<Vec<GenericArgKind>, Fault>
     ensures are { IfOk result (λ args. map (arg_trees cx.new.entries) args.items ≡ own_from 0 0 (map variable_of variables.now)) }
     ensures held { IfOk result (λ args. ArgsHeld cx.new.entries args.items) }
-    ensures keeps { Keeps cx.old.entries cx.new.entries }
-    ensures limit { cx.new.limit ≡ cx.old.limit }
-    ensures full { result ≡ Err Fault.Full → SomeKindIsFull cx.new.entries cx.new.limit ⊎ (MAX_INDEX < length variables.now) }
+    ensures grew { Grew cx.old cx.new }
+    ensures full { IfErr result (FullAtLimit cx.new) }
 {
     let mut unknowns = Vec::new(alloc);
     let mut counts = Counts {
@@ -113,9 +108,8 @@ fn lower_entry(
     requires asked { ReferenceMade entry.now.asked }
     requires clauses { ReferencesMade entry.now.clauses.items }
     ensures lowered { IfOk result (λ lowered. IsLowered cx.new.entries (question_of entry.now) lowered) }
-    ensures keeps { Keeps cx.old.entries cx.new.entries }
-    ensures limit { cx.new.limit ≡ cx.old.limit }
-    ensures full { result ≡ Err Fault.Full → SomeKindIsFull cx.new.entries cx.new.limit ⊎ (MAX_INDEX < length entry.now.variables.items) }
+    ensures grew { Grew cx.old cx.new }
+    ensures full { IfErr result (FullAtLimit cx.new) }
 {
     let asked = lower_reference(alloc, cx, &entry.asked, Kept::All)?;
     let clauses = lower_references(alloc, cx, &entry.clauses, Kept::All)?;
@@ -127,8 +121,8 @@ fn lower_entry(
     })
 }
 
-/// The question with a number, counted from 1. The error is `Memory`, or `Full` where a table of the interner is full or there are
-/// more variables than `MAX_INDEX`; the interner may then hold more terms than before.
+/// The question with a number, counted from 1. The error is `Memory`, also where there are more variables than `MAX_INDEX`, or `Full`
+/// where a table of the interner is full; the interner may then hold more terms than before.
 pub fn lower_question(
     alloc: Global,
     cx: &mut Interner,
@@ -137,10 +131,8 @@ pub fn lower_question(
 ) -> Result<LoweredQuestion, Fault>
     requires { (q : Question) × IsQuestion workspace.now number q }
     ensures lowered { (q : Question) → IsQuestion workspace.now number q → IfOk result (λ lowered. IsLowered cx.new.entries q lowered) }
-    ensures keeps { Keeps cx.old.entries cx.new.entries }
-    ensures limit { cx.new.limit ≡ cx.old.limit }
-    ensures full { (q : Question) → IsQuestion workspace.now number q → result ≡ Err Fault.Full
-        → SomeKindIsFull cx.new.entries cx.new.limit ⊎ (MAX_INDEX < length q.variables) }
+    ensures grew { Grew cx.old cx.new }
+    ensures full { IfErr result (FullAtLimit cx.new) }
 {
     let entries = workspace.question_entries();
     lower_entry(alloc, cx, &entries[number as usize - 1])

@@ -1,8 +1,7 @@
 //! The whole view of a crate.
-ghost use Rattle.std.specs.Prelude.{◌≡◌, ◌+◌, ◌<◌, ◌≤◌, [], length, map, sum_by, Err, OnOk, IfOk, IfErr};
+ghost use Rattle.std.specs.Prelude.{◌≡◌, ◌+◌, ◌<◌, ◌≤◌, [], length, map, sum_by, OnOk, IfOk, IfErr};
 ghost use Rattle.type_terms.specs.declared.Fault.TheVariants.{Memory};
-ghost use Rattle.type_terms.specs.Terms.{Keeps};
-ghost use Rattle.type_terms.specs.Failures.{SomeKindIsFull};
+ghost use Rattle.term_folds.specs.Growth.{Grew, FullAtLimit};
 ghost use Rattle.declarations.specs.Held.{AreHeld};
 ghost use Rattle.declarations.specs.Items.{written, declared, struct_in, trait_in, impl_in};
 ghost use Rattle.view_lowering.specs.MostTerms.{struct_terms_seen, trait_terms_seen, impl_terms_seen, most_terms};
@@ -62,10 +61,9 @@ fn lower_structs(
     ensures sorts { OnOk result (map struct_sorts decls.new.structs ≡ struct_sorts_seen workspace.now crate_id.index) }
     ensures others { OnOk result (decls.new ≡ record decls.old { structs = decls.new.structs }) }
     ensures held { OnOk result (AreHeld cx.new.entries decls.new) }
-    ensures keeps { Keeps cx.old.entries cx.new.entries }
-    ensures limit { cx.new.limit ≡ cx.old.limit }
+    ensures grew { Grew cx.old cx.new }
     ensures few { length cx.new.entries ≤ length cx.old.entries + sum_by (struct_terms_seen workspace.now crate_id.index) workspace.now.structs }
-    ensures full { result ≡ Err Fault.Full → SomeKindIsFull cx.new.entries cx.new.limit }
+    ensures full { IfErr result (FullAtLimit cx.new) }
 {
     let _ = workspace.crates();
     let entries = workspace.structs();
@@ -93,10 +91,9 @@ fn lower_traits(
     ensures sorts { OnOk result (map trait_sorts decls.new.traits ≡ trait_sorts_seen workspace.now crate_id.index) }
     ensures others { OnOk result (decls.new ≡ record decls.old { traits = decls.new.traits }) }
     ensures held { OnOk result (AreHeld cx.new.entries decls.new) }
-    ensures keeps { Keeps cx.old.entries cx.new.entries }
-    ensures limit { cx.new.limit ≡ cx.old.limit }
+    ensures grew { Grew cx.old cx.new }
     ensures few { length cx.new.entries ≤ length cx.old.entries + sum_by (trait_terms_seen workspace.now crate_id.index) workspace.now.traits }
-    ensures full { result ≡ Err Fault.Full → SomeKindIsFull cx.new.entries cx.new.limit }
+    ensures full { IfErr result (FullAtLimit cx.new) }
 {
     let _ = workspace.crates();
     let entries = workspace.traits();
@@ -125,10 +122,9 @@ fn lower_impls(
     ensures sorts { OnOk result (map impl_sorts decls.new.impls ≡ impl_sorts_seen workspace.now crate_id.index) }
     ensures others { OnOk result (decls.new ≡ record decls.old { impls = decls.new.impls }) }
     ensures held { OnOk result (AreHeld cx.new.entries decls.new) }
-    ensures keeps { Keeps cx.old.entries cx.new.entries }
-    ensures limit { cx.new.limit ≡ cx.old.limit }
+    ensures grew { Grew cx.old cx.new }
     ensures few { length cx.new.entries ≤ length cx.old.entries + sum_by (impl_terms_seen workspace.now crate_id.index) workspace.now.impls }
-    ensures full { result ≡ Err Fault.Full → SomeKindIsFull cx.new.entries cx.new.limit }
+    ensures full { IfErr result (FullAtLimit cx.new) }
 {
     let _ = workspace.crates();
     let entries = workspace.impls();
@@ -160,12 +156,11 @@ pub fn lower(
     ensures impl_sorts { IfOk result (λ decls. map impl_sorts decls.impls ≡ impl_sorts_seen workspace.now crate_id.index) }
     ensures local { IfOk result (λ decls. decls.local ≡ crate_id.index) }
     ensures held { IfOk result (λ decls. AreHeld cx.new.entries decls) }
-    ensures keeps { Keeps cx.old.entries cx.new.entries }
-    ensures limit { cx.new.limit ≡ cx.old.limit }
+    ensures grew { Grew cx.old cx.new }
 
     // So many terms are made at most, after a fault too.
     ensures few { length cx.new.entries ≤ length cx.old.entries + most_terms workspace.now crate_id.index }
-    ensures full { result ≡ Err Fault.Full → SomeKindIsFull cx.new.entries cx.new.limit }
+    ensures full { IfErr result (FullAtLimit cx.new) }
 {
     let mut decls = Declarations::new(alloc, crate_id);
     reserve_seen(workspace, crate_id, &mut decls)?;

@@ -14,7 +14,7 @@ unknowns-preserved c =
     let now = c.unknowns.cx.entries in
     let next = c.next_ty_var.new.cx.entries in
     let inv = c.unknowns.invariant in
-    let k = c.next_ty_var.ensures.keeps in
+    let k = c.next_ty_var.ensures.grew.keeps in
     record {
       ready = c.next_ty_var.ensures.ready;
       keeps = λ i e h. k i e (inv.keeps i e h);

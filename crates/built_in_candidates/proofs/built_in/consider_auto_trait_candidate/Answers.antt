@@ -1,9 +1,8 @@
-use Rattle.std.proofs.Common.{sym, ap, ◌∙◌, subst, None, Err}
+use Rattle.std.proofs.Common.{sym, ap, ◌∙◌, subst, None}
 use Rattle.type_terms.specs.Rules.{auto_rules_plain}
 use Rattle.type_terms.specs.Terms.{types, trees_at}
 use Rattle.type_terms.specs.Kept.{trees-is}
 use Rattle.infer_table.proofs.Numbers.{goal-held-later}
-use Rattle.infer_table.proofs.FullFacts.{handed-on}
 use Rattle.declarations.specs.Items.{written}
 use Rattle.declarations.specs.Relevant.{next_above}
 use Rattle.assembly_laws.specs.Asking.{with_plain_head}
@@ -30,12 +29,9 @@ returns-in-Some-clause-is c =
     let named = relevant-names old d a S c.requires.considered.first first c.requires.impls in
     sym (ap (as_written V a misc) (switched-off V t T c.in-Some.field-0.index c.requires.considered.first (c.in-Some.ensures.is ∙ ap (next_above None) named)))
 
-pub returns-in_err-tys-in-None-clause-full : goal.returns-in_err-tys-in-None-clause-full
-returns-in_err-tys-in-None-clause-full c = λ q. handed-on c.from_residual.result c.from_residual.ensures.1 (λ p. c.in_err-tys-in-None.ensures.full (ap Err p)) q
-
 pub for_constituent_tys-requires-clause-goal : goal.for_constituent_tys-requires-clause-goal
 for_constituent_tys-requires-clause-goal c =
-    goal-held-later c.args.cx.now.entries c.instantiate_constituent_tys_for_auto_trait.new.cx.entries c.instantiate_constituent_tys_for_auto_trait.ensures.keeps c.args.goal.now.goal c.requires.considered.goal
+    goal-held-later c.args.cx.now.entries c.instantiate_constituent_tys_for_auto_trait.new.cx.entries c.instantiate_constituent_tys_for_auto_trait.ensures.grew.keeps c.args.goal.now.goal c.requires.considered.goal
 
 pub returns-in_ok-tys-in-None-clause-is : goal.returns-in_ok-tys-in-None-clause-is
 returns-in_ok-tys-in-None-clause-is c =
@@ -57,6 +53,6 @@ returns-in_ok-tys-in-None-clause-is c =
     if-ok _ _ c.for_constituent_tys.result
     (λ o is.
     is V plain are
-    ∙ ap (λ b. as_written V b misc plain) (asked-later old mid c.instantiate_constituent_tys_for_auto_trait.ensures.keeps g c.requires.considered.goal)
+    ∙ ap (λ b. as_written V b misc plain) (asked-later old mid c.instantiate_constituent_tys_for_auto_trait.ensures.grew.keeps g c.requires.considered.goal)
     ∙ ap (as_written V a misc) (sym on))
     c.for_constituent_tys.ensures.is

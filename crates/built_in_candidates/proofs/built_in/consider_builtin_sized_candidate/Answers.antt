@@ -1,9 +1,8 @@
-use Rattle.std.proofs.Common.{ap, ◌∙◌, subst, Err}
+use Rattle.std.proofs.Common.{ap, ◌∙◌, subst}
 use Rattle.type_terms.specs.Rules.{sized, sized_rules}
 use Rattle.type_terms.specs.Terms.{types, trees_at}
 use Rattle.type_terms.specs.Kept.{trees-is}
 use Rattle.infer_table.proofs.Numbers.{goal-held-later}
-use Rattle.infer_table.proofs.FullFacts.{handed-on}
 use Rattle.evaluation.specs.declared.candidate.CandidateSource.TheVariants.{BuiltinImpl}
 use Rattle.evaluation.specs.declared.candidate.BuiltinImplSource.TheVariants.{Trivial}
 use Rattle.declarations.specs.Items.{written}
@@ -15,12 +14,9 @@ use Rattle.built_in_candidates.proofs.Asking.{asked-later}
 use Rattle.built_in_candidates.proofs.Heads.{sized-first}
 use Rattle.built_in_candidates.proofs.built_in.consider_builtin_sized_candidate.Goals as goal
 
-pub returns-in_err-tys-clause-full : goal.returns-in_err-tys-clause-full
-returns-in_err-tys-clause-full c = λ q. handed-on c.from_residual.result c.from_residual.ensures.1 (λ p. c.in_err-tys.ensures.full (ap Err p)) q
-
 pub for_constituent_tys-requires-clause-goal : goal.for_constituent_tys-requires-clause-goal
 for_constituent_tys-requires-clause-goal c =
-    goal-held-later c.args.cx.now.entries c.instantiate_constituent_tys_for_sized_trait.new.cx.entries c.instantiate_constituent_tys_for_sized_trait.ensures.keeps c.args.goal.now.goal c.requires.goal
+    goal-held-later c.args.cx.now.entries c.instantiate_constituent_tys_for_sized_trait.new.cx.entries c.instantiate_constituent_tys_for_sized_trait.ensures.grew.keeps c.args.goal.now.goal c.requires.goal
 
 pub returns-clause-is : goal.returns-clause-is
 returns-clause-is c =
@@ -34,5 +30,5 @@ returns-clause-is c =
     if-ok _ _ c.for_constituent_tys.result
     (λ o is.
     is V (sized_rules V (with_plain_head T)) are
-    ∙ ap (λ a. as_written V a (BuiltinImpl Trivial) (sized_rules V (with_plain_head T))) (asked-later old mid c.instantiate_constituent_tys_for_sized_trait.ensures.keeps c.args.goal.now c.requires.goal))
+    ∙ ap (λ a. as_written V a (BuiltinImpl Trivial) (sized_rules V (with_plain_head T))) (asked-later old mid c.instantiate_constituent_tys_for_sized_trait.ensures.grew.keeps c.args.goal.now c.requires.goal))
     c.for_constituent_tys.ensures.is

@@ -1,6 +1,6 @@
 use Rattle.std.proofs.Common.{◌≡◌, length}
 use Rattle.std.specs.List.{slice_get}
-use Rattle.type_terms.specs.Terms.{Keeps}
+use Rattle.term_folds.specs.Growth.{Grew}
 use Rattle.declarations.specs.Items.{written}
 use Rattle.assembly_laws.specs.Candidates.{built_in}
 use Rattle.built_in_candidates.specs.Goals.{asked_of}
@@ -9,8 +9,7 @@ use Rattle.built_in_candidates.proofs.built_in_rules.consider_builtin_candidate.
 
 abbrev pub invariant-rules : goal.invariant-rules
 invariant-rules l = record {
-  keeps : Keeps l.fn.cx.entries l.cx.entries;
-  limit : l.cx.limit ≡ l.fn.cx.limit;
+  grew : Grew l.fn.cx l.cx;
   at : slice_get (by_rules (written l.fn.cx.entries l.fn.declarations) (asked_of l.fn.cx.entries l.fn.goal) l.left) l.before ≡ slice_get (built_in (written l.fn.cx.entries l.fn.declarations) (asked_of l.fn.cx.entries l.fn.goal)) l.fn.place;
 }
 

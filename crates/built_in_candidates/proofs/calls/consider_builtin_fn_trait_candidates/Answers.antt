@@ -1,16 +1,12 @@
-use Rattle.std.proofs.Common.{[], ◌∷◌, ap, ◌∙◌, Err}
+use Rattle.std.proofs.Common.{[], ◌∷◌, ap, ◌∙◌}
 use Rattle.type_terms.specs.Terms.{types, trees_at}
 use Rattle.type_terms.specs.Kept.{trees-is}
 use Rattle.infer_table.specs.Values.{sort_of_arg}
-use Rattle.infer_table.proofs.FullFacts.{handed-on}
 use Rattle.type_terms.specs.Kinds.{arg_trees}
 use Rattle.built_in_candidates.specs.Goals.{asked_of}
 use Rattle.built_in_candidates.proofs.Pairs.{arg-tree}
 use Rattle.built_in_candidates.proofs.FnPointers.{signature-first, no-second, one-call}
 use Rattle.built_in_candidates.proofs.calls.consider_builtin_fn_trait_candidates.Goals as goal
-
-pub returns-in_err-candidate-in-Some-Some-clause-full : goal.returns-in_err-candidate-in-Some-Some-clause-full
-returns-in_err-candidate-in-Some-Some-clause-full c = λ q. handed-on c.from_residual.result c.from_residual.ensures.1 (λ p. c.in_err-candidate-in-Some-Some.ensures.full (ap Err p)) q
 
 pub returns-in_ok-candidate-in-Some-Some-clause-is : goal.returns-in_ok-candidate-in-Some-Some-clause-is
 returns-in_ok-candidate-in-Some-Some-clause-is c = λ V.

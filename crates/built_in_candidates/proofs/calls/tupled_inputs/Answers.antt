@@ -6,23 +6,23 @@ use Rattle.type_terms.specs.Terms.{types, type_lists}
 use Rattle.type_terms.specs.Kinds.{TysHeld, tys_trees}
 use Rattle.type_terms.specs.Kept.{trees-is}
 use Rattle.type_terms.proofs.FailFacts.{refused-term}
-use Rattle.infer_table.proofs.FullFacts.{handed-on}
+use Rattle.infer_table.proofs.FullFacts.{at-limit}
 use Rattle.built_in_candidates.proofs.calls.tupled_inputs.Goals as goal
 
 pub mk_tys-requires : goal.mk_tys-requires
 mk_tys-requires c = subst (TysHeld c.args.cx.now.entries) (sym c.in_ok-list.ensures.items) (c.inputs.ensures.held c.args.cx.now.entries c.tys.ensures.held)
 
 pub returns-in_err-tys-clause-full : goal.returns-in_err-tys-clause-full
-returns-in_err-tys-clause-full c = λ q.
+returns-in_err-tys-clause-full c =
     let refused = c.in_err-tys.ensures in
     let handed = c.from_residual-in_err-tys in
-    handed-on handed.result handed.ensures.1 (λ p. refused-term type_lists (omega arith) (refused.full (ap Err p)) refused.limit refused.refused) q
+    at-limit handed.result handed.ensures.1 (λ p. refused-term type_lists (omega arith) (refused.full (ap Err p)) refused.limit refused.refused)
 
 pub returns-in_err-ty-clause-full : goal.returns-in_err-ty-clause-full
-returns-in_err-ty-clause-full c = λ q.
+returns-in_err-ty-clause-full c =
     let refused = c.in_err-ty.ensures in
     let handed = c.from_residual-in_err-ty in
-    handed-on handed.result handed.ensures.1 (λ p. refused-term types (omega arith) (refused.full (ap Err p)) refused.limit refused.refused) q
+    at-limit handed.result handed.ensures.1 (λ p. refused-term types (omega arith) (refused.full (ap Err p)) refused.limit refused.refused)
 
 pub returns-clause-is : goal.returns-clause-is
 returns-clause-is c =

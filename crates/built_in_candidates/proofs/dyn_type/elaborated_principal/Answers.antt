@@ -1,6 +1,5 @@
-use Rattle.std.proofs.Common.{refl, sym, ap, ◌∙◌, subst, Err}
+use Rattle.std.proofs.Common.{refl, sym, ap, ◌∙◌, subst}
 use Rattle.type_terms.specs.Label.{static}
-use Rattle.infer_table.proofs.FullFacts.{handed-on}
 use Rattle.evaluation.specs.Merge.{if_there}
 use Rattle.declarations.specs.Items.{written}
 use Rattle.declarations.specs.Merges.{Each}
@@ -12,24 +11,16 @@ use Rattle.built_in_candidates.specs.Objects.{AreArgumentsOf}
 use Rattle.built_in_candidates.proofs.Objects.{applied-in}
 use Rattle.built_in_candidates.proofs.dyn_type.elaborated_principal.Goals as goal
 
-pub returns-in_err-principal-clause-full : goal.returns-in_err-principal-clause-full
-returns-in_err-principal-clause-full c = λ q. handed-on c.from_residual.result c.from_residual.ensures.1 (λ p. c.in_err-principal.ensures.full (ap Err p)) q
-
 pub elaborate_principal-requires-clause-declared : goal.elaborate_principal-requires-clause-declared
-elaborate_principal-requires-clause-declared c = all-held c.args.cx.now.entries c.principal_with.new.cx.entries c.principal_with.ensures.keeps c.args.declarations.now c.requires.declared
+elaborate_principal-requires-clause-declared c = all-held c.args.cx.now.entries c.principal_with.new.cx.entries c.principal_with.ensures.grew.keeps c.args.declarations.now c.requires.declared
 
 pub elaborate_principal-requires-clause-bounds : goal.elaborate_principal-requires-clause-bounds
-elaborate_principal-requires-clause-bounds c = have-bounds-later c.args.cx.now.entries c.principal_with.new.cx.entries c.principal_with.ensures.keeps c.args.declarations.now c.requires.declared c.requires.traits
+elaborate_principal-requires-clause-bounds c = have-bounds-later c.args.cx.now.entries c.principal_with.new.cx.entries c.principal_with.ensures.grew.keeps c.args.declarations.now c.requires.declared c.requires.traits
 
 pub elaborate_principal-requires-clause-applied : goal.elaborate_principal-requires-clause-applied
 elaborate_principal-requires-clause-applied c =
     let d = c.args.declarations.now in
     applied-in c.principal_with.new.cx.entries d (if_there c.in_ok-principal.principal) (subst (Each (AreArgumentsOf d)) (sym (c.in_ok-principal.ensures.is static refl)) (c.requires.applied static refl))
-
-pub returns-in_err-elaborated-clause-full : goal.returns-in_err-elaborated-clause-full
-returns-in_err-elaborated-clause-full c = λ q.
-    let handed = c.from_residual-in_err-elaborated in
-    handed-on handed.result handed.ensures.1 (λ p. c.in_err-elaborated.ensures.full (ap Err p)) q
 
 pub returns-clause-elaborated : goal.returns-clause-elaborated
 returns-clause-elaborated c = λ l h.
@@ -37,5 +28,5 @@ returns-clause-elaborated c = λ l h.
     let mid = c.principal_with.new.cx.entries in
     let d = c.args.declarations.now in
     c.in_ok-elaborated.ensures.are
-    ∙ ap (λ V. elaborate V (references_in mid (if_there c.in_ok-principal.principal))) (all-written old mid c.principal_with.ensures.keeps d c.requires.declared)
+    ∙ ap (λ V. elaborate V (references_in mid (if_there c.in_ok-principal.principal))) (all-written old mid c.principal_with.ensures.grew.keeps d c.requires.declared)
     ∙ ap (elaborate (written old d)) (c.in_ok-principal.ensures.is l h)

@@ -1,11 +1,7 @@
-use Rattle.std.proofs.Common.{ap, sym, ◌∙◌, Err}
+use Rattle.std.proofs.Common.{ap, sym, ◌∙◌}
 use Rattle.type_terms.specs.Terms.{trees_at}
-use Rattle.infer_table.proofs.FullFacts.{handed-on}
 use Rattle.built_in_candidates.proofs.Objects.{principal_of, principal-at}
 use Rattle.built_in_candidates.proofs.dyn_type.principal_with.Goals as goal
-
-pub returns-in_err-args-in-Some-clause-full : goal.returns-in_err-args-in-Some-clause-full
-returns-in_err-args-in-Some-clause-full c = λ q. handed-on c.from_residual.result c.from_residual.ensures.1 (λ p. c.in_err-args-in-Some.ensures.full (ap Err p)) q
 
 pub returns-in-None-clause-is : goal.returns-in-None-clause-is
 returns-in-None-clause-is c = λ l h.

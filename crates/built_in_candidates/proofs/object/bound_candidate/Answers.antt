@@ -1,7 +1,6 @@
-use Rattle.std.proofs.Common.{map, sym, ap, ◌∙◌, subst, Err}
+use Rattle.std.proofs.Common.{map, sym, ap, ◌∙◌, subst}
 use Rattle.type_terms.specs.Terms.{Keeps, args_lists, trees_at}
 use Rattle.type_terms.specs.Kept.{trees-later}
-use Rattle.infer_table.proofs.FullFacts.{handed-on}
 use Rattle.infer_table.proofs.Numbers.{goal-held-later}
 use Rattle.infer_table.proofs.StepFacts.{keeps-trans}
 use Rattle.evaluation.specs.declared.candidate.CandidateSource.TheVariants.{BuiltinImpl}
@@ -16,24 +15,16 @@ use Rattle.declarations.proofs.Bounded.{all-same}
 use Rattle.declarations.proofs.Growth.{references-kept}
 use Rattle.built_in_candidates.proofs.object.bound_candidate.Goals as goal
 
-pub returns-in_err-supertraits-clause-full : goal.returns-in_err-supertraits-clause-full
-returns-in_err-supertraits-clause-full c = λ q. handed-on c.from_residual.result c.from_residual.ensures.1 (λ p. c.in_err-supertraits.ensures.full (ap Err p)) q
-
-pub returns-in_err-equations-clause-full : goal.returns-in_err-equations-clause-full
-returns-in_err-equations-clause-full c = λ q.
-    let handed = c.from_residual-in_err-equations in
-    handed-on handed.result handed.ensures.1 (λ p. c.in_err-equations.ensures.full (ap Err p)) q
-
 pub returns-clause-held : goal.returns-clause-held
 returns-clause-held c =
     let old = c.args.cx.now.entries in
     let mid = c.supertraits.new.cx.entries in
     let new = c.relate_args.new.cx.entries in
-    let kept : Keeps old new = keeps-trans old mid new c.supertraits.ensures.keeps c.relate_args.ensures.keeps in
+    let kept : Keeps old new = keeps-trans old mid new c.supertraits.ensures.grew.keeps c.relate_args.ensures.grew.keeps in
     if-ok _ _ c.by_rule.result
     (λ s h.
     h new (goal-held-later old new kept c.args.goal.now.goal c.requires.goal) c.in_ok-equations.ensures.held
-    (subst (TraitRefsHeld new) (sym c.deref.ensures.value) (references-kept mid new c.relate_args.ensures.keeps c.in_ok-supertraits.supertraits.items c.in_ok-supertraits.ensures.held)))
+    (subst (TraitRefsHeld new) (sym c.deref.ensures.value) (references-kept mid new c.relate_args.ensures.grew.keeps c.in_ok-supertraits.supertraits.items c.in_ok-supertraits.ensures.held)))
     c.by_rule.ensures.held
 
 pub returns-clause-is : goal.returns-clause-is
@@ -41,14 +32,14 @@ returns-clause-is c =
     let old = c.args.cx.now.entries in
     let mid = c.supertraits.new.cx.entries in
     let new = c.relate_args.new.cx.entries in
-    let kept : Keeps old new = keeps-trans old mid new c.supertraits.ensures.keeps c.relate_args.ensures.keeps in
+    let kept : Keeps old new = keeps-trans old mid new c.supertraits.ensures.grew.keeps c.relate_args.ensures.grew.keeps in
     let V = written old c.args.declarations.now in
     let g = c.args.goal.now in
     let a = asked_of old g in
     let source = BuiltinImpl c.args.source in
-    let asked = trees-later old mid c.supertraits.ensures.keeps args_lists g.goal.predicate.trait_ref.args.0 c.requires.goal.predicate in
-    let bound = trees-later old mid c.supertraits.ensures.keeps args_lists c.args.bound.args.0 c.requires.bound in
-    let supers = ap (references_in new) c.deref.ensures.value ∙ all-same mid new c.relate_args.ensures.keeps c.in_ok-supertraits.supertraits.items c.in_ok-supertraits.ensures.held
+    let asked = trees-later old mid c.supertraits.ensures.grew.keeps args_lists g.goal.predicate.trait_ref.args.0 c.requires.goal.predicate in
+    let bound = trees-later old mid c.supertraits.ensures.grew.keeps args_lists c.args.bound.args.0 c.requires.bound in
+    let supers = ap (references_in new) c.deref.ensures.value ∙ all-same mid new c.relate_args.ensures.grew.keeps c.in_ok-supertraits.supertraits.items c.in_ok-supertraits.ensures.held
     ∙ c.in_ok-supertraits.ensures.are in
     if-ok _ _ c.by_rule.result
     (λ s is.

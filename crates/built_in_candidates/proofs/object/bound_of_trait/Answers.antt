@@ -1,19 +1,15 @@
-use Rattle.std.proofs.Common.{◌<◌, ◌≤◌, ◌-◌, ap, ◌∙◌, subst, Some, Err}
+use Rattle.std.proofs.Common.{◌<◌, ◌≤◌, ◌-◌, ap, ◌∙◌, subst, Some}
 use Rattle.std.specs.Prelude.{◌==◌}
 use Rattle.std.specs.List.{slice_get}
 use Rattle.type_terms.specs.Trees.{leaf, ◌+++◌}
 use Rattle.type_terms.specs.Rules.{sized}
 use Rattle.type_terms.specs.Worlds.{Reference}
 use Rattle.type_terms.specs.Terms.{trees_at}
-use Rattle.infer_table.proofs.FullFacts.{handed-on}
 use Rattle.evaluation.specs.declared.candidate.BuiltinImplSource.TheVariants.{Misc, Object}
 use Rattle.declarations.specs.Applied.{references_in}
 use Rattle.built_in_candidates.specs.Objects.{BoundRule, bounds_to}
 use Rattle.built_in_candidates.proofs.Objects.{bound-at, numbered-held, differ, auto-found, sized-left-out, level-found}
 use Rattle.built_in_candidates.proofs.object.bound_of_trait.Goals as goal
-
-pub returns-in_err-bound-clause-full : goal.returns-in_err-bound-clause-full
-returns-in_err-bound-clause-full c = λ q. handed-on c.from_residual.result c.from_residual.ensures.1 (λ p. c.in_err-bound.ensures.full (ap Err p)) q
 
 pub returns-then-place-autos-clause-is : goal.returns-then-place-autos-clause-is
 returns-then-place-autos-clause-is c = λ l h.

@@ -1,10 +1,9 @@
-use Rattle.std.proofs.Common.{◌≡◌, sym, ap, ◌∙◌, subst, Some, Err}
+use Rattle.std.proofs.Common.{◌≡◌, sym, ap, ◌∙◌, subst, Some}
 use Rattle.std.specs.Prelude.{option_map}
 use Rattle.type_terms.specs.Trees.{leaf, ◌+++◌}
 use Rattle.type_terms.specs.Worlds.{World}
 use Rattle.type_terms.specs.Terms.{types, trees_at}
 use Rattle.type_terms.specs.Kept.{trees-is}
-use Rattle.infer_table.proofs.FullFacts.{handed-on}
 use Rattle.infer_table.proofs.Numbers.{goal-held-later}
 use Rattle.evaluation.specs.declared.candidate.CandidateSource.TheVariants.{BuiltinImpl}
 use Rattle.declarations.specs.Items.{reference_in, written}
@@ -30,29 +29,21 @@ object_bound_at-requires-clause-applied c = λ l h.
     let o = c.in-Some.ensures in
     subst (Each (AreArgumentsOf d)) (principal-any S b o.1 l o.2 h) (object-applied d S (b +++ leaf o.1) o.3 (object-first d T S c.requires.first first c.requires.object))
 
-pub returns-in_err-source-in-Some-clause-full : goal.returns-in_err-source-in-Some-clause-full
-returns-in_err-source-in-Some-clause-full c = λ q. handed-on c.from_residual.result c.from_residual.ensures.1 (λ p. c.in_err-source-in-Some.ensures.full (ap Err p)) q
-
 pub bound_candidate-requires-clause-goal : goal.bound_candidate-requires-clause-goal
-bound_candidate-requires-clause-goal c = goal-held-later c.args.cx.now.entries c.object_bound_at.new.cx.entries c.object_bound_at.ensures.keeps c.args.goal.now.goal c.requires.goal
+bound_candidate-requires-clause-goal c = goal-held-later c.args.cx.now.entries c.object_bound_at.new.cx.entries c.object_bound_at.ensures.grew.keeps c.args.goal.now.goal c.requires.goal
 
 pub bound_candidate-requires-clause-declared : goal.bound_candidate-requires-clause-declared
-bound_candidate-requires-clause-declared c = all-held c.args.cx.now.entries c.object_bound_at.new.cx.entries c.object_bound_at.ensures.keeps c.args.declarations.now c.requires.declared
+bound_candidate-requires-clause-declared c = all-held c.args.cx.now.entries c.object_bound_at.new.cx.entries c.object_bound_at.ensures.grew.keeps c.args.declarations.now c.requires.declared
 
 pub bound_candidate-requires-clause-traits : goal.bound_candidate-requires-clause-traits
-bound_candidate-requires-clause-traits c = have-bounds-later c.args.cx.now.entries c.object_bound_at.new.cx.entries c.object_bound_at.ensures.keeps c.args.declarations.now c.requires.declared c.requires.bounds
-
-pub returns-in_err-candidate-in-Some-2-clause-full : goal.returns-in_err-candidate-in-Some-2-clause-full
-returns-in_err-candidate-in-Some-2-clause-full c = λ q.
-    let handed = c.from_residual-in_err-candidate-in-Some-2 in
-    handed-on handed.result handed.ensures.1 (λ p. c.in_err-candidate-in-Some-2.ensures.full (ap Err p)) q
+bound_candidate-requires-clause-traits c = have-bounds-later c.args.cx.now.entries c.object_bound_at.new.cx.entries c.object_bound_at.ensures.grew.keeps c.args.declarations.now c.requires.declared c.requires.bounds
 
 pub returns-in_ok-candidate-in-Some-2-clause-is : goal.returns-in_ok-candidate-in-Some-2-clause-is
 returns-in_ok-candidate-in-Some-2-clause-is c =
     let old = c.args.cx.now.entries in
     let mid = c.object_bound_at.new.cx.entries in
     let new = c.bound_candidate.new.cx.entries in
-    let keeps = c.object_bound_at.ensures.keeps in
+    let keeps = c.object_bound_at.ensures.grew.keeps in
     let d = c.args.declarations.now in
     let V = written old d in
     let g = c.args.goal.now in

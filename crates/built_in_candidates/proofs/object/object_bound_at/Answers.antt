@@ -1,10 +1,9 @@
-use Rattle.std.proofs.Common.{sym, ap, ◌∙◌, Err}
+use Rattle.std.proofs.Common.{sym, ap, ◌∙◌}
 use Rattle.std.specs.List.{slice_get}
 use Rattle.type_terms.specs.Trees.{leaf, ◌+++◌}
 use Rattle.type_terms.specs.Rules.{principal_with, are_dyn_compatible}
 use Rattle.type_terms.specs.Terms.{types, bounds_lists, trees_at}
 use Rattle.type_terms.specs.Kept.{trees-later}
-use Rattle.infer_table.proofs.FullFacts.{handed-on}
 use Rattle.declarations.specs.Items.{written}
 use Rattle.declarations.specs.Applied.{references_in}
 use Rattle.declarations.specs.Elaboration.{elaborate}
@@ -13,14 +12,11 @@ use Rattle.evaluation.proofs.Handed.{if-ok}
 use Rattle.built_in_candidates.specs.Objects.{written_and_elaborated}
 use Rattle.built_in_candidates.proofs.object.object_bound_at.Goals as goal
 
-pub returns-in_err-from-clause-full : goal.returns-in_err-from-clause-full
-returns-in_err-from-clause-full c = λ q. handed-on c.from_residual.result c.from_residual.ensures.1 (λ p. c.in_err-from.ensures.full (ap Err p)) q
-
 pub returns-then-is_dyn_compatible-clause-is : goal.returns-then-is_dyn_compatible-clause-is
 returns-then-is_dyn_compatible-clause-is c =
     let old = c.args.cx.now.entries in
     let mid = c.elaborated_principal.new.cx.entries in
-    let keeps = c.elaborated_principal.ensures.keeps in
+    let keeps = c.elaborated_principal.ensures.grew.keeps in
     let V = written old c.args.declarations.now in
     let t = c.args.def_id.index in
     let n = c.args.place in

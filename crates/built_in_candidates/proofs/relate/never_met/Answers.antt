@@ -5,20 +5,20 @@ use Rattle.type_terms.specs.Terms.{types, trees_at}
 use Rattle.type_terms.specs.Kept.{trees-is, has-later}
 use Rattle.type_terms.proofs.FailFacts.{refused-term}
 use Rattle.infer_table.specs.Values.{Value}
-use Rattle.infer_table.proofs.FullFacts.{handed-on}
 use Rattle.evaluation.specs.FrameTables.{Equation}
+use Rattle.infer_table.proofs.FullFacts.{at-limit}
 use Rattle.built_in_candidates.proofs.relate.never_met.Goals as goal
 
 pub returns-in_err-bool_ty-clause-full : goal.returns-in_err-bool_ty-clause-full
-returns-in_err-bool_ty-clause-full c = λ q.
+returns-in_err-bool_ty-clause-full c =
     let refused = c.in_err-bool_ty.ensures in
-    handed-on c.from_residual.result c.from_residual.ensures.1 (λ p. refused-term types (omega arith) (refused.full (ap Err p)) refused.limit refused.refused) q
+    at-limit c.from_residual.result c.from_residual.ensures.1 (λ p. refused-term types (omega arith) (refused.full (ap Err p)) refused.limit refused.refused)
 
 pub returns-in_err-char_ty-clause-full : goal.returns-in_err-char_ty-clause-full
-returns-in_err-char_ty-clause-full c = λ q.
+returns-in_err-char_ty-clause-full c =
     let refused = c.in_err-char_ty.ensures in
     let handed = c.from_residual-in_err-char_ty in
-    handed-on handed.result handed.ensures.1 (λ p. refused-term types (omega arith) (refused.full (ap Err p)) refused.limit refused.refused) q
+    at-limit handed.result handed.ensures.1 (λ p. refused-term types (omega arith) (refused.full (ap Err p)) refused.limit refused.refused)
 
 pub returns-clause-held : goal.returns-clause-held
 returns-clause-held c =

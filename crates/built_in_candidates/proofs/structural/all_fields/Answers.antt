@@ -1,11 +1,10 @@
-use Rattle.std.proofs.Common.{◌≡◌, [], ◌∷◌, List, map, sym, ap, ◌∙◌, subst, None, Err}
+use Rattle.std.proofs.Common.{◌≡◌, [], ◌∷◌, List, map, sym, ap, ◌∙◌, subst, None}
 use Rattle.std.specs.List.{flat_map}
 use Rattle.type_terms.specs.Trees.{instantiate}
 use Rattle.type_terms.specs.Rules.{auto_struct, row, each_asked, fields_of, together}
 use Rattle.type_terms.specs.Terms.{trees_at}
 use Rattle.type_terms.specs.declared.kinds.Ty.{Ty}
 use Rattle.term_folds.specs.Arguments.{first_misfit}
-use Rattle.infer_table.proofs.FullFacts.{handed-on}
 use Rattle.declarations.specs.Merges.{Each}
 use Rattle.declarations.specs.Unsizing.{field_trees}
 use Rattle.built_in_candidates.specs.Constituents.{premises_of, TypesHeld}
@@ -24,9 +23,6 @@ fields_with-requires-clause-fits c =
     let A = trees_at es c.args.args.0 in
     subst (Each (λ (f : Ty). first_misfit A (trees_at es f.0) ≡ None)) (sym c.deref.ensures.value)
     (fields-fit es c.args.declarations.now c.args.def_id.index A c.in-Some.def.now c.requires.fields c.requires.applied c.in-Some.ensures.is)
-
-pub returns-in_err-tys-in-Some-clause-full : goal.returns-in_err-tys-in-Some-clause-full
-returns-in_err-tys-in-Some-clause-full c = λ q. handed-on c.from_residual.result c.from_residual.ensures.1 (λ p. c.in_err-tys-in-Some.ensures.full (ap Err p)) q
 
 pub returns-in_ok-tys-in-Some-clause-are : goal.returns-in_ok-tys-in-Some-clause-are
 returns-in_ok-tys-in-Some-clause-are c = λ t.

@@ -1,11 +1,7 @@
 use Rattle.std.proofs.Common.{◌≡◌, [], ◌∷◌, List, ap, ◌∙◌, Err}
-use Rattle.std.specs.Prelude.{Result}
 use Rattle.type_terms.specs.Trees.{Trees, none, instantiate}
 use Rattle.type_terms.specs.Terms.{trees_at}
 use Rattle.type_terms.specs.declared.kinds.Ty.{Ty}
-use Rattle.type_terms.specs.declared.Fault.{Fault}
-use Rattle.type_terms.specs.declared.Fault.TheVariants.{Full}
-use Rattle.term_folds.specs.declared.instantiate.InstantiateError.{InstantiateError}
 use Rattle.term_folds.specs.declared.instantiate.InstantiateError.TheVariants as error
 use Rattle.type_terms.specs.Pieces.{Piece, each_piece, one_piece}
 use Rattle.built_in_candidates.proofs.structural.field_with.Goals as goal
@@ -25,8 +21,5 @@ returns-in-Ok-clause-is c =
     one-same (trees_at c.instantiate.new.cx.entries c.in-Ok.ty.0) (instantiate 0 A (trees_at old c.args.field.0))
     (c.in-Ok.ensures.instantiated ∙ ap (λ (b : Ty). each_piece (λ d t. instantiate d A t) (one_piece (trees_at old b.0))) c.bind.ensures)
 
-fault-inside : (f : Fault) → ◌≡◌ {A = Result Ty Fault} (Err f) (Err Full) → ◌≡◌ {A = Result Ty InstantiateError} (Err (error.Fault f)) (Err (error.Fault Full))
-fault-inside f q = let e : f ≡ Full = cc in ap (λ x. Err (error.Fault x)) e
-
 pub returns-in-Err-Fault-clause-full : goal.returns-in-Err-Fault-clause-full
-returns-in-Err-Fault-clause-full c = λ q. c.in-Err-Fault.ensures.full (ap Err c.in-Err-Fault.field-0-is ∙ fault-inside c.in-Err-Fault.fault q)
+returns-in-Err-Fault-clause-full c = λ q. c.in-Err-Fault.ensures.full (ap Err (c.in-Err-Fault.field-0-is ∙ ap error.Fault q))

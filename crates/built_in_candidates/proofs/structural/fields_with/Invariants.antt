@@ -1,6 +1,7 @@
 use Rattle.std.proofs.Common.{◌≡◌, ◌++◌, length, None, map}
 use Rattle.type_terms.specs.Trees.{instantiate}
-use Rattle.type_terms.specs.Terms.{Keeps, trees_at}
+use Rattle.type_terms.specs.Terms.{trees_at}
+use Rattle.term_folds.specs.Growth.{Grew}
 use Rattle.type_terms.specs.declared.kinds.Ty.{Ty}
 use Rattle.term_folds.specs.Arguments.{first_misfit}
 use Rattle.declarations.specs.Merges.{Each}
@@ -10,8 +11,7 @@ use Rattle.built_in_candidates.proofs.structural.fields_with.Given as goal
 
 abbrev pub invariant-fields : goal.invariant-fields
 invariant-fields l = record {
-  keeps : Keeps l.fn.cx.entries l.cx.entries;
-  limit : l.cx.limit ≡ l.fn.cx.limit;
+  grew : Grew l.fn.cx l.cx;
   left_held : TypesHeld l.fn.cx.entries l.left;
   left_fit : Each (λ (f : Ty). first_misfit (trees_at l.fn.cx.entries l.fn.args.0) (trees_at l.fn.cx.entries f.0) ≡ None) l.left;
   found_held : TypesHeld l.cx.entries l.found.items;

@@ -1,8 +1,7 @@
-use Rattle.std.proofs.Common.{[], ◌∷◌, sym, ap, ◌∙◌, subst, Err}
+use Rattle.std.proofs.Common.{[], ◌∷◌, sym, ap, ◌∙◌, subst}
 use Rattle.type_terms.specs.Rules.{asked, each_asked, auto_rules_plain}
 use Rattle.type_terms.specs.Terms.{types, type_lists, trees_at}
 use Rattle.type_terms.specs.Kept.{trees-is}
-use Rattle.infer_table.proofs.FullFacts.{handed-on}
 use Rattle.declarations.specs.Items.{written}
 use Rattle.assembly_laws.specs.Asking.{with_plain_head}
 use Rattle.evaluation.proofs.Handed.{if-ok}
@@ -11,9 +10,6 @@ use Rattle.built_in_candidates.specs.Constituents.{AreConstituents, premises_of,
 use Rattle.built_in_candidates.proofs.Trees.{tys-asked, held-types}
 use Rattle.built_in_candidates.proofs.Autos.{pointee-rule, referent-rule, item-asked, element-asked}
 use Rattle.built_in_candidates.proofs.structural.instantiate_constituent_tys_for_auto_trait.Goals as goal
-
-pub returns-in_err-bytes-in-Str-clause-full : goal.returns-in_err-bytes-in-Str-clause-full
-returns-in_err-bytes-in-Str-clause-full c = λ q. handed-on c.from_residual.result c.from_residual.ensures.1 (λ p. c.in_err-bytes-in-Str.ensures.full (ap Err p)) q
 
 pub returns-in_ok-tys-in-Str-clause-are : goal.returns-in_ok-tys-in-Str-clause-are
 returns-in_ok-tys-in-Str-clause-are c = λ t.

@@ -1,11 +1,10 @@
-use Rattle.std.proofs.Common.{◌≡◌, [], ◌∷◌, map, sym, ap, ◌∙◌, subst, None, Err}
+use Rattle.std.proofs.Common.{◌≡◌, [], ◌∷◌, map, sym, ap, ◌∙◌, subst, None}
 use Rattle.std.specs.List.{flat_map}
 use Rattle.type_terms.specs.Trees.{instantiate}
 use Rattle.type_terms.specs.Rules.{row, sized, sized_struct, last_asked, fields_of, together}
 use Rattle.type_terms.specs.Terms.{Has, types, trees_at}
 use Rattle.type_terms.specs.declared.kinds.Ty.{Ty}
 use Rattle.term_folds.specs.Arguments.{first_misfit}
-use Rattle.infer_table.proofs.FullFacts.{handed-on}
 use Rattle.declarations.specs.Merges.{Each}
 use Rattle.infer_table.proofs.BindFacts.{type-is}
 use Rattle.built_in_candidates.specs.Constituents.{premises_of, types_asked}
@@ -27,9 +26,6 @@ field_with-requires-clause-fits c =
     each-end (λ (f : Ty). first_misfit A (trees_at es f.0) ≡ None) c.in-Some-split_last.field-0-1.now c.in-Some-split_last.last.now
     (subst (Each (λ (f : Ty). first_misfit A (trees_at es f.0) ≡ None)) back
     (fields-fit es c.args.declarations.now c.args.def_id.index A c.in-Some.def.now c.requires.fields c.requires.applied c.in-Some.ensures.is))
-
-pub returns-in_err-ty-in-Some-split_last-clause-full : goal.returns-in_err-ty-in-Some-split_last-clause-full
-returns-in_err-ty-in-Some-split_last-clause-full c = λ q. handed-on c.from_residual.result c.from_residual.ensures.1 (λ p. c.in_err-ty-in-Some-split_last.ensures.full (ap Err p)) q
 
 pub returns-in_ok-tys-in-Some-split_last-clause-are : goal.returns-in_ok-tys-in-Some-split_last-clause-are
 returns-in_ok-tys-in-Some-split_last-clause-are c =

@@ -4,19 +4,19 @@ use Rattle.type_terms.specs.Trees.{tree, none}
 use Rattle.type_terms.specs.Terms.{types}
 use Rattle.type_terms.specs.Kept.{trees-is}
 use Rattle.type_terms.proofs.FailFacts.{refused-term}
-use Rattle.infer_table.proofs.FullFacts.{handed-on}
+use Rattle.infer_table.proofs.FullFacts.{at-limit}
 use Rattle.built_in_candidates.proofs.structural.str_bytes.Goals as goal
 
 pub returns-in_err-byte-clause-full : goal.returns-in_err-byte-clause-full
-returns-in_err-byte-clause-full c = λ q.
+returns-in_err-byte-clause-full c =
     let refused = c.in_err-byte.ensures in
-    handed-on c.from_residual.result c.from_residual.ensures.1 (λ p. refused-term types (omega arith) (refused.full (ap Err p)) refused.limit refused.refused) q
+    at-limit c.from_residual.result c.from_residual.ensures.1 (λ p. refused-term types (omega arith) (refused.full (ap Err p)) refused.limit refused.refused)
 
 pub returns-in_err-bytes-clause-full : goal.returns-in_err-bytes-clause-full
-returns-in_err-bytes-clause-full c = λ q.
+returns-in_err-bytes-clause-full c =
     let refused = c.in_err-bytes.ensures in
     let handed = c.from_residual-in_err-bytes in
-    handed-on handed.result handed.ensures.1 (λ p. refused-term types (omega arith) (refused.full (ap Err p)) refused.limit refused.refused) q
+    at-limit handed.result handed.ensures.1 (λ p. refused-term types (omega arith) (refused.full (ap Err p)) refused.limit refused.refused)
 
 pub returns-clause-is : goal.returns-clause-is
 returns-clause-is c =

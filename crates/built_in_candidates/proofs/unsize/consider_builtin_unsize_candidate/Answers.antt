@@ -1,4 +1,4 @@
-use Rattle.std.proofs.Common.{[], ◌∷◌, ap, sym, ◌∙◌, subst, option_map, Err}
+use Rattle.std.proofs.Common.{[], ◌∷◌, ap, sym, ◌∙◌, subst, option_map}
 use Rattle.std.specs.Prelude.{◌==◌}
 use Rattle.std.specs.List.{slice_get}
 use Rattle.type_terms.specs.Rules.{is_coinductive, unsize}
@@ -10,7 +10,6 @@ use Rattle.assembly_laws.specs.Asking.{begins_unknown, self_of}
 use Rattle.assembly_laws.specs.Candidates.{recording, lifetime_of, outlives, unsizing_outlives, unsize_known}
 use Rattle.evaluation.proofs.Handed.{if-ok}
 use Rattle.infer_table.proofs.BindFacts.{type-is}
-use Rattle.infer_table.proofs.FullFacts.{handed-on}
 use Rattle.built_in_candidates.specs.Goals.{asked_of, candidate_of}
 use Rattle.built_in_candidates.proofs.Heads.{applied-first}
 use Rattle.built_in_candidates.proofs.Lifetimes.{goal-outlives, recorded-at}
@@ -82,7 +81,7 @@ returns-clause-is c =
     let starts = c.requires.considered.first in
     let known = sym (target-unknown a.kinds T X starts one c.unsizing_target-target.ensures.is) ∙ ap (λ ks. begins_unknown ks X) (sym c.deref.ensures.value) ∙ sym c.is_unknown.ensures ∙ c.if-is_unknown.false in
     let new = c.unsize_to.new.cx.entries in
-    let kept = c.unsize_to.ensures.keeps in
+    let kept = c.unsize_to.ensures.grew.keeps in
     let t = a.reference.trait in
     let same-self = trees-later es new kept types c.self_ty-self_ty.result.0 (_, c.self_ty-self_ty.ensures.is) in
     let same-target = trees-later es new kept types c.unsizing_target-target.result.0 c.unsizing_target-target.ensures.held in
@@ -98,6 +97,3 @@ returns-clause-is c =
 
 pub returns-then-is_unknown-clause-held : goal.returns-then-is_unknown-clause-held
 returns-then-is_unknown-clause-held c = c.at_place.ensures.held c.args.cx.now.entries (c.unsure.ensures.held c.args.cx.now.entries)
-
-pub returns-in_err-candidate-clause-full : goal.returns-in_err-candidate-clause-full
-returns-in_err-candidate-clause-full c = λ q. handed-on c.from_residual.result c.from_residual.ensures.1 (λ p. c.in_err-candidate.ensures.full (ap Err p)) q

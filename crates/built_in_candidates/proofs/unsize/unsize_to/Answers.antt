@@ -1,7 +1,6 @@
-use Rattle.std.proofs.Common.{ap, ◌∙◌, Err}
+use Rattle.std.proofs.Common.{ap, ◌∙◌}
 use Rattle.std.specs.List.{slice_get}
 use Rattle.type_terms.specs.Terms.{trees_at}
-use Rattle.infer_table.proofs.FullFacts.{handed-on}
 use Rattle.declarations.specs.Items.{written}
 use Rattle.evaluation.proofs.Handed.{if-ok}
 use Rattle.infer_table.proofs.BindFacts.{type-is}
@@ -19,9 +18,6 @@ returns-in-Some-Some-clause-is c =
     is ∙ ap (λ l. slice_get l c.args.place)
     (known-upcasts V a (trees_at es c.args.self_ty.0) (trees_at es c.args.target.0) _ _ c.in-Some-Some.ensures.3 c.in-Some-Some.ensures'.3))
     c.consider_builtin_dyn_upcast_candidates.ensures.is
-
-pub returns-in_err-candidate-in-None-Some-clause-full : goal.returns-in_err-candidate-in-None-Some-clause-full
-returns-in_err-candidate-in-None-Some-clause-full c = λ q. handed-on c.from_residual.result c.from_residual.ensures.1 (λ p. c.in_err-candidate-in-None-Some.ensures.full (ap Err p)) q
 
 pub returns-in_ok-candidate-in-None-Some-clause-is : goal.returns-in_ok-candidate-in-None-Some-clause-is
 returns-in_ok-candidate-in-None-Some-clause-is c =

@@ -1,8 +1,7 @@
-use Rattle.std.proofs.Common.{◌≡◌, ap, ◌∙◌, subst, Err}
+use Rattle.std.proofs.Common.{◌≡◌, ap, ◌∙◌, subst}
 use Rattle.std.specs.List.{slice_get}
 use Rattle.type_terms.specs.Trees.{◌+++◌}
 use Rattle.type_terms.specs.Terms.{trees_at}
-use Rattle.infer_table.proofs.FullFacts.{handed-on}
 use Rattle.declarations.specs.Items.{written}
 use Rattle.assembly_laws.specs.Candidates.{unsize_array_of}
 use Rattle.infer_table.proofs.BindFacts.{type-is}
@@ -10,11 +9,6 @@ use Rattle.built_in_candidates.specs.Goals.{asked_of}
 use Rattle.built_in_candidates.specs.Constituents.{candidates_of}
 use Rattle.built_in_candidates.proofs.UnsizeRows.{known-array, known-struct}
 use Rattle.built_in_candidates.proofs.unsize.unsize_to_no_dyn.Goals as goal
-
-pub returns-in_err-candidate-in-None-clause-full : goal.returns-in_err-candidate-in-None-clause-full
-returns-in_err-candidate-in-None-clause-full c = λ q.
-    let handed = c.from_residual-in_err-candidate-in-None in
-    handed-on handed.result handed.ensures.1 (λ p. c.in_err-candidate-in-None.ensures.full (ap Err p)) q
 
 pub returns-in-Some-clause-is : goal.returns-in-Some-clause-is
 returns-in-Some-clause-is c =

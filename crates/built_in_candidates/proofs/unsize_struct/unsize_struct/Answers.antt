@@ -1,10 +1,9 @@
-use Rattle.std.proofs.Common.{◌≡◌, [], ◌∷◌, length, ap, sym, ◌∙◌, subst, None, Err}
+use Rattle.std.proofs.Common.{◌≡◌, [], ◌∷◌, length, ap, sym, ◌∙◌, subst, None}
 use Rattle.std.proofs.lemmas.List.{length-map}
 use Rattle.type_terms.specs.Rules.{some_unsizing, last_unsizes}
 use Rattle.type_terms.specs.Terms.{Has, types, trees_at}
 use Rattle.type_terms.specs.declared.kinds.Ty.{Ty}
 use Rattle.term_folds.specs.Arguments.{first_misfit}
-use Rattle.infer_table.proofs.FullFacts.{handed-on}
 use Rattle.declarations.specs.Applied.{sort_of_param}
 use Rattle.declarations.specs.Merges.{Each}
 use Rattle.declarations.specs.Unsizing.{field_trees}
@@ -34,9 +33,6 @@ struct_candidate-requires-clause-target_tail_fits c =
     let A = trees_at es c.args.target.0 in
     let back = sym c.deref.ensures.value ∙ c.in-Some.ensures.cases.0 in
     each-end (λ (f : Ty). first_misfit A (trees_at es f.0) ≡ None) c.in-Some.field-0-1.now c.in-Some.tail.now (subst (Each (λ (f : Ty). first_misfit A (trees_at es f.0) ≡ None)) back c.requires.target_fields_fit)
-
-pub returns-in_err-candidate-in-Some-clause-full : goal.returns-in_err-candidate-in-Some-clause-full
-returns-in_err-candidate-in-Some-clause-full c = λ q. handed-on c.from_residual.result c.from_residual.ensures.1 (λ p. c.in_err-candidate-in-Some.ensures.full (ap Err p)) q
 
 pub returns-in_ok-candidate-in-Some-clause-is : goal.returns-in_ok-candidate-in-Some-clause-is
 returns-in_ok-candidate-in-Some-clause-is c = λ V x e.

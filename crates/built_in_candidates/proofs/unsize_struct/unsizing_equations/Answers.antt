@@ -5,11 +5,11 @@ use Rattle.type_terms.specs.Terms.{args_lists, trees_at}
 use Rattle.type_terms.specs.Kinds.{ArgsHeld, args_trees}
 use Rattle.type_terms.specs.Kept.{trees-is, has-later, trees-later}
 use Rattle.type_terms.proofs.FailFacts.{refused-term}
-use Rattle.infer_table.proofs.FullFacts.{handed-on}
 use Rattle.declarations.specs.Applied.{sort_of_param}
 use Rattle.declarations.specs.Unsizing.{field_trees}
 use Rattle.assembly_laws.specs.Candidates.{all_equal}
 use Rattle.evaluation.proofs.Handed.{if-ok}
+use Rattle.infer_table.proofs.FullFacts.{at-limit}
 use Rattle.built_in_candidates.proofs.StructRows.{replaced-are, replaced-held}
 use Rattle.built_in_candidates.proofs.unsize_struct.unsizing_equations.Goals as goal
 
@@ -22,10 +22,10 @@ pub relate_args-requires-clause-right : goal.relate_args-requires-clause-right
 relate_args-requires-clause-right c = has-later c.args.cx.now.entries c.mk_args.new.self.entries c.mk_args.ensures.keeps args_lists c.args.target.0 c.requires.target
 
 pub returns-in_err-unsized_args-clause-full : goal.returns-in_err-unsized_args-clause-full
-returns-in_err-unsized_args-clause-full c = λ q.
+returns-in_err-unsized_args-clause-full c =
     let refused = c.in_err-unsized_args.ensures in
     let handed = c.from_residual-in_err-unsized_args in
-    handed-on handed.result handed.ensures.1 (λ p. refused-term args_lists (omega arith) (refused.full (ap Err p)) refused.limit refused.refused) q
+    at-limit handed.result handed.ensures.1 (λ p. refused-term args_lists (omega arith) (refused.full (ap Err p)) refused.limit refused.refused)
 
 pub returns-clause-are : goal.returns-clause-are
 returns-clause-are c =

@@ -1,9 +1,8 @@
-use Rattle.std.proofs.Common.{[], ◌∷◌, ◌++◌, map, ap, sym, ◌∙◌, subst, Err}
+use Rattle.std.proofs.Common.{[], ◌∷◌, ◌++◌, map, ap, sym, ◌∙◌, subst}
 use Rattle.type_terms.specs.Rules.{asked, sized, autos_with, are_dyn_compatible}
 use Rattle.type_terms.specs.Terms.{Keeps, types, bounds_lists, trees_at}
 use Rattle.type_terms.specs.Kept.{has-later, trees-later}
 use Rattle.infer_table.proofs.Numbers.{goal-held-later}
-use Rattle.infer_table.proofs.FullFacts.{handed-on}
 use Rattle.evaluation.specs.Lists.{Every}
 use Rattle.evaluation.specs.Merge.{if_there}
 use Rattle.evaluation.specs.Readings.{EquationHeld}
@@ -18,26 +17,18 @@ use Rattle.built_in_candidates.proofs.Asking.{asked-later}
 use Rattle.built_in_candidates.proofs.ToDyn.{compatible, incompatible}
 use Rattle.built_in_candidates.proofs.unsize_to_dyn.to_dyn_candidate.Goals as goal
 
-pub returns-in_err-from-clause-full : goal.returns-in_err-from-clause-full
-returns-in_err-from-clause-full c = λ q. handed-on c.from_residual.result c.from_residual.ensures.1 (λ p. c.in_err-from.ensures.full (ap Err p)) q
-
 pub unsizing_obligations-requires-clause-self_held : goal.unsizing_obligations-requires-clause-self_held
-unsizing_obligations-requires-clause-self_held c = has-later c.args.cx.now.entries c.elaborated_principal.new.cx.entries c.elaborated_principal.ensures.keeps types c.args.self_ty.0 c.requires.self_held
+unsizing_obligations-requires-clause-self_held c = has-later c.args.cx.now.entries c.elaborated_principal.new.cx.entries c.elaborated_principal.ensures.grew.keeps types c.args.self_ty.0 c.requires.self_held
 
 pub unsizing_obligations-requires-clause-bounds : goal.unsizing_obligations-requires-clause-bounds
-unsizing_obligations-requires-clause-bounds c = has-later c.args.cx.now.entries c.elaborated_principal.new.cx.entries c.elaborated_principal.ensures.keeps bounds_lists c.args.bounds.0 c.requires.bounds
-
-pub returns-in_err-premises-clause-full : goal.returns-in_err-premises-clause-full
-returns-in_err-premises-clause-full c = λ q.
-    let handed = c.from_residual-in_err-premises in
-    handed-on handed.result handed.ensures.1 (λ p. c.in_err-premises.ensures.full (ap Err p)) q
+unsizing_obligations-requires-clause-bounds c = has-later c.args.cx.now.entries c.elaborated_principal.new.cx.entries c.elaborated_principal.ensures.grew.keeps bounds_lists c.args.bounds.0 c.requires.bounds
 
 pub returns-then-is_dyn_compatible-clause-held : goal.returns-then-is_dyn_compatible-clause-held
 returns-then-is_dyn_compatible-clause-held c =
     let old = c.args.cx.now.entries in
     let mid = c.elaborated_principal.new.cx.entries in
     let new = c.unsizing_obligations.new.cx.entries in
-    let k : Keeps old new = λ i e h. c.unsizing_obligations.ensures.keeps i e (c.elaborated_principal.ensures.keeps i e h) in
+    let k : Keeps old new = λ i e h. c.unsizing_obligations.ensures.grew.keeps i e (c.elaborated_principal.ensures.grew.keeps i e h) in
     c.in_ok-candidate.ensures.held new (goal-held-later old new k c.args.goal.now.goal c.requires.goal)
     (subst (Every (EquationHeld new)) (sym c.new.ensures.items) tt) (subst (TraitRefsHeld new) (sym c.deref-then-is_dyn_compatible.ensures.value) c.in_ok-premises.ensures.held)
 
@@ -46,8 +37,8 @@ returns-then-is_dyn_compatible-clause-is c = λ l lifetime.
     let old = c.args.cx.now.entries in
     let mid = c.elaborated_principal.new.cx.entries in
     let new = c.unsizing_obligations.new.cx.entries in
-    let k = c.elaborated_principal.ensures.keeps in
-    let whole : Keeps old new = λ i e h. c.unsizing_obligations.ensures.keeps i e (k i e h) in
+    let k = c.elaborated_principal.ensures.grew.keeps in
+    let whole : Keeps old new = λ i e h. c.unsizing_obligations.ensures.grew.keeps i e (k i e h) in
     let d = c.args.declarations.now in
     let V = written old d in
     let g = c.args.goal.now in

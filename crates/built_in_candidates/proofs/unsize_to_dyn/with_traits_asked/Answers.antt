@@ -1,18 +1,13 @@
-use Rattle.std.proofs.Common.{◌≡◌, ◌++◌, ap, sym, ◌∙◌, subst, Err}
+use Rattle.std.proofs.Common.{◌≡◌, ◌++◌, ap, sym, ◌∙◌, subst}
 use Rattle.type_terms.specs.Rules.{asked}
 use Rattle.type_terms.specs.Terms.{types, trees_at}
 use Rattle.type_terms.specs.Kept.{trees-later}
-use Rattle.infer_table.proofs.FullFacts.{handed-on}
 use Rattle.evaluation.specs.Merge.{if_there}
 use Rattle.declarations.specs.Applied.{references_in, TraitRefsHeld}
 use Rattle.declarations.proofs.Bounded.{held-more, one-more}
+use Rattle.term_folds.proofs.Grown.{grew-on}
 use Rattle.built_in_candidates.specs.Unsizing.{traits_asked}
 use Rattle.built_in_candidates.proofs.unsize_to_dyn.with_traits_asked.Goals as goal
-
-pub returns-in_err-trait_ref-clause-full : goal.returns-in_err-trait_ref-clause-full
-returns-in_err-trait_ref-clause-full c = λ q.
-    let handed = c.from_residual-in_err-trait_ref in
-    handed-on handed.result handed.ensures.1 (λ p. c.in_err-trait_ref.ensures.full (ap Err p)) q
 
 pub traits-preserved : goal.traits-preserved
 traits-preserved c =
@@ -23,18 +18,17 @@ traits-preserved c =
     let S = trees_at es c.args.ty.0 in
     let found = c.traits.found.items in
     let r = c.in_ok-trait_ref.trait_ref in
-    let k = c.type_asked.ensures.keeps in
+    let k = c.type_asked.ensures.grew.keeps in
     let back = c.in-Some.ensures.cases.0 in
     let x = c.in-Some.def_id.now in
     let rest = c.in-Some.others.now in
     let all = references_in es (if_there c.args.first) ++ traits_asked c.args.def_ids.now S in
     let ys = traits_asked rest S in
-    let is = c.in_ok-trait_ref.ensures.is ∙ ap (asked x.index) (trees-later es now inv.keeps types c.args.ty.0 c.requires.ty) in
+    let is = c.in_ok-trait_ref.ensures.is ∙ ap (asked x.index) (trees-later es now inv.grew.keeps types c.args.ty.0 c.requires.ty) in
     let before = subst (λ l. references_in now found ++ traits_asked l S ≡ all) back inv.are in
     let put = c.in_ok-push.ensures.items in
     record {
-      keeps = λ j e h. k j e (inv.keeps j e h);
-      limit = c.type_asked.ensures.limit ∙ inv.limit;
+      grew = grew-on inv.grew c.type_asked.ensures.grew;
       found_held = subst (TraitRefsHeld next) (sym put) (held-more now next k found r inv.found_held c.in_ok-trait_ref.ensures.held);
       are = subst (λ l. references_in next l ++ ys ≡ all) (sym put) (one-more now next k found r (asked x.index S) ys all inv.found_held is before);
     }

@@ -1,5 +1,6 @@
 use Rattle.std.proofs.Common.{◌≡◌, ◌++◌, length}
-use Rattle.type_terms.specs.Terms.{Keeps, trees_at}
+use Rattle.type_terms.specs.Terms.{trees_at}
+use Rattle.term_folds.specs.Growth.{Grew}
 use Rattle.evaluation.specs.Merge.{if_there}
 use Rattle.declarations.specs.Applied.{references_in, TraitRefsHeld}
 use Rattle.built_in_candidates.specs.Unsizing.{traits_asked}
@@ -7,8 +8,7 @@ use Rattle.built_in_candidates.proofs.unsize_to_dyn.with_traits_asked.Given as g
 
 abbrev pub invariant-traits : goal.invariant-traits
 invariant-traits l = record {
-  keeps : Keeps l.fn.cx.entries l.cx.entries;
-  limit : l.cx.limit ≡ l.fn.cx.limit;
+  grew : Grew l.fn.cx l.cx;
   found_held : TraitRefsHeld l.cx.entries l.found.items;
   are : references_in l.cx.entries l.found.items ++ traits_asked l.left (trees_at l.fn.cx.entries l.fn.ty.0) ≡ references_in l.fn.cx.entries (if_there l.fn.first) ++ traits_asked l.fn.def_ids (trees_at l.fn.cx.entries l.fn.ty.0);
 }

@@ -1,11 +1,10 @@
-use Rattle.std.proofs.Common.{Bool, List, ◌&&◌, sym, ap, ◌∙◌, Err}
+use Rattle.std.proofs.Common.{Bool, List, ◌&&◌, sym, ap, ◌∙◌}
 use Rattle.std.specs.List.{slice_get}
 use Rattle.type_terms.specs.Trees.{Trees, leaf, ◌+++◌}
 use Rattle.type_terms.specs.Worlds.{Reference}
 use Rattle.type_terms.specs.Rules.{principal_with, autos_with, are_declared, upcasts_autos}
 use Rattle.type_terms.specs.Terms.{bounds_lists, trees_at}
 use Rattle.type_terms.specs.Kept.{trees-later}
-use Rattle.infer_table.proofs.FullFacts.{handed-on}
 use Rattle.infer_table.proofs.Numbers.{goal-held-later}
 use Rattle.evaluation.specs.Merge.{if_there}
 use Rattle.declarations.specs.Items.{written}
@@ -17,17 +16,14 @@ use Rattle.built_in_candidates.specs.Goals.{asked_of}
 use Rattle.built_in_candidates.proofs.Asking.{asked-later}
 use Rattle.built_in_candidates.proofs.upcast.consider_upcast.Goals as goal
 
-pub returns-in_err-ends-clause-full : goal.returns-in_err-ends-clause-full
-returns-in_err-ends-clause-full c = λ q. handed-on c.from_residual.result c.from_residual.ensures.1 (λ p. c.in_err-ends.ensures.full (ap Err p)) q
-
 pub upcast_candidate-requires-clause-goal : goal.upcast_candidate-requires-clause-goal
-upcast_candidate-requires-clause-goal c = goal-held-later c.args.cx.now.entries c.upcast_ends.new.cx.entries c.upcast_ends.ensures.keeps c.args.goal.now.goal c.requires.goal
+upcast_candidate-requires-clause-goal c = goal-held-later c.args.cx.now.entries c.upcast_ends.new.cx.entries c.upcast_ends.ensures.grew.keeps c.args.goal.now.goal c.requires.goal
 
 pub returns-then-can_upcast-clause-is : goal.returns-then-can_upcast-clause-is
 returns-then-can_upcast-clause-is c =
     let old = c.args.cx.now.entries in
     let mid = c.upcast_ends.new.cx.entries in
-    let keeps = c.upcast_ends.ensures.keeps in
+    let keeps = c.upcast_ends.ensures.grew.keeps in
     let V = written old c.args.declarations.now in
     let g = c.args.goal.now in
     let a = asked_of old g in
@@ -58,7 +54,7 @@ pub returns-clause-is : goal.returns-clause-is
 returns-clause-is c = λ l h m j.
     let old = c.args.cx.now.entries in
     let mid = c.upcast_ends.new.cx.entries in
-    let keeps = c.upcast_ends.ensures.keeps in
+    let keeps = c.upcast_ends.ensures.grew.keeps in
     let V = written old c.args.declarations.now in
     let a = asked_of old c.args.goal.now in
     let S = trees_at old c.args.self_ty.0 in

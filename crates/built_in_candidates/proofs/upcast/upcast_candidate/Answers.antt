@@ -1,7 +1,6 @@
-use Rattle.std.proofs.Common.{[], sym, ap, ◌∙◌, Some, Err}
+use Rattle.std.proofs.Common.{[], sym, ap, ◌∙◌, Some}
 use Rattle.std.specs.Prelude.{option_map}
 use Rattle.std.specs.List.{slice_get}
-use Rattle.infer_table.proofs.FullFacts.{handed-on}
 use Rattle.evaluation.specs.Merge.{if_there}
 use Rattle.declarations.specs.Items.{reference_in}
 use Rattle.declarations.specs.Applied.{references_in}
@@ -10,9 +9,6 @@ use Rattle.evaluation.proofs.Handed.{if-ok}
 use Rattle.built_in_candidates.specs.Goals.{asked_of}
 use Rattle.built_in_candidates.proofs.Objects.{by_upcast, upcast-at}
 use Rattle.built_in_candidates.proofs.upcast.upcast_candidate.Goals as goal
-
-pub returns-in_err-candidate-in-Some-upcast_bound-clause-full : goal.returns-in_err-candidate-in-Some-upcast_bound-clause-full
-returns-in_err-candidate-in-Some-upcast_bound-clause-full c = λ q. handed-on c.from_residual.result c.from_residual.ensures.1 (λ p. c.in_err-candidate-in-Some-upcast_bound.ensures.full (ap Err p)) q
 
 pub returns-in_ok-candidate-in-Some-upcast_bound-clause-is : goal.returns-in_ok-candidate-in-Some-upcast_bound-clause-is
 returns-in_ok-candidate-in-Some-upcast_bound-clause-is c = λ V e.

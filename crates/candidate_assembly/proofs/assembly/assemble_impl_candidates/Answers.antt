@@ -1,12 +1,11 @@
-use Rattle.std.proofs.Common.{◌≡◌, ◌∙◌, ap, subst, length, Option, option_map}
+use Rattle.std.proofs.Common.{◌≡◌, ◌∙◌, ap, Option, option_map}
 use Rattle.std.specs.List.{slice_get}
 use Rattle.evaluation.specs.declared.candidate.CandidateSpec.{CandidateSpec}
-use Rattle.infer_table.proofs.FullFacts.{or-then}
 use Rattle.declarations.specs.Items.{written}
 use Rattle.assembly_laws.specs.Candidates.{by_impls}
 use Rattle.candidate_assembly.specs.Counted.{ForEachPast}
 use Rattle.built_in_candidates.specs.Goals.{asked_of, candidate_of}
-use Rattle.candidate_assembly.specs.Headers.{HasTooMany, impls_above}
+use Rattle.candidate_assembly.specs.Headers.{impls_above}
 use Rattle.candidate_assembly.specs.Sections.{last_impl}
 use Rattle.candidate_assembly.proofs.Counted.{last-is}
 use Rattle.candidate_assembly.proofs.Ends.{ok-map}
@@ -23,12 +22,3 @@ returns-clause-is c =
     (λ (o : Option CandidateSpec). ForEachPast es done (λ seen. option_map (candidate_of V a.reference.trait new) o ≡ slice_get (by_impls V a (impls_above (last_impl seen) V.impls)) 0))
     (λ o h seen s. h ∙ ap (λ last. slice_get (by_impls V a (impls_above last V.impls)) 0) (c.last_impl-last.ensures ∙ last-is es done seen s))
     c.next_impl_candidate.result c.next_impl_candidate.ensures.is
-
-pub returns-clause-full : goal.returns-clause-full
-returns-clause-full c = λ q.
-    let es = c.args.cx.now.entries in
-    let V = written es c.args.declarations.now in
-    let a = asked_of es c.args.goal.now in
-    or-then
-    (λ more seen s. subst (λ last. HasTooMany (length c.args.goal.now.variables.items) (slice_get (by_impls V a (impls_above last V.impls)) 0)) (c.last_impl-last.ensures ∙ last-is es c.args.done.now seen s) more)
-    (c.next_impl_candidate.ensures.full q)

@@ -1,16 +1,14 @@
-use Rattle.std.proofs.Common.{◌≡◌, ℕ, ◌⊎◌, ◌+◌, ◌<◌, List, length, map, ap, subst, sym, ◌∙◌, inl, Err, arith}
+use Rattle.std.proofs.Common.{◌≡◌, List, length, map, ap, subst, sym, ◌∙◌, arith}
 use Rattle.type_terms.specs.Trees.{Trees, none}
 use Rattle.type_terms.specs.Worlds.{Reference}
 use Rattle.type_terms.specs.Rules.{is_coinductive}
 use Rattle.type_terms.specs.Terms.{Keeps, args_lists, trees_at}
-use Rattle.type_terms.specs.declared.TheConstants.{MAX_INDEX}
 use Rattle.type_terms.specs.Kept.{trees-later}
 use Rattle.term_folds.specs.declared.predicate.TraitRef.{TraitRef}
 use Rattle.infer_table.specs.Constraints.{constraints_trees}
 use Rattle.infer_table.specs.Content.{AllConstraintsHeld}
 use Rattle.infer_table.specs.declared.canonical.CanonicalVarKind.{CanonicalVarKind}
 use Rattle.infer_table.specs.declared.certainty.Certainty.TheVariants.{Yes}
-use Rattle.infer_table.proofs.FullFacts.{handed-on}
 use Rattle.infer_table.proofs.Numbers.{goal-held-later}
 use Rattle.infer_table.proofs.StepFacts.{keeps-trans}
 use Rattle.evaluation.specs.declared.candidate.CandidateSource.{CandidateSource}
@@ -26,26 +24,13 @@ use Rattle.declarations.proofs.Growth.{references-kept}
 use Rattle.candidate_assembly.proofs.Behind.{same-impl}
 use Rattle.candidate_assembly.proofs.impls.consider_impl_candidate.Goals as goal
 
-pub returns-in_err-instance-clause-full : goal.returns-in_err-instance-clause-full
-returns-in_err-instance-clause-full c = λ q.
-    let count : c.len.result ≡ length c.args.goal.now.variables.items = let e = c.len.ensures in omega (arith, e) in
-    past (length c.args.def.now.params.items) count (handed-on c.from_residual.result c.from_residual.ensures.1 (λ p. c.in_err-instance.ensures.full (ap Err p)) q)
-  where
-    past : {A : Type 0} {m n : ℕ} (k : ℕ) → m ≡ n → A ⊎ (MAX_INDEX < m + k) → A ⊎ (MAX_INDEX < n + k)
-    past {A = A} k e h = subst (λ z. A ⊎ (MAX_INDEX < z + k)) e h
-
-pub returns-in_err-equations-clause-full : goal.returns-in_err-equations-clause-full
-returns-in_err-equations-clause-full c = λ q.
-    let handed = c.from_residual-in_err-equations in
-    inl (handed-on handed.result handed.ensures.1 (λ p. c.in_err-equations.ensures.full (ap Err p)) q)
-
 pub returns-clause-held : goal.returns-clause-held
 returns-clause-held c =
     let old = c.args.cx.now.entries in
     let mid = c.instance_behind.new.cx.entries in
     let new = c.relate_args.new.cx.entries in
-    let kept : Keeps old new = keeps-trans old mid new c.in_ok-instance.ensures.keeps c.in_ok-equations.ensures.keeps in
-    let later = references-kept mid new c.in_ok-equations.ensures.keeps c.in_ok-instance.instance.clauses.items c.in_ok-instance.ensures.clauses_held in
+    let kept : Keeps old new = keeps-trans old mid new c.in_ok-instance.ensures.grew.keeps c.in_ok-equations.ensures.grew.keeps in
+    let later = references-kept mid new c.in_ok-equations.ensures.grew.keeps c.in_ok-instance.instance.clauses.items c.in_ok-instance.ensures.clauses_held in
     record {
       equations = c.in_ok-equations.ensures.held;
       constraints = subst (AllConstraintsHeld new) (sym c.new.ensures.items) tt;
@@ -69,10 +54,10 @@ returns-clause-is c = λ V.
     let def = c.args.def.now in
     let instance = c.in_ok-instance.instance in
     let made = c.in_ok-instance.ensures in
-    let further = c.in_ok-equations.ensures.keeps in
-    let kept : Keeps old new = keeps-trans old mid new made.keeps further in
+    let further = c.in_ok-equations.ensures.grew.keeps in
+    let kept : Keeps old new = keeps-trans old mid new made.grew.keeps further in
     let count : c.len.result ≡ length g.variables.items = let e = c.len.ensures in omega (arith, e) in
-    let asked = trees-later old mid made.keeps args_lists g.goal.predicate.trait_ref.args.0 c.requires.goal.predicate in
+    let asked = trees-later old mid made.grew.keeps args_lists g.goal.predicate.trait_ref.args.0 c.requires.goal.predicate in
     let header = made.header ∙ ap (λ m. rules_behind m (reference_in old def.header)) count in
     let clauses = all-same mid new further instance.clauses.items made.clauses_held ∙ made.clauses ∙ ap (λ m. map (rules_behind m) (references_in old def.clauses.items)) count in
     same _ _ _ _ _ _ _ _ _ (ap Impl (sym (same-impl c.args.id))) (made.variables ∙ c.requires.params)

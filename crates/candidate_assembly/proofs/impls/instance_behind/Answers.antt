@@ -1,4 +1,4 @@
-use Rattle.std.proofs.Common.{◌≡◌, ℕ, ◌⊎◌, ◌+◌, ◌<◌, List, length, map, ap, subst, sym, ◌∙◌, inl, Err, None, arith}
+use Rattle.std.proofs.Common.{◌≡◌, List, map, ap, subst, sym, ◌∙◌, Err, None, arith}
 use Rattle.type_terms.specs.Trees.{Trees, outer_binder}
 use Rattle.type_terms.specs.Worlds.{with_args, all_with_args}
 use Rattle.type_terms.specs.Terms.{Keeps, args_lists, trees_at}
@@ -9,42 +9,22 @@ use Rattle.type_terms.proofs.FailFacts.{refused-term}
 use Rattle.infer_table.specs.Raw.{variables_from}
 use Rattle.infer_table.specs.Values.{values_of}
 use Rattle.infer_table.specs.declared.canonical.CanonicalVarKind.{CanonicalVarKind}
-use Rattle.infer_table.proofs.FullFacts.{handed-on}
 use Rattle.infer_table.proofs.StepFacts.{keeps-trans}
 use Rattle.declarations.specs.Applied.{references_in, TraitRefsHeld, sort_of_param}
 use Rattle.declarations.specs.Items.{reference_in}
 use Rattle.declarations.specs.Merges.{Each}
 use Rattle.declarations.proofs.Bounded.{all-same}
 use Rattle.declarations.proofs.Growth.{reference-same, references-kept}
+use Rattle.infer_table.proofs.FullFacts.{at-limit}
 use Rattle.candidate_assembly.specs.Headers.{var_kind}
-use Rattle.candidate_assembly.proofs.Behind.{variables, variables-closed, variables-sorts, reference-behind, all-behind, all-fit, fits-later, arguments-are, kinds-length}
+use Rattle.candidate_assembly.proofs.Behind.{variables, variables-closed, variables-sorts, reference-behind, all-behind, all-fit, fits-later, arguments-are}
 use Rattle.candidate_assembly.proofs.impls.instance_behind.Goals as goal
 
-pub returns-in_err-values-clause-full : goal.returns-in_err-values-clause-full
-returns-in_err-values-clause-full c = λ q.
-    let handed = c.from_residual-in_err-values in
-    let n = kinds-length c.args.def.now.params.items in
-    let e = ap (λ (ks : List CanonicalVarKind). length ks) (c.deref-2.ensures.value ∙ c.in_ok-variables.ensures.are ∙ ap (map var_kind) c.deref.ensures.value) in
-    past (omega (arith, n, e)) (handed-on handed.result handed.ensures.1 (λ p. c.in_err-values.ensures.full (ap Err p)) q)
-  where
-    past : {A : Type 0} {m n k : ℕ} → n ≡ k → A ⊎ (m < c.args.others + n) → A ⊎ (m < c.args.others + k)
-    past {A = A} {m = m} e h = subst (λ z. A ⊎ (m < c.args.others + z)) e h
-
 pub returns-in_err-args-clause-full : goal.returns-in_err-args-clause-full
-returns-in_err-args-clause-full c = λ q.
+returns-in_err-args-clause-full c =
     let refused = c.in_err-args.ensures in
     let handed = c.from_residual-in_err-args in
-    inl (handed-on handed.result handed.ensures.1 (λ p. refused-term args_lists (omega arith) (refused.full (ap Err p)) refused.limit refused.refused) q)
-
-pub returns-in_err-header-clause-full : goal.returns-in_err-header-clause-full
-returns-in_err-header-clause-full c = λ q.
-    let handed = c.from_residual-in_err-header in
-    inl (handed-on handed.result handed.ensures.1 (λ p. c.in_err-header.ensures.full (ap Err p)) q)
-
-pub returns-in_err-clauses-clause-full : goal.returns-in_err-clauses-clause-full
-returns-in_err-clauses-clause-full c = λ q.
-    let handed = c.from_residual-in_err-clauses in
-    inl (handed-on handed.result handed.ensures.1 (λ p. c.in_err-clauses.ensures.full (ap Err p)) q)
+    at-limit handed.result handed.ensures.1 (λ p. refused-term args_lists (omega arith) (refused.full (ap Err p)) refused.limit refused.refused)
 
 pub with_arguments-requires-clause-closed : goal.with_arguments-requires-clause-closed
 with_arguments-requires-clause-closed c =
@@ -65,7 +45,7 @@ with_arguments-requires-clause-fits c =
     let args : trees_at fs c.in_ok-args.args.0 ≡ variables n (map var_kind ps) =
     arguments-are c.variables_behind.new.cx.entries fs c.in_ok-args.args.0 n c.in_ok-values.values.items (map var_kind ps) c.in_ok-args.ensures.is (subst (λ (ks : List CanonicalVarKind). values_of c.variables_behind.new.cx.entries c.in_ok-values.values.items ≡ variables_from n ks) kinds c.in_ok-values.ensures.values) in
     let es = c.args.cx.now.entries in
-    let to : Keeps es fs = keeps-trans es c.variables_behind.new.cx.entries fs c.in_ok-values.ensures.keeps c.in_ok-args.ensures.keeps in
+    let to : Keeps es fs = keeps-trans es c.variables_behind.new.cx.entries fs c.in_ok-values.ensures.grew.keeps c.in_ok-args.ensures.keeps in
     let fit = c.requires.speaks.header (variables n (map var_kind ps)) (variables-sorts n ps) in
     subst (λ (z : Trees). first_misfit z (trees_at fs c.args.def.now.header.args.0) ≡ None) (sym args)
     (subst (λ (t : Trees). first_misfit (variables n (map var_kind ps)) t ≡ None) (sym (trees-later es fs to args_lists c.args.def.now.header.args.0 c.requires.held.header)) fit)
@@ -79,10 +59,10 @@ all_with_arguments-requires-clause-held c =
     let args : trees_at fs c.in_ok-args.args.0 ≡ variables n (map var_kind ps) =
     arguments-are c.variables_behind.new.cx.entries fs c.in_ok-args.args.0 n c.in_ok-values.values.items (map var_kind ps) c.in_ok-args.ensures.is (subst (λ (ks : List CanonicalVarKind). values_of c.variables_behind.new.cx.entries c.in_ok-values.values.items ≡ variables_from n ks) kinds c.in_ok-values.ensures.values) in
     let es = c.args.cx.now.entries in
-    let to : Keeps es fs = keeps-trans es c.variables_behind.new.cx.entries fs c.in_ok-values.ensures.keeps c.in_ok-args.ensures.keeps in
+    let to : Keeps es fs = keeps-trans es c.variables_behind.new.cx.entries fs c.in_ok-values.ensures.grew.keeps c.in_ok-args.ensures.keeps in
     let gs = c.with_arguments.new.cx.entries in
-    let on : Keeps es gs = keeps-trans es fs gs to c.in_ok-header.ensures.keeps in
-    let still : trees_at gs c.in_ok-args.args.0 ≡ variables n (map var_kind ps) = trees-later fs gs c.in_ok-header.ensures.keeps args_lists c.in_ok-args.args.0 (_, c.in_ok-args.ensures.is) ∙ args in
+    let on : Keeps es gs = keeps-trans es fs gs to c.in_ok-header.ensures.grew.keeps in
+    let still : trees_at gs c.in_ok-args.args.0 ≡ variables n (map var_kind ps) = trees-later fs gs c.in_ok-header.ensures.grew.keeps args_lists c.in_ok-args.args.0 (_, c.in_ok-args.ensures.is) ∙ args in
     let cs = c.args.def.now.clauses.items in
     let slice : c.deref-3.result.now ≡ cs = c.deref-3.ensures.value in
     subst (λ (rs : List TraitRef). TraitRefsHeld gs rs) (sym slice) (references-kept es gs on cs c.requires.held.clauses)
@@ -96,10 +76,10 @@ all_with_arguments-requires-clause-closed c =
     let args : trees_at fs c.in_ok-args.args.0 ≡ variables n (map var_kind ps) =
     arguments-are c.variables_behind.new.cx.entries fs c.in_ok-args.args.0 n c.in_ok-values.values.items (map var_kind ps) c.in_ok-args.ensures.is (subst (λ (ks : List CanonicalVarKind). values_of c.variables_behind.new.cx.entries c.in_ok-values.values.items ≡ variables_from n ks) kinds c.in_ok-values.ensures.values) in
     let es = c.args.cx.now.entries in
-    let to : Keeps es fs = keeps-trans es c.variables_behind.new.cx.entries fs c.in_ok-values.ensures.keeps c.in_ok-args.ensures.keeps in
+    let to : Keeps es fs = keeps-trans es c.variables_behind.new.cx.entries fs c.in_ok-values.ensures.grew.keeps c.in_ok-args.ensures.keeps in
     let gs = c.with_arguments.new.cx.entries in
-    let on : Keeps es gs = keeps-trans es fs gs to c.in_ok-header.ensures.keeps in
-    let still : trees_at gs c.in_ok-args.args.0 ≡ variables n (map var_kind ps) = trees-later fs gs c.in_ok-header.ensures.keeps args_lists c.in_ok-args.args.0 (_, c.in_ok-args.ensures.is) ∙ args in
+    let on : Keeps es gs = keeps-trans es fs gs to c.in_ok-header.ensures.grew.keeps in
+    let still : trees_at gs c.in_ok-args.args.0 ≡ variables n (map var_kind ps) = trees-later fs gs c.in_ok-header.ensures.grew.keeps args_lists c.in_ok-args.args.0 (_, c.in_ok-args.ensures.is) ∙ args in
     let cs = c.args.def.now.clauses.items in
     let slice : c.deref-3.result.now ≡ cs = c.deref-3.ensures.value in
     ap outer_binder still ∙ variables-closed n (map var_kind ps)
@@ -113,10 +93,10 @@ all_with_arguments-requires-clause-fits c =
     let args : trees_at fs c.in_ok-args.args.0 ≡ variables n (map var_kind ps) =
     arguments-are c.variables_behind.new.cx.entries fs c.in_ok-args.args.0 n c.in_ok-values.values.items (map var_kind ps) c.in_ok-args.ensures.is (subst (λ (ks : List CanonicalVarKind). values_of c.variables_behind.new.cx.entries c.in_ok-values.values.items ≡ variables_from n ks) kinds c.in_ok-values.ensures.values) in
     let es = c.args.cx.now.entries in
-    let to : Keeps es fs = keeps-trans es c.variables_behind.new.cx.entries fs c.in_ok-values.ensures.keeps c.in_ok-args.ensures.keeps in
+    let to : Keeps es fs = keeps-trans es c.variables_behind.new.cx.entries fs c.in_ok-values.ensures.grew.keeps c.in_ok-args.ensures.keeps in
     let gs = c.with_arguments.new.cx.entries in
-    let on : Keeps es gs = keeps-trans es fs gs to c.in_ok-header.ensures.keeps in
-    let still : trees_at gs c.in_ok-args.args.0 ≡ variables n (map var_kind ps) = trees-later fs gs c.in_ok-header.ensures.keeps args_lists c.in_ok-args.args.0 (_, c.in_ok-args.ensures.is) ∙ args in
+    let on : Keeps es gs = keeps-trans es fs gs to c.in_ok-header.ensures.grew.keeps in
+    let still : trees_at gs c.in_ok-args.args.0 ≡ variables n (map var_kind ps) = trees-later fs gs c.in_ok-header.ensures.grew.keeps args_lists c.in_ok-args.args.0 (_, c.in_ok-args.ensures.is) ∙ args in
     let cs = c.args.def.now.clauses.items in
     let slice : c.deref-3.result.now ≡ cs = c.deref-3.ensures.value in
     let A = variables n (map var_kind ps) in
@@ -125,7 +105,7 @@ all_with_arguments-requires-clause-fits c =
     (fits-later es gs on A cs c.requires.held.clauses (all-fit es (map sort_of_param ps) A (variables-sorts n ps) cs c.requires.speaks.clauses)))
 
 pub returns-clause-header_held : goal.returns-clause-header_held
-returns-clause-header_held c = has-later c.with_arguments.new.cx.entries c.all_with_arguments.new.cx.entries c.in_ok-clauses.ensures.keeps args_lists c.in_ok-header.header.args.0 c.in_ok-header.ensures.held
+returns-clause-header_held c = has-later c.with_arguments.new.cx.entries c.all_with_arguments.new.cx.entries c.in_ok-clauses.ensures.grew.keeps args_lists c.in_ok-header.header.args.0 c.in_ok-header.ensures.held
 
 pub returns-clause-header : goal.returns-clause-header
 returns-clause-header c =
@@ -136,12 +116,12 @@ returns-clause-header c =
     let args : trees_at fs c.in_ok-args.args.0 ≡ variables n (map var_kind ps) =
     arguments-are c.variables_behind.new.cx.entries fs c.in_ok-args.args.0 n c.in_ok-values.values.items (map var_kind ps) c.in_ok-args.ensures.is (subst (λ (ks : List CanonicalVarKind). values_of c.variables_behind.new.cx.entries c.in_ok-values.values.items ≡ variables_from n ks) kinds c.in_ok-values.ensures.values) in
     let es = c.args.cx.now.entries in
-    let to : Keeps es fs = keeps-trans es c.variables_behind.new.cx.entries fs c.in_ok-values.ensures.keeps c.in_ok-args.ensures.keeps in
+    let to : Keeps es fs = keeps-trans es c.variables_behind.new.cx.entries fs c.in_ok-values.ensures.grew.keeps c.in_ok-args.ensures.keeps in
     let fit = c.requires.speaks.header (variables n (map var_kind ps)) (variables-sorts n ps) in
     let gs = c.with_arguments.new.cx.entries in
     let hs = c.all_with_arguments.new.cx.entries in
     let header = c.args.def.now.header in
-    reference-same gs hs c.in_ok-clauses.ensures.keeps c.in_ok-header.header c.in_ok-header.ensures.held
+    reference-same gs hs c.in_ok-clauses.ensures.grew.keeps c.in_ok-header.header c.in_ok-header.ensures.held
     ∙ c.in_ok-header.ensures.is ∙ ap (λ z. with_args z (reference_in fs header)) args ∙ ap (with_args (variables n (map var_kind ps))) (reference-same es fs to header c.requires.held.header)
     ∙ reference-behind n (map var_kind ps) (reference_in es header) fit
 
@@ -154,10 +134,10 @@ returns-clause-clauses c =
     let args : trees_at fs c.in_ok-args.args.0 ≡ variables n (map var_kind ps) =
     arguments-are c.variables_behind.new.cx.entries fs c.in_ok-args.args.0 n c.in_ok-values.values.items (map var_kind ps) c.in_ok-args.ensures.is (subst (λ (ks : List CanonicalVarKind). values_of c.variables_behind.new.cx.entries c.in_ok-values.values.items ≡ variables_from n ks) kinds c.in_ok-values.ensures.values) in
     let es = c.args.cx.now.entries in
-    let to : Keeps es fs = keeps-trans es c.variables_behind.new.cx.entries fs c.in_ok-values.ensures.keeps c.in_ok-args.ensures.keeps in
+    let to : Keeps es fs = keeps-trans es c.variables_behind.new.cx.entries fs c.in_ok-values.ensures.grew.keeps c.in_ok-args.ensures.keeps in
     let gs = c.with_arguments.new.cx.entries in
-    let on : Keeps es gs = keeps-trans es fs gs to c.in_ok-header.ensures.keeps in
-    let still : trees_at gs c.in_ok-args.args.0 ≡ variables n (map var_kind ps) = trees-later fs gs c.in_ok-header.ensures.keeps args_lists c.in_ok-args.args.0 (_, c.in_ok-args.ensures.is) ∙ args in
+    let on : Keeps es gs = keeps-trans es fs gs to c.in_ok-header.ensures.grew.keeps in
+    let still : trees_at gs c.in_ok-args.args.0 ≡ variables n (map var_kind ps) = trees-later fs gs c.in_ok-header.ensures.grew.keeps args_lists c.in_ok-args.args.0 (_, c.in_ok-args.ensures.is) ∙ args in
     let cs = c.args.def.now.clauses.items in
     let slice : c.deref-3.result.now ≡ cs = c.deref-3.ensures.value in
     let A = variables n (map var_kind ps) in

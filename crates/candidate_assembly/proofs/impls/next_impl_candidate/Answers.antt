@@ -1,11 +1,9 @@
-use Rattle.std.proofs.Common.{◌≡◌, ◌+◌, ◌<◌, length, sym, ap, subst, ◌∙◌, Some, Err}
-use Rattle.type_terms.specs.declared.TheConstants.{MAX_INDEX}
-use Rattle.infer_table.proofs.FullFacts.{handed-on, or-then}
+use Rattle.std.proofs.Common.{◌≡◌, sym, ap, ◌∙◌, Some}
 use Rattle.declarations.specs.Items.{written, impl_in}
 use Rattle.assembly_laws.specs.Candidates.{by_the_impl}
 use Rattle.built_in_candidates.specs.Goals.{asked_of}
-use Rattle.candidate_assembly.specs.Headers.{CanBeCandidate, HasTooMany}
-use Rattle.candidate_assembly.proofs.Walking.{no-next, one-next, none-of-number, one-of-number, at-number, kinds-counted}
+use Rattle.candidate_assembly.specs.Headers.{CanBeCandidate}
+use Rattle.candidate_assembly.proofs.Walking.{no-next, one-next, none-of-number, one-of-number, at-number}
 use Rattle.candidate_assembly.proofs.impls.next_impl_candidate.Goals as goal
 
 pub consider_impl_candidate-requires-clause-params : goal.consider_impl_candidate-requires-clause-params
@@ -17,20 +15,6 @@ pub consider_impl_candidate-requires-clause-speaks : goal.consider_impl_candidat
 consider_impl_candidate-requires-clause-speaks c =
     let es = c.args.cx.now.entries in
     (at-number (CanBeCandidate es) c.in-Some.id.index c.args.declarations.now.impls c.in-Some-impl_def.def.now c.requires.impls c.in-Some-impl_def.ensures.is).speaks
-
-pub returns-in_err-candidate-in-Some-impl_def-clause-full : goal.returns-in_err-candidate-in-Some-impl_def-clause-full
-returns-in_err-candidate-in-Some-impl_def-clause-full c = λ q.
-    let old = c.args.cx.now.entries in
-    let d = c.args.declarations.now in
-    let V = written old d in
-    let g = c.args.goal.now in
-    let a = asked_of old g in
-    let found = c.in-Some.ensures.is in
-    let i = impl_in old c.in-Some.id c.in-Some-impl_def.def.now in
-    let next = one-next V a c.args.last (λ j. j ≡ i) c.in-Some.id.index V.impls (one-of-number i c.in-Some.id.index V.impls (c.in-Some-impl_def.ensures.written old)) found in
-    or-then
-    (λ more. subst (HasTooMany (length g.variables.items)) (sym (next.2 ∙ ap (λ j. Some (by_the_impl V a j)) next.1)) (subst (λ n. MAX_INDEX < length g.variables.items + n) (sym (kinds-counted i.header.args 0 i.params)) more))
-    (handed-on c.from_residual.result c.from_residual.ensures.1 (λ p. c.in_err-candidate-in-Some-impl_def.ensures.full (ap Err p)) q)
 
 pub unreachable-requires : goal.unreachable-requires
 unreachable-requires c =

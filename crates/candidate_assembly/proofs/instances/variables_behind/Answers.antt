@@ -1,10 +1,11 @@
-use Rattle.std.proofs.Common.{refl, ap, ◌∙◌, inr, Err}
+use Rattle.std.proofs.Common.{refl, ap, Err}
 use Rattle.type_terms.specs.Kept.{args-held-later}
 use Rattle.infer_table.specs.declared.canonical.CanonicalVarKind.TheVariants.{Ty}
 use Rattle.infer_table.specs.Values.{values_of, values-later}
-use Rattle.infer_table.proofs.FullFacts.{handed-on}
 use Rattle.infer_table.proofs.Values.{args-held-push, values-push}
+use Rattle.infer_table.proofs.FullFacts.{at-limit}
 use Rattle.evaluation.proofs.Shortages.{some-kind}
+use Rattle.term_folds.proofs.Grown.{grew-on}
 use Rattle.candidate_assembly.proofs.Variables.{one-more-behind}
 use Rattle.candidate_assembly.proofs.instances.variables_behind.Goals as goal
 
@@ -14,14 +15,13 @@ loop-place-preserved c =
     let next = c.canonical_variable.new.cx.entries in
     let inv = c.loop-place.invariant in
     let vs = c.loop-place.values.items in
-    let k = c.canonical_variable.ensures.keeps in
+    let k = c.canonical_variable.ensures.grew.keeps in
     record {
-      keeps = λ j e h. k j e (inv.keeps j e h);
-      limit = c.canonical_variable.ensures.limit ∙ inv.limit;
+      grew = grew-on inv.grew c.canonical_variable.ensures.grew;
       held = rw c.in_ok-push.ensures.items (args-held-push next vs c.in_ok-value.value (args-held-later now next k vs inv.held) c.in_ok-value.ensures.held);
       values = rw c.in_ok-push.ensures.items (rw (values-push next vs c.in_ok-value.value) (rw (values-later now next k vs inv.held)
           (one-more-behind c.args.others (values_of now vs) _ _ c.args.kinds.now c.loop-place.place _ Ty c.loop-place-test.true refl c.in_ok-value.ensures.is inv.values)));
     }
 
 pub returns-in_err-value-clause-full : goal.returns-in_err-value-clause-full
-returns-in_err-value-clause-full c = λ q. some-kind (inr (handed-on c.from_residual.result c.from_residual.ensures.1 (λ p. c.in_err-value.ensures.full (ap Err p)) q))
+returns-in_err-value-clause-full c = at-limit c.from_residual.result c.from_residual.ensures.1 (λ p. some-kind (c.in_err-value.ensures.full (ap Err p)))

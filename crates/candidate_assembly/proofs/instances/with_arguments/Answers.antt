@@ -1,8 +1,4 @@
-use Rattle.std.proofs.Common.{◌≡◌, ap, ◌∙◌, [], ◌∷◌, Err}
-use Rattle.std.specs.Prelude.{Result}
-use Rattle.type_terms.specs.declared.Fault.{Fault}
-use Rattle.type_terms.specs.declared.Fault.TheVariants.{Full}
-use Rattle.term_folds.specs.declared.instantiate.InstantiateError.{InstantiateError}
+use Rattle.std.proofs.Common.{ap, ◌∙◌, [], ◌∷◌, Err}
 use Rattle.term_folds.specs.declared.instantiate.InstantiateError.TheVariants as error
 use Rattle.type_terms.specs.Terms.{trees_at}
 use Rattle.term_folds.specs.declared.predicate.TraitRef.{TraitRef}
@@ -19,8 +15,5 @@ returns-in-Ok-clause-is c =
     one-instantiated old new (trees_at old c.args.args.0) c.args.trait_ref c.in-Ok.instance (c.in-Ok.ensures.outline ∙ ap (λ (b : TraitRef). b.def_id.index ∷ []) value)
     (c.in-Ok.ensures.instantiated ∙ ap (λ (b : TraitRef). each_piece (λ d t. instantiate d (trees_at old c.args.args.0) t) (one_piece (trees_at old b.args.0))) value)
 
-fault-inside : (f : Fault) → ◌≡◌ {A = Result TraitRef Fault} (Err f) (Err Full) → ◌≡◌ {A = Result TraitRef InstantiateError} (Err (error.Fault f)) (Err (error.Fault Full))
-fault-inside f q = let e : f ≡ Full = cc in ap (λ x. Err (error.Fault x)) e
-
 pub returns-in-Err-Fault-clause-full : goal.returns-in-Err-Fault-clause-full
-returns-in-Err-Fault-clause-full c = λ q. c.in-Err-Fault.ensures.full (ap Err c.in-Err-Fault.field-0-is ∙ fault-inside c.in-Err-Fault.fault q)
+returns-in-Err-Fault-clause-full c = λ q. c.in-Err-Fault.ensures.full (ap Err (c.in-Err-Fault.field-0-is ∙ ap error.Fault q))

@@ -1,7 +1,6 @@
-use Rattle.std.proofs.Common.{◌≡◌, sym, ◌∙◌, ap, subst, Some, Err}
+use Rattle.std.proofs.Common.{◌≡◌, sym, ◌∙◌, ap, subst, Some}
 use Rattle.std.specs.Prelude.{IfSome}
 use Rattle.infer_table.specs.Responses.{answer_trees}
-use Rattle.infer_table.proofs.FullFacts.{handed-on}
 use Rattle.evaluation.specs.Merge.{merge_or_flounder}
 use Rattle.evaluation.specs.TableAnswers.{IsWellFormed}
 use Rattle.evaluation.specs.TableOperations.{begin}
@@ -24,11 +23,6 @@ pub merged-requires-clause-fits : goal.merged-requires-clause-fits
 merged-requires-clause-fits c =
     rw c.deref.ensures.value (collected-fit c.args.cx.now.entries (from_sources c.args.sources c.args.done.now) c.in_ok-responses.responses.items c.in_ok-responses.ensures
     (from-fits c.args.cx.now.entries c.args.sources c.args.done.now c.requires.fits))
-
-pub returns-in_err-response-clause-full : goal.returns-in_err-response-clause-full
-returns-in_err-response-clause-full c = λ q.
-    let handed = c.from_residual-in_err-response in
-    handed-on handed.result handed.ensures.1 (λ p. c.in_err-response.ensures.full (ap Err p)) q
 
 pub returns-in-Some-clause-fits : goal.returns-in-Some-clause-fits
 returns-in-Some-clause-fits c =

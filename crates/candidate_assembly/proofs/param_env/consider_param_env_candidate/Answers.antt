@@ -1,8 +1,7 @@
-use Rattle.std.proofs.Common.{[], map, ap, sym, ◌∙◌, subst, Err, Some}
+use Rattle.std.proofs.Common.{[], map, ap, sym, ◌∙◌, subst, Some}
 use Rattle.std.specs.Prelude.{option_map}
 use Rattle.std.specs.List.{slice_get}
 use Rattle.infer_table.proofs.Numbers.{goal-held-later}
-use Rattle.infer_table.proofs.FullFacts.{handed-on}
 use Rattle.evaluation.specs.declared.candidate.CandidateSource.TheVariants.{ParamEnv}
 use Rattle.evaluation.specs.StepReadings.{equation_read}
 use Rattle.declarations.specs.Applied.{TraitRefsHeld}
@@ -28,13 +27,10 @@ relate_args-requires-clause-right c =
     held-at es (references_to t c.deref.result.now) c.args.place c.in-Some.trait_ref
     (subst (λ l. TraitRefsHeld es (references_to t l)) (sym c.deref.ensures.value) (references-held es t c.args.goal.now.goal.param_env.items c.requires.environment)) c.in-Some.ensures
 
-pub returns-in_err-equations-in-Some-clause-full : goal.returns-in_err-equations-in-Some-clause-full
-returns-in_err-equations-in-Some-clause-full c = λ q. handed-on c.from_residual.result c.from_residual.ensures.1 (λ p. c.in_err-equations-in-Some.ensures.full (ap Err p)) q
-
 pub returns-in_ok-candidate-in-Some-clause-held : goal.returns-in_ok-candidate-in-Some-clause-held
 returns-in_ok-candidate-in-Some-clause-held c =
     c.in_ok-candidate-in-Some.ensures.held c.relate_args.new.cx.entries
-    (goal-held-later c.args.cx.now.entries c.relate_args.new.cx.entries c.relate_args.ensures.keeps c.args.goal.now.goal c.requires) c.in_ok-equations-in-Some.ensures.held tt
+    (goal-held-later c.args.cx.now.entries c.relate_args.new.cx.entries c.relate_args.ensures.grew.keeps c.args.goal.now.goal c.requires) c.in_ok-equations-in-Some.ensures.held tt
 
 pub returns-in_ok-candidate-in-Some-clause-is : goal.returns-in_ok-candidate-in-Some-clause-is
 returns-in_ok-candidate-in-Some-clause-is c = λ V.
@@ -45,7 +41,7 @@ returns-in_ok-candidate-in-Some-clause-is c = λ V.
     let t = g.goal.predicate.trait_ref.def_id.index in
     let equations = c.in_ok-equations-in-Some.equations.items in
     let made = c.in_ok-candidate-in-Some.ensures.is new V
-    ∙ ap (λ x. by_rule V x (ParamEnv c.clause_source.result) (map (equation_read new) equations) []) (asked-later old new c.relate_args.ensures.keeps g c.requires)
+    ∙ ap (λ x. by_rule V x (ParamEnv c.clause_source.result) (map (equation_read new) equations) []) (asked-later old new c.relate_args.ensures.grew.keeps g c.requires)
     ∙ ap (λ l. by_rule V a (ParamEnv c.clause_source.result) l []) c.in_ok-equations-in-Some.ensures.are
     ∙ ap (λ s. by_rule V a (ParamEnv s) (all_equal (trees_at old g.goal.predicate.trait_ref.args.0) (trees_at old c.in-Some.trait_ref.args.0)) []) c.clause_source.ensures in
     let found = clause-at V old a g.goal.param_env.items c.args.place

@@ -1,10 +1,8 @@
-use Rattle.std.proofs.Common.{if◌then◌else◌, length, sym, ◌∙◌, ap, subst, Some, None}
+use Rattle.std.proofs.Common.{if◌then◌else◌, sym, ◌∙◌, ap, Some, None}
 use Rattle.std.proofs.lemmas.Result.{IfOk-weaker}
 use Rattle.infer_table.specs.Inputs.{form_of}
-use Rattle.infer_table.proofs.FullFacts.{or-then}
 use Rattle.candidate_assembly.specs.Fitting.{solving_of}
 use Rattle.built_in_candidates.specs.Goals.{asked_of}
-use Rattle.candidate_assembly.specs.Headers.{HasTooMany}
 use Rattle.candidate_assembly.specs.Sections.{next_candidate}
 use Rattle.candidate_assembly.specs.Solving.{meaning_for}
 use Rattle.candidate_assembly.proofs.trait_goals.assemble_and_evaluate_candidates.Goals as goal
@@ -27,16 +25,6 @@ returns-then-decided-clause-is c =
     IfOk-weaker c.decided_candidate.result _ _
     (λ o p seen s t.
     p seen s t ∙ ap (λ x. next_candidate m g.mode x seen) (sym (c.requires.decides.is ∙ ap (λ b. if b then Some (asked_of es g) else None) c.if-decided.true))) c.decided_candidate.ensures.is
-
-pub returns-then-decided-clause-full : goal.returns-then-decided-clause-full
-returns-then-decided-clause-full c = λ q.
-    let es = c.args.cx.now.entries in
-    let g = c.args.goal.now in
-    let m = meaning_for (solving_of es c.args.declarations.now) (form_of es g) in
-    or-then
-    (λ f seen s t.
-    subst (λ x. HasTooMany (length g.variables.items) (next_candidate m g.mode x seen)) (sym (c.requires.decides.is ∙ ap (λ b. if b then Some (asked_of es g) else None) c.if-decided.true)) (f seen s t))
-    (c.decided_candidate.ensures.full q)
 
 pub returns-else-decided-clause-is : goal.returns-else-decided-clause-is
 returns-else-decided-clause-is c = λ seen s t.

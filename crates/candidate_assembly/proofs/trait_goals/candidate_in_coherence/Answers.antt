@@ -1,20 +1,15 @@
-use Rattle.std.proofs.Common.{not, ◌&&◌, false, length, sym, ◌∙◌, ap, subst, Err, Some, inl}
+use Rattle.std.proofs.Common.{not, ◌&&◌, false, sym, ◌∙◌, Some}
 use Rattle.std.proofs.lemmas.Result.{IfOk-weaker}
-use Rattle.infer_table.proofs.FullFacts.{handed-on, or-then}
 use Rattle.declarations.specs.Items.{written}
 use Rattle.assembly_laws.specs.Candidates.{unknowable}
 use Rattle.assembly_laws.specs.Knowing.{is_knowable}
 use Rattle.assembly_laws.specs.Solver.{holds_from}
 use Rattle.built_in_candidates.specs.Goals.{asked_of}
-use Rattle.candidate_assembly.specs.Headers.{HasTooMany}
 use Rattle.candidate_assembly.specs.Nexts.{until}
 use Rattle.candidate_assembly.specs.Sections.{is_first, is_unknowable}
 use Rattle.candidate_assembly.proofs.DecidedGoals.{inside-same, inside-none}
 use Rattle.candidate_assembly.proofs.Shown.{holds}
 use Rattle.candidate_assembly.proofs.trait_goals.candidate_in_coherence.Goals as goal
-
-pub returns-in_err-candidate-clause-full : goal.returns-in_err-candidate-clause-full
-returns-in_err-candidate-clause-full c = λ q. inl (handed-on c.from_residual-in_err-candidate.result c.from_residual-in_err-candidate.ensures.1 (λ p. c.in_err-candidate.ensures.full (ap Err p)) q)
 
 pub returns-then-unknowable_holds-clause-is : goal.returns-then-unknowable_holds-clause-is
 returns-then-unknowable_holds-clause-is c = λ seen s t.
@@ -39,18 +34,3 @@ returns-clause-is c =
     ∙ inside-same (is_first seen && not (is_knowable V d.local a.reference)) (holds_from is_unknowable seen) (Some (unknowable V a)) (until false es d g seen)
     (sym (c.in_ok-begins_unknowable.ensures.is seen s) ∙ c.if-branch.false) (sym (holds is_unknowable es c.args.done.now seen s) ∙ sym c.unknowable_holds.ensures ∙ c.if-unknowable_holds.false))
     c.candidate_until.ensures.is
-
-pub returns-clause-full : goal.returns-clause-full
-returns-clause-full c = λ q.
-    let es = c.args.cx.now.entries in
-    let d = c.args.declarations.now in
-    let g = c.args.goal.now in
-    let V = written es d in
-    let a = asked_of es g in
-    or-then
-    (λ f seen s t.
-    subst (HasTooMany (length g.variables.items))
-    (inside-same (is_first seen && not (is_knowable V d.local a.reference)) (holds_from is_unknowable seen) (Some (unknowable V a)) (until false es d g seen)
-    (sym (c.in_ok-begins_unknowable.ensures.is seen s) ∙ c.if-branch.false) (sym (holds is_unknowable es c.args.done.now seen s) ∙ sym c.unknowable_holds.ensures ∙ c.if-unknowable_holds.false))
-    (f seen s t))
-    (c.candidate_until.ensures.full q)

@@ -1,27 +1,23 @@
-use Rattle.std.proofs.Common.{◌≡◌, length, if◌then◌else◌, sym, ◌∙◌, ap, Err, None, option_map, inl}
+use Rattle.std.proofs.Common.{◌≡◌, if◌then◌else◌, sym, ◌∙◌, ap, None, option_map}
 use Rattle.std.proofs.lemmas.Result.{IfOk-weaker}
-use Rattle.infer_table.proofs.FullFacts.{handed-on, or-then}
 use Rattle.goal_frames.proofs.Later.{considered-later}
+use Rattle.term_folds.proofs.Grown.{grew-on}
 use Rattle.declarations.specs.Items.{written}
 use Rattle.built_in_candidates.specs.Goals.{candidate_of}
-use Rattle.candidate_assembly.specs.Headers.{HasTooMany}
 use Rattle.candidate_assembly.specs.Nexts.{early_in, late_unless}
 use Rattle.candidate_assembly.specs.Sections.{late}
-use Rattle.candidate_assembly.proofs.DecidedGoals.{decided-later, histories-later, first-of, second-of, many-second}
+use Rattle.candidate_assembly.proofs.DecidedGoals.{decided-later, histories-later, first-of, second-of}
 use Rattle.candidate_assembly.proofs.trait_goals.candidate_until.Goals as goal
-
-pub returns-in_err-candidate-clause-full : goal.returns-in_err-candidate-clause-full
-returns-in_err-candidate-clause-full c = λ q. inl (handed-on c.from_residual.result c.from_residual.ensures.1 (λ p. c.in_err-candidate.ensures.full (ap Err p)) q)
 
 pub late_candidate_unless-requires-clause-decided : goal.late_candidate_unless-requires-clause-decided
 late_candidate_unless-requires-clause-decided c =
-    decided-later c.args.cx.now.entries c.early_candidate.new.cx.entries c.in_ok-candidate.ensures.keeps c.args.declarations.now c.args.goal.now c.requires.decided
+    decided-later c.args.cx.now.entries c.early_candidate.new.cx.entries c.in_ok-candidate.ensures.grew.keeps c.args.declarations.now c.args.goal.now c.requires.decided
 
 pub late_candidate_unless-requires-clause-done : goal.late_candidate_unless-requires-clause-done
-late_candidate_unless-requires-clause-done c = considered-later c.args.cx.now.entries c.early_candidate.new.cx.entries c.in_ok-candidate.ensures.keeps c.args.done.now c.requires.done
+late_candidate_unless-requires-clause-done c = considered-later c.args.cx.now.entries c.early_candidate.new.cx.entries c.in_ok-candidate.ensures.grew.keeps c.args.done.now c.requires.done
 
-pub returns-in-None-clause-keeps : goal.returns-in-None-clause-keeps
-returns-in-None-clause-keeps c = λ i e h. c.late_candidate_unless.ensures.keeps i e (c.in_ok-candidate.ensures.keeps i e h)
+pub returns-in-None-clause-grew : goal.returns-in-None-clause-grew
+returns-in-None-clause-grew c = grew-on c.in_ok-candidate.ensures.grew c.late_candidate_unless.ensures.grew
 
 pub returns-in-Some-clause-is : goal.returns-in-Some-clause-is
 returns-in-Some-clause-is c = λ seen s t.
@@ -44,19 +40,5 @@ returns-in-None-clause-is c =
     (λ o p. λ seen s t.
     second-of (early_in es d g seen) (late_unless c.args.stops es d g seen) (option_map (candidate_of (written es d) trait new) o)
     (ap (option_map (candidate_of (written es d) trait mid)) (sym c.in-None.is) ∙ c.in_ok-candidate.ensures.is seen s t)
-    (histories-later es mid c.in_ok-candidate.ensures.keeps d g c.requires.decided c.args.done.now c.requires.done (λ W b z. option_map (candidate_of W trait new) o ≡ (if c.args.stops then None else late W b z)) p seen s t))
+    (histories-later es mid c.in_ok-candidate.ensures.grew.keeps d g c.requires.decided c.args.done.now c.requires.done (λ W b z. option_map (candidate_of W trait new) o ≡ (if c.args.stops then None else late W b z)) p seen s t))
     c.late_candidate_unless.ensures.is
-
-pub returns-in-None-clause-full : goal.returns-in-None-clause-full
-returns-in-None-clause-full c = λ q.
-    let es = c.args.cx.now.entries in
-    let d = c.args.declarations.now in
-    let g = c.args.goal.now in
-    let mid = c.early_candidate.new.cx.entries in
-    let n = length g.variables.items in
-    or-then
-    (λ f seen s t.
-    many-second n (early_in es d g seen) (late_unless c.args.stops es d g seen)
-    (ap (option_map (candidate_of (written es d) g.goal.predicate.trait_ref.def_id.index mid)) (sym c.in-None.is) ∙ c.in_ok-candidate.ensures.is seen s t)
-    (histories-later es mid c.in_ok-candidate.ensures.keeps d g c.requires.decided c.args.done.now c.requires.done (λ W b z. HasTooMany n (if c.args.stops then None else late W b z)) f seen s t))
-    (c.late_candidate_unless.ensures.full q)

@@ -1,7 +1,5 @@
-use Rattle.std.proofs.Common.{◌<◌, length, sym, ◌∙◌, ap, subst, Err, option_map}
+use Rattle.std.proofs.Common.{sym, ◌∙◌, ap, option_map}
 use Rattle.std.proofs.lemmas.Result.{IfOk-weaker}
-use Rattle.type_terms.specs.declared.TheConstants.{MAX_INDEX}
-use Rattle.infer_table.proofs.FullFacts.{handed-on, or-then}
 use Rattle.evaluation.specs.Plans.{wanted}
 use Rattle.evaluation.specs.Tables.{frame_tables}
 use Rattle.goal_frames.proofs.Later.{shown-later, considered-later, considered-fits-later}
@@ -9,14 +7,14 @@ use Rattle.declarations.specs.Items.{written}
 use Rattle.built_in_candidates.specs.Goals.{candidate_of}
 use Rattle.candidate_assembly.specs.Merging.{end_in}
 use Rattle.candidate_assembly.specs.Nexts.{mode_at_end}
-use Rattle.candidate_assembly.proofs.TraitGoals.{considers, answers, candidate-many, answer-many, candidate-fits}
+use Rattle.candidate_assembly.proofs.TraitGoals.{considers, answers, candidate-fits}
 use Rattle.candidate_assembly.proofs.trait_goals.compute_trait_goal.Goals as goal
 
 pub merge_trait_candidates-requires-clause-held : goal.merge_trait_candidates-requires-clause-held
-merge_trait_candidates-requires-clause-held c = considered-later c.args.cx.now.entries c.assemble_and_evaluate_candidates.new.cx.entries c.in_ok-candidate.ensures.keeps c.args.done.now c.requires.done
+merge_trait_candidates-requires-clause-held c = considered-later c.args.cx.now.entries c.assemble_and_evaluate_candidates.new.cx.entries c.in_ok-candidate.ensures.grew.keeps c.args.done.now c.requires.done
 
 pub merge_trait_candidates-requires-clause-fits : goal.merge_trait_candidates-requires-clause-fits
-merge_trait_candidates-requires-clause-fits c = considered-fits-later c.args.cx.now.entries c.assemble_and_evaluate_candidates.new.cx.entries c.in_ok-candidate.ensures.keeps c.args.done.now c.requires.done c.requires.fits
+merge_trait_candidates-requires-clause-fits c = considered-fits-later c.args.cx.now.entries c.assemble_and_evaluate_candidates.new.cx.entries c.in_ok-candidate.ensures.grew.keeps c.args.done.now c.requires.done c.requires.fits
 
 pub returns-in-Some-clause-fits : goal.returns-in-Some-clause-fits
 returns-in-Some-clause-fits c =
@@ -46,25 +44,8 @@ returns-in-None-clause-next c =
     let b = c.stays_decided-decided.result in
     IfOk-weaker c.merge_trait_candidates.result _ _
     (λ step p seen s t.
-    p seen (shown-later es mid c.in_ok-candidate.ensures.keeps c.args.done.now c.requires.done ∙ s) _
+    p seen (shown-later es mid c.in_ok-candidate.ensures.grew.keeps c.args.done.now c.requires.done ∙ s) _
     ∙ ap (λ mode. wanted frame_tables (end_in mode c.deref.result.now seen)) c.mode_at_end-mode.ensures
     ∙ ap (λ ks. wanted frame_tables (end_in (mode_at_end g.mode b) ks seen)) c.deref.ensures.value
     ∙ answers es d g b c.stays_decided-decided.ensures seen t (ap (option_map at) (sym c.in-None.is) ∙ c.in_ok-candidate.ensures.is seen s t))
     c.merge_trait_candidates.ensures.is
-
-pub returns-in_err-candidate-clause-full : goal.returns-in_err-candidate-clause-full
-returns-in_err-candidate-clause-full c = λ q.
-    let es = c.args.cx.now.entries in
-    or-then (λ f seen s t. candidate-many es c.args.declarations.now c.args.goal.now c.stays_decided-decided.result c.stays_decided-decided.ensures seen t (f seen s t))
-    (handed-on c.from_residual.result c.from_residual.ensures.1 (λ p. c.in_err-candidate.ensures.full (ap Err p)) q)
-
-pub returns-in-None-clause-full : goal.returns-in-None-clause-full
-returns-in-None-clause-full c = λ q.
-    let es = c.args.cx.now.entries in
-    let d = c.args.declarations.now in
-    let g = c.args.goal.now in
-    let at = candidate_of (written es d) g.goal.predicate.trait_ref.def_id.index c.assemble_and_evaluate_candidates.new.cx.entries in
-    or-then
-    (λ lt seen s t.
-    answer-many es d g c.stays_decided-decided.result c.stays_decided-decided.ensures seen t (ap (option_map at) (sym c.in-None.is) ∙ c.in_ok-candidate.ensures.is seen s t) (subst (λ ks. MAX_INDEX < length ks) c.deref.ensures.value lt))
-    (c.merge_trait_candidates.ensures.full q)

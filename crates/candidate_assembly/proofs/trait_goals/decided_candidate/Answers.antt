@@ -1,10 +1,8 @@
-use Rattle.std.proofs.Common.{length, sym, ◌∙◌, ap, subst}
+use Rattle.std.proofs.Common.{sym, ◌∙◌, ap}
 use Rattle.std.proofs.lemmas.Result.{IfOk-weaker}
 use Rattle.infer_table.specs.Inputs.{form_of}
-use Rattle.infer_table.proofs.FullFacts.{or-then}
 use Rattle.candidate_assembly.specs.Fitting.{solving_of}
 use Rattle.built_in_candidates.specs.Goals.{asked_of}
-use Rattle.candidate_assembly.specs.Headers.{HasTooMany}
 use Rattle.candidate_assembly.specs.Sections.{next_in}
 use Rattle.candidate_assembly.specs.Solving.{meaning_for}
 use Rattle.candidate_assembly.proofs.BehindImpls.{behind-impl}
@@ -16,13 +14,6 @@ returns-then-ends_by_impl-clause-is c =
     (λ o p seen s t. p seen s t ∙ behind-impl c.args.cx.now.entries c.args.declarations.now c.args.goal.now c.args.done.now (sym c.ends_by_impl.ensures ∙ c.if-ends_by_impl.true) c.requires.decided seen s t)
     c.late_candidate.ensures.is
 
-pub returns-then-ends_by_impl-clause-full : goal.returns-then-ends_by_impl-clause-full
-returns-then-ends_by_impl-clause-full c = λ q.
-    or-then
-    (λ f seen s t.
-    subst (HasTooMany (length c.args.goal.now.variables.items)) (behind-impl c.args.cx.now.entries c.args.declarations.now c.args.goal.now c.args.done.now (sym c.ends_by_impl.ensures ∙ c.if-ends_by_impl.true) c.requires.decided seen s t) (f seen s t))
-    (c.late_candidate.ensures.full q)
-
 pub returns-in-Coherence-clause-is : goal.returns-in-Coherence-clause-is
 returns-in-Coherence-clause-is c =
     let es = c.args.cx.now.entries in
@@ -30,23 +21,9 @@ returns-in-Coherence-clause-is c =
     let m = meaning_for (solving_of es c.args.declarations.now) (form_of es g) in
     IfOk-weaker c.candidate_in_coherence.result _ _ (λ o p seen s t. p seen s t ∙ ap (λ mode. next_in m mode (asked_of es g) seen) (sym c.in-Coherence.is)) c.candidate_in_coherence.ensures.is
 
-pub returns-in-Coherence-clause-full : goal.returns-in-Coherence-clause-full
-returns-in-Coherence-clause-full c = λ q.
-    let es = c.args.cx.now.entries in
-    let g = c.args.goal.now in
-    let m = meaning_for (solving_of es c.args.declarations.now) (form_of es g) in
-    or-then (λ f seen s t. subst (λ mode. HasTooMany (length g.variables.items) (next_in m mode (asked_of es g) seen)) (sym c.in-Coherence.is) (f seen s t)) (c.candidate_in_coherence.ensures.full q)
-
 pub returns-in-PostAnalysis-clause-is : goal.returns-in-PostAnalysis-clause-is
 returns-in-PostAnalysis-clause-is c =
     let es = c.args.cx.now.entries in
     let g = c.args.goal.now in
     let m = meaning_for (solving_of es c.args.declarations.now) (form_of es g) in
     IfOk-weaker c.candidate_outside_coherence.result _ _ (λ o p seen s t. p seen s t ∙ ap (λ mode. next_in m mode (asked_of es g) seen) (sym c.in-PostAnalysis.is)) c.candidate_outside_coherence.ensures.is
-
-pub returns-in-PostAnalysis-clause-full : goal.returns-in-PostAnalysis-clause-full
-returns-in-PostAnalysis-clause-full c = λ q.
-    let es = c.args.cx.now.entries in
-    let g = c.args.goal.now in
-    let m = meaning_for (solving_of es c.args.declarations.now) (form_of es g) in
-    or-then (λ f seen s t. subst (λ mode. HasTooMany (length g.variables.items) (next_in m mode (asked_of es g) seen)) (sym c.in-PostAnalysis.is) (f seen s t)) (c.candidate_outside_coherence.ensures.full q)

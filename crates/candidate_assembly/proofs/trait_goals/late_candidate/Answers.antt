@@ -1,29 +1,17 @@
-use Rattle.std.proofs.Common.{◌≡◌, length, sym, ◌∙◌, ap, Err, option_map, inl}
+use Rattle.std.proofs.Common.{◌≡◌, sym, ◌∙◌, ap, option_map}
 use Rattle.std.proofs.lemmas.Result.{IfOk-weaker}
-use Rattle.infer_table.proofs.FullFacts.{handed-on, or-then}
+use Rattle.term_folds.proofs.Grown.{grew-on}
 use Rattle.declarations.specs.Items.{written}
 use Rattle.built_in_candidates.specs.Goals.{asked_of, candidate_of}
-use Rattle.candidate_assembly.proofs.DecidedGoals.{decided-later, past-later, walk-in, first-of, second-of, many-first, many-at, next_impl, impl_behind, next_bound}
+use Rattle.candidate_assembly.proofs.DecidedGoals.{decided-later, past-later, walk-in, first-of, second-of, next_impl, next_bound}
 use Rattle.candidate_assembly.proofs.trait_goals.late_candidate.Goals as goal
-
-pub returns-in_err-candidate-clause-full : goal.returns-in_err-candidate-clause-full
-returns-in_err-candidate-clause-full c = λ q.
-    let es = c.args.cx.now.entries in
-    let d = c.args.declarations.now in
-    let g = c.args.goal.now in
-    let V = written es d in
-    let a = asked_of es g in
-    let n = length g.variables.items in
-    or-then
-    (λ f seen s t. many-first n (next_impl V a seen) (next_bound V a seen) (many-at n (impl_behind V a seen) (next_impl V a seen) (walk-in es d g c.requires.decided c.assemble_impl_candidates.ensures.rises c.args.done.now seen s t) (f seen s)))
-    (handed-on c.from_residual.result c.from_residual.ensures.1 (λ p. c.in_err-candidate.ensures.full (ap Err p)) q)
 
 pub assemble_object_bound_candidates-requires : goal.assemble_object_bound_candidates-requires
 assemble_object_bound_candidates-requires c =
-    decided-later c.args.cx.now.entries c.assemble_impl_candidates.new.cx.entries c.in_ok-candidate.ensures.keeps c.args.declarations.now c.args.goal.now c.requires.decided
+    decided-later c.args.cx.now.entries c.assemble_impl_candidates.new.cx.entries c.in_ok-candidate.ensures.grew.keeps c.args.declarations.now c.args.goal.now c.requires.decided
 
-pub returns-in-None-clause-keeps : goal.returns-in-None-clause-keeps
-returns-in-None-clause-keeps c = λ i e h. c.assemble_object_bound_candidates.ensures.keeps i e (c.in_ok-candidate.ensures.keeps i e h)
+pub returns-in-None-clause-grew : goal.returns-in-None-clause-grew
+returns-in-None-clause-grew c = grew-on c.in_ok-candidate.ensures.grew c.assemble_object_bound_candidates.ensures.grew
 
 pub returns-in-Some-clause-is : goal.returns-in-Some-clause-is
 returns-in-Some-clause-is c = λ seen s t.
@@ -47,8 +35,5 @@ returns-in-None-clause-is c =
     (λ o p. λ seen s t.
     second-of (next_impl V a seen) (next_bound V a seen) (option_map (candidate_of V a.reference.trait new) o)
     (ap (option_map (candidate_of V a.reference.trait mid)) (sym c.in-None.is) ∙ c.in_ok-candidate.ensures.is seen s ∙ walk-in es d c.args.goal.now c.requires.decided c.assemble_impl_candidates.ensures.rises c.args.done.now seen s t)
-    (past-later es mid c.in_ok-candidate.ensures.keeps d c.args.goal.now c.requires.decided c.args.done.now c.requires.done (λ W b z. option_map (candidate_of W b.reference.trait new) o ≡ next_bound W b z) p seen s))
+    (past-later es mid c.in_ok-candidate.ensures.grew.keeps d c.args.goal.now c.requires.decided c.args.done.now c.requires.done (λ W b z. option_map (candidate_of W b.reference.trait new) o ≡ next_bound W b z) p seen s))
     c.assemble_object_bound_candidates.ensures.is
-
-pub returns-in-None-clause-full : goal.returns-in-None-clause-full
-returns-in-None-clause-full c = λ q. inl (c.assemble_object_bound_candidates.ensures.full q)

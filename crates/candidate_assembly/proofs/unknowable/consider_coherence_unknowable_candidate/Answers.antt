@@ -1,4 +1,4 @@
-use Rattle.std.proofs.Common.{◌≡◌, false, List, [], map, sym, ap, ◌∙◌, subst, Err}
+use Rattle.std.proofs.Common.{◌≡◌, false, List, [], map, sym, ap, ◌∙◌, subst}
 use Rattle.type_terms.specs.Trees.{Trees, none}
 use Rattle.infer_table.specs.declared.canonical.CanonicalVarKind.{CanonicalVarKind}
 use Rattle.infer_table.specs.declared.certainty.Certainty.TheVariants.{Maybe}
@@ -6,7 +6,6 @@ use Rattle.infer_table.specs.declared.certainty.MaybeCause.TheVariants.{Ambiguit
 use Rattle.infer_table.specs.Constraints.{constraints_trees}
 use Rattle.infer_table.specs.Content.{AllConstraintsHeld}
 use Rattle.infer_table.proofs.Numbers.{goal-held-later}
-use Rattle.infer_table.proofs.FullFacts.{handed-on}
 use Rattle.evaluation.specs.Lists.{Every}
 use Rattle.evaluation.specs.Readings.{EquationHeld}
 use Rattle.evaluation.specs.declared.candidate.CandidateSource.TheVariants.{CoherenceUnknowable}
@@ -20,9 +19,6 @@ use Rattle.built_in_candidates.specs.Goals.{asked_of}
 use Rattle.built_in_candidates.proofs.Asking.{asked-later}
 use Rattle.candidate_assembly.proofs.unknowable.consider_coherence_unknowable_candidate.Goals as goal
 
-pub returns-in_err-supertraits-clause-full : goal.returns-in_err-supertraits-clause-full
-returns-in_err-supertraits-clause-full c = λ q. handed-on c.from_residual.result c.from_residual.ensures.1 (λ p. c.in_err-supertraits.ensures.full (ap Err p)) q
-
 pub returns-clause-held : goal.returns-clause-held
 returns-clause-held c =
     let old = c.args.cx.now.entries in
@@ -30,7 +26,7 @@ returns-clause-held c =
     record {
       equations = subst (Every (EquationHeld new)) (sym c.new-2.ensures.items) tt;
       constraints = subst (AllConstraintsHeld new) (sym c.new-3.ensures.items) tt;
-      nested = c.in_ok-nested_goals.ensures.held new (goal-held-later old new c.supertraits.ensures.keeps c.args.goal.now.goal c.requires.goal)
+      nested = c.in_ok-nested_goals.ensures.held new (goal-held-later old new c.supertraits.ensures.grew.keeps c.args.goal.now.goal c.requires.goal)
           (subst (TraitRefsHeld new) (sym c.deref.ensures.value) c.in_ok-supertraits.ensures.held);
     }
 
@@ -49,5 +45,5 @@ returns-clause-is c =
     let ps = references_in new c.deref.result.now in
     same _ _ _ _ _ c.new.ensures.items (ap (map (equation_read new)) c.new-2.ensures.items) (ap (constraints_trees new) c.new-3.ensures.items)
     (c.in_ok-nested_goals.ensures.are new (is_coinductive V t)
-    ∙ ap (λ a. map (premise a false) ps) (asked-later old new c.supertraits.ensures.keeps g c.requires.goal)
+    ∙ ap (λ a. map (premise a false) ps) (asked-later old new c.supertraits.ensures.grew.keeps g c.requires.goal)
     ∙ ap (map (premise (asked_of old g) false)) (ap (references_in new) c.deref.ensures.value ∙ c.in_ok-supertraits.ensures.are))

@@ -5,7 +5,7 @@ use Rattle.coherence.specs.Lines.{of_version}
 use Rattle.coherence.proofs.Answered.{section-of, later-of, named-line}
 use Rattle.coherence.proofs.lines.later_line.Goals as goal
 use Rattle.coherence.proofs.lines.later_line.Goals.{in-Compatible+in_ok-line-in-Compatible, in-Breaking+in_ok-line-in-Breaking}
-use Rattle.std.proofs.Common.{ap, inl}
+use Rattle.std.proofs.Common.{ap}
 use Rattle.std.specs.Prelude.{Err}
 use Rattle.sessions.specs.Shortages.{terms}
 use Rattle.coherence.proofs.FullTables.{handed-on}
@@ -29,5 +29,4 @@ returns-clause-line c =
 
 pub returns-in_err-answer-clause-full : goal.returns-in_err-answer-clause-full
 returns-in_err-answer-clause-full c =
-    handed-on c.check_later.new.self c.from_residual.result c.in_err-answer.field-0.0 c.from_residual.ensures.1
-    (λ p. inl (terms (c.in_err-answer.ensures.full (ap Err p))))
+    handed-on c.check_later.new.self c.from_residual.result c.in_err-answer.field-0.0 c.from_residual.ensures.1 (λ p. terms (c.in_err-answer.ensures.full (ap Err p)))

@@ -4,10 +4,7 @@ use Rattle.coherence.specs.Lines.{of_prove}
 use Rattle.coherence.proofs.Answered.{proved-of, yes-line}
 use Rattle.coherence.proofs.lines.prove_line.Goals as goal
 use Rattle.coherence.proofs.lines.prove_line.Goals.{in-Yes+in_ok-line-in-Yes, in-Maybe+in_ok-line-in-Maybe, in-Unproved+in_ok-line-in-Unproved}
-use Rattle.std.proofs.Common.{ap, sym, subst, ◌∙◌}
-use Rattle.std.specs.Prelude.{Err}
-use Rattle.sessions.specs.Subjects.{AsksProof}
-use Rattle.coherence.proofs.FullTables.{handed-on, of-question}
+use Rattle.coherence.proofs.FullTables.{handed-on}
 
 pub returns-clause-line : goal.returns-clause-line
 returns-clause-line c q asks =
@@ -24,12 +21,4 @@ returns-clause-line c q asks =
     ]
 
 pub returns-in_err-answer-clause-full : goal.returns-in_err-answer-clause-full
-returns-in_err-answer-clause-full c =
-    let s = c.args.session.now in
-    let n = c.args.number in
-    let q = c.requires.asked.0 in
-    let asks = c.requires.asked.1 in
-    let failed = c.in_err-answer.ensures in
-    handed-on c.prove.new.self c.from_residual.result c.in_err-answer.field-0.0 c.from_residual.ensures.1
-    (λ p. of-question c.prove.new.self c.args.workspace.now (failed.stays.declarations ∙ c.requires.on) s.of_crate n q asks.asks
-    (failed.full q (subst (λ d. AsksProof d s.of_crate n q) (sym c.requires.on) asks) (ap Err p)))
+returns-in_err-answer-clause-full c = handed-on c.prove.new.self c.from_residual.result c.in_err-answer.field-0.0 c.from_residual.ensures.1 c.in_err-answer.ensures.full

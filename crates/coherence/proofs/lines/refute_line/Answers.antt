@@ -4,10 +4,7 @@ use Rattle.coherence.specs.Lines.{of_refute}
 use Rattle.coherence.proofs.Answered.{refuted-of}
 use Rattle.coherence.proofs.lines.refute_line.Goals as goal
 use Rattle.coherence.proofs.lines.refute_line.Goals.{in-No+in_ok-line-in-No, in-Open+in_ok-line-in-Open}
-use Rattle.std.proofs.Common.{ap, sym, subst, ◌∙◌}
-use Rattle.std.specs.Prelude.{Err}
-use Rattle.sessions.specs.Subjects.{AsksRefutation}
-use Rattle.coherence.proofs.FullTables.{handed-on, of-question}
+use Rattle.coherence.proofs.FullTables.{handed-on}
 
 pub returns-clause-line : goal.returns-clause-line
 returns-clause-line c q asks =
@@ -20,12 +17,4 @@ returns-clause-line c q asks =
     ]
 
 pub returns-in_err-answer-clause-full : goal.returns-in_err-answer-clause-full
-returns-in_err-answer-clause-full c =
-    let s = c.args.session.now in
-    let n = c.args.number in
-    let q = c.requires.asked.0 in
-    let asks = c.requires.asked.1 in
-    let failed = c.in_err-answer.ensures in
-    handed-on c.refute.new.self c.from_residual.result c.in_err-answer.field-0.0 c.from_residual.ensures.1
-    (λ p. of-question c.refute.new.self c.args.workspace.now (failed.stays.declarations ∙ c.requires.on) s.of_crate n q asks.asks
-    (failed.full q (subst (λ d. AsksRefutation d s.of_crate n q) (sym c.requires.on) asks) (ap Err p)))
+returns-in_err-answer-clause-full c = handed-on c.refute.new.self c.from_residual.result c.in_err-answer.field-0.0 c.from_residual.ensures.1 c.in_err-answer.ensures.full

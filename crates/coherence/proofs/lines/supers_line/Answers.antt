@@ -6,8 +6,6 @@ use Rattle.coherence.proofs.Answered.{supers-of, named-line, numbered-line}
 use Rattle.coherence.proofs.Named.{names-stopped}
 use Rattle.coherence.proofs.lines.supers_line.Goals as goal
 use Rattle.coherence.proofs.lines.supers_line.Goals.{in-Held+in_ok-line-in-Held, in-Missing+in_ok-line-in-Missing, in-Undecided+in_ok-line-in-Undecided}
-use Rattle.std.proofs.Common.{ap, inl}
-use Rattle.std.specs.Prelude.{Err}
 use Rattle.coherence.proofs.FullTables.{handed-on}
 
 pub number_in_crate-number-requires : goal.number_in_crate-number-requires
@@ -40,6 +38,4 @@ returns-clause-line c =
     ]
 
 pub returns-in_err-answer-clause-full : goal.returns-in_err-answer-clause-full
-returns-in_err-answer-clause-full c =
-    handed-on c.check_supertraits.new.self c.from_residual.result c.in_err-answer.field-0.0 c.from_residual.ensures.1
-    (λ p. inl (c.in_err-answer.ensures.full (ap Err p)))
+returns-in_err-answer-clause-full c = handed-on c.check_supertraits.new.self c.from_residual.result c.in_err-answer.field-0.0 c.from_residual.ensures.1 c.in_err-answer.ensures.full

@@ -1,5 +1,4 @@
-use Rattle.std.proofs.Common.{◌∙◌, sym, ap, inl}
-use Rattle.std.specs.Prelude.{Err}
+use Rattle.std.proofs.Common.{◌∙◌, sym}
 use Rattle.std.proofs.lemmas.Result.{err_from_is_err_and}
 use Rattle.sessions.specs.Given.{verdict_in}
 use Rattle.coherence.proofs.Answered.{verdict-of}
@@ -30,6 +29,4 @@ returns-in_err-keep_answers-clause-full c =
     rw p.1 (λ e. c.in_err-keep_answers.ensures.full (sym p.2 ∙ e))
 
 pub returns-in_err-verdict-clause-full : goal.returns-in_err-verdict-clause-full
-returns-in_err-verdict-clause-full c =
-    handed-on c.check_crate.new.self c.from_residual.result c.in_err-verdict.field-0.0 c.from_residual.ensures.1
-    (λ p. inl (c.in_err-verdict.ensures.full (ap Err p)))
+returns-in_err-verdict-clause-full c = handed-on c.check_crate.new.self c.from_residual.result c.in_err-verdict.field-0.0 c.from_residual.ensures.1 c.in_err-verdict.ensures.full

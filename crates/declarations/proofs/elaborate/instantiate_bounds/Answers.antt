@@ -1,4 +1,4 @@
-use Rattle.std.proofs.Common.{◌≡◌, ◌++◌, ap, sym, ◌∙◌, subst, None, Err}
+use Rattle.std.proofs.Common.{◌≡◌, ◌++◌, ap, sym, ◌∙◌, subst, None}
 use Rattle.type_terms.specs.Worlds.{with_args, all_with_args}
 use Rattle.type_terms.specs.Terms.{args_lists, trees_at}
 use Rattle.term_folds.specs.Arguments.{first_misfit}
@@ -6,8 +6,9 @@ use Rattle.type_terms.specs.Kept.{trees-later}
 use Rattle.declarations.specs.Items.{reference_in}
 use Rattle.declarations.specs.Merges.{Each}
 use Rattle.declarations.specs.Applied.{references_in, TraitRefsHeld}
+use Rattle.term_folds.proofs.Grown.{grew-on}
 use Rattle.declarations.proofs.Growth.{reference-same}
-use Rattle.declarations.proofs.Bounded.{held-more, one-more, handed-on}
+use Rattle.declarations.proofs.Bounded.{held-more, one-more}
 use Rattle.declarations.proofs.elaborate.instantiate_bounds.Goals as goal
 
 pub bounds-preserved : goal.bounds-preserved
@@ -19,7 +20,7 @@ bounds-preserved c =
     let A = trees_at es c.args.args.0 in
     let found = c.bounds.found.items in
     let r = c.in_ok-next.next in
-    let k = c.with_arguments.ensures.keeps in
+    let k = c.with_arguments.ensures.grew.keeps in
     let back = c.in-Some.ensures.cases.0 in
     let x = c.in-Some.bound.now in
     let rest = c.in-Some.others.now in
@@ -28,18 +29,14 @@ bounds-preserved c =
     let all = all_with_args A (references_in es c.args.bounds.now) in
     let ys = all_with_args A (references_in es rest) in
     let y = with_args A (reference_in es x) in
-    let is = c.in_ok-next.ensures.is ∙ ap (λ a. with_args a (reference_in now x)) (trees-later es now inv.keeps args_lists c.args.args.0 c.requires.args)
-    ∙ ap (λ s. with_args A s) (reference-same es now inv.keeps x held.0) in
+    let is = c.in_ok-next.ensures.is ∙ ap (λ a. with_args a (reference_in now x)) (trees-later es now inv.grew.keeps args_lists c.args.args.0 c.requires.args)
+    ∙ ap (λ s. with_args A s) (reference-same es now inv.grew.keeps x held.0) in
     let before = subst (λ l. references_in now found ++ all_with_args A (references_in es l) ≡ all) back inv.are in
     let put = c.in_ok-put.ensures.put in
     record {
-      keeps = λ j e h. k j e (inv.keeps j e h);
-      limit = c.with_arguments.ensures.limit ∙ inv.limit;
+      grew = grew-on inv.grew c.with_arguments.ensures.grew;
       left_held = held.1;
       left_fit = fit.1;
       found_held = subst (TraitRefsHeld next) (sym put) (held-more now next k found r inv.found_held c.in_ok-next.ensures.held);
       are = subst (λ l. references_in next l ++ ys ≡ all) (sym put) (one-more now next k found r y ys all inv.found_held is before);
     }
-
-pub returns-in_err-next-clause-full : goal.returns-in_err-next-clause-full
-returns-in_err-next-clause-full c = λ q. handed-on c.from_residual.result c.from_residual.ensures.1 (λ p. c.in_err-next.ensures.full (ap Err p)) q

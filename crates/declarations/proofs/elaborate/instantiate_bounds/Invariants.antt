@@ -1,15 +1,15 @@
 use Rattle.std.proofs.Common.{◌≡◌, ◌++◌, length, None}
 use Rattle.type_terms.specs.Worlds.{all_with_args}
-use Rattle.type_terms.specs.Terms.{Keeps, trees_at}
+use Rattle.type_terms.specs.Terms.{trees_at}
 use Rattle.term_folds.specs.Arguments.{first_misfit}
+use Rattle.term_folds.specs.Growth.{Grew}
 use Rattle.declarations.specs.Merges.{Each}
 use Rattle.declarations.specs.Applied.{references_in, TraitRefsHeld}
 use Rattle.declarations.proofs.elaborate.instantiate_bounds.Given as goal
 
 abbrev pub invariant-bounds : goal.invariant-bounds
 invariant-bounds l = record {
-  keeps : Keeps l.fn.cx.entries l.cx.entries;
-  limit : l.cx.limit ≡ l.fn.cx.limit;
+  grew : Grew l.fn.cx l.cx;
   left_held : TraitRefsHeld l.fn.cx.entries l.left;
   left_fit : Each (λ b. first_misfit (trees_at l.fn.cx.entries l.fn.args.0) (trees_at l.fn.cx.entries b.args.0) ≡ None) l.left;
   found_held : TraitRefsHeld l.cx.entries l.found.items;

@@ -10,10 +10,7 @@ use Rattle.infer_table.specs.Solutions.{Binding, Equates, HasNoSolution}
 use Rattle.infer_table.specs.Content.{content}
 use Rattle.infer_table.specs.Growth.{grows-trans}
 use Rattle.infer_table.specs.Unification.{table_trees}
-use Rattle.infer_table.proofs.FullFacts.{or-then}
 use Rattle.infer_table.specs.Applied.{solved_in_turn}
-use Rattle.infer_table.specs.Shortages.{SomeRunsOut}
-use Rattle.infer_table.proofs.Shortages.{runs-out-from, runs-out-after}
 use Rattle.infer_table.proofs.InTurn.{next-turn, refused-turn, refused-of-lengths}
 use Rattle.infer_table.proofs.Values.{equates-from, never-from, never-after, never-of-lengths}
 use Rattle.evaluation.proofs.apply.equate_values.Goals as goal
@@ -74,13 +71,11 @@ loop-value-preserved c =
     record {
       ready = c.eq.ensures.ready;
       grows = grows-trans _ _ _ inv.grows c.eq.ensures.grows;
-      keeps = λ i e h. c.eq.ensures.keeps i e (inv.keeps i e h);
-      limit = c.eq.ensures.limit ∙ inv.limit;
+      keeps = λ i e h. c.eq.ensures.grew.keeps i e (inv.keeps i e h);
+      limit = c.eq.ensures.grew.limit ∙ inv.limit;
       equates = λ later e. inv.equates later (step later (subst (λ n. Equates cs later (args_trees es (drop n xs)) (args_trees es (drop n ys))) more e));
       never = λ n. inv.never (never-after es c.lawful.ensures now inv.keeps bs cs xs ys j x y turn.0 turn.1 (turn.2 x) (turn.3 y) x-held y-held c.in_ok-eq.ensures.equates
           (subst (λ n. HasNoSolution cs (args_trees es (drop n xs)) (args_trees es (drop n ys))) more n));
-      short = λ r. inv.short (runs-out-after es c.lawful.ensures now inv.keeps (table_trees now c.loop-value.table) xs ys j x y turn.0 turn.1 (turn.2 x) (turn.3 y) x-held y-held u c.in_ok-eq.ensures.exact
-          (subst (λ n. SomeRunsOut u (args_trees es (drop n xs)) (args_trees es (drop n ys))) more r));
       exact = subst (λ n. solved_in_turn u (args_trees es (drop n xs)) (args_trees es (drop n ys)) ≡ all) (sym more)
           (next-turn es c.lawful.ensures now inv.keeps xs ys j x y turn.0 turn.1 (turn.2 x) (turn.3 y) x-held y-held (table_trees now c.loop-value.table) u all c.in_ok-eq.ensures.exact inv.exact);
     }
@@ -124,23 +119,3 @@ returns-in_err-eq-clause-refusal c = λ e.
     let p = err_from_is_err_and c.from_residual.result c.from_residual.ensures.1 in
     let refused = c.eq.ensures.refusal (c.in_err-eq.was ∙ ap Err (sym p.2) ∙ sym p.1 ∙ e) in
     refused-turn es c.lawful.ensures now inv.keeps xs ys j x y turn.0 turn.1 (turn.2 x) (turn.3 y) x-held y-held (table_trees now c.loop-value.table) _ refused inv.exact
-
-pub returns-in_err-eq-clause-full : goal.returns-in_err-eq-clause-full
-returns-in_err-eq-clause-full c = λ e.
-    let es = c.args.cx.now.entries in
-    let now = c.loop-value.cx.entries in
-    let inv = c.loop-value.invariant in
-    let xs = c.args.left.now in
-    let ys = c.args.right.now in
-    let x = c.in-Some.value.now in
-    let y = c.in-Some.other.now in
-    let j = length c.loop-value.yielded in
-    let gives = c.into_iter-value-iterator.ensures.into_iter_gives in
-    let first : iter_rest (zip_first c.into_iter-value-iterator.result) ≡ xs = ap (λ z. iter_rest (zip_first z)) gives ∙ ap iter_rest c.zip-value-items.ensures.first ∙ c.iter.ensures.rest in
-    let second : iter_rest (zip_second c.into_iter-value-iterator.result) ≡ ys = let z : iter_rest (zip_second c.zip-value-items.result) ≡ ys = c.zip-value-items.ensures.second.0 in ap (λ z. iter_rest (zip_second z)) gives ∙ z in
-    let turn = zip_turn xs ys c.loop-value.yielded c.into_iter-value-iterator.result c.loop-value.value-iterator c.next.new.self c.next.result first second c.loop-value.yielded_by (c.in-Some.value, c.in-Some.other) c.in-Some.is c.next.ensures.steps in
-    let x-held : ArgHeld es x = arg-held-at es xs j x c.requires.left turn.0 (turn.2 x) in
-    let y-held : ArgHeld es y = arg-held-at es ys j y c.requires.right turn.1 (turn.3 y) in
-    let p = err_from_is_err_and c.from_residual.result c.from_residual.ensures.1 in
-    or-then (λ r. inv.short (runs-out-from es c.lawful.ensures now inv.keeps (table_trees now c.loop-value.table) xs ys j x y turn.0 turn.1 (turn.2 x) (turn.3 y) x-held y-held r))
-    (c.eq.ensures.full (c.in_err-eq.was ∙ ap Err (sym p.2) ∙ sym p.1 ∙ e))

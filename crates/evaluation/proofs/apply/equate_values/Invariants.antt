@@ -5,7 +5,6 @@ use Rattle.infer_table.specs.Solutions.{Binding, Equates, HasNoSolution}
 use Rattle.infer_table.specs.Content.{content, Ready, Grows}
 use Rattle.infer_table.specs.Unification.{table_trees}
 use Rattle.infer_table.specs.Applied.{solved_in_turn}
-use Rattle.infer_table.specs.Shortages.{SomeRunsOut}
 use Rattle.evaluation.proofs.apply.equate_values.Given as goal
 
 abbrev pub invariant-loop-value : goal.invariant-loop-value
@@ -18,8 +17,6 @@ invariant-loop-value l = record {
       → Equates (content l.fn.cx.entries l.fn.table.values) later (args_trees l.fn.cx.entries l.left) (args_trees l.fn.cx.entries l.right);
   never : HasNoSolution (content l.cx.entries l.table.values) (args_trees l.fn.cx.entries (drop (length l.yielded) l.left)) (args_trees l.fn.cx.entries (drop (length l.yielded) l.right))
       → HasNoSolution (content l.fn.cx.entries l.fn.table.values) (args_trees l.fn.cx.entries l.left) (args_trees l.fn.cx.entries l.right);
-  short : SomeRunsOut (table_trees l.cx.entries l.table) (args_trees l.fn.cx.entries (drop (length l.yielded) l.left)) (args_trees l.fn.cx.entries (drop (length l.yielded) l.right))
-      → SomeRunsOut (table_trees l.fn.cx.entries l.fn.table) (args_trees l.fn.cx.entries l.left) (args_trees l.fn.cx.entries l.right);
   exact : solved_in_turn (table_trees l.cx.entries l.table) (args_trees l.fn.cx.entries (drop (length l.yielded) l.left)) (args_trees l.fn.cx.entries (drop (length l.yielded) l.right))
       ≡ solved_in_turn (table_trees l.fn.cx.entries l.fn.table) (args_trees l.fn.cx.entries l.left) (args_trees l.fn.cx.entries l.right);
 }

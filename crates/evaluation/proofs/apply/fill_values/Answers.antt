@@ -1,26 +1,15 @@
-use Rattle.std.proofs.Common.{◌≡◌, ap, sym, ◌∙◌, arith, Err}
+use Rattle.std.proofs.Common.{ap, sym, ◌∙◌, arith, Err}
 use Rattle.type_terms.specs.Terms.{args_lists, trees_at}
 use Rattle.type_terms.specs.Kinds.{args_trees}
 use Rattle.type_terms.specs.Kept.{args-held-later, trees-is}
-use Rattle.type_terms.proofs.FailFacts.{refused-term, only-tables}
 use Rattle.infer_table.specs.Values.{values_of, filled, values-later}
 use Rattle.infer_table.proofs.Fillings.{filled-fold}
-use Rattle.infer_table.proofs.FullFacts.{handed-on}
+use Rattle.type_terms.proofs.FailFacts.{refused-term, only-tables}
+use Rattle.infer_table.proofs.FullFacts.{at-limit}
 use Rattle.evaluation.proofs.apply.fill_values.Goals as goal
-
-pub returns-in_err-terms-clause-full : goal.returns-in_err-terms-clause-full
-returns-in_err-terms-clause-full c = λ q.
-    let refused = c.in_err-terms.ensures in
-    let handed = c.from_residual-in_err-terms in
-    handed-on handed.result handed.ensures.1 (λ p. refused-term args_lists (omega arith) (refused.full (ap Err p)) refused.limit refused.refused) q
 
 pub fold_with-requires-clause-ready : goal.fold_with-requires-clause-ready
 fold_with-requires-clause-ready c = args-held-later c.args.cx.now.entries c.mk_args.new.self.entries c.mk_args.ensures.keeps c.args.values.now c.requires.values
-
-pub returns-in_err-filled-clause-full : goal.returns-in_err-filled-clause-full
-returns-in_err-filled-clause-full c = λ q.
-    let handed = c.from_residual-in_err-filled in
-    handed-on handed.result handed.ensures.1 (λ p. only-tables (c.in_err-filled.ensures.full (ap Err p))) q
 
 pub returns-clause-filled : goal.returns-clause-filled
 returns-clause-filled c =
@@ -33,3 +22,14 @@ returns-clause-filled c =
     ∙ filled-fold (values_of made vs) _ _ c.in_ok-filled.ensures.folded.1
     ∙ ap (λ z. filled z (trees_at made c.in_ok-terms.terms.0)) (values-later es made c.mk_args.ensures.keeps vs c.requires.values)
     ∙ ap (filled (values_of es vs)) (trees-is made args_lists c.in_ok-terms.terms.0 _ c.in_ok-terms.ensures.is ∙ ap (args_trees es) c.in_ok-from_slice.ensures.items)
+
+pub returns-in_err-terms-clause-full : goal.returns-in_err-terms-clause-full
+returns-in_err-terms-clause-full c =
+    let refused = c.in_err-terms.ensures in
+    let handed = c.from_residual-in_err-terms in
+    at-limit handed.result handed.ensures.1 (λ p. refused-term args_lists (omega arith) (refused.full (ap Err p)) refused.limit refused.refused)
+
+pub returns-in_err-filled-clause-full : goal.returns-in_err-filled-clause-full
+returns-in_err-filled-clause-full c =
+    let handed = c.from_residual-in_err-filled in
+    at-limit handed.result handed.ensures.1 (λ p. only-tables (c.in_err-filled.ensures.full (ap Err p)))

@@ -1,18 +1,15 @@
-use Rattle.std.proofs.Common.{◌≡◌, ◌<◌, length, get_or, ap, sym, ◌∙◌, subst, arith, Err, Option}
+use Rattle.std.proofs.Common.{◌≡◌, ◌<◌, length, get_or, ap, sym, ◌∙◌, subst, arith, Option}
 use Rattle.std.specs.Prelude.{IfSome, option_map, unwrap_or}
 use Rattle.type_terms.specs.Kinds.{ArgHeld}
 use Rattle.type_terms.specs.declared.kinds.GenericArgKind.{GenericArgKind}
 use Rattle.type_terms.specs.Kept.{args-held-later}
 use Rattle.infer_table.specs.declared.canonical.CanonicalVarKind.TheVariants.{Ty}
-use Rattle.infer_table.specs.Values.{Value, values_of, value_of, values-later}
+use Rattle.infer_table.specs.Values.{values_of, value_of, values-later}
 use Rattle.infer_table.specs.Unification.{table_trees}
 use Rattle.infer_table.specs.Responses.{answer_trees}
 use Rattle.infer_table.specs.Applying.{known_value, next_unknown, table_after}
 use Rattle.infer_table.specs.Growth.{grows-trans}
-use Rattle.infer_table.proofs.FullFacts.{or-then, handed-on}
-use Rattle.infer_table.specs.Shortages.{HasNoUnknown}
 use Rattle.infer_table.proofs.KnownUnknowns.{one-more-table}
-use Rattle.infer_table.proofs.Shortages.{missing-here, missing-later}
 use Rattle.infer_table.proofs.Values.{own_of, args-held-push, values-push, one-more-value, found-later, same-slot, original-held-later}
 use Rattle.evaluation.proofs.apply.values_to_apply.Goals as goal
 
@@ -34,7 +31,7 @@ loop-number-preserved c =
     let next = c.value_or_unknown.new.cx.entries in
     let inv = c.loop-number.invariant in
     let vs = c.loop-number.values.items in
-    let k = c.value_or_unknown.ensures.keeps in
+    let k = c.value_or_unknown.ensures.grew.keeps in
     let i = c.loop-number.number in
     let r = c.args.response.now in
     let os = c.args.original_values.now in
@@ -47,36 +44,16 @@ loop-number-preserved c =
     let kind = get_or c.deref-kind-items.result.now i Ty in
     record {
       keeps = λ j e h. k j e (inv.keeps j e h);
-      limit = c.value_or_unknown.ensures.limit ∙ inv.limit;
+      limit = c.value_or_unknown.ensures.grew.limit ∙ inv.limit;
       ready = c.value_or_unknown.ensures.ready;
       bindings = c.value_or_unknown.ensures.bindings ∙ inv.bindings;
       constraints = c.value_or_unknown.ensures.constraints ∙ inv.constraints;
       grows = grows-trans _ _ _ inv.grows c.value_or_unknown.ensures.grows;
       made = one-more-table known t (table_trees es c.value_or_unknown.new.table) _ r.variables.items i kind Ty lt (ap (λ z. get_or z i Ty) c.deref-kind-items.ensures.value)
           (c.in_ok-value.ensures.made es ∙ ap (λ z. table_after z t kind) found) inv.made;
-      missing = λ h. inv.missing (missing-later known t r.variables.items i kind Ty lt (ap (λ z. get_or z i Ty) c.deref-kind-items.ensures.value) (table_trees es c.value_or_unknown.new.table)
-          (c.in_ok-value.ensures.made es ∙ ap (λ z. table_after z t kind) found) h);
       held = rw c.in_ok-push.ensures.items (args-held-push next vs c.in_ok-value.value (args-held-later now next k vs inv.held) c.in_ok-value.ensures.held);
       values = rw c.in_ok-push.ensures.items (rw (values-push next vs c.in_ok-value.value) (rw (values-later now next k vs inv.held)
           (one-more-value known t (table_trees es c.value_or_unknown.new.table) (values_of now vs) _ _ r.variables.items i kind Ty lt (ap (λ z. get_or z i Ty) c.deref-kind-items.ensures.value)
           (c.in_ok-value.ensures.is es ∙ ap (λ z. unwrap_or z (next_unknown t kind)) found)
           (c.in_ok-value.ensures.made es ∙ ap (λ z. table_after z t kind) found) inv.values)));
     }
-
-pub returns-in_err-value-clause-full : goal.returns-in_err-value-clause-full
-returns-in_err-value-clause-full c = λ q.
-    let es = c.args.cx.now.entries in
-    let now = c.loop-number.cx.entries in
-    let inv = c.loop-number.invariant in
-    let i = c.loop-number.number in
-    let r = c.args.response.now in
-    let os = c.args.original_values.now in
-    let known = known_value (answer_trees es r) (values_of es os) in
-    let t = table_trees es c.loop-number.table in
-    let lt-count : i < c.len-count.result = omega (arith, c.len-count.ensures, c.deref-kind-items.ensures.len, c.loop-number-test.true) in
-    let is : c.index.result.now ≡ own_of es i r.var_values.items os = same-slot c.in_ok-known.known.items i c.index.result.now (omega (arith, lt-count, c.in_ok-known.ensures.count)) c.index.ensures ∙ c.in_ok-known.ensures.known i lt-count ∙ ap (λ z. own_of es i z os) c.deref.ensures.value in
-    let found : option_map (value_of now) c.index.result.now ≡ known i = found-later es now inv.keeps i r.var_values.items os c.index.result.now c.requires.values is in
-    let lt : i < length r.variables.items = subst (λ z. i < length z) c.deref-kind-items.ensures.value c.loop-number-test.true in
-    let kind = get_or c.deref-kind-items.result.now i Ty in
-    or-then (λ h. inv.missing (missing-here known t r.variables.items i kind Ty lt (ap (λ z. get_or z i Ty) c.deref-kind-items.ensures.value) (subst (λ (z : Option Value). HasNoUnknown z t kind) found (h es))))
-    (handed-on c.from_residual-in_err-value.result c.from_residual-in_err-value.ensures.1 (λ p. c.in_err-value.ensures.full (ap Err p)) q)

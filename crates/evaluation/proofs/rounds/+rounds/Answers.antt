@@ -1,4 +1,4 @@
-use Rattle.std.proofs.Common.{arith, ◌≡◌, ◌⊎◌, suc, ◌-◌, map, Ok, Err, sym, subst, ap, ◌∙◌}
+use Rattle.std.proofs.Common.{arith, ◌≡◌, suc, ◌-◌, map, Ok, Err, sym, subst, ap, ◌∙◌}
 use Rattle.infer_table.specs.Unification.{table_trees}
 use Rattle.evaluation.specs.Replays.{run}
 use Rattle.evaluation.specs.Rounds.{round, rounds}
@@ -9,10 +9,6 @@ use Rattle.evaluation.specs.Steps.{RoundEnds, RoundsEnd, SameRounds}
 use Rattle.evaluation.specs.declared.rounds.RoundStep.TheVariants as Of
 use Rattle.evaluation.proofs.FirstOf.{handed}
 use Rattle.evaluation.proofs.RoundsEnds.{rounds-fault, rounds-waits, rounds-again, rounds-last}
-use Rattle.infer_table.proofs.FullFacts.{or-then}
-use Rattle.type_terms.specs.Failures.{SomeKindIsFull}
-use Rattle.evaluation.specs.Shortages.{RoundRunsOut}
-use Rattle.evaluation.proofs.Shortages.{handed-error, round-runs-out, later-round-runs-out}
 use Rattle.evaluation.proofs.rounds.+rounds.Goals as goal
 
 pub returns-in_err-input-clause-runs : goal.returns-in_err-input-clause-runs
@@ -78,32 +74,3 @@ returns-clause-runs u c =
     let sure : c.certainty_with-certainty.result ≡ certainty_with left c.in-Ended.certainty = c.certainty_with-certainty.ensures ∙ ap (λ xs. certainty_with (map nested_goal xs) c.in-Ended.certainty) c.deref-in-Ended.ensures.value in
     subst (λ k. EndsIn (λ o more. SameRounds c.args.mode es1 T1 left k o) (run (rounds (evaluation c.args.mode) c.args.limit ns t) rs)) (sym sure)
     (rounds-last c.args.mode c.args.limit before e ns t rs es1 T1 left c.in-Ended.changed c.in-Ended.certainty c.in-Ended.replies h c.if-changed.false)
-
-pub returns-in_err-input-clause-full : goal.returns-in_err-input-clause-full
-returns-in_err-input-clause-full u c = λ q.
-    let es = c.args.cx.now.entries in
-    let before = c.args.limit - 1 in
-    let e : c.args.limit ≡ suc before = let no = c.if-limit-eq0.false in omega arith in
-    let ns = goals_trees es (map nested_goal c.args.goals.items) in
-    let t = table_trees es c.args.table.now in
-    let rs = replies_trees es c.args.replies.now in
-    or-then (λ h. round-runs-out c.args.mode ns t rs c.args.limit before e (subst (λ gs. RoundRunsOut (goals_trees es (map nested_goal gs)) t rs) c.deref.ensures.value h))
-    (handed-error
-    {A = SomeKindIsFull c.round.new.cx.entries c.round.new.cx.limit ⊎ RoundRunsOut (goals_trees es (map nested_goal c.deref.result.now)) t rs}
-    c.from_residual.result c.from_residual.ensures.1 (λ p. c.in_err-input.ensures.full (ap Err p)) q)
-
-pub returns-then-changed-clause-full : goal.returns-then-changed-clause-full
-returns-then-changed-clause-full u c = λ q.
-    let es = c.args.cx.now.entries in
-    let es1 = c.round.new.cx.entries in
-    let T1 = c.round.new.table in
-    let left = map nested_goal c.round.new.left.items in
-    let before = c.args.limit - 1 in
-    let e : c.args.limit ≡ suc before = let no = c.if-limit-eq0.false in omega arith in
-    let ns = goals_trees es (map nested_goal c.args.goals.items) in
-    let t = table_trees es c.args.table.now in
-    let rs = replies_trees es c.args.replies.now in
-    let ended = Of.Ended c.in-Ended.changed c.in-Ended.certainty c.in-Ended.replies in
-    let h = subst (λ xs. RoundEnds c.args.mode es1 T1 (map nested_goal xs) left (run (round (evaluation c.args.mode) ns t) rs) (Ok ended)) c.new-left.ensures.items
-    (subst (λ gs. RoundEnds c.args.mode es1 T1 (map nested_goal c.new-left.result.items) left (run (round (evaluation c.args.mode) (goals_trees es (map nested_goal gs)) t) rs) (Ok ended)) c.deref.ensures.value (subst (λ v. RoundEnds c.args.mode es1 T1 (map nested_goal c.new-left.result.items) left (run (round (evaluation c.args.mode) (goals_trees es (map nested_goal c.deref.result.now)) t) rs) (Ok v)) c.in-Ended.is c.in_ok-input.ensures.runs)) in
-    or-then (later-round-runs-out c.args.mode ns t rs c.args.limit before e es1 T1 left c.in-Ended.changed c.in-Ended.certainty c.in-Ended.replies h c.if-changed.true) (c.rounds.ensures.full q)

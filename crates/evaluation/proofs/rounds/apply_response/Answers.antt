@@ -40,4 +40,4 @@ returns-in-Err-clause-refused c = λ e.
     ∙ c.in-Err.ensures.refusal (ap Err (refused c.in-Err.error (sym c.from.ensures ∙ err-is _ _ e)))
 
 pub returns-in-Err-clause-full : goal.returns-in-Err-clause-full
-returns-in-Err-clause-full c = λ q. c.in-Err.ensures.full (ap Err (given-up c.in-Err.error _ c.from.ensures q))
+returns-in-Err-clause-full c = λ q. c.in-Err.ensures.full (given-up c.in-Err.error _ c.from.ensures q)

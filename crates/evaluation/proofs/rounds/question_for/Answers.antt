@@ -1,10 +1,8 @@
-use Rattle.std.proofs.Common.{ap, Err}
 use Rattle.infer_table.specs.Content.{content}
 use Rattle.infer_table.specs.Goals.{goal_resolved}
 use Rattle.evaluation.specs.Context.{nested_goal}
 use Rattle.evaluation.specs.Evaluating.{nested_trees}
 use Rattle.evaluation.proofs.Asking.{values-are}
-use Rattle.infer_table.proofs.FullFacts.{handed-on}
 use Rattle.evaluation.proofs.rounds.question_for.Goals as goal
 
 pub returns-clause-values : goal.returns-clause-values
@@ -12,6 +10,3 @@ returns-clause-values c =
     values-are c.canonicalize_goal.new.cx.entries c.lawful.ensures c.in_ok-asked.asked.values.items
     (goal_resolved (content c.args.cx.now.entries c.args.table.now.values) (nested_trees c.args.cx.now.entries (nested_goal c.args.nested.now)).goal)
     c.in_ok-asked.ensures.held c.in_ok-asked.ensures.values
-
-pub returns-in_err-asked-clause-full : goal.returns-in_err-asked-clause-full
-returns-in_err-asked-clause-full c = λ q. handed-on c.from_residual.result c.from_residual.ensures.1 (λ p. c.in_err-asked.ensures.full (ap Err p)) q

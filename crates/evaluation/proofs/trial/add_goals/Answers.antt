@@ -1,4 +1,4 @@
-use Rattle.std.proofs.Common.{◌≡◌, [], ◌∷◌, ◌++◌, drop, ap, sym, ◌∙◌, subst, refl, List, Err}
+use Rattle.std.proofs.Common.{◌≡◌, [], ◌∷◌, ◌++◌, drop, ap, sym, ◌∙◌, subst, refl, List}
 use Rattle.std.proofs.lemmas.List.{map-append}
 use Rattle.type_terms.specs.Terms.{Entry}
 use Rattle.type_terms.specs.Kept.{args-held-later}
@@ -14,7 +14,6 @@ use Rattle.evaluation.proofs.Contexts.{context-later, ready-added}
 use Rattle.evaluation.proofs.LaterTrees.{goals-trees-later}
 use Rattle.evaluation.proofs.Handed.{rest-nested}
 use Rattle.evaluation.proofs.Turns.{every-at, put-in, one-more-goal, all-goals}
-use Rattle.infer_table.proofs.FullFacts.{handed-on}
 use Rattle.evaluation.proofs.trial.add_goals.Goals as goal
 
 abbrev IsHeld : List Entry → GoalSource × Goal → Type 0
@@ -36,7 +35,7 @@ loop-nested-preserved c =
     let now = c.loop-nested.cx.entries in
     let next = c.instantiate_with_values.new.cx.entries in
     let inv = c.loop-nested.invariant in
-    let k = c.instantiate_with_values.ensures.keeps in
+    let k = c.instantiate_with_values.ensures.grew.keeps in
     let xs = c.args.goals.now in
     let i = c.loop-nested.nested-index in
     let n = c.nested-item.result in
@@ -53,7 +52,7 @@ loop-nested-preserved c =
     let put = put-in es now next inv.keeps (values_of es vs) vs c.requires.values refl n.0 n.1 g had c.in_ok-goal.ensures.filled in
     record {
       keeps = λ j e h. k j e (inv.keeps j e h);
-      limit = c.instantiate_with_values.ensures.limit ∙ inv.limit;
+      limit = c.instantiate_with_values.ensures.grew.limit ∙ inv.limit;
       ready = ready-added next context after m added (context-later now next k context inv.ready) (record { clauses = c.in_ok-goal.ensures.held.environment; predicate = c.in_ok-goal.ensures.held.predicate });
       rest = rest-nested c.args.context.now context after (context.nested ++ m ∷ []) inv.rest added;
       left = one-more-goal es (values_of es vs) (goals_trees now context.nested) (goals_trees next after.nested) _ (nested_trees next m) xs i n c.loop-nested-test.true c.nested-item.is more put inv.left;
@@ -65,6 +64,3 @@ returns-clause-added c =
     let xs = c.args.goals.now in
     let i = c.loop-nested.nested-index in
     all-goals es (values_of es c.args.values.now) _ _ (drop i xs) (past-end xs i c.loop-nested-test.false) c.loop-nested.invariant.left
-
-pub returns-in_err-goal-clause-full : goal.returns-in_err-goal-clause-full
-returns-in_err-goal-clause-full c = λ q. handed-on c.from_residual.result c.from_residual.ensures.1 (λ p. c.in_err-goal.ensures.full (ap Err p)) q

@@ -1,4 +1,4 @@
-use Rattle.std.proofs.Common.{◌≡◌, get_or, drop, refl, ap, ◌∙◌, Err}
+use Rattle.std.proofs.Common.{◌≡◌, get_or, drop, refl, ap, ◌∙◌}
 use Rattle.type_terms.specs.Kept.{args-held-later}
 use Rattle.infer_table.specs.Unification.{TableTrees, table_trees}
 use Rattle.infer_table.specs.declared.canonical.CanonicalVarKind.TheVariants.{Ty}
@@ -7,8 +7,6 @@ use Rattle.infer_table.specs.Values.{value_of, values_of, values-later}
 use Rattle.infer_table.specs.Applying.{with_unknown}
 use Rattle.infer_table.proofs.Values.{args-held-push, values-push, past-end}
 use Rattle.evaluation.proofs.Beginning.{one-more-unknown, one-more-table, all-unknowns, all-tables}
-use Rattle.infer_table.proofs.FullFacts.{or-then, handed-on}
-use Rattle.evaluation.proofs.Shortages.{lacking-here, lacking-after}
 use Rattle.evaluation.proofs.trial.add_unknowns.Goals as goal
 
 pub loop-kind-preserved : goal.loop-kind-preserved
@@ -16,7 +14,7 @@ loop-kind-preserved c =
     let now = c.loop-kind.cx.entries in
     let next = c.new_unknown.new.cx.entries in
     let inv = c.loop-kind.invariant in
-    let k = c.new_unknown.ensures.keeps in
+    let k = c.new_unknown.ensures.grew.keeps in
     let ks = c.args.kinds.now in
     let i = c.loop-kind.kind-index in
     let kind = get_or ks i Ty in
@@ -27,13 +25,12 @@ loop-kind-preserved c =
     let grown : u ≡ with_unknown t kind = c.in_ok-unknown.ensures.made next ∙ ap (λ (z : TableTrees). with_unknown z kind) (table-kept now next k c.loop-kind.table inv.ready) in
     record {
       keeps = λ j e h. k j e (inv.keeps j e h);
-      limit = c.new_unknown.ensures.limit ∙ inv.limit;
+      limit = c.new_unknown.ensures.grew.limit ∙ inv.limit;
       ready = c.new_unknown.ensures.ready;
       held = rw c.in_ok-push.ensures.items (args-held-push next vs v (args-held-later now next k vs inv.held) c.in_ok-unknown.ensures.held);
       left = rw c.in_ok-push.ensures.items (rw (values-push next vs v)
           (one-more-unknown (values_of now vs) (values_of next vs) _ (value_of next v) t u ks i kind Ty c.loop-kind-test.true refl (values-later now next k vs inv.held) (c.in_ok-unknown.ensures.is now) grown inv.left));
       made = one-more-table t u _ ks i kind Ty c.loop-kind-test.true refl grown inv.made;
-      lacking = λ h. inv.lacking (lacking-after t ks i kind Ty c.loop-kind-test.true refl u grown h);
     }
 
 pub returns-clause-values : goal.returns-clause-values
@@ -47,11 +44,3 @@ returns-clause-made c =
     let ks = c.args.kinds.now in
     let i = c.loop-kind.kind-index in
     all-tables _ _ (drop i ks) (past-end ks i c.loop-kind-test.false) c.loop-kind.invariant.made
-
-pub returns-in_err-unknown-clause-full : goal.returns-in_err-unknown-clause-full
-returns-in_err-unknown-clause-full c = λ q.
-    let now = c.loop-kind.cx.entries in
-    let ks = c.args.kinds.now in
-    let i = c.loop-kind.kind-index in
-    or-then (λ h. c.loop-kind.invariant.lacking (lacking-here (table_trees now c.loop-kind.table) ks i (get_or ks i Ty) Ty c.loop-kind-test.true refl (h now)))
-    (handed-on c.from_residual.result c.from_residual.ensures.1 (λ p. c.in_err-unknown.ensures.full (ap Err p)) q)

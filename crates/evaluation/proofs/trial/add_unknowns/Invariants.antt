@@ -5,7 +5,6 @@ use Rattle.infer_table.specs.Content.{Ready}
 use Rattle.infer_table.specs.Unification.{table_trees}
 use Rattle.infer_table.specs.Values.{values_of}
 use Rattle.evaluation.specs.Frames.{unknowns, with_unknowns}
-use Rattle.evaluation.specs.Shortages.{LackNumbers}
 use Rattle.evaluation.proofs.trial.add_unknowns.Given as goal
 
 abbrev pub invariant-loop-kind : goal.invariant-loop-kind
@@ -17,5 +16,4 @@ invariant-loop-kind l = record {
   left : values_of l.cx.entries l.values.items ++ unknowns (table_trees l.cx.entries l.table) (drop l.kind-index l.kinds)
       ≡ values_of l.fn.cx.entries l.fn.values.items ++ unknowns (table_trees l.fn.cx.entries l.fn.table) l.kinds;
   made : with_unknowns (table_trees l.cx.entries l.table) (drop l.kind-index l.kinds) ≡ with_unknowns (table_trees l.fn.cx.entries l.fn.table) l.kinds;
-  lacking : LackNumbers (table_trees l.cx.entries l.table) (drop l.kind-index l.kinds) → LackNumbers (table_trees l.fn.cx.entries l.fn.table) l.kinds;
 }

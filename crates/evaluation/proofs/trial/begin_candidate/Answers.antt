@@ -1,24 +1,19 @@
-use Rattle.std.proofs.Common.{[], ap, sym, subst, Err}
+use Rattle.std.proofs.Common.{ap, sym, subst, Err}
 use Rattle.type_terms.specs.Terms.{Keeps}
-use Rattle.infer_table.proofs.FullFacts.{or-then}
 use Rattle.evaluation.specs.Frames.{begun}
 use Rattle.evaluation.specs.OpenCandidates.{StandsAt}
-use Rattle.evaluation.specs.OpenShortages.{RunsOutOnly}
-use Rattle.evaluation.specs.Shortages.{NestedRunsOut, CandidateRunsOut}
-use Rattle.evaluation.specs.Trial.{spec_trees, premises_trees, candidate, asked}
+use Rattle.evaluation.specs.Trial.{spec_trees, candidate, asked}
 use Rattle.evaluation.specs.TrialEnds.{trial_trees}
 use Rattle.evaluation.proofs.Ending.{script-tried}
 use Rattle.evaluation.proofs.FirstOf.{handed}
 use Rattle.evaluation.proofs.Later.{goals-held-later, premises-later}
 use Rattle.evaluation.proofs.OpenBeginnings.{begin-refused}
-use Rattle.evaluation.proofs.OpenQuestions.{ok-more}
-use Rattle.evaluation.proofs.OpenShortages.{only-more}
-use Rattle.evaluation.proofs.Shortages.{handed-error, tried-run-out}
+use Rattle.term_folds.proofs.Grown.{grew-on}
 use Rattle.evaluation.proofs.trial.begin_candidate.Goals as goal
 
 pub open_nested-requires-clause-goals : goal.open_nested-requires-clause-goals
 open_nested-requires-clause-goals c =
-    goals-held-later c.args.cx.now.entries c.try_candidate.new.cx.entries c.try_candidate.ensures.keeps c.args.spec.now.nested_goals.items c.requires.spec.nested
+    goals-held-later c.args.cx.now.entries c.try_candidate.new.cx.entries c.try_candidate.ensures.grew.keeps c.args.spec.now.nested_goals.items c.requires.spec.nested
 
 pub returns-in_err-trial-clause-stands : goal.returns-in_err-trial-clause-stands
 returns-in_err-trial-clause-stands c =
@@ -34,7 +29,7 @@ returns-clause-stands c =
     let es = c.args.cx.now.entries in
     let es1 = c.try_candidate.new.cx.entries in
     let es2 = c.open_nested.new.cx.entries in
-    let k : Keeps es es1 = c.try_candidate.ensures.keeps in
+    let k : Keeps es es1 = c.try_candidate.ensures.grew.keeps in
     let input = c.args.input.now in
     let spec = c.args.spec.now in
     let s = spec_trees es spec in
@@ -43,41 +38,5 @@ returns-clause-stands c =
     subst (λ z. StandsAt es2 z x) (sym (script-tried input.mode input.variables.items s t c.in_ok-trial.ensures.tried))
     (subst (λ z. StandsAt es2 (asked input.mode z s.certainty t) x) (premises-later es es1 k spec.nested_goals.items c.requires.spec.nested) c.open_nested.ensures.stands)
 
--- ---- where numbers run out
-pub returns-in_err-trial-clause-full : goal.returns-in_err-trial-clause-full
-returns-in_err-trial-clause-full c = λ q. or-then (λ h. h []) (handed-error c.from_residual.result c.from_residual.ensures.1 (λ p. c.in_err-trial.ensures.full (ap Err p)) q)
-
-pub returns-clause-full : goal.returns-clause-full
-returns-clause-full c = λ q.
-    let es = c.args.cx.now.entries in
-    let es1 = c.try_candidate.new.cx.entries in
-    let k : Keeps es es1 = c.try_candidate.ensures.keeps in
-    let input = c.args.input.now in
-    let spec = c.args.spec.now in
-    let s = spec_trees es spec in
-    let t = trial_trees es1 input.variables.items c.in_ok-trial.trial in
-    or-then
-    (λ h. tried-run-out input.mode input.variables.items s [] t c.in_ok-trial.ensures.tried
-    (subst (λ z. NestedRunsOut input.mode z s.certainty t []) (premises-later es es1 k spec.nested_goals.items c.requires.spec.nested) h))
-    (c.open_nested.ensures.full q)
-
-pub returns-clause-later : goal.returns-clause-later
-returns-clause-later c =
-    let es = c.args.cx.now.entries in
-    let es1 = c.try_candidate.new.cx.entries in
-    let new = c.open_nested.new.cx.entries in
-    let k : Keeps es es1 = c.try_candidate.ensures.keeps in
-    let input = c.args.input.now in
-    let spec = c.args.spec.now in
-    let s = spec_trees es spec in
-    let t = trial_trees es1 input.variables.items c.in_ok-trial.trial in
-    let P = NestedRunsOut input.mode (premises_trees es1 spec.nested_goals.items) s.certainty t in
-    let Q = CandidateRunsOut input.mode input.variables.items s in
-    ok-more (RunsOutOnly P new) (RunsOutOnly Q new)
-    (only-more P Q
-    (λ rs h. tried-run-out input.mode input.variables.items s rs t c.in_ok-trial.ensures.tried
-    (subst (λ z. NestedRunsOut input.mode z s.certainty t rs) (premises-later es es1 k spec.nested_goals.items c.requires.spec.nested) h)) new)
-    c.open_nested.result c.open_nested.ensures.later
-
-pub returns-clause-keeps : goal.returns-clause-keeps
-returns-clause-keeps c = λ i x h. c.open_nested.ensures.keeps i x (c.try_candidate.ensures.keeps i x h)
+pub returns-clause-grew : goal.returns-clause-grew
+returns-clause-grew c = grew-on c.try_candidate.ensures.grew c.open_nested.ensures.grew

@@ -7,8 +7,6 @@ use Rattle.evaluation.specs.Readings.{EquationHeld}
 use Rattle.evaluation.proofs.Handed.{same-error}
 use Rattle.evaluation.proofs.Later.{equation-held-later}
 use Rattle.evaluation.proofs.Turns.{every-at, next-solved, next-refused, all-solved}
-use Rattle.infer_table.proofs.FullFacts.{or-then}
-use Rattle.evaluation.proofs.Shortages.{solving-here, solving-after}
 use Rattle.evaluation.proofs.trial.equate_all.Goals as goal
 
 pub equate-requires-clause-values : goal.equate-requires-clause-values
@@ -26,7 +24,7 @@ loop-equation-preserved c =
     let es = c.args.cx.now.entries in
     let now = c.loop-equation.cx.entries in
     let inv = c.loop-equation.invariant in
-    let k = c.equate.ensures.keeps in
+    let k = c.equate.ensures.grew.keeps in
     let xs = c.args.equations.now in
     let i = c.loop-equation.equation-index in
     let x = c.equation-item.result in
@@ -34,13 +32,10 @@ loop-equation-preserved c =
     let had : EquationHeld es x = subst (EquationHeld es) (sym c.equation-item.is) (every-at (EquationHeld es) xs i x c.requires.equations c.loop-equation-test.true) in
     record {
       keeps = λ j e h. k j e (inv.keeps j e h);
-      limit = c.equate.ensures.limit ∙ inv.limit;
+      limit = c.equate.ensures.grew.limit ∙ inv.limit;
       ready = c.equate.ensures.ready;
       left = next-solved es now inv.keeps (values_of es vs) (values_of now vs) (values-later es now inv.keeps vs c.requires.values) xs i x c.loop-equation-test.true c.equation-item.is had
           (table_trees now c.loop-equation.table) (table_trees c.equate.new.cx.entries c.equate.new.table) _ c.in_ok-equate.ensures.solved inv.left;
-      running_out = λ h. inv.running_out
-          (solving-after es now inv.keeps (values_of es vs) (values_of now vs) (values-later es now inv.keeps vs c.requires.values) xs i x c.loop-equation-test.true c.equation-item.is had
-          (table_trees now c.loop-equation.table) (table_trees c.equate.new.cx.entries c.equate.new.table) c.in_ok-equate.ensures.solved h);
     }
 
 pub returns-in_err-equate-clause-refused : goal.returns-in_err-equate-clause-refused
@@ -55,19 +50,6 @@ returns-in_err-equate-clause-refused c = λ q.
     let had : EquationHeld es x = subst (EquationHeld es) (sym c.equation-item.is) (every-at (EquationHeld es) xs i x c.requires.equations c.loop-equation-test.true) in
     next-refused es now inv.keeps (values_of es vs) (values_of now vs) (values-later es now inv.keeps vs c.requires.values) xs i x c.loop-equation-test.true c.equation-item.is had
     (table_trees now c.loop-equation.table) _ (c.equate.ensures.refused (same-error c.equate.result c.from_residual.result _ _ c.in_err-equate.was c.from_residual.ensures.1 q)) inv.left
-
-pub returns-in_err-equate-clause-full : goal.returns-in_err-equate-clause-full
-returns-in_err-equate-clause-full c = λ q.
-    let es = c.args.cx.now.entries in
-    let now = c.loop-equation.cx.entries in
-    let inv = c.loop-equation.invariant in
-    let xs = c.args.equations.now in
-    let i = c.loop-equation.equation-index in
-    let x = c.equation-item.result in
-    let vs = c.args.values.now in
-    let had : EquationHeld es x = subst (EquationHeld es) (sym c.equation-item.is) (every-at (EquationHeld es) xs i x c.requires.equations c.loop-equation-test.true) in
-    or-then (λ h. inv.running_out (solving-here es now inv.keeps (values_of es vs) (values_of now vs) (values-later es now inv.keeps vs c.requires.values) xs i x c.loop-equation-test.true c.equation-item.is had (table_trees now c.loop-equation.table) h))
-    (c.equate.ensures.full (same-error c.equate.result c.from_residual.result _ _ c.in_err-equate.was c.from_residual.ensures.1 q))
 
 pub returns-clause-solved : goal.returns-clause-solved
 returns-clause-solved c =

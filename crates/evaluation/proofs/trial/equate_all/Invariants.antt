@@ -4,7 +4,6 @@ use Rattle.infer_table.specs.Content.{Ready}
 use Rattle.infer_table.specs.Unification.{table_trees}
 use Rattle.infer_table.specs.Values.{values_of}
 use Rattle.evaluation.specs.Frames.{pair_filled, solved}
-use Rattle.evaluation.specs.Shortages.{SolvingRunsOut}
 use Rattle.evaluation.specs.Trial.{equations_trees}
 use Rattle.evaluation.proofs.trial.equate_all.Given as goal
 
@@ -15,6 +14,4 @@ invariant-loop-equation l = record {
   ready : Ready l.cx.entries l.table;
   left : solved (table_trees l.cx.entries l.table) (map (pair_filled (values_of l.fn.cx.entries l.values)) (equations_trees l.fn.cx.entries (drop l.equation-index l.equations)))
       ≡ solved (table_trees l.fn.cx.entries l.fn.table) (map (pair_filled (values_of l.fn.cx.entries l.values)) (equations_trees l.fn.cx.entries l.equations));
-  running_out : SolvingRunsOut (table_trees l.cx.entries l.table) (map (pair_filled (values_of l.fn.cx.entries l.values)) (equations_trees l.fn.cx.entries (drop l.equation-index l.equations)))
-      → SolvingRunsOut (table_trees l.fn.cx.entries l.fn.table) (map (pair_filled (values_of l.fn.cx.entries l.values)) (equations_trees l.fn.cx.entries l.equations));
 }

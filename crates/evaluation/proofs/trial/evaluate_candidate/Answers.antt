@@ -1,10 +1,8 @@
 use Rattle.std.proofs.Common.{ap, sym, subst, Err}
 use Rattle.type_terms.specs.Terms.{Keeps}
-use Rattle.infer_table.proofs.FullFacts.{or-then}
 use Rattle.evaluation.specs.Evaluating.{replies_trees}
 use Rattle.evaluation.specs.Frames.{begun}
 use Rattle.evaluation.specs.Replays.{run}
-use Rattle.evaluation.specs.Shortages.{NestedRunsOut}
 use Rattle.evaluation.specs.Trial.{spec_trees, premises_trees, candidate, asked}
 use Rattle.evaluation.specs.TrialEnds.{trial_trees, CandidateEnds}
 use Rattle.evaluation.proofs.Contexts.{replies-later}
@@ -12,15 +10,15 @@ use Rattle.evaluation.proofs.Ending.{trial-refused, script-tried}
 use Rattle.evaluation.proofs.FirstOf.{handed}
 use Rattle.evaluation.proofs.Later.{goals-held-later, premises-later}
 use Rattle.evaluation.proofs.LaterTrees.{replies-trees-later}
-use Rattle.evaluation.proofs.Shortages.{handed-error, tried-run-out}
+use Rattle.term_folds.proofs.Grown.{grew-on}
 use Rattle.evaluation.proofs.trial.evaluate_candidate.Goals as goal
 
 pub evaluate_nested-requires-clause-goals : goal.evaluate_nested-requires-clause-goals
 evaluate_nested-requires-clause-goals c =
-    goals-held-later c.args.cx.now.entries c.try_candidate.new.cx.entries c.try_candidate.ensures.keeps c.args.spec.now.nested_goals.items c.requires.spec.nested
+    goals-held-later c.args.cx.now.entries c.try_candidate.new.cx.entries c.try_candidate.ensures.grew.keeps c.args.spec.now.nested_goals.items c.requires.spec.nested
 
 pub evaluate_nested-requires-clause-replies : goal.evaluate_nested-requires-clause-replies
-evaluate_nested-requires-clause-replies c = replies-later c.args.cx.now.entries c.try_candidate.new.cx.entries c.try_candidate.ensures.keeps c.args.replies.now c.requires.replies
+evaluate_nested-requires-clause-replies c = replies-later c.args.cx.now.entries c.try_candidate.new.cx.entries c.try_candidate.ensures.grew.keeps c.args.replies.now c.requires.replies
 
 pub returns-in_err-trial-clause-runs : goal.returns-in_err-trial-clause-runs
 returns-in_err-trial-clause-runs c =
@@ -37,7 +35,7 @@ returns-clause-runs c =
     let es = c.args.cx.now.entries in
     let es1 = c.try_candidate.new.cx.entries in
     let es2 = c.evaluate_nested.new.cx.entries in
-    let k : Keeps es es1 = c.try_candidate.ensures.keeps in
+    let k : Keeps es es1 = c.try_candidate.ensures.grew.keeps in
     let input = c.args.input.now in
     let spec = c.args.spec.now in
     let s = spec_trees es spec in
@@ -49,25 +47,5 @@ returns-clause-runs c =
     (subst (λ z. CandidateEnds es2 (run (asked input.mode (premises_trees es1 spec.nested_goals.items) s.certainty t) z) x) (replies-trees-later es es1 k c.args.replies.now c.requires.replies)
     c.evaluate_nested.ensures.runs))
 
-pub returns-in_err-trial-clause-full : goal.returns-in_err-trial-clause-full
-returns-in_err-trial-clause-full c = λ q.
-    or-then (λ h. h (replies_trees c.args.cx.now.entries c.args.replies.now)) (handed-error c.from_residual.result c.from_residual.ensures.1 (λ p. c.in_err-trial.ensures.full (ap Err p)) q)
-
-pub returns-clause-full : goal.returns-clause-full
-returns-clause-full c = λ q.
-    let es = c.args.cx.now.entries in
-    let es1 = c.try_candidate.new.cx.entries in
-    let k : Keeps es es1 = c.try_candidate.ensures.keeps in
-    let input = c.args.input.now in
-    let spec = c.args.spec.now in
-    let s = spec_trees es spec in
-    let t = trial_trees es1 input.variables.items c.in_ok-trial.trial in
-    let rs = replies_trees es c.args.replies.now in
-    or-then
-    (λ h. tried-run-out input.mode input.variables.items s rs t c.in_ok-trial.ensures.tried
-    (subst (λ z. NestedRunsOut input.mode z s.certainty t rs) (premises-later es es1 k spec.nested_goals.items c.requires.spec.nested)
-    (subst (λ z. NestedRunsOut input.mode (premises_trees es1 spec.nested_goals.items) s.certainty t z) (replies-trees-later es es1 k c.args.replies.now c.requires.replies) h)))
-    (c.evaluate_nested.ensures.full q)
-
-pub returns-clause-keeps : goal.returns-clause-keeps
-returns-clause-keeps c = λ i x h. c.evaluate_nested.ensures.keeps i x (c.try_candidate.ensures.keeps i x h)
+pub returns-clause-grew : goal.returns-clause-grew
+returns-clause-grew c = grew-on c.try_candidate.ensures.grew c.evaluate_nested.ensures.grew

@@ -1,4 +1,4 @@
-use Rattle.std.proofs.Common.{◌≡◌, List, [], ◌++◌, map, ap, sym, ◌∙◌, subst, inl, Option, Err}
+use Rattle.std.proofs.Common.{◌≡◌, List, [], ◌++◌, map, ap, sym, ◌∙◌, subst, Option}
 use Rattle.type_terms.specs.Terms.{Keeps}
 use Rattle.type_terms.specs.Kinds.{ArgsHeld}
 use Rattle.infer_table.specs.Unification.{table_trees}
@@ -17,8 +17,8 @@ use Rattle.evaluation.specs.Trial.{premises_trees}
 use Rattle.evaluation.specs.TrialEnds.{trial_trees}
 use Rattle.evaluation.proofs.TrialContexts.{ready-begun, ready-heard}
 use Rattle.evaluation.proofs.Ending.{nested-ends}
-use Rattle.infer_table.proofs.FullFacts.{or-then}
-use Rattle.evaluation.proofs.Shortages.{handed-fault, same-evaluation}
+use Rattle.term_folds.proofs.Grown.{grew-on}
+use Rattle.evaluation.proofs.Shortages.{eval-at-limit}
 use Rattle.evaluation.proofs.trial.evaluate_nested.Goals as goal
 
 pub add_goals-requires-clause-ready : goal.add_goals-requires-clause-ready
@@ -42,11 +42,11 @@ evaluate_added_goals_and_make_canonical_response-requires c =
     let goals = c.add_goals.new.context in
     let mid = c.add_replies.new.context in
     let none : goals.replies ≡ [] = ap (λ (z : Context). z.replies) c.in_ok-add_goals.ensures.rest ∙ ap (λ (z : Context). z.replies) begun.ensures in
-    let replies = c.in_ok-add_replies.ensures.held es1 (subst (Every (ResultHeld es1)) (sym none) tt) (replies-later es es1 c.add_goals.ensures.keeps c.args.replies.now c.requires.replies) in
+    let replies = c.in_ok-add_replies.ensures.held es1 (subst (Every (ResultHeld es1)) (sym none) tt) (replies-later es es1 c.add_goals.ensures.grew.keeps c.args.replies.now c.requires.replies) in
     record { ready = ready-heard es1 goals mid c.in_ok-add_replies.ensures.rest c.in_ok-add_goals.ensures.ready replies }
 
-pub returns-clause-keeps : goal.returns-clause-keeps
-returns-clause-keeps c = λ i x h. c.evaluate_added_goals_and_make_canonical_response.ensures.keeps i x (c.add_goals.ensures.keeps i x h)
+pub returns-clause-grew : goal.returns-clause-grew
+returns-clause-grew c = grew-on c.add_goals.ensures.grew c.evaluate_added_goals_and_make_canonical_response.ensures.grew
 
 pub returns-clause-runs : goal.returns-clause-runs
 returns-clause-runs c =
@@ -54,8 +54,8 @@ returns-clause-runs c =
     let es1 = c.add_goals.new.cx.entries in
     let call = c.evaluate_added_goals_and_make_canonical_response in
     let es2 = call.new.cx.entries in
-    let k : Keeps es es1 = c.add_goals.ensures.keeps in
-    let l : Keeps es es2 = λ i x h. call.ensures.keeps i x (k i x h) in
+    let k : Keeps es es1 = c.add_goals.ensures.grew.keeps in
+    let l : Keeps es es2 = λ i x h. call.ensures.grew.keeps i x (k i x h) in
     let trial = c.args.trial in
     let variables = c.args.input.now.variables.items in
     let ns = c.args.spec.now.nested_goals.items in
@@ -85,42 +85,4 @@ returns-clause-runs c =
     call.ensures.runs
 
 pub returns-in_err-add_goals-clause-full : goal.returns-in_err-add_goals-clause-full
-returns-in_err-add_goals-clause-full c = λ q.
-    let handed = c.from_residual-in_err-add_goals in
-    inl (handed-fault handed.result handed.ensures.1 (λ p. c.in_err-add_goals.ensures.full (ap Err p)) q)
-
-pub returns-clause-full : goal.returns-clause-full
-returns-clause-full c = λ q.
-    let es = c.args.cx.now.entries in
-    let es1 = c.add_goals.new.cx.entries in
-    let call = c.evaluate_added_goals_and_make_canonical_response in
-    let es2 = call.new.cx.entries in
-    let k : Keeps es es1 = c.add_goals.ensures.keeps in
-    let l : Keeps es es2 = λ i x h. call.ensures.keeps i x (k i x h) in
-    let trial = c.args.trial in
-    let variables = c.args.input.now.variables.items in
-    let ns = c.args.spec.now.nested_goals.items in
-    let rs = c.args.replies.now in
-    let begun = c.new-context.result in
-    let goals = c.add_goals.new.context in
-    let mid = c.add_replies.new.context in
-    let made = c.new-context.ensures in
-    let filled = c.in_ok-add_goals.ensures.rest in
-    let heard = c.in_ok-add_replies.ensures.rest in
-    let t = trial_trees es variables trial in
-    let kinds : mid.variables ≡ variables =
-    ap (λ (z : Context). z.variables) heard ∙ ap (λ (z : Context). z.variables) filled ∙ ap (λ (z : Context). z.variables) made ∙ c.in_ok-variables.ensures.items ∙ c.deref.ensures.value in
-    let values : mid.values ≡ trial.own.items = ap (λ (z : Context). z.values) heard ∙ ap (λ (z : Context). z.values) filled ∙ ap (λ (z : Context). z.values) made in
-    let mode : mid.mode ≡ c.args.input.now.mode = ap (λ (z : Context). z.mode) heard ∙ ap (λ (z : Context). z.mode) filled ∙ ap (λ (z : Context). z.mode) made in
-    let table : mid.table ≡ trial.table = ap (λ (z : Context). z.table) heard ∙ ap (λ (z : Context). z.table) filled ∙ ap (λ (z : Context). z.table) made in
-    let no-goals : begun.nested ≡ [] = ap (λ (z : Context). z.nested) made in
-    let no-replies : goals.replies ≡ [] = ap (λ (z : Context). z.replies) filled ∙ ap (λ (z : Context). z.replies) made in
-    or-then
-    (same-evaluation c.args.spec.now.certainty mode kinds (ap (values_of es1) values ∙ values-later es es1 k trial.own.items c.requires.own)
-    (ap (λ (z : Context). goals_trees es1 z.nested) heard ∙ c.in_ok-add_goals.ensures.added
-    ∙ ap (λ (z : List NestedGoal). goals_trees es z ++ map (nested_filled (values_of es c.deref-2.result.now)) (premises_trees es c.deref-3.result.now)) no-goals
-    ∙ ap (λ z. map (nested_filled (values_of es z)) (premises_trees es c.deref-3.result.now)) c.deref-2.ensures.value
-    ∙ ap (λ z. map (nested_filled (values_of es trial.values.items)) (premises_trees es z)) c.deref-3.ensures.value)
-    (ap (λ (z : Table). table_trees es1 z) table ∙ table-kept es es1 k trial.table c.requires.ready)
-    (c.in_ok-add_replies.ensures.added es1 ∙ ap (λ (z : List (Option CanonicalResponse)). replies_trees es1 z ++ replies_trees es1 rs) no-replies ∙ replies-trees-later es es1 k rs c.requires.replies))
-    (call.ensures.full q)
+returns-in_err-add_goals-clause-full c = eval-at-limit c.from_residual-in_err-add_goals.result c.from_residual-in_err-add_goals.ensures.1 c.in_err-add_goals.ensures.full

@@ -1,11 +1,11 @@
 use Rattle.std.proofs.Common.{◌≡◌, []}
 use Rattle.type_terms.specs.Kinds.{arg_trees}
-use Rattle.type_terms.proofs.FailFacts.{only-tables}
 use Rattle.term_folds.specs.Folds.{FoldsEach}
 use Rattle.type_terms.specs.Pieces.{one_piece}
 use Rattle.infer_table.specs.Values.{values_of, filled, filling}
 use Rattle.infer_table.proofs.Fillings.{filled-fold}
 use Rattle.evaluation.proofs.Handed.{if-ok}
+use Rattle.infer_table.proofs.FullFacts.{fold-at-limit}
 use Rattle.evaluation.proofs.trial.fill.Goals as goal
 
 pub returns-clause-filled : goal.returns-clause-filled
@@ -18,4 +18,4 @@ returns-clause-filled c =
     (λ a h. filled-fold vs _ _ h.1) c.fold_with.ensures.folded
 
 pub returns-clause-full : goal.returns-clause-full
-returns-clause-full c = λ q. only-tables (c.fold_with.ensures.full q)
+returns-clause-full c = fold-at-limit c.fold_with.result c.fold_with.ensures.full

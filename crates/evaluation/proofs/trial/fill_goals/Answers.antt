@@ -1,5 +1,4 @@
-use Rattle.std.proofs.Common.{◌≡◌, [], ◌∷◌, ◌++◌, map, drop, ap, sym, ◌∙◌, subst, refl, List, Err}
-use Rattle.infer_table.proofs.FullFacts.{handed-on}
+use Rattle.std.proofs.Common.{◌≡◌, [], ◌∷◌, ◌++◌, map, drop, ap, sym, ◌∙◌, subst, refl, List}
 use Rattle.std.proofs.lemmas.List.{map-append}
 use Rattle.type_terms.specs.Terms.{Entry}
 use Rattle.type_terms.specs.Kept.{args-held-later}
@@ -48,7 +47,7 @@ loop-premise-preserved c =
     let now = c.loop-premise.cx.entries in
     let next = c.instantiate_with_values.new.cx.entries in
     let inv = c.loop-premise.invariant in
-    let k = c.instantiate_with_values.ensures.keeps in
+    let k = c.instantiate_with_values.ensures.grew.keeps in
     let xs = c.args.goals.now in
     let i = c.loop-premise.premise-index in
     let n = c.premise-item.result in
@@ -68,7 +67,7 @@ loop-premise-preserved c =
     let one : GoalIsHeld next m = record { clauses = c.in_ok-goal.ensures.held.environment; predicate = c.in_ok-goal.ensures.held.predicate } in
     record {
       keeps = λ j e h. k j e (inv.keeps j e h);
-      limit = c.instantiate_with_values.ensures.limit ∙ inv.limit;
+      limit = c.instantiate_with_values.ensures.grew.limit ∙ inv.limit;
       held = subst (NestedHeld next) (sym goals) (every-more (GoalIsHeld next) (map nested_goal before) m (nested-later now next k (map nested_goal before) inv.held) one);
       left = one-more-goal es (values_of es vs) (premises_trees now before) (premises_trees next after) _ (nested_trees next m) xs i n c.loop-premise-test.true c.premise-item.is more put inv.left;
     }
@@ -79,6 +78,3 @@ returns-clause-filled c =
     let xs = c.args.goals.now in
     let i = c.loop-premise.premise-index in
     all-goals es (values_of es c.args.values.now) _ _ (drop i xs) (past-end xs i c.loop-premise-test.false) c.loop-premise.invariant.left
-
-pub returns-in_err-goal-clause-full : goal.returns-in_err-goal-clause-full
-returns-in_err-goal-clause-full c = λ q. handed-on c.from_residual.result c.from_residual.ensures.1 (λ p. c.in_err-goal.ensures.full (ap Err p)) q

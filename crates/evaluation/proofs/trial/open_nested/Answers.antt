@@ -1,5 +1,4 @@
-use Rattle.std.proofs.Common.{◌≡◌, ◌*◌, List, map, length, refl, sym, ◌∙◌, ap, subst, inl, Err, IfOk}
-use Rattle.infer_table.proofs.FullFacts.{or-then}
+use Rattle.std.proofs.Common.{◌≡◌, ◌*◌, List, map, length, sym, ◌∙◌, ap, subst, IfOk}
 use Rattle.infer_table.specs.declared.goal.Goal.{Goal}
 use Rattle.type_terms.specs.Terms.{Keeps}
 use Rattle.type_terms.specs.Kept.{args-held-later}
@@ -10,15 +9,13 @@ use Rattle.evaluation.specs.Frames.{nested_filled}
 use Rattle.evaluation.specs.Trial.{premises_trees}
 use Rattle.evaluation.specs.TrialEnds.{trial_trees}
 use Rattle.evaluation.specs.OpenCandidates.{StandsAt, AsksAtMost}
-use Rattle.evaluation.specs.OpenShortages.{WholeRunsOut, RunsOutOnly}
-use Rattle.evaluation.specs.Shortages.{NestedRunsOut}
 use Rattle.evaluation.specs.declared.goal.GoalSource.{GoalSource}
 use Rattle.evaluation.specs.declared.resuming.Evaluation.{Evaluation}
 use Rattle.evaluation.proofs.ListLaws.{length-map}
-use Rattle.evaluation.proofs.OpenQuestions.{premises-length, ok-more}
-use Rattle.evaluation.proofs.OpenShortages.{only-more}
-use Rattle.evaluation.proofs.Shortages.{handed-fault, same-evaluation}
+use Rattle.evaluation.proofs.OpenQuestions.{premises-length}
 use Rattle.evaluation.proofs.OpenBeginnings.{nested-begin}
+use Rattle.term_folds.proofs.Grown.{grew-on}
+use Rattle.evaluation.proofs.Shortages.{eval-at-limit}
 use Rattle.evaluation.proofs.trial.open_nested.Goals as goal
 
 pub fill_goals-requires-clause-values : goal.fill_goals-requires-clause-values
@@ -29,18 +26,18 @@ fill_goals-requires-clause-goals c = rw c.deref-3.ensures.value c.requires.goals
 
 pub begin_rounds-requires-clause-evaluation : goal.begin_rounds-requires-clause-evaluation
 begin_rounds-requires-clause-evaluation c = record {
-  table = ready-later c.args.cx.now.entries c.fill_goals.new.cx.entries c.args.trial.table c.fill_goals.ensures.keeps c.requires.ready;
-  own = args-held-later c.args.cx.now.entries c.fill_goals.new.cx.entries c.fill_goals.ensures.keeps c.args.trial.own.items c.requires.own;
+  table = ready-later c.args.cx.now.entries c.fill_goals.new.cx.entries c.args.trial.table c.fill_goals.ensures.grew.keeps c.requires.ready;
+  own = args-held-later c.args.cx.now.entries c.fill_goals.new.cx.entries c.fill_goals.ensures.grew.keeps c.args.trial.own.items c.requires.own;
 }
 
-pub returns-clause-keeps : goal.returns-clause-keeps
-returns-clause-keeps c = λ i x h. c.begin_rounds.ensures.keeps i x (c.fill_goals.ensures.keeps i x h)
+pub returns-clause-grew : goal.returns-clause-grew
+returns-clause-grew c = grew-on c.fill_goals.ensures.grew c.begin_rounds.ensures.grew
 
 pub returns-clause-stands : goal.returns-clause-stands
 returns-clause-stands c =
     let es = c.args.cx.now.entries in
     let es1 = c.fill_goals.new.cx.entries in
-    let k : Keeps es es1 = c.fill_goals.ensures.keeps in
+    let k : Keeps es es1 = c.fill_goals.ensures.grew.keeps in
     let trial = c.args.trial in
     let variables = c.args.input.now.variables.items in
     let spec = c.args.spec.now in
@@ -67,42 +64,5 @@ returns-clause-most c =
     ∙ ap (λ (z : List (GoalSource × Goal)). length z) c.deref-3.ensures.value in
     subst (λ n. IfOk c.begin_rounds.result (AsksAtMost (8 * n))) many c.begin_rounds.ensures.most
 
-pub returns-clause-full : goal.returns-clause-full
-returns-clause-full c = λ q.
-    let es = c.args.cx.now.entries in
-    let es1 = c.fill_goals.new.cx.entries in
-    let k : Keeps es es1 = c.fill_goals.ensures.keeps in
-    let trial = c.args.trial in
-    let filled = c.in_ok-goals.ensures.filled
-    ∙ ap (λ z. map (nested_filled (values_of es z)) (premises_trees es c.deref-3.result.now)) c.deref-2.ensures.value
-    ∙ ap (λ z. map (nested_filled (values_of es trial.values.items)) (premises_trees es z)) c.deref-3.ensures.value in
-    or-then
-    (same-evaluation c.args.spec.now.certainty refl (c.in_ok-variables.ensures.items ∙ c.deref.ensures.value) (values-later es es1 k trial.own.items c.requires.own) filled
-    (table-kept es es1 k trial.table c.requires.ready) refl)
-    (c.begin_rounds.ensures.full q)
-
 pub returns-in_err-goals-clause-full : goal.returns-in_err-goals-clause-full
-returns-in_err-goals-clause-full c = λ q.
-    let handed = c.from_residual-in_err-goals in
-    inl (handed-fault handed.result handed.ensures.1 (λ p. c.in_err-goals.ensures.full (ap Err p)) q)
-
-pub returns-clause-later : goal.returns-clause-later
-returns-clause-later c =
-    let es = c.args.cx.now.entries in
-    let es1 = c.fill_goals.new.cx.entries in
-    let new = c.begin_rounds.new.cx.entries in
-    let k : Keeps es es1 = c.fill_goals.ensures.keeps in
-    let trial = c.args.trial in
-    let spec = c.args.spec.now in
-    let variables = c.args.input.now.variables.items in
-    let e : Evaluation = record { mode = c.args.input.now.mode; table = trial.table; variables = c.in_ok-variables.variables; own = trial.own; certainty = spec.certainty } in
-    let filled = c.in_ok-goals.ensures.filled
-    ∙ ap (λ z. map (nested_filled (values_of es z)) (premises_trees es c.deref-3.result.now)) c.deref-2.ensures.value
-    ∙ ap (λ z. map (nested_filled (values_of es trial.values.items)) (premises_trees es z)) c.deref-3.ensures.value in
-    let P = WholeRunsOut es1 e c.in_ok-goals.goals.items in
-    let Q = NestedRunsOut c.args.input.now.mode (premises_trees es spec.nested_goals.items) spec.certainty (trial_trees es variables trial) in
-    ok-more (RunsOutOnly P new) (RunsOutOnly Q new)
-    (only-more P Q
-    (λ rs h. same-evaluation spec.certainty refl (c.in_ok-variables.ensures.items ∙ c.deref.ensures.value) (values-later es es1 k trial.own.items c.requires.own) filled
-    (table-kept es es1 k trial.table c.requires.ready) refl h) new)
-    c.begin_rounds.result c.begin_rounds.ensures.later
+returns-in_err-goals-clause-full c = eval-at-limit c.from_residual-in_err-goals.result c.from_residual-in_err-goals.ensures.1 c.in_err-goals.ensures.full

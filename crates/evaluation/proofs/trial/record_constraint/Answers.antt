@@ -11,8 +11,7 @@ use Rattle.infer_table.proofs.ConstraintLists.{constraints-filled}
 use Rattle.infer_table.proofs.Recording.{constraints-recorded}
 use Rattle.evaluation.proofs.Handed.{on-ok}
 use Rattle.type_terms.proofs.FailFacts.{only-tables}
-use Rattle.infer_table.proofs.FullFacts.{handed-on}
-use Rattle.evaluation.proofs.Shortages.{only-memory}
+use Rattle.infer_table.proofs.FullFacts.{at-limit}
 use Rattle.evaluation.proofs.trial.record_constraint.Goals as goal
 
 pub returns-in_err-constraint-clause-ready : goal.returns-in_err-constraint-clause-ready
@@ -39,7 +38,4 @@ returns-clause-recorded c =
     c.register_region_constraint.ensures.recorded
 
 pub returns-in_err-constraint-clause-full : goal.returns-in_err-constraint-clause-full
-returns-in_err-constraint-clause-full c = λ q. only-tables (handed-on c.from_residual.result c.from_residual.ensures.1 (λ p. c.in_err-constraint.ensures.full (ap Err p)) q)
-
-pub returns-clause-full : goal.returns-clause-full
-returns-clause-full c = λ q. only-memory c.register_region_constraint.result c.register_region_constraint.ensures.fault q
+returns-in_err-constraint-clause-full c = at-limit c.from_residual.result c.from_residual.ensures.1 (λ p. only-tables (c.in_err-constraint.ensures.full (ap Err p)))

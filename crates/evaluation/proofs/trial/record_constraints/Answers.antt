@@ -1,4 +1,4 @@
-use Rattle.std.proofs.Common.{drop, ap, sym, ◌∙◌, subst, Err}
+use Rattle.std.proofs.Common.{drop, sym, ◌∙◌, subst}
 use Rattle.type_terms.specs.Kept.{args-held-later}
 use Rattle.infer_table.specs.Content.{IsHeldConstraint}
 use Rattle.infer_table.specs.Kept.{constraint-kept}
@@ -7,7 +7,6 @@ use Rattle.infer_table.specs.Values.{values_of, values-later}
 use Rattle.infer_table.proofs.ConstraintLists.{constraint-held-at}
 use Rattle.infer_table.proofs.Values.{past-end}
 use Rattle.evaluation.proofs.Turns.{next-recorded, all-recorded}
-use Rattle.infer_table.proofs.FullFacts.{handed-on}
 use Rattle.evaluation.proofs.trial.record_constraints.Goals as goal
 
 pub record_constraint-requires-clause-values : goal.record_constraint-requires-clause-values
@@ -26,7 +25,7 @@ loop-constraint-preserved c =
     let es = c.args.cx.now.entries in
     let now = c.loop-constraint.cx.entries in
     let inv = c.loop-constraint.invariant in
-    let k = c.record_constraint.ensures.keeps in
+    let k = c.record_constraint.ensures.grew.keeps in
     let xs = c.args.constraints.now in
     let i = c.loop-constraint.constraint-index in
     let x = c.constraint-item.result in
@@ -34,7 +33,7 @@ loop-constraint-preserved c =
     let had : IsHeldConstraint es x = subst (IsHeldConstraint es) (sym c.constraint-item.is) (constraint-held-at es xs i x c.requires.constraints c.loop-constraint-test.true) in
     record {
       keeps = λ j e h. k j e (inv.keeps j e h);
-      limit = c.record_constraint.ensures.limit ∙ inv.limit;
+      limit = c.record_constraint.ensures.grew.limit ∙ inv.limit;
       ready = c.record_constraint.ensures.ready;
       left = next-recorded es now inv.keeps (values_of es vs) (values_of now vs) (values-later es now inv.keeps vs c.requires.values) xs i x c.loop-constraint-test.true c.constraint-item.is had
           (table_trees now c.loop-constraint.table) (table_trees c.record_constraint.new.cx.entries c.record_constraint.new.table) _ c.in_ok-record_constraint.ensures.recorded inv.left;
@@ -46,6 +45,3 @@ returns-clause-recorded c =
     let xs = c.args.constraints.now in
     let i = c.loop-constraint.constraint-index in
     all-recorded es (values_of es c.args.values.now) (drop i xs) (table_trees c.loop-constraint.cx.entries c.loop-constraint.table) _ (past-end xs i c.loop-constraint-test.false) c.loop-constraint.invariant.left
-
-pub returns-in_err-record_constraint-clause-full : goal.returns-in_err-record_constraint-clause-full
-returns-in_err-record_constraint-clause-full c = λ q. handed-on c.from_residual.result c.from_residual.ensures.1 (λ p. c.in_err-record_constraint.ensures.full (ap Err p)) q

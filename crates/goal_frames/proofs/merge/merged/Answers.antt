@@ -2,7 +2,7 @@ use Rattle.std.proofs.Common.{map, sym, ◌∙◌, ap, option_map}
 use Rattle.infer_table.specs.Responses.{answer_trees}
 use Rattle.evaluation.specs.Merge.{merge_by, flounder}
 use Rattle.evaluation.specs.Responses.{content}
-use Rattle.evaluation.proofs.Shortages.{some-kind}
+use Rattle.evaluation.proofs.Shortages.{kind-at-limit}
 use Rattle.evaluation.specs.TableOperations.{begin}
 use Rattle.evaluation.specs.Tables.{frame_tables}
 use Rattle.goal_frames.specs.Handlers.{same_answer, applies_always}
@@ -31,4 +31,4 @@ returns-clause-is c =
     (response-content merged ∙ c.in_ok-merged.ensures.response) (ap response_of c.in_default.is) c.flounder.result f.none f.variables f.certainty f.constraints f.values
 
 pub returns-clause-full : goal.returns-clause-full
-returns-clause-full c = λ q. some-kind (c.flounder.ensures.full q)
+returns-clause-full c = kind-at-limit c.flounder.new.cx.entries c.flounder.new.cx.limit c.flounder.result c.flounder.ensures.full

@@ -1,11 +1,6 @@
-use Rattle.std.proofs.Common.{◌≡◌, refl}
-use Rattle.search_graph.specs.Meaning as Search
-use Rattle.type_terms.specs.Terms.{Keeps, args_lists}
+use Rattle.type_terms.specs.Terms.{args_lists}
 use Rattle.type_terms.specs.Kept.{args-held-later, has-later}
-use Rattle.solver_context.specs.Searching.{solver_meaning}
-use Rattle.solver_context.proofs.Caches.{justified-later}
-use Rattle.goal_walk.specs.Walking.{IsWalkable, WalkHasAsked}
-use Rattle.goal_walk.proofs.Walks.{asked-further, asked-grown, askable-later, walkable-later, walkable-asked, walkable-met, ready-later}
+use Rattle.goal_walk.proofs.Walks.{asked-further, asked-grown, walkable-later, walkable-asked, walkable-met, ready-later}
 use Rattle.goal_walk.proofs.asking.meet_goal.Goals as goal
 
 pub returns-in_err-asked-clause-again : goal.returns-in_err-asked-clause-again

@@ -1,9 +1,9 @@
-use Rattle.std.proofs.Common.{◌≡◌, ◌<◌, ◌≤◌, subst, arith}
+use Rattle.std.proofs.Common.{◌<◌, ◌≤◌, subst, arith}
 use Rattle.search_graph.specs.Meaning.{IsRequest}
 use Rattle.solver_context.specs.Searching.{steps_left}
 use Rattle.solver_context.proofs.Caches.{justified-later}
 use Rattle.goal_walk.proofs.Steps.{m, walked-later, steps-later}
-use Rattle.goal_walk.proofs.Walks.{asked-none, asked-further, asked-grown, askable-later}
+use Rattle.goal_walk.proofs.Walks.{asked-further, asked-grown, askable-later}
 use Rattle.goal_walk.proofs.candidates.run_candidate.Goals as goal
 
 pub result_of-requires-clause-input : goal.result_of-requires-clause-input

@@ -1,5 +1,3 @@
-use Rattle.std.proofs.Common.{◌≡◌, refl}
-use Rattle.infer_table.specs.Growth.{grows-trans, grows-refl}
 use Rattle.solver_context.proofs.Caches.{justified-later}
 use Rattle.goal_walk.proofs.Steps.{m, walked-later}
 use Rattle.goal_walk.proofs.Walks.{asked-further, asked-grown, askable-later, ready-later, goals-later, some-later}

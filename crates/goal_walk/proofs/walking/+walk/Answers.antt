@@ -1,13 +1,13 @@
-use Rattle.std.proofs.Common.{IfSome, ◌≡◌, ◌<◌, ◌≤◌, ℕ, ◌+◌, ◌*◌, sym, ap, ◌∙◌, subst, arith, refl}
+use Rattle.std.proofs.Common.{IfSome, sym, ap, subst, arith}
 use Rattle.type_terms.specs.Kept.{args-held-later}
-use Rattle.infer_table.specs.Growth.{grows-trans, grows-refl}
+use Rattle.infer_table.specs.Growth.{grows-trans}
 use Rattle.infer_table.proofs.Numbers.{goal-held-later}
-use Rattle.goal_walk.specs.Walking.{IsWalkable, HasWalked, GoalsHeld}
+use Rattle.goal_walk.specs.Walking.{GoalsHeld}
 use Rattle.infer_table.specs.Goals.{GoalHeld}
 use Rattle.evaluation.proofs.Turns.{every-at}
 use Rattle.goal_walk.specs.Frames.{IsWalked}
 use Rattle.goal_walk.proofs.Steps.{walked-later}
-use Rattle.goal_walk.proofs.Walks.{asked-none, asked-further, asked-grown, walked-none, walked-further, walked-asked, walked-grown, walked-back, walkable-asked, walkable-later, walkable-same, walkable-back, goals-later, references-later}
+use Rattle.goal_walk.proofs.Walks.{asked-further, asked-grown, walked-further, walked-asked, walked-grown, walked-back, walkable-asked, walkable-later, walkable-same, walkable-back, references-later}
 use Rattle.goal_walk.proofs.walking.+walk.Goals as goal
 
 pub visit_candidate-returns-in_err-tried-clause-again : goal.visit_candidate-returns-in_err-tried-clause-again

@@ -1,7 +1,6 @@
-use Rattle.std.proofs.Common.{ℕ, ◌+◌, ◌*◌}
-use Rattle.type_terms.specs.Kinds.{ArgsHeld}
+use Rattle.std.proofs.Common.{◌+◌, ◌*◌}
 use Rattle.goal_walk.specs.Frames.{IsWalked}
-use Rattle.goal_walk.specs.Walking.{GoalsHeld, IsWalkable, HasWalked}
+use Rattle.goal_walk.specs.Walking.{IsWalkable, HasWalked}
 use Rattle.goal_walk.proofs.walking.+walk.Given as goal
 
 abbrev pub decreases-walk_goal : goal.decreases-walk_goal

@@ -1,4 +1,4 @@
-use Rattle.std.proofs.Common.{◌≡◌, ap, sym, ◌∙◌, subst, false, [], length, Err, inl, arith}
+use Rattle.std.proofs.Common.{◌≡◌, ap, sym, ◌∙◌, subst, false, [], Err, arith}
 use Rattle.std.specs.Prelude.{map}
 use Rattle.type_terms.specs.Trees.{none, ◌+++◌}
 use Rattle.type_terms.specs.Terms.{Keeps, args_lists, trees_at}
@@ -12,7 +12,7 @@ use Rattle.infer_table.specs.Constraints.{constraints_trees}
 use Rattle.infer_table.proofs.SolutionLaws.{resolved-append, instance-resolved}
 use Rattle.infer_table.proofs.ContentFacts.{valued}
 use Rattle.infer_table.proofs.EquationFacts.{solved-sorted}
-use Rattle.infer_table.specs.Leaves.{labels, AreOpen, OpenAreLeaves, leaf_label}
+use Rattle.infer_table.specs.Leaves.{labels, AreOpen, OpenAreLeaves}
 use Rattle.infer_table.specs.LeafLaws.{leaves-later, labels-later}
 use Rattle.infer_table.proofs.Collections.{goal-open}
 use Rattle.infer_table.proofs.Numbers.{numbered-fold, relabeled-append}
@@ -20,9 +20,8 @@ use Rattle.infer_table.specs.Responses.{answer_leaves, numbered_by}
 use Rattle.infer_table.proofs.ConstraintLists.{constraints-later, constraints-numbered, one-piece-is, form-same}
 use Rattle.infer_table.specs.Covers.{AreNumbered}
 use Rattle.infer_table.proofs.Answered.{agrees, are-numbered, value-leaves}
-use Rattle.std.proofs.lemmas.List.{length-map}
-use Rattle.type_terms.proofs.FailFacts.{refused-term}
-use Rattle.infer_table.proofs.Refusals.{handed-on, not-full, as-many}
+use Rattle.type_terms.proofs.FailFacts.{refused-term, only-tables}
+use Rattle.infer_table.proofs.FullFacts.{at-limit}
 use Rattle.infer_table.proofs.canonicalize.canonicalize_response.Goals as goal
 
 pub eager_resolve_vars-requires-clause-ready : goal.eager_resolve_vars-requires-clause-ready
@@ -33,13 +32,19 @@ variable_kinds-requires-clause-open c =
     let now = c.resolve_constraints.new.cx.entries in
     subst AreOpen (sym (ap (labels now) c.as_slice.ensures.keys ∙ c.in_ok-collected.ensures.leaves)) (goal-open none (trees_at now c.in_ok-resolved.resolved.0 +++ constraints_trees now c.deref.result.now))
 
-pub returns-in_err-variables-clause-keeps : goal.returns-in_err-variables-clause-keeps
-returns-in_err-variables-clause-keeps c =
-    λ i x h. c.resolve_constraints.ensures.keeps i x (c.eager_resolve_vars.ensures.keeps i x (c.mk_args.ensures.keeps i x h))
+pub returns-in_err-variables-clause-grew : goal.returns-in_err-variables-clause-grew
+returns-in_err-variables-clause-grew c =
+    record {
+      keeps = λ i x h. c.resolve_constraints.ensures.grew.keeps i x (c.eager_resolve_vars.ensures.grew.keeps i x (c.mk_args.ensures.keeps i x h));
+      limit = c.resolve_constraints.ensures.grew.limit ∙ c.eager_resolve_vars.ensures.grew.limit ∙ c.mk_args.ensures.limit;
+    }
 
-pub returns-in_err-numbered-clause-keeps : goal.returns-in_err-numbered-clause-keeps
-returns-in_err-numbered-clause-keeps c =
-    λ i x h. c.fold_with.ensures.keeps i x (c.resolve_constraints.ensures.keeps i x (c.eager_resolve_vars.ensures.keeps i x (c.mk_args.ensures.keeps i x h)))
+pub returns-in_err-numbered-clause-grew : goal.returns-in_err-numbered-clause-grew
+returns-in_err-numbered-clause-grew c =
+    record {
+      keeps = λ i x h. c.fold_with.ensures.keeps i x (c.resolve_constraints.ensures.grew.keeps i x (c.eager_resolve_vars.ensures.grew.keeps i x (c.mk_args.ensures.keeps i x h)));
+      limit = c.fold_with.ensures.limit ∙ c.resolve_constraints.ensures.grew.limit ∙ c.eager_resolve_vars.ensures.grew.limit ∙ c.mk_args.ensures.limit;
+    }
 
 pub fold_constraints-requires-clause-ready : goal.fold_constraints-requires-clause-ready
 fold_constraints-requires-clause-ready c =
@@ -49,17 +54,26 @@ pub fold_constraints-requires-clause-held : goal.fold_constraints-requires-claus
 fold_constraints-requires-clause-held c =
     rw c.deref-2.ensures.value (constraints-kept c.resolve_constraints.new.cx.entries c.fold_with.new.cx.entries c.in_ok-constraints.constraints.items c.fold_with.ensures.keeps c.in_ok-constraints.ensures.held)
 
-pub returns-in_err-region_constraints-clause-keeps : goal.returns-in_err-region_constraints-clause-keeps
-returns-in_err-region_constraints-clause-keeps c =
-    λ i x h. c.fold_constraints.ensures.keeps i x (c.fold_with.ensures.keeps i x (c.resolve_constraints.ensures.keeps i x (c.eager_resolve_vars.ensures.keeps i x (c.mk_args.ensures.keeps i x h))))
+pub returns-in_err-region_constraints-clause-grew : goal.returns-in_err-region_constraints-clause-grew
+returns-in_err-region_constraints-clause-grew c =
+    record {
+      keeps = λ i x h. c.fold_constraints.ensures.grew.keeps i x (c.fold_with.ensures.keeps i x (c.resolve_constraints.ensures.grew.keeps i x (c.eager_resolve_vars.ensures.grew.keeps i x (c.mk_args.ensures.keeps i x h))));
+      limit = c.fold_constraints.ensures.grew.limit ∙ c.fold_with.ensures.limit ∙ c.resolve_constraints.ensures.grew.limit ∙ c.eager_resolve_vars.ensures.grew.limit ∙ c.mk_args.ensures.limit;
+    }
 
-pub returns-in_err-var_values-clause-keeps : goal.returns-in_err-var_values-clause-keeps
-returns-in_err-var_values-clause-keeps c =
-    λ i x h. c.fold_constraints.ensures.keeps i x (c.fold_with.ensures.keeps i x (c.resolve_constraints.ensures.keeps i x (c.eager_resolve_vars.ensures.keeps i x (c.mk_args.ensures.keeps i x h))))
+pub returns-in_err-var_values-clause-grew : goal.returns-in_err-var_values-clause-grew
+returns-in_err-var_values-clause-grew c =
+    record {
+      keeps = λ i x h. c.fold_constraints.ensures.grew.keeps i x (c.fold_with.ensures.keeps i x (c.resolve_constraints.ensures.grew.keeps i x (c.eager_resolve_vars.ensures.grew.keeps i x (c.mk_args.ensures.keeps i x h))));
+      limit = c.fold_constraints.ensures.grew.limit ∙ c.fold_with.ensures.limit ∙ c.resolve_constraints.ensures.grew.limit ∙ c.eager_resolve_vars.ensures.grew.limit ∙ c.mk_args.ensures.limit;
+    }
 
-pub returns-clause-keeps : goal.returns-clause-keeps
-returns-clause-keeps c =
-    λ i x h. c.fold_constraints.ensures.keeps i x (c.fold_with.ensures.keeps i x (c.resolve_constraints.ensures.keeps i x (c.eager_resolve_vars.ensures.keeps i x (c.mk_args.ensures.keeps i x h))))
+pub returns-clause-grew : goal.returns-clause-grew
+returns-clause-grew c =
+    record {
+      keeps = λ i x h. c.fold_constraints.ensures.grew.keeps i x (c.fold_with.ensures.keeps i x (c.resolve_constraints.ensures.grew.keeps i x (c.eager_resolve_vars.ensures.grew.keeps i x (c.mk_args.ensures.keeps i x h))));
+      limit = c.fold_constraints.ensures.grew.limit ∙ c.fold_with.ensures.limit ∙ c.resolve_constraints.ensures.grew.limit ∙ c.eager_resolve_vars.ensures.grew.limit ∙ c.mk_args.ensures.limit;
+    }
 
 pub returns-clause-values : goal.returns-clause-values
 returns-clause-values c =
@@ -75,9 +89,9 @@ returns-clause-values c =
     let V = args_trees es c.args.values.now in
     let C = constraints_trees es cs in
     let keys = c.in_ok-collected.collected.leaves.keys in
-    let to-solved : Keeps es solved = λ i x h. c.eager_resolve_vars.ensures.keeps i x (c.mk_args.ensures.keeps i x h) in
+    let to-solved : Keeps es solved = λ i x h. c.eager_resolve_vars.ensures.grew.keeps i x (c.mk_args.ensures.keeps i x h) in
     let values : trees_at now c.in_ok-resolved.resolved.0 ≡ resolved bs V =
-    trees-later solved now c.resolve_constraints.ensures.keeps args_lists c.in_ok-resolved.resolved.0 c.in_ok-resolved.ensures.held
+    trees-later solved now c.resolve_constraints.ensures.grew.keeps args_lists c.in_ok-resolved.resolved.0 c.in_ok-resolved.ensures.held
     ∙ one-piece-is _ _ c.in_ok-resolved.ensures.resolved
     ∙ ap (λ z. resolved (content made ps) z) (trees-is made args_lists c.in_ok-given.given.0 _ c.in_ok-given.ensures.is ∙ ap (args_trees es) c.in_ok-from_slice.ensures.items)
     ∙ ap (λ z. resolved z V) (content-kept es made ps c.mk_args.ensures.keeps c.requires.ready.held) in
@@ -92,7 +106,7 @@ returns-clause-values c =
     let numbered-values : args_trees end c.in_ok-var_values.var_values.items ≡ numbered_by (answer_leaves (resolved bs (V +++ C))) (resolved bs V) =
     ap (args_trees end) c.in_ok-var_values.ensures.items
     ∙ sym (trees-is end args_lists c.in_ok-numbered.numbered.0 _ c.args-2.ensures.is)
-    ∙ trees-later next end c.fold_constraints.ensures.keeps args_lists c.in_ok-numbered.numbered.0 c.in_ok-numbered.ensures.held
+    ∙ trees-later next end c.fold_constraints.ensures.grew.keeps args_lists c.in_ok-numbered.numbered.0 c.in_ok-numbered.ensures.held
     ∙ numbered-fold false (labels now keys) [] _ _ c.in_ok-numbered.ensures.folded.1
     ∙ ap (λ z. numbered_by z (trees_at now c.in_ok-resolved.resolved.0)) listed
     ∙ ap (numbered_by (answer_leaves (resolved bs (V +++ C)))) values in
@@ -112,9 +126,9 @@ returns-clause-constraints c =
     let V = args_trees es c.args.values.now in
     let C = constraints_trees es cs in
     let keys = c.in_ok-collected.collected.leaves.keys in
-    let to-solved : Keeps es solved = λ i x h. c.eager_resolve_vars.ensures.keeps i x (c.mk_args.ensures.keeps i x h) in
+    let to-solved : Keeps es solved = λ i x h. c.eager_resolve_vars.ensures.grew.keeps i x (c.mk_args.ensures.keeps i x h) in
     let values : trees_at now c.in_ok-resolved.resolved.0 ≡ resolved bs V =
-    trees-later solved now c.resolve_constraints.ensures.keeps args_lists c.in_ok-resolved.resolved.0 c.in_ok-resolved.ensures.held
+    trees-later solved now c.resolve_constraints.ensures.grew.keeps args_lists c.in_ok-resolved.resolved.0 c.in_ok-resolved.ensures.held
     ∙ one-piece-is _ _ c.in_ok-resolved.ensures.resolved
     ∙ ap (λ z. resolved (content made ps) z) (trees-is made args_lists c.in_ok-given.given.0 _ c.in_ok-given.ensures.is ∙ ap (args_trees es) c.in_ok-from_slice.ensures.items)
     ∙ ap (λ z. resolved z V) (content-kept es made ps c.mk_args.ensures.keeps c.requires.ready.held) in
@@ -147,9 +161,9 @@ returns-clause-form c =
     let V = args_trees es c.args.values.now in
     let C = constraints_trees es cs in
     let keys = c.in_ok-collected.collected.leaves.keys in
-    let to-solved : Keeps es solved = λ i x h. c.eager_resolve_vars.ensures.keeps i x (c.mk_args.ensures.keeps i x h) in
+    let to-solved : Keeps es solved = λ i x h. c.eager_resolve_vars.ensures.grew.keeps i x (c.mk_args.ensures.keeps i x h) in
     let values : trees_at now c.in_ok-resolved.resolved.0 ≡ resolved bs V =
-    trees-later solved now c.resolve_constraints.ensures.keeps args_lists c.in_ok-resolved.resolved.0 c.in_ok-resolved.ensures.held
+    trees-later solved now c.resolve_constraints.ensures.grew.keeps args_lists c.in_ok-resolved.resolved.0 c.in_ok-resolved.ensures.held
     ∙ one-piece-is _ _ c.in_ok-resolved.ensures.resolved
     ∙ ap (λ z. resolved (content made ps) z) (trees-is made args_lists c.in_ok-given.given.0 _ c.in_ok-given.ensures.is ∙ ap (args_trees es) c.in_ok-from_slice.ensures.items)
     ∙ ap (λ z. resolved z V) (content-kept es made ps c.mk_args.ensures.keeps c.requires.ready.held) in
@@ -164,7 +178,7 @@ returns-clause-form c =
     let numbered-values : args_trees end c.in_ok-var_values.var_values.items ≡ numbered_by (answer_leaves (resolved bs (V +++ C))) (resolved bs V) =
     ap (args_trees end) c.in_ok-var_values.ensures.items
     ∙ sym (trees-is end args_lists c.in_ok-numbered.numbered.0 _ c.args-2.ensures.is)
-    ∙ trees-later next end c.fold_constraints.ensures.keeps args_lists c.in_ok-numbered.numbered.0 c.in_ok-numbered.ensures.held
+    ∙ trees-later next end c.fold_constraints.ensures.grew.keeps args_lists c.in_ok-numbered.numbered.0 c.in_ok-numbered.ensures.held
     ∙ numbered-fold false (labels now keys) [] _ _ c.in_ok-numbered.ensures.folded.1
     ∙ ap (λ z. numbered_by z (trees_at now c.in_ok-resolved.resolved.0)) listed
     ∙ ap (numbered_by (answer_leaves (resolved bs (V +++ C)))) values in
@@ -195,9 +209,9 @@ returns-clause-agrees c = λ n s h.
     let V = args_trees es c.args.values.now in
     let C = constraints_trees es cs in
     let keys = c.in_ok-collected.collected.leaves.keys in
-    let to-solved : Keeps es solved = λ i x h. c.eager_resolve_vars.ensures.keeps i x (c.mk_args.ensures.keeps i x h) in
+    let to-solved : Keeps es solved = λ i x h. c.eager_resolve_vars.ensures.grew.keeps i x (c.mk_args.ensures.keeps i x h) in
     let values : trees_at now c.in_ok-resolved.resolved.0 ≡ resolved bs V =
-    trees-later solved now c.resolve_constraints.ensures.keeps args_lists c.in_ok-resolved.resolved.0 c.in_ok-resolved.ensures.held
+    trees-later solved now c.resolve_constraints.ensures.grew.keeps args_lists c.in_ok-resolved.resolved.0 c.in_ok-resolved.ensures.held
     ∙ one-piece-is _ _ c.in_ok-resolved.ensures.resolved
     ∙ ap (λ z. resolved (content made ps) z) (trees-is made args_lists c.in_ok-given.given.0 _ c.in_ok-given.ensures.is ∙ ap (args_trees es) c.in_ok-from_slice.ensures.items)
     ∙ ap (λ z. resolved z V) (content-kept es made ps c.mk_args.ensures.keeps c.requires.ready.held) in
@@ -212,7 +226,7 @@ returns-clause-agrees c = λ n s h.
     let numbered-values : args_trees end c.in_ok-var_values.var_values.items ≡ numbered_by (answer_leaves (resolved bs (V +++ C))) (resolved bs V) =
     ap (args_trees end) c.in_ok-var_values.ensures.items
     ∙ sym (trees-is end args_lists c.in_ok-numbered.numbered.0 _ c.args-2.ensures.is)
-    ∙ trees-later next end c.fold_constraints.ensures.keeps args_lists c.in_ok-numbered.numbered.0 c.in_ok-numbered.ensures.held
+    ∙ trees-later next end c.fold_constraints.ensures.grew.keeps args_lists c.in_ok-numbered.numbered.0 c.in_ok-numbered.ensures.held
     ∙ numbered-fold false (labels now keys) [] _ _ c.in_ok-numbered.ensures.folded.1
     ∙ ap (λ z. numbered_by z (trees_at now c.in_ok-resolved.resolved.0)) listed
     ∙ ap (numbered_by (answer_leaves (resolved bs (V +++ C)))) values in
@@ -236,9 +250,9 @@ returns-clause-numbered c = λ n.
     let V = args_trees es c.args.values.now in
     let C = constraints_trees es cs in
     let keys = c.in_ok-collected.collected.leaves.keys in
-    let to-solved : Keeps es solved = λ i x h. c.eager_resolve_vars.ensures.keeps i x (c.mk_args.ensures.keeps i x h) in
+    let to-solved : Keeps es solved = λ i x h. c.eager_resolve_vars.ensures.grew.keeps i x (c.mk_args.ensures.keeps i x h) in
     let values : trees_at now c.in_ok-resolved.resolved.0 ≡ resolved bs V =
-    trees-later solved now c.resolve_constraints.ensures.keeps args_lists c.in_ok-resolved.resolved.0 c.in_ok-resolved.ensures.held
+    trees-later solved now c.resolve_constraints.ensures.grew.keeps args_lists c.in_ok-resolved.resolved.0 c.in_ok-resolved.ensures.held
     ∙ one-piece-is _ _ c.in_ok-resolved.ensures.resolved
     ∙ ap (λ z. resolved (content made ps) z) (trees-is made args_lists c.in_ok-given.given.0 _ c.in_ok-given.ensures.is ∙ ap (args_trees es) c.in_ok-from_slice.ensures.items)
     ∙ ap (λ z. resolved z V) (content-kept es made ps c.mk_args.ensures.keeps c.requires.ready.held) in
@@ -253,7 +267,7 @@ returns-clause-numbered c = λ n.
     let numbered-values : args_trees end c.in_ok-var_values.var_values.items ≡ numbered_by (answer_leaves (resolved bs (V +++ C))) (resolved bs V) =
     ap (args_trees end) c.in_ok-var_values.ensures.items
     ∙ sym (trees-is end args_lists c.in_ok-numbered.numbered.0 _ c.args-2.ensures.is)
-    ∙ trees-later next end c.fold_constraints.ensures.keeps args_lists c.in_ok-numbered.numbered.0 c.in_ok-numbered.ensures.held
+    ∙ trees-later next end c.fold_constraints.ensures.grew.keeps args_lists c.in_ok-numbered.numbered.0 c.in_ok-numbered.ensures.held
     ∙ numbered-fold false (labels now keys) [] _ _ c.in_ok-numbered.ensures.folded.1
     ∙ ap (λ z. numbered_by z (trees_at now c.in_ok-resolved.resolved.0)) listed
     ∙ ap (numbered_by (answer_leaves (resolved bs (V +++ C)))) values in
@@ -265,76 +279,14 @@ returns-clause-numbered c = λ n.
     (are-numbered ls c.in_ok-variables.variables.items kinds (resolved bs V) n only (value-leaves (resolved bs V) (resolved bs C) P (resolved-append bs V C)))
 
 pub returns-in_err-given-clause-full : goal.returns-in_err-given-clause-full
-returns-in_err-given-clause-full c = λ q. inl
-    (handed-on c.from_residual-in_err-given.result c.from_residual-in_err-given.ensures.1
-    (λ p. refused-term args_lists (omega arith) (c.in_err-given.ensures.full (ap Err p)) c.mk_args.ensures.limit c.in_err-given.ensures.refused) q)
-
-pub returns-in_err-resolved-clause-full : goal.returns-in_err-resolved-clause-full
-returns-in_err-resolved-clause-full c = λ q. inl (handed-on c.from_residual-in_err-resolved.result c.from_residual-in_err-resolved.ensures.1 (λ p. c.in_err-resolved.ensures.full (ap Err p)) q)
-
-pub returns-in_err-constraints-clause-full : goal.returns-in_err-constraints-clause-full
-returns-in_err-constraints-clause-full c = λ q. inl (handed-on c.from_residual-in_err-constraints.result c.from_residual-in_err-constraints.ensures.1 (λ p. c.in_err-constraints.ensures.full (ap Err p)) q)
-
-pub returns-in_err-collected-clause-full : goal.returns-in_err-collected-clause-full
-returns-in_err-collected-clause-full c = λ q. handed-on c.from_residual-in_err-collected.result c.from_residual-in_err-collected.ensures.1 (λ p. not-full c.in_err-collected.ensures.memory p) q
-
-pub returns-in_err-variables-clause-full : goal.returns-in_err-variables-clause-full
-returns-in_err-variables-clause-full c = λ q. handed-on c.from_residual-in_err-variables.result c.from_residual-in_err-variables.ensures.1 (λ p. not-full c.in_err-variables.ensures.memory p) q
+returns-in_err-given-clause-full c =
+    at-limit c.from_residual-in_err-given.result c.from_residual-in_err-given.ensures.1
+    (λ p. refused-term args_lists (omega arith) (c.in_err-given.ensures.full (ap Err p)) c.mk_args.ensures.limit c.in_err-given.ensures.refused)
 
 pub returns-in_err-numbered-clause-full : goal.returns-in_err-numbered-clause-full
-returns-in_err-numbered-clause-full c = λ q.
-    let es = c.args.cx.now.entries in
-    let made = c.mk_args.new.self.entries in
-    let solved = c.eager_resolve_vars.new.cx.entries in
-    let now = c.resolve_constraints.new.cx.entries in
-    let ps = c.args.table.now.values in
-    let cs = c.args.table.now.constraints in
-    let bs = content es ps in
-    let V = args_trees es c.args.values.now in
-    let C = constraints_trees es cs in
-    let keys = c.in_ok-collected.collected.leaves.keys in
-    let to-solved : Keeps es solved = λ i x h. c.eager_resolve_vars.ensures.keeps i x (c.mk_args.ensures.keeps i x h) in
-    let values : trees_at now c.in_ok-resolved.resolved.0 ≡ resolved bs V =
-    trees-later solved now c.resolve_constraints.ensures.keeps args_lists c.in_ok-resolved.resolved.0 c.in_ok-resolved.ensures.held
-    ∙ one-piece-is _ _ c.in_ok-resolved.ensures.resolved
-    ∙ ap (λ z. resolved (content made ps) z) (trees-is made args_lists c.in_ok-given.given.0 _ c.in_ok-given.ensures.is ∙ ap (args_trees es) c.in_ok-from_slice.ensures.items)
-    ∙ ap (λ z. resolved z V) (content-kept es made ps c.mk_args.ensures.keeps c.requires.ready.held) in
-    let constraints : constraints_trees now c.in_ok-constraints.constraints.items ≡ resolved bs C =
-    c.in_ok-constraints.ensures.resolved
-    ∙ ap (λ z. resolved (content solved ps) (constraints_trees solved z)) c.region_constraints.ensures
-    ∙ ap (resolved (content solved ps)) (constraints-later es solved to-solved cs c.requires.ready.constraints_held)
-    ∙ ap (λ z. resolved z C) (content-kept es solved ps to-solved c.requires.ready.held) in
-    let listed : labels now keys ≡ answer_leaves (resolved bs (V +++ C)) =
-    c.in_ok-collected.ensures.leaves
-    ∙ ap answer_leaves (append-both _ _ _ _ values (ap (constraints_trees now) c.deref.ensures.value ∙ constraints) ∙ sym (resolved-append bs V C)) in
-    as-many (sym (length-map keys (leaf_label now)) ∙ ap length listed)
-    (handed-on c.from_residual-in_err-numbered.result c.from_residual-in_err-numbered.ensures.1 (λ p. c.in_err-numbered.ensures.full (ap Err p)) q)
+returns-in_err-numbered-clause-full c =
+    at-limit c.from_residual-in_err-numbered.result c.from_residual-in_err-numbered.ensures.1 (λ p. only-tables (c.in_err-numbered.ensures.full (ap Err p)))
 
 pub returns-in_err-region_constraints-clause-full : goal.returns-in_err-region_constraints-clause-full
-returns-in_err-region_constraints-clause-full c = λ q.
-    let es = c.args.cx.now.entries in
-    let made = c.mk_args.new.self.entries in
-    let solved = c.eager_resolve_vars.new.cx.entries in
-    let now = c.resolve_constraints.new.cx.entries in
-    let ps = c.args.table.now.values in
-    let cs = c.args.table.now.constraints in
-    let bs = content es ps in
-    let V = args_trees es c.args.values.now in
-    let C = constraints_trees es cs in
-    let keys = c.in_ok-collected.collected.leaves.keys in
-    let to-solved : Keeps es solved = λ i x h. c.eager_resolve_vars.ensures.keeps i x (c.mk_args.ensures.keeps i x h) in
-    let values : trees_at now c.in_ok-resolved.resolved.0 ≡ resolved bs V =
-    trees-later solved now c.resolve_constraints.ensures.keeps args_lists c.in_ok-resolved.resolved.0 c.in_ok-resolved.ensures.held
-    ∙ one-piece-is _ _ c.in_ok-resolved.ensures.resolved
-    ∙ ap (λ z. resolved (content made ps) z) (trees-is made args_lists c.in_ok-given.given.0 _ c.in_ok-given.ensures.is ∙ ap (args_trees es) c.in_ok-from_slice.ensures.items)
-    ∙ ap (λ z. resolved z V) (content-kept es made ps c.mk_args.ensures.keeps c.requires.ready.held) in
-    let constraints : constraints_trees now c.in_ok-constraints.constraints.items ≡ resolved bs C =
-    c.in_ok-constraints.ensures.resolved
-    ∙ ap (λ z. resolved (content solved ps) (constraints_trees solved z)) c.region_constraints.ensures
-    ∙ ap (resolved (content solved ps)) (constraints-later es solved to-solved cs c.requires.ready.constraints_held)
-    ∙ ap (λ z. resolved z C) (content-kept es solved ps to-solved c.requires.ready.held) in
-    let listed : labels now keys ≡ answer_leaves (resolved bs (V +++ C)) =
-    c.in_ok-collected.ensures.leaves
-    ∙ ap answer_leaves (append-both _ _ _ _ values (ap (constraints_trees now) c.deref.ensures.value ∙ constraints) ∙ sym (resolved-append bs V C)) in
-    as-many (sym (length-map keys (leaf_label now)) ∙ ap length listed)
-    (handed-on c.from_residual-in_err-region_constraints.result c.from_residual-in_err-region_constraints.ensures.1 (λ p. c.in_err-region_constraints.ensures.full (ap Err p)) q)
+returns-in_err-region_constraints-clause-full c =
+    at-limit c.from_residual-in_err-region_constraints.result c.from_residual-in_err-region_constraints.ensures.1 (λ p. only-tables (c.in_err-region_constraints.ensures.full (ap Err p)))

@@ -1,9 +1,8 @@
-use Rattle.std.proofs.Common.{refl, sym, ◌∙◌, ap, Err}
+use Rattle.std.proofs.Common.{refl, sym, ◌∙◌}
 use Rattle.infer_table.specs.Content.{IsHeldConstraint, content}
 use Rattle.infer_table.specs.Kept.{constraint-kept, constraints-kept, content-kept}
 use Rattle.infer_table.proofs.SolutionLaws.{resolved-none}
 use Rattle.infer_table.proofs.ConstraintLists.{constraint-held-at, constraints-held-push, one-more-resolved}
-use Rattle.infer_table.proofs.Refusals.{handed-on}
 use Rattle.infer_table.proofs.constraints.resolve_constraints.Goals as goal
 
 pub eager_resolve_vars-requires-clause-held : goal.eager_resolve_vars-requires-clause-held
@@ -34,18 +33,15 @@ loop-constraint-preserved c =
     let ys = c.loop-constraint.resolved.items in
     let x = c.constraint-item.result in
     let y = c.in_ok-next.next in
-    let k = c.eager_resolve_vars.ensures.keeps in
+    let k = c.eager_resolve_vars.ensures.grew.keeps in
     let values = c.args.table.now.values in
     let had : IsHeldConstraint es x = rw c.constraint-item.is (constraint-held-at es xs i x c.requires.held c.loop-constraint-test.true) in
     record {
       keeps = λ j e h. k j e (inv.keeps j e h);
-      limit = c.eager_resolve_vars.ensures.limit ∙ inv.limit;
+      limit = c.eager_resolve_vars.ensures.grew.limit ∙ inv.limit;
       ready = c.eager_resolve_vars.ensures.ready;
       held = rw c.in_ok-push.ensures.items (constraints-held-push next ys y (constraints-kept now next ys k inv.held) c.in_ok-next.ensures.held);
       resolved = rw c.in_ok-push.ensures.items
           (one-more-resolved (content es values) (content now values) es now next (content-kept es now values inv.keeps c.requires.ready.held) inv.keeps k xs ys i x y
           c.loop-constraint-test.true c.constraint-item.is had inv.held inv.resolved c.in_ok-next.ensures.outline c.in_ok-next.ensures.resolved);
     }
-
-pub returns-in_err-next-clause-full : goal.returns-in_err-next-clause-full
-returns-in_err-next-clause-full c = λ q. handed-on c.from_residual.result c.from_residual.ensures.1 (λ p. c.in_err-next.ensures.full (ap Err p)) q

@@ -1,15 +1,13 @@
-use Rattle.std.proofs.Common.{ap, sym, ◌∙◌, Err, inl, length}
+use Rattle.std.proofs.Common.{ap, sym, ◌∙◌}
 use Rattle.infer_table.specs.Content.{content}
 use Rattle.infer_table.specs.Kept.{ready-later}
-use Rattle.infer_table.specs.Canonical.{goal_leaves}
 use Rattle.infer_table.specs.Goals.{goal_trees}
 use Rattle.infer_table.specs.Leaves.{labels}
 use Rattle.infer_table.proofs.ClosedGoals.{from-form, own-form, own-back, resolved-leaves}
-use Rattle.infer_table.proofs.Refusals.{handed-on, as-many}
 use Rattle.infer_table.proofs.input.canonicalize_goal.Goals as goal
 
 pub returns-clause-ready : goal.returns-clause-ready
-returns-clause-ready c = ready-later c.resolve_goal.new.cx.entries c.canonicalize_resolved.new.cx.entries c.args.table.now c.canonicalize_resolved.ensures.keeps c.resolve_goal.ensures.ready
+returns-clause-ready c = ready-later c.resolve_goal.new.cx.entries c.canonicalize_resolved.new.cx.entries c.args.table.now c.canonicalize_resolved.ensures.grew.keeps c.resolve_goal.ensures.ready
 
 pub returns-then-is_closed_goal-clause-form : goal.returns-then-is_closed_goal-clause-form
 returns-then-is_closed_goal-clause-form c =
@@ -28,9 +26,3 @@ returns-then-is_closed_goal-clause-back c =
     let es = c.args.cx.now.entries in
     let bs = content es c.args.table.now.values in
     from-form c.own_form.result c.own_form.ensures.form (λ r own. λ n. own-back es c.args.mode c.args.goal.now r own bs (sym c.if-is_closed_goal.ensures))
-
-pub returns-in_err-resolved-clause-full : goal.returns-in_err-resolved-clause-full
-returns-in_err-resolved-clause-full c = λ q. inl (handed-on c.from_residual.result c.from_residual.ensures.1 (λ p. c.in_err-resolved.ensures.full (ap Err p)) q)
-
-pub returns-clause-full : goal.returns-clause-full
-returns-clause-full c = λ q. as-many (ap (λ g. length (goal_leaves g)) c.in_ok-resolved.ensures.resolved) (c.canonicalize_resolved.ensures.full q)

@@ -1,8 +1,5 @@
-use Rattle.std.proofs.Common.{◌≡◌, ap, sym, ◌∙◌, subst, Err, length}
+use Rattle.std.proofs.Common.{◌≡◌, ap, sym, ◌∙◌, subst}
 use Rattle.infer_table.specs.Canonical.{renamed, canonical_label}
-use Rattle.std.proofs.lemmas.List.{length-map}
-use Rattle.infer_table.specs.Leaves.{leaf_label}
-use Rattle.infer_table.proofs.Refusals.{handed-on, not-full, as-many}
 use Rattle.infer_table.specs.Goals.{environment_trees, predicate_trees, goal_trees}
 use Rattle.infer_table.specs.Values.{values-later}
 use Rattle.infer_table.specs.Leaves.{labels, AreLeaves, AreOpen}
@@ -22,13 +19,13 @@ pub returns-clause-held : goal.returns-clause-held
 returns-clause-held c =
     let es = c.args.cx.now.entries in
     let same : c.in_ok-values.values.items ≡ c.in_ok-collected.collected.leaves.keys = c.in_ok-values.ensures.items ∙ c.as_slice.ensures.keys in
-    leaves-later es c.number_leaves.new.cx.entries c.number_leaves.ensures.keeps c.in_ok-values.values.items (subst (AreLeaves es) (sym same) c.in_ok-collected.ensures.listed)
+    leaves-later es c.number_leaves.new.cx.entries c.number_leaves.ensures.grew.keeps c.in_ok-values.values.items (subst (AreLeaves es) (sym same) c.in_ok-collected.ensures.listed)
 
 pub returns-clause-values : goal.returns-clause-values
 returns-clause-values c =
     let es = c.args.cx.now.entries in
     let same : c.in_ok-values.values.items ≡ c.in_ok-collected.collected.leaves.keys = c.in_ok-values.ensures.items ∙ c.as_slice.ensures.keys in
-    labels-later es c.number_leaves.new.cx.entries c.number_leaves.ensures.keeps c.in_ok-values.values.items (subst (AreLeaves es) (sym same) c.in_ok-collected.ensures.listed)
+    labels-later es c.number_leaves.new.cx.entries c.number_leaves.ensures.grew.keeps c.in_ok-values.values.items (subst (AreLeaves es) (sym same) c.in_ok-collected.ensures.listed)
     ∙ ap (labels es) same ∙ c.in_ok-collected.ensures.leaves
 
 pub returns-clause-args : goal.returns-clause-args
@@ -36,7 +33,7 @@ returns-clause-args c =
     let es = c.args.cx.now.entries in
     let same : c.in_ok-values.values.items ≡ c.in_ok-collected.collected.leaves.keys = c.in_ok-values.ensures.items ∙ c.as_slice.ensures.keys in
     leaves-held c.number_leaves.new.cx.entries c.in_ok-values.values.items
-    (leaves-later es c.number_leaves.new.cx.entries c.number_leaves.ensures.keeps c.in_ok-values.values.items (subst (AreLeaves es) (sym same) c.in_ok-collected.ensures.listed))
+    (leaves-later es c.number_leaves.new.cx.entries c.number_leaves.ensures.grew.keeps c.in_ok-values.values.items (subst (AreLeaves es) (sym same) c.in_ok-collected.ensures.listed))
 
 pub returns-clause-back : goal.returns-clause-back
 returns-clause-back c = λ n.
@@ -46,18 +43,5 @@ returns-clause-back c = λ n.
     let same : xs ≡ c.in_ok-collected.collected.leaves.keys = c.in_ok-values.ensures.items ∙ c.as_slice.ensures.keys in
     let listed : AreLeaves es xs = subst (AreLeaves es) (sym same) c.in_ok-collected.ensures.listed in
     let g = goal_trees es c.args.goal.now in
-    goal-filled-cong _ _ _ _ (values-later es end c.number_leaves.ensures.keeps xs (leaves-held es xs listed)) (c.in_ok-goal.ensures.numbered ∙ ap (λ ks. renamed (canonical_label (labels es ks)) g) (sym same))
+    goal-filled-cong _ _ _ _ (values-later es end c.number_leaves.ensures.grew.keeps xs (leaves-held es xs listed)) (c.in_ok-goal.ensures.numbered ∙ ap (λ ks. renamed (canonical_label (labels es ks)) g) (sym same))
     ∙ goal-returned es c.lawful.ensures xs g listed (ap (labels es) same ∙ c.in_ok-collected.ensures.leaves) n c.in_ok-collected.ensures.only
-
-pub returns-in_err-collected-clause-full : goal.returns-in_err-collected-clause-full
-returns-in_err-collected-clause-full c = λ q. handed-on c.from_residual.result c.from_residual.ensures.1 (λ p. not-full c.in_err-collected.ensures.memory p) q
-
-pub returns-in_err-variables-clause-full : goal.returns-in_err-variables-clause-full
-returns-in_err-variables-clause-full c = λ q. handed-on c.from_residual-in_err-variables.result c.from_residual-in_err-variables.ensures.1 (λ p. not-full c.in_err-variables.ensures.memory p) q
-
-pub returns-in_err-goal-clause-full : goal.returns-in_err-goal-clause-full
-returns-in_err-goal-clause-full c = λ q.
-    let es = c.args.cx.now.entries in
-    let keys = c.in_ok-collected.collected.leaves.keys in
-    as-many (sym (length-map keys (leaf_label es)) ∙ ap length c.in_ok-collected.ensures.leaves)
-    (handed-on c.from_residual-in_err-goal.result c.from_residual-in_err-goal.ensures.1 (λ p. c.in_err-goal.ensures.full (ap Err p)) q)

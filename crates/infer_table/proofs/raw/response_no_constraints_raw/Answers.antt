@@ -12,11 +12,11 @@ loop-place-preserved c =
     let next = c.canonical_variable.new.cx.entries in
     let inv = c.loop-place.invariant in
     let vs = c.loop-place.var_values.items in
-    let k = c.canonical_variable.ensures.keeps in
+    let k = c.canonical_variable.ensures.grew.keeps in
     let lt : c.loop-place.place < length c.args.variables.items = subst (λ z. c.loop-place.place < length z) c.deref-kind-items.ensures.value c.loop-place-test.true in
     record {
       keeps = λ j e h. k j e (inv.keeps j e h);
-      limit = c.canonical_variable.ensures.limit ∙ inv.limit;
+      limit = c.canonical_variable.ensures.grew.limit ∙ inv.limit;
       held = rw c.in_ok-push.ensures.items (args-held-push next vs c.in_ok-value.value (args-held-later now next k vs inv.held) c.in_ok-value.ensures.held);
       values = rw c.in_ok-push.ensures.items (rw (values-push next vs c.in_ok-value.value) (rw (values-later now next k vs inv.held)
           (one-more-variable (values_of now vs) _ _ c.args.variables.items c.loop-place.place _ _ lt (ap (λ z. get_or z c.loop-place.place Ty) c.deref-kind-items.ensures.value) c.in_ok-value.ensures.is inv.values)));

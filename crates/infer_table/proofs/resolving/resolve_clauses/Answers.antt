@@ -1,4 +1,4 @@
-use Rattle.std.proofs.Common.{◌≡◌, refl, ap, ◌∙◌, Err}
+use Rattle.std.proofs.Common.{◌≡◌, refl, ap, ◌∙◌}
 use Rattle.term_folds.specs.Clauses.{ClauseHeld, clause_pieces, clause-held-later}
 use Rattle.type_terms.specs.Pieces.{each_piece}
 use Rattle.infer_table.specs.Solutions.{resolved}
@@ -6,7 +6,6 @@ use Rattle.infer_table.specs.Content.{content}
 use Rattle.infer_table.specs.Kept.{content-kept}
 use Rattle.infer_table.proofs.Numbers.{clause-held-at, clauses-held-later, clauses-held-push}
 use Rattle.infer_table.proofs.Resolutions.{resolved-nothing, one-more-resolved}
-use Rattle.infer_table.proofs.Refusals.{handed-on}
 use Rattle.infer_table.proofs.resolving.resolve_clauses.Goals as goal
 
 pub loop-clause-init : goal.loop-clause-init
@@ -36,19 +35,16 @@ loop-clause-preserved c =
     let ys = c.loop-clause.resolved.items in
     let x = c.clause-item.result in
     let y = c.in_ok-next.next in
-    let k = c.eager_resolve_vars.ensures.keeps in
+    let k = c.eager_resolve_vars.ensures.grew.keeps in
     let bs = content es c.args.table.now.values in
     let had : ClauseHeld es x = rw c.clause-item.is (clause-held-at es xs i x c.requires.held c.loop-clause-test.true) in
     let pieces : clause_pieces next y ≡ each_piece (λ d t. resolved bs t) (clause_pieces now x) =
     c.in_ok-next.ensures.resolved ∙ ap (λ z. each_piece (λ d t. resolved z t) (clause_pieces now x)) (content-kept es now c.args.table.now.values inv.keeps c.requires.ready.held) in
     record {
       keeps = λ j e h. k j e (inv.keeps j e h);
-      limit = c.eager_resolve_vars.ensures.limit ∙ inv.limit;
+      limit = c.eager_resolve_vars.ensures.grew.limit ∙ inv.limit;
       ready = c.eager_resolve_vars.ensures.ready;
       held = rw c.in_ok-push.ensures.items (clauses-held-push next ys y (clauses-held-later now next k ys inv.held) c.in_ok-next.ensures.held);
       resolved = rw c.in_ok-push.ensures.items
           (one-more-resolved bs es now next inv.keeps k xs ys i x y c.loop-clause-test.true c.clause-item.is had inv.held inv.resolved c.in_ok-next.ensures.outline pieces);
     }
-
-pub returns-in_err-next-clause-full : goal.returns-in_err-next-clause-full
-returns-in_err-next-clause-full c = λ q. handed-on c.from_residual.result c.from_residual.ensures.1 (λ p. c.in_err-next.ensures.full (ap Err p)) q

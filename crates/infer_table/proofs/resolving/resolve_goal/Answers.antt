@@ -1,11 +1,10 @@
-use Rattle.std.proofs.Common.{◌≡◌, ℕ, [], ◌∷◌, ap, ◌∙◌, Err}
+use Rattle.std.proofs.Common.{◌≡◌, ℕ, [], ◌∷◌, ap, ◌∙◌}
 use Rattle.type_terms.specs.Terms.{trees_at, args_lists}
 use Rattle.type_terms.specs.Kept.{has-later, trees-later}
 use Rattle.type_terms.specs.Pieces.{each_piece, one_piece}
 use Rattle.infer_table.specs.Solutions.{resolved}
 use Rattle.infer_table.specs.Content.{content}
 use Rattle.infer_table.specs.Kept.{content-kept}
-use Rattle.infer_table.proofs.Refusals.{handed-on}
 use Rattle.infer_table.specs.Goals.{environment_trees}
 use Rattle.infer_table.proofs.Numbers.{clauses-held-later, environment-later, goal-same}
 use Rattle.infer_table.proofs.Resolutions.{predicate-resolved}
@@ -15,11 +14,11 @@ pub resolve_clauses-requires-clause-held : goal.resolve_clauses-requires-clause-
 resolve_clauses-requires-clause-held c = rw c.deref.ensures.value c.requires.held.environment
 
 pub eager_resolve_vars-requires-clause-held : goal.eager_resolve_vars-requires-clause-held
-eager_resolve_vars-requires-clause-held c = has-later c.args.cx.now.entries c.resolve_clauses.new.cx.entries c.resolve_clauses.ensures.keeps args_lists c.args.goal.now.predicate.trait_ref.args.0 c.requires.held.predicate
+eager_resolve_vars-requires-clause-held c = has-later c.args.cx.now.entries c.resolve_clauses.new.cx.entries c.resolve_clauses.ensures.grew.keeps args_lists c.args.goal.now.predicate.trait_ref.args.0 c.requires.held.predicate
 
 pub returns-clause-held : goal.returns-clause-held
 returns-clause-held c = record {
-  environment = clauses-held-later c.resolve_clauses.new.cx.entries c.eager_resolve_vars.new.cx.entries c.eager_resolve_vars.ensures.keeps c.in_ok-param_env.param_env.items c.in_ok-param_env.ensures.held;
+  environment = clauses-held-later c.resolve_clauses.new.cx.entries c.eager_resolve_vars.new.cx.entries c.eager_resolve_vars.ensures.grew.keeps c.in_ok-param_env.param_env.items c.in_ok-param_env.ensures.held;
   predicate = c.in_ok-predicate.ensures.held;
 }
 
@@ -31,22 +30,16 @@ returns-clause-resolved c =
     let es = c.args.cx.now.entries in
     let mid = c.resolve_clauses.new.cx.entries in
     let end = c.eager_resolve_vars.new.cx.entries in
-    let k = c.resolve_clauses.ensures.keeps in
+    let k = c.resolve_clauses.ensures.grew.keeps in
     let vs = c.args.table.now.values in
     let bs = content es vs in
     let p = c.args.goal.now.predicate.trait_ref in
     let q = c.in_ok-predicate.predicate.trait_ref in
     let env =
-    environment-later mid end c.eager_resolve_vars.ensures.keeps c.in_ok-param_env.param_env.items c.in_ok-param_env.ensures.held
+    environment-later mid end c.eager_resolve_vars.ensures.grew.keeps c.in_ok-param_env.param_env.items c.in_ok-param_env.ensures.held
     ∙ c.in_ok-param_env.ensures.resolved ∙ ap (λ z. resolved bs (environment_trees es z)) c.deref.ensures.value in
     let pieces : one_piece (trees_at end q.args.0) ≡ each_piece (λ d t. resolved bs t) (one_piece (trees_at es p.args.0)) =
     c.in_ok-predicate.ensures.resolved
     ∙ ap (λ z. each_piece (λ d t. resolved z t) (one_piece (trees_at mid p.args.0))) (content-kept es mid vs k c.requires.ready.held)
     ∙ ap (λ z. each_piece (λ d t. resolved bs t) (one_piece z)) (trees-later es mid k args_lists p.args.0 c.requires.held.predicate) in
     goal-same _ _ _ _ env (predicate-resolved bs p.def_id.index q.def_id.index (trees_at es p.args.0) (trees_at end q.args.0) (head _ _ c.in_ok-predicate.ensures.outline) pieces)
-
-pub returns-in_err-param_env-clause-full : goal.returns-in_err-param_env-clause-full
-returns-in_err-param_env-clause-full c = λ q. handed-on c.from_residual.result c.from_residual.ensures.1 (λ p. c.in_err-param_env.ensures.full (ap Err p)) q
-
-pub returns-in_err-predicate-clause-full : goal.returns-in_err-predicate-clause-full
-returns-in_err-predicate-clause-full c = λ q. handed-on c.from_residual-in_err-predicate.result c.from_residual-in_err-predicate.ensures.1 (λ p. c.in_err-predicate.ensures.full (ap Err p)) q

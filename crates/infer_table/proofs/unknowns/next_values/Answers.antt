@@ -1,4 +1,4 @@
-use Rattle.std.proofs.Common.{◌≡◌, refl, ap, sym, subst, ◌∙◌, get_or, Err}
+use Rattle.std.proofs.Common.{◌≡◌, refl, sym, subst, ◌∙◌, get_or}
 use Rattle.infer_table.specs.declared.canonical.CanonicalVarKind.TheVariants.{Ty}
 use Rattle.infer_table.specs.Content.{Grows}
 use Rattle.infer_table.specs.Growth.{grows-trans}
@@ -6,7 +6,6 @@ use Rattle.infer_table.specs.LeafLaws.{leaves-later, labels-later}
 use Rattle.infer_table.specs.Unknowns.{with_next}
 use Rattle.infer_table.proofs.LeafFacts.{leaves-held}
 use Rattle.infer_table.proofs.NewUnknowns.{leaves-push, one-more-label, one-more-made, next-grows}
-use Rattle.infer_table.proofs.Refusals.{handed-on, one-is-missing}
 use Rattle.infer_table.proofs.unknowns.next_values.Goals as goal
 
 pub variables-preserved : goal.variables-preserved
@@ -15,7 +14,7 @@ variables-preserved c =
     let now = c.variables.cx.entries in
     let next = c.next_value.new.cx.entries in
     let inv = c.variables.invariant in
-    let k = c.next_value.ensures.keeps in
+    let k = c.next_value.ensures.grew.keeps in
     let xs = c.variables.values.items in
     let x = c.in_ok-value.value in
     let t = c.args.table.now in
@@ -26,7 +25,7 @@ variables-preserved c =
     let made : c.next_value.new.table ≡ with_next now-table kind = c.in_ok-value.ensures.made in
     record {
       keeps = λ j e h. k j e (inv.keeps j e h);
-      limit = c.next_value.ensures.limit ∙ inv.limit;
+      limit = c.next_value.ensures.grew.limit ∙ inv.limit;
       ready = c.next_value.ensures.ready;
       held = rw c.in_ok-push.ensures.items (leaves-push next xs x (leaves-later now next k xs inv.held) c.in_ok-value.ensures.leaf);
       unknowns = rw c.in_ok-push.ensures.items
@@ -34,11 +33,6 @@ variables-preserved c =
       made = one-more-made t now-table c.next_value.new.table ks i Ty kind c.variables-test.true refl inv.made made;
       grows = grows-trans _ _ _ inv.grows (subst (Grows now-table) (sym made) (next-grows now-table kind));
     }
-
-pub returns-in_err-value-clause-full : goal.returns-in_err-value-clause-full
-returns-in_err-value-clause-full c = λ q.
-    one-is-missing c.args.table.now c.variables.table c.args.variables.now c.variables.place Ty c.variables-test.true c.variables.invariant.made
-    (handed-on c.from_residual.result c.from_residual.ensures.1 (λ p. c.in_err-value.ensures.full (ap Err p)) q)
 
 pub returns-clause-args : goal.returns-clause-args
 returns-clause-args c = leaves-held c.variables.cx.entries c.variables.values.items c.variables.invariant.held

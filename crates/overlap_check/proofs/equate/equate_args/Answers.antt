@@ -2,15 +2,13 @@ use Rattle.std.proofs.Common.{◌≡◌, ℕ, false, List, ◌∷◌, ◌<◌, �
 use Rattle.std.proofs.lemmas.Bool.Decides.{nat_tests}
 use Rattle.std.proofs.lemmas.Result.{err_from_is_err_and}
 use Rattle.type_terms.specs.Kinds.{ArgsHeld, args_trees}
+use Rattle.term_folds.proofs.Grown.{grew-on}
 use Rattle.infer_table.specs.Solutions.{Equates, HasNoSolution}
 use Rattle.infer_table.specs.Content.{content}
 use Rattle.infer_table.specs.Growth.{grows-trans}
 use Rattle.infer_table.specs.Unification.{table_trees}
 use Rattle.infer_table.specs.Applied.{solved_in_turn}
-use Rattle.infer_table.specs.Shortages.{SomeRunsOut}
-use Rattle.infer_table.proofs.FullFacts.{or-then}
 use Rattle.infer_table.proofs.InTurn.{next-turn}
-use Rattle.infer_table.proofs.Shortages.{runs-out-from, runs-out-after}
 use Rattle.infer_table.proofs.Values.{equates-from, never-from, never-after, never-of-lengths}
 use Rattle.overlap_check.proofs.equate.equate_args.Goals as goal
 
@@ -58,20 +56,16 @@ pairs-preserved c =
     record {
       ready = c.eq.ensures.ready;
       grows = grows-trans _ _ _ inv.grows c.eq.ensures.grows;
-      keeps = λ i e h. c.eq.ensures.keeps i e (inv.keeps i e h);
-      limit = c.eq.ensures.limit ∙ inv.limit;
+      grew = grew-on inv.grew c.eq.ensures.grew;
       left_held = hx.1;
       right_held = hy.1;
       equates = λ later e. inv.equates later
           (subst (λ l. Equates bs later (args_trees es l) (args_trees es c.pairs.right_rest.now)) (sym left) (subst (λ l. Equates bs later (args_trees es (x ∷ xs)) (args_trees es l)) (sym right)
-          (equates-from es law now inv.keeps bs cs later (x ∷ xs) (y ∷ ys) 0 x y (first x xs) (first y ys) refl refl hx.0 hy.0 made.equates e)));
+          (equates-from es law now inv.grew.keeps bs cs later (x ∷ xs) (y ∷ ys) 0 x y (first x xs) (first y ys) refl refl hx.0 hy.0 made.equates e)));
       never = λ n. inv.never
           (subst (λ l. HasNoSolution bs (args_trees es l) (args_trees es c.pairs.right_rest.now)) (sym left) (subst (λ l. HasNoSolution bs (args_trees es (x ∷ xs)) (args_trees es l)) (sym right)
-          (never-after es law now inv.keeps bs cs (x ∷ xs) (y ∷ ys) 0 x y (first x xs) (first y ys) refl refl hx.0 hy.0 made.equates n)));
-      short = λ r. inv.short
-          (subst (λ l. SomeRunsOut t (args_trees es l) (args_trees es c.pairs.right_rest.now)) (sym left) (subst (λ l. SomeRunsOut t (args_trees es (x ∷ xs)) (args_trees es l)) (sym right)
-          (runs-out-after es law now inv.keeps t (x ∷ xs) (y ∷ ys) 0 x y (first x xs) (first y ys) refl refl hx.0 hy.0 u made.exact r)));
-      exact = next-turn es law now inv.keeps (x ∷ xs) (y ∷ ys) 0 x y (first x xs) (first y ys) refl refl hx.0 hy.0 t u all made.exact
+          (never-after es law now inv.grew.keeps bs cs (x ∷ xs) (y ∷ ys) 0 x y (first x xs) (first y ys) refl refl hx.0 hy.0 made.equates n)));
+      exact = next-turn es law now inv.grew.keeps (x ∷ xs) (y ∷ ys) 0 x y (first x xs) (first y ys) refl refl hx.0 hy.0 t u all made.exact
           (subst (λ l. solved_in_turn t (args_trees es (x ∷ xs)) (args_trees es l) ≡ all) right (subst (λ l. solved_in_turn t (args_trees es l) (args_trees es c.pairs.right_rest.now) ≡ all) left inv.exact));
     }
 
@@ -92,24 +86,4 @@ returns-in_err-eq-clause-never c = λ e.
     let p = err_from_is_err_and c.from_residual.result c.from_residual.ensures.1 in
     inv.never
     (subst (λ l. HasNoSolution bs (args_trees es l) (args_trees es c.pairs.right_rest.now)) (sym left) (subst (λ l. HasNoSolution bs (args_trees es (x ∷ xs)) (args_trees es l)) (sym right)
-    (never-from es c.lawful.ensures now inv.keeps bs (x ∷ xs) (y ∷ ys) 0 x y (first x xs) (first y ys) refl refl hx.0 hy.0 (c.eq.ensures.never (c.in_err-eq.was ∙ ap Err (sym p.2) ∙ sym p.1 ∙ e)))))
-
-pub returns-in_err-eq-clause-full : goal.returns-in_err-eq-clause-full
-returns-in_err-eq-clause-full c = λ e.
-    let es = c.args.cx.now.entries in
-    let now = c.pairs.cx.entries in
-    let inv = c.pairs.invariant in
-    let x = c.in-Some.first.now in
-    let xs = c.in-Some.left_others.now in
-    let y = c.in-Some-split_first.second.now in
-    let ys = c.in-Some-split_first.right_others.now in
-    let left = c.in-Some.ensures.cases.0 in
-    let right = c.in-Some-split_first.ensures.cases.0 in
-    let hx = subst (ArgsHeld es) left inv.left_held in
-    let hy = subst (ArgsHeld es) right inv.right_held in
-    let t = table_trees now c.pairs.table in
-    let p = err_from_is_err_and c.from_residual.result c.from_residual.ensures.1 in
-    or-then (λ r. inv.short
-    (subst (λ l. SomeRunsOut t (args_trees es l) (args_trees es c.pairs.right_rest.now)) (sym left) (subst (λ l. SomeRunsOut t (args_trees es (x ∷ xs)) (args_trees es l)) (sym right)
-    (runs-out-from es c.lawful.ensures now inv.keeps t (x ∷ xs) (y ∷ ys) 0 x y (first x xs) (first y ys) refl refl hx.0 hy.0 r))))
-    (c.eq.ensures.full (c.in_err-eq.was ∙ ap Err (sym p.2) ∙ sym p.1 ∙ e))
+    (never-from es c.lawful.ensures now inv.grew.keeps bs (x ∷ xs) (y ∷ ys) 0 x y (first x xs) (first y ys) refl refl hx.0 hy.0 (c.eq.ensures.never (c.in_err-eq.was ∙ ap Err (sym p.2) ∙ sym p.1 ∙ e)))))

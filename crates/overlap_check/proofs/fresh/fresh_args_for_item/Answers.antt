@@ -1,17 +1,20 @@
-use Rattle.std.proofs.Common.{◌≡◌, List, ◌∷◌, ◌++◌, [], map, length, refl, ap, sym, ◌∙◌, subst, inl, inr, Ok, Err, arith}
-use Rattle.std.specs.Prelude.{Result, IfOk, OnErr}
+use Rattle.std.proofs.Common.{◌≡◌, ℕ, List, ◌∷◌, ◌++◌, [], map, length, refl, ap, sym, ◌∙◌, subst, Ok, Err, arith}
+use Rattle.std.specs.Prelude.{Result, IfOk, IfErr, OnErr}
 use Rattle.type_terms.specs.Trees.{◌+++◌}
 use Rattle.type_terms.proofs.TreeLaws.{append-none}
-use Rattle.type_terms.specs.Terms.{Is, args_lists, trees_at}
+use Rattle.type_terms.specs.Terms.{Entry, Is, args_lists, held, trees_at}
+use Rattle.type_terms.specs.Failures.{SomeKindIsFull}
+use Rattle.type_terms.specs.declared.Fault.{Fault}
+use Rattle.type_terms.specs.declared.Fault.TheVariants.{Full}
+use Rattle.type_terms.proofs.FailFacts.{refused-term}
 use Rattle.type_terms.specs.Kinds.{ArgsHeld, args_trees}
 use Rattle.type_terms.specs.declared.kinds.GenericArgs.{GenericArgs}
-use Rattle.type_terms.proofs.FailFacts.{refused-term}
 use Rattle.type_terms.specs.Kept.{args-held-later, trees-is}
+use Rattle.term_folds.proofs.Grown.{grew-on}
 use Rattle.infer_table.specs.Kept.{ready-later}
-use Rattle.infer_table.proofs.FullFacts.{handed-on, or-then}
 use Rattle.infer_table.proofs.Values.{args-held-push}
 use Rattle.declarations.specs.Applied.{sort_of_param}
-use Rattle.overlap_check.specs.Fresh.{with_unknown, with_unknowns, fresh_unknowns, SomeHaveNoNumber}
+use Rattle.overlap_check.specs.Fresh.{with_unknown, with_unknowns, fresh_unknowns}
 use Rattle.overlap_check.proofs.Unknowns.{one-more-arg}
 use Rattle.overlap_check.proofs.fresh.fresh_args_for_item.Goals as goal
 
@@ -20,7 +23,7 @@ params-preserved c =
     let now = c.params.cx.entries in
     let next = c.var_for_param.new.cx.entries in
     let inv = c.params.invariant in
-    let k = c.var_for_param.ensures.keeps in
+    let k = c.var_for_param.ensures.grew.keeps in
     let kind = c.in-Some.kind.now in
     let rest = c.in-Some.others.now in
     let t = c.params.table in
@@ -35,22 +38,14 @@ params-preserved c =
     let put = c.in_ok-push.ensures.items in
     record {
       ready = c.var_for_param.ensures.ready;
-      keeps = λ j e h. k j e (inv.keeps j e h);
-      limit = c.var_for_param.ensures.limit ∙ inv.limit;
+      grew = grew-on inv.grew c.var_for_param.ensures.grew;
       held = subst (ArgsHeld next) (sym put) (args-held-push next xs a (args-held-later now next k xs inv.held) c.in_ok-arg.ensures.held);
       are = subst (λ l. args_trees next l +++ fresh_unknowns u ks ≡ fresh_unknowns start all) (sym put)
           (subst (λ w. args_trees next (xs ++ a ∷ []) +++ fresh_unknowns w ks ≡ fresh_unknowns start all) (sym made)
           (one-more-arg now next k xs a t (sort_of_param kind) ks (fresh_unknowns start all) inv.held c.in_ok-arg.ensures.is
           (subst (λ l. args_trees now xs +++ fresh_unknowns t (map sort_of_param l) ≡ fresh_unknowns start all) back inv.are)));
       made = ap (λ w. with_unknowns w ks) made ∙ subst (λ l. with_unknowns t (map sort_of_param l) ≡ with_unknowns start all) back inv.made;
-      short = λ h. inv.short (subst (λ l. SomeHaveNoNumber t (map sort_of_param l)) (sym back) (inr (subst (λ w. SomeHaveNoNumber w ks) made h)));
     }
-
-pub returns-in_err-arg-clause-full : goal.returns-in_err-arg-clause-full
-returns-in_err-arg-clause-full c = λ q.
-    let back = c.in-Some.ensures.cases.0 in
-    or-then (λ h. c.params.invariant.short (subst (λ l. SomeHaveNoNumber c.params.table (map sort_of_param l)) (sym back) (inl h)))
-    (handed-on c.from_residual.result c.from_residual.ensures.1 (λ p. c.in_err-arg.ensures.full (ap Err p)) q)
 
 nothing : {A : Type 0} (xs : List A) → length xs ≡ 0 → xs ≡ []
 nothing [] e = refl
@@ -59,10 +54,6 @@ nothing (x ∷ xs) e = absurd (omega arith)
 if-ok : {A E : Type 0} (P Q : A → Type 0) (r : Result A E) → ((x : A) → P x → Q x) → IfOk r P → IfOk r Q
 if-ok P Q (Ok x) f h = f x h
 if-ok P Q (Err e) f h = tt
-
-on-err : {A E : Type 0} {P : Type 0} (r : Result A E) {e : E} → r ≡ Err e → OnErr r P → P
-on-err (Ok x) q h = absurd cc
-on-err (Err e) q h = h
 
 pub returns-clause-ready : goal.returns-clause-ready
 returns-clause-ready c = ready-later c.params.cx.entries c.mk_args.new.self.entries c.params.table c.mk_args.ensures.keeps c.params.invariant.ready
@@ -77,5 +68,11 @@ returns-clause-are c =
     if-ok (λ (a : GenericArgs). Is new args_lists a.0 (args_trees now xs)) (λ a. trees_at new a.0 ≡ all) c.mk_args.result
     (λ a h. trees-is new args_lists a.0 (args_trees now xs) h ∙ sym (append-none (args_trees now xs)) ∙ done) c.mk_args.ensures.is
 
+args-at-limit : {A : Type 0} (r : Result A Fault) (old new : List Entry) {limit before : ℕ} → (r ≡ Err Full → held args_lists old ≡ before) → limit ≡ before → OnErr r (new ≡ old)
+    → IfErr r (λ e. e ≡ Full → SomeKindIsFull new limit)
+args-at-limit (Ok x) old new f l same = tt
+args-at-limit (Err e) old new f l same = λ q. refused-term args_lists (omega arith) (f (ap Err q)) l same
+
 pub returns-clause-full : goal.returns-clause-full
-returns-clause-full c = λ q. inl (refused-term args_lists (omega arith) (c.mk_args.ensures.full q) c.mk_args.ensures.limit (on-err c.mk_args.result q c.mk_args.ensures.refused))
+returns-clause-full c =
+    args-at-limit c.mk_args.result c.params.cx.entries c.mk_args.new.self.entries c.mk_args.ensures.full c.mk_args.ensures.limit c.mk_args.ensures.refused

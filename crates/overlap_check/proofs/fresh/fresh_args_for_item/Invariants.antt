@@ -1,21 +1,19 @@
 use Rattle.std.proofs.Common.{◌≡◌, map, length}
 use Rattle.type_terms.specs.Trees.{◌+++◌}
-use Rattle.type_terms.specs.Terms.{Keeps}
 use Rattle.type_terms.specs.Kinds.{ArgsHeld, args_trees}
 use Rattle.infer_table.specs.Content.{Ready}
 use Rattle.declarations.specs.Applied.{sort_of_param}
-use Rattle.overlap_check.specs.Fresh.{with_unknowns, fresh_unknowns, SomeHaveNoNumber}
+use Rattle.term_folds.specs.Growth.{Grew}
+use Rattle.overlap_check.specs.Fresh.{with_unknowns, fresh_unknowns}
 use Rattle.overlap_check.proofs.fresh.fresh_args_for_item.Given as goal
 
 abbrev pub invariant-params : goal.invariant-params
 invariant-params l = record {
   ready : Ready l.cx.entries l.table;
-  keeps : Keeps l.fn.cx.entries l.cx.entries;
-  limit : l.cx.limit ≡ l.fn.cx.limit;
+  grew : Grew l.fn.cx l.cx;
   held : ArgsHeld l.cx.entries l.unknowns.items;
   are : args_trees l.cx.entries l.unknowns.items +++ fresh_unknowns l.table (map sort_of_param l.left) ≡ fresh_unknowns l.fn.table (map sort_of_param l.params);
   made : with_unknowns l.table (map sort_of_param l.left) ≡ with_unknowns l.fn.table (map sort_of_param l.params);
-  short : SomeHaveNoNumber l.table (map sort_of_param l.left) → SomeHaveNoNumber l.fn.table (map sort_of_param l.params);
 }
 
 abbrev pub decreases-params : goal.decreases-params

@@ -1,26 +1,17 @@
-use Rattle.std.proofs.Common.{◌≡◌, ap, ◌∙◌, subst, inl, map, Err}
-use Rattle.std.specs.Prelude.{◌⊎◌}
+use Rattle.std.proofs.Common.{◌≡◌, ap, ◌∙◌, map}
 use Rattle.type_terms.specs.Trees.{outer_binder}
 use Rattle.type_terms.specs.Worlds.{with_args}
 use Rattle.type_terms.specs.Terms.{args_lists, trees_at}
-use Rattle.type_terms.specs.Failures.{SomeKindIsFull}
 use Rattle.type_terms.specs.Kept.{has-later, trees-later}
 use Rattle.infer_table.specs.Kept.{ready-later}
-use Rattle.infer_table.proofs.FullFacts.{handed-on}
 use Rattle.declarations.specs.Applied.{sort_of_param}
 use Rattle.declarations.specs.Items.{reference_in}
 use Rattle.declarations.proofs.Growth.{reference-same}
-use Rattle.overlap_check.specs.Fresh.{fresh_unknowns, SomeHaveNoNumber}
+use Rattle.overlap_check.specs.Fresh.{fresh_unknowns}
 use Rattle.overlap_check.specs.Headers.{unknowns_for}
 use Rattle.overlap_check.proofs.Headers.{header-fits}
 use Rattle.overlap_check.proofs.Unknowns.{fresh-closed}
 use Rattle.overlap_check.proofs.header.fresh_impl_header.Goals as goal
-
-pub returns-in_err-impl_args-clause-full : goal.returns-in_err-impl_args-clause-full
-returns-in_err-impl_args-clause-full c = λ q.
-    let made = c.fresh_args_for_item.new.cx in
-    subst (λ ps. SomeKindIsFull made.entries made.limit ⊎ SomeHaveNoNumber c.args.table.now (map sort_of_param ps)) c.deref.ensures.value
-    (handed-on c.from_residual.result c.from_residual.ensures.1 (λ p. c.in_err-impl_args.ensures.full (ap Err p)) q)
 
 pub instantiate_trait_ref-requires-clause-closed : goal.instantiate_trait_ref-requires-clause-closed
 instantiate_trait_ref-requires-clause-closed c = ap outer_binder c.in_ok-impl_args.ensures.are ∙ fresh-closed c.args.table.now (map sort_of_param c.deref.result.now)
@@ -28,21 +19,16 @@ instantiate_trait_ref-requires-clause-closed c = ap outer_binder c.in_ok-impl_ar
 pub instantiate_trait_ref-requires-clause-fits : goal.instantiate_trait_ref-requires-clause-fits
 instantiate_trait_ref-requires-clause-fits c =
     let t = c.args.table.now in
-    header-fits c.args.cx.now.entries c.fresh_args_for_item.new.cx.entries c.fresh_args_for_item.ensures.keeps t c.args.def.now c.requires.held c.requires.written c.in_ok-impl_args.impl_args.0
+    header-fits c.args.cx.now.entries c.fresh_args_for_item.new.cx.entries c.fresh_args_for_item.ensures.grew.keeps t c.args.def.now c.requires.held c.requires.written c.in_ok-impl_args.impl_args.0
     (c.in_ok-impl_args.ensures.are ∙ ap (λ ps. fresh_unknowns t (map sort_of_param ps)) c.deref.ensures.value)
 
 pub returns-in_err-trait_ref-clause-ready : goal.returns-in_err-trait_ref-clause-ready
 returns-in_err-trait_ref-clause-ready c =
-    ready-later c.fresh_args_for_item.new.cx.entries c.instantiate_trait_ref.new.cx.entries c.fresh_args_for_item.new.table c.instantiate_trait_ref.ensures.keeps c.fresh_args_for_item.ensures.ready
-
-pub returns-in_err-trait_ref-clause-full : goal.returns-in_err-trait_ref-clause-full
-returns-in_err-trait_ref-clause-full c = λ q.
-    let handed = c.from_residual-in_err-trait_ref in
-    inl (handed-on handed.result handed.ensures.1 (λ p. c.in_err-trait_ref.ensures.full (ap Err p)) q)
+    ready-later c.fresh_args_for_item.new.cx.entries c.instantiate_trait_ref.new.cx.entries c.fresh_args_for_item.new.table c.instantiate_trait_ref.ensures.grew.keeps c.fresh_args_for_item.ensures.ready
 
 pub returns-clause-ready : goal.returns-clause-ready
 returns-clause-ready c =
-    ready-later c.fresh_args_for_item.new.cx.entries c.instantiate_trait_ref.new.cx.entries c.fresh_args_for_item.new.table c.instantiate_trait_ref.ensures.keeps c.fresh_args_for_item.ensures.ready
+    ready-later c.fresh_args_for_item.new.cx.entries c.instantiate_trait_ref.new.cx.entries c.fresh_args_for_item.new.table c.instantiate_trait_ref.ensures.grew.keeps c.fresh_args_for_item.ensures.ready
 
 pub returns-clause-header : goal.returns-clause-header
 returns-clause-header c =
@@ -52,11 +38,11 @@ returns-clause-header c =
     let t = c.args.table.now in
     let def = c.args.def.now in
     let a = c.in_ok-impl_args.impl_args.0 in
-    let k = c.instantiate_trait_ref.ensures.keeps in
+    let k = c.instantiate_trait_ref.ensures.grew.keeps in
     let e : trees_at one a ≡ unknowns_for t def = c.in_ok-impl_args.ensures.are ∙ ap (λ ps. fresh_unknowns t (map sort_of_param ps)) c.deref.ensures.value in
     record {
       unknowns = record { held = has-later one two k args_lists a c.in_ok-impl_args.ensures.held; are = trees-later one two k args_lists a c.in_ok-impl_args.ensures.held ∙ e };
       held = c.in_ok-trait_ref.ensures.held;
       is = c.in_ok-trait_ref.ensures.is ∙ ap (λ A. with_args A (reference_in one def.header)) e
-          ∙ ap (with_args (unknowns_for t def)) (reference-same es one c.fresh_args_for_item.ensures.keeps def.header c.requires.held.header);
+          ∙ ap (with_args (unknowns_for t def)) (reference-same es one c.fresh_args_for_item.ensures.grew.keeps def.header c.requires.held.header);
     }

@@ -1,46 +1,26 @@
-use Rattle.std.proofs.Common.{◌≡◌, ap, ◌∙◌, subst, inl, inr, Some, Err}
-use Rattle.std.specs.Prelude.{◌⊎◌, ◌≢◌, Option, Result}
+use Rattle.std.proofs.Common.{◌≡◌, ap, sym, ◌∙◌, subst, Some, Err}
+use Rattle.std.specs.Prelude.{◌⊎◌, ◌≢◌}
 use Rattle.type_terms.specs.Terms.{args_lists}
-use Rattle.type_terms.specs.declared.Fault.{Fault}
-use Rattle.type_terms.specs.declared.Fault.TheVariants.{Full}
 use Rattle.type_terms.specs.Kept.{has-later}
 use Rattle.infer_table.specs.Applied.{solved_in_turn}
 use Rattle.infer_table.specs.Content.{Table, Grows, content}
 use Rattle.infer_table.specs.Solutions.{Equates, HasNoSolution}
-use Rattle.infer_table.specs.Shortages.{SomeRunsOut}
 use Rattle.infer_table.specs.Unification.{table_trees}
-use Rattle.infer_table.specs.declared.certainty.EqError.{EqError}
 use Rattle.infer_table.specs.declared.certainty.EqError.TheVariants as error
-use Rattle.infer_table.proofs.FullFacts.{handed-on, or-then}
-use Rattle.overlap_check.specs.Fresh.{SomeHaveNoNumber}
-use Rattle.overlap_check.specs.Headers.{sorts_of_impl, with_unknowns_for, IsHeaderOver, args_at, pair_table, left_args}
-use Rattle.overlap_check.specs.declared.header.ImplHeader.{ImplHeader}
-use Rattle.overlap_check.proofs.Headers.{impl-later, well-later, left-at, right-at, pair-apart, pair-equal, pair-trees}
+use Rattle.overlap_check.specs.Headers.{with_unknowns_for, IsHeaderOver, args_at}
+use Rattle.overlap_check.proofs.Headers.{impl-later, well-later, pair-apart, pair-equal}
 use Rattle.overlap_check.proofs.intersection.equate_fresh_headers.Goals as goal
 
-pub returns-in_err-left_header-clause-full : goal.returns-in_err-left_header-clause-full
-returns-in_err-left_header-clause-full c = λ q.
-    or-then (λ h. inl (subst (λ t. SomeHaveNoNumber t (sorts_of_impl c.args.left.now)) c.requires.empty h))
-    (handed-on c.from_residual.result c.from_residual.ensures.1 (λ p. c.in_err-left_header.ensures.full (ap Err p)) q)
-
 pub fresh_impl_header-requires-2-clause-held : goal.fresh_impl_header-requires-2-clause-held
-fresh_impl_header-requires-2-clause-held c = impl-later c.args.cx.now.entries c.fresh_impl_header.new.cx.entries c.fresh_impl_header.ensures.keeps c.args.right.now c.requires.right_held
+fresh_impl_header-requires-2-clause-held c = impl-later c.args.cx.now.entries c.fresh_impl_header.new.cx.entries c.fresh_impl_header.ensures.grew.keeps c.args.right.now c.requires.right_held
 
 pub fresh_impl_header-requires-2-clause-written : goal.fresh_impl_header-requires-2-clause-written
 fresh_impl_header-requires-2-clause-written c =
-    well-later c.args.cx.now.entries c.fresh_impl_header.new.cx.entries c.fresh_impl_header.ensures.keeps c.args.right.now c.requires.right_held c.requires.right_written
-
-pub returns-in_err-right_header-clause-full : goal.returns-in_err-right_header-clause-full
-returns-in_err-right_header-clause-full c = λ q.
-    let w = c.args.left.now in
-    let handed = c.from_residual-in_err-right_header in
-    let first = c.in_ok-left_header.ensures.made ∙ ap (λ t. with_unknowns_for t w) c.requires.empty in
-    or-then (λ h. inr (inl (subst (λ t. SomeHaveNoNumber t (sorts_of_impl c.args.right.now)) first h)))
-    (handed-on handed.result handed.ensures.1 (λ p. c.in_err-right_header.ensures.full (ap Err p)) q)
+    well-later c.args.cx.now.entries c.fresh_impl_header.new.cx.entries c.fresh_impl_header.ensures.grew.keeps c.args.right.now c.requires.right_held c.requires.right_written
 
 pub equate_impl_headers-requires-clause-left : goal.equate_impl_headers-requires-clause-left
 equate_impl_headers-requires-clause-left c =
-    has-later c.fresh_impl_header.new.cx.entries c.fresh_impl_header-2.new.cx.entries c.fresh_impl_header-2.ensures.keeps args_lists c.in_ok-left_header.left_header.trait_ref.args.0 c.in_ok-left_header.ensures.header.held
+    has-later c.fresh_impl_header.new.cx.entries c.fresh_impl_header-2.new.cx.entries c.fresh_impl_header-2.ensures.grew.keeps args_lists c.in_ok-left_header.left_header.trait_ref.args.0 c.in_ok-left_header.ensures.header.held
 
 pub returns-in-Err-NoSolution-clause-apart : goal.returns-in-Err-NoSolution-clause-apart
 returns-in-Err-NoSolution-clause-apart c = λ _.
@@ -53,33 +33,10 @@ returns-in-Err-NoSolution-clause-apart c = λ _.
     let h2 = c.in_ok-right_header.right_header in
     let first = c.in_ok-left_header.ensures.made ∙ ap (λ t. with_unknowns_for t w) c.requires.empty in
     let both = c.in_ok-right_header.ensures.made ∙ ap (λ t. with_unknowns_for t x) first in
-    pair-apart es c.lawful.ensures w x c.requires.left_held c.requires.right_held c.requires.left_written c.requires.right_written one two c.fresh_impl_header.ensures.keeps c.fresh_impl_header-2.ensures.keeps h1 h2
+    pair-apart es c.lawful.ensures w x c.requires.left_held c.requires.right_held c.requires.left_written c.requires.right_written one two c.fresh_impl_header.ensures.grew.keeps c.fresh_impl_header-2.ensures.grew.keeps h1 h2
     (subst (λ t. IsHeaderOver es t w one h1) c.requires.empty c.in_ok-left_header.ensures.header) (subst (λ t. IsHeaderOver one t x two h2) first c.in_ok-right_header.ensures.header)
     (subst (λ (t : Table). (h1.trait_ref.def_id.index ≢ h2.trait_ref.def_id.index) ⊎ HasNoSolution (content two t.values) (args_at two h1) (args_at two h2)) both
     (c.in-Err-NoSolution.ensures.never (ap Err c.in-Err-NoSolution.field-0-is)))
-
-fault-inside : (f g : Fault) → f ≡ g → ◌≡◌ {A = Result (Option (ImplHeader × ImplHeader)) Fault} (Err f) (Err Full) → ◌≡◌ {A = Result (Unit {0}) EqError} (Err (error.Fault g)) (Err (error.Fault Full))
-fault-inside f g p q = let e : g ≡ Full = cc in ap (λ z. Err (error.Fault z)) e
-
-pub returns-in-Err-Fault-clause-full : goal.returns-in-Err-Fault-clause-full
-returns-in-Err-Fault-clause-full c = λ q.
-    let es = c.args.cx.now.entries in
-    let one = c.fresh_impl_header.new.cx.entries in
-    let two = c.fresh_impl_header-2.new.cx.entries in
-    let w = c.args.left.now in
-    let x = c.args.right.now in
-    let h1 = c.in_ok-left_header.left_header in
-    let h2 = c.in_ok-right_header.right_header in
-    let first = c.in_ok-left_header.ensures.made ∙ ap (λ t. with_unknowns_for t w) c.requires.empty in
-    let both = c.in_ok-right_header.ensures.made ∙ ap (λ t. with_unknowns_for t x) first in
-    let is1 = subst (λ t. IsHeaderOver es t w one h1) c.requires.empty c.in_ok-left_header.ensures.header in
-    let is2 = subst (λ t. IsHeaderOver one t x two h2) first c.in_ok-right_header.ensures.header in
-    let left = left-at es c.lawful.ensures w x c.requires.left_held c.requires.right_held c.requires.left_written c.requires.right_written one two c.fresh_impl_header.ensures.keeps c.fresh_impl_header-2.ensures.keeps h1 h2 is1 is2 in
-    let right = right-at es c.lawful.ensures w x c.requires.left_held c.requires.right_held c.requires.left_written c.requires.right_written one two c.fresh_impl_header.ensures.keeps c.fresh_impl_header-2.ensures.keeps h1 h2 is1 is2 in
-    or-then (λ h. inr (inr (subst (λ b. SomeRunsOut (table_trees es (pair_table w x)) (left_args es w) b) right
-    (subst (λ a. SomeRunsOut (table_trees es (pair_table w x)) a (args_at two h2)) left
-    (subst (λ t. SomeRunsOut t (args_at two h1) (args_at two h2)) (pair-trees w x two es) (subst (λ t. SomeRunsOut (table_trees two t) (args_at two h1) (args_at two h2)) both h))))))
-    (c.in-Err-Fault.ensures.full (ap Err c.in-Err-Fault.field-0-is ∙ fault-inside _ c.in-Err-Fault.fault c.in-Err-Fault.fault-is q))
 
 pub returns-in-Ok-clause-equal : goal.returns-in-Ok-clause-equal
 returns-in-Ok-clause-equal c =
@@ -95,9 +52,12 @@ returns-in-Ok-clause-equal c =
     let first = c.in_ok-left_header.ensures.made ∙ ap (λ t. with_unknowns_for t w) c.requires.empty in
     let both = c.in_ok-right_header.ensures.made ∙ ap (λ t. with_unknowns_for t x) first in
     let made = c.in-Ok.ensures in
-    pair-equal es c.lawful.ensures w x c.requires.left_held c.requires.right_held c.requires.left_written c.requires.right_written one two c.fresh_impl_header.ensures.keeps c.fresh_impl_header-2.ensures.keeps h1 h2
+    pair-equal es c.lawful.ensures w x c.requires.left_held c.requires.right_held c.requires.left_written c.requires.right_written one two c.fresh_impl_header.ensures.grew.keeps c.fresh_impl_header-2.ensures.grew.keeps h1 h2
     (subst (λ t. IsHeaderOver es t w one h1) c.requires.empty c.in_ok-left_header.ensures.header) (subst (λ t. IsHeaderOver one t x two h2) first c.in_ok-right_header.ensures.header)
-    made.one_trait three c.equate_impl_headers.ensures.keeps u c.equate_impl_headers.ensures.ready
+    made.one_trait three c.equate_impl_headers.ensures.grew.keeps u c.equate_impl_headers.ensures.ready
     (subst (λ t. Grows t u) both c.equate_impl_headers.ensures.grows)
     (subst (λ (t : Table). Equates (content two t.values) (content three u.values) (args_at two h1) (args_at two h2)) both made.equates)
     (subst (λ t. solved_in_turn (table_trees two t) (args_at two h1) (args_at two h2) ≡ Some (table_trees three u)) both made.exact)
+
+pub returns-in-Err-Fault-clause-full : goal.returns-in-Err-Fault-clause-full
+returns-in-Err-Fault-clause-full c = λ q. c.in-Err-Fault.ensures.full (c.in-Err-Fault.field-0-is ∙ ap error.Fault (sym c.in-Err-Fault.fault-is ∙ q))

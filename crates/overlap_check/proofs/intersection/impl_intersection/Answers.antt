@@ -1,11 +1,10 @@
-use Rattle.std.proofs.Common.{ap, refl, sym, ◌∙◌, subst, inl, map, Ok, Err, Some}
+use Rattle.std.proofs.Common.{ap, refl, sym, ◌∙◌, subst, map, Ok, Some}
 use Rattle.std.specs.Prelude.{IfSome}
 use Rattle.type_terms.specs.Erased.{erased_impl}
 use Rattle.type_terms.specs.Worlds.{all_with_args}
 use Rattle.infer_table.specs.Content.{content}
 use Rattle.infer_table.specs.Kept.{ready-later}
 use Rattle.infer_table.specs.Applied.{solved_in_turn}
-use Rattle.infer_table.proofs.FullFacts.{handed-on}
 use Rattle.infer_table.proofs.InTurn.{same-trees}
 use Rattle.declarations.specs.Applied.{references_in}
 use Rattle.declarations.specs.Items.{impl_in}
@@ -17,30 +16,22 @@ use Rattle.overlap_check.proofs.Headers.{impl-later, well-later, pair-goals, pai
 use Rattle.overlap_check.proofs.Posed.{table-known, left-of-table, right-of-table}
 use Rattle.overlap_check.proofs.intersection.impl_intersection.Goals as goal
 
-pub returns-in_err-headers-clause-full : goal.returns-in_err-headers-clause-full
-returns-in_err-headers-clause-full c = λ q. handed-on c.from_residual.result c.from_residual.ensures.1 (λ p. c.in_err-headers.ensures.full (ap Err p)) q
-
 pub returns-in_default-clause-apart : goal.returns-in_default-clause-apart
 returns-in_default-clause-apart c = λ _. c.in_ok-headers.ensures.apart (ap Ok c.in_default.is)
 
 pub instantiate_both-requires-clause-left_held : goal.instantiate_both-requires-clause-left_held
-instantiate_both-requires-clause-left_held c = impl-later c.args.cx.now.entries c.equate_fresh_headers.new.cx.entries c.equate_fresh_headers.ensures.keeps c.args.left.now c.requires.left_held
+instantiate_both-requires-clause-left_held c = impl-later c.args.cx.now.entries c.equate_fresh_headers.new.cx.entries c.equate_fresh_headers.ensures.grew.keeps c.args.left.now c.requires.left_held
 
 pub instantiate_both-requires-clause-right_held : goal.instantiate_both-requires-clause-right_held
-instantiate_both-requires-clause-right_held c = impl-later c.args.cx.now.entries c.equate_fresh_headers.new.cx.entries c.equate_fresh_headers.ensures.keeps c.args.right.now c.requires.right_held
+instantiate_both-requires-clause-right_held c = impl-later c.args.cx.now.entries c.equate_fresh_headers.new.cx.entries c.equate_fresh_headers.ensures.grew.keeps c.args.right.now c.requires.right_held
 
 pub instantiate_both-requires-clause-left_written : goal.instantiate_both-requires-clause-left_written
 instantiate_both-requires-clause-left_written c =
-    well-later c.args.cx.now.entries c.equate_fresh_headers.new.cx.entries c.equate_fresh_headers.ensures.keeps c.args.left.now c.requires.left_held c.requires.left_written
+    well-later c.args.cx.now.entries c.equate_fresh_headers.new.cx.entries c.equate_fresh_headers.ensures.grew.keeps c.args.left.now c.requires.left_held c.requires.left_written
 
 pub instantiate_both-requires-clause-right_written : goal.instantiate_both-requires-clause-right_written
 instantiate_both-requires-clause-right_written c =
-    well-later c.args.cx.now.entries c.equate_fresh_headers.new.cx.entries c.equate_fresh_headers.ensures.keeps c.args.right.now c.requires.right_held c.requires.right_written
-
-pub returns-in_err-left-clause-full : goal.returns-in_err-left-clause-full
-returns-in_err-left-clause-full c = λ q.
-    let handed = c.from_residual-in_err-left in
-    inl (handed-on handed.result handed.ensures.1 (λ p. c.in_err-left.ensures.full (ap Err p)) q)
+    well-later c.args.cx.now.entries c.equate_fresh_headers.new.cx.entries c.equate_fresh_headers.ensures.grew.keeps c.args.right.now c.requires.right_held c.requires.right_written
 
 pub returns-clause-found : goal.returns-clause-found
 returns-clause-found c =
@@ -51,8 +42,8 @@ returns-clause-found c =
     let x = c.args.right.now in
     let u = c.equate_fresh_headers.new.table in
     let h = c.in-Some.headers in
-    let k1 = c.equate_fresh_headers.ensures.keeps in
-    let k2 = c.instantiate_both.ensures.keeps in
+    let k1 = c.equate_fresh_headers.ensures.grew.keeps in
+    let k2 = c.instantiate_both.ensures.grew.keeps in
     let equal : AreEqualHeaders es w x three u h.0 h.1 = subst (λ o. IfSome o (λ (p : ImplHeader × ImplHeader). AreEqualHeaders es w x three u p.0 p.1)) c.in-Some.is c.in_ok-headers.ensures.equal in
     let ls = c.in_ok-left.left.items in
     let rs = c.in_ok-left.right.items in
@@ -79,8 +70,8 @@ returns-clause-posed c = λ vw vx.
     let x = c.args.right.now in
     let u = c.equate_fresh_headers.new.table in
     let h = c.in-Some.headers in
-    let k1 = c.equate_fresh_headers.ensures.keeps in
-    let k2 = c.instantiate_both.ensures.keeps in
+    let k1 = c.equate_fresh_headers.ensures.grew.keeps in
+    let k2 = c.instantiate_both.ensures.grew.keeps in
     let equal : AreEqualHeaders es w x three u h.0 h.1 = subst (λ o. IfSome o (λ (p : ImplHeader × ImplHeader). AreEqualHeaders es w x three u p.0 p.1)) c.in-Some.is c.in_ok-headers.ensures.equal in
     let I = unknowns_for empty_table w in
     let J = unknowns_for (with_unknowns_for empty_table w) x in
@@ -101,8 +92,8 @@ returns-clause-solved c =
     let x = c.args.right.now in
     let u = c.equate_fresh_headers.new.table in
     let h = c.in-Some.headers in
-    let k1 = c.equate_fresh_headers.ensures.keeps in
-    let k2 = c.instantiate_both.ensures.keeps in
+    let k1 = c.equate_fresh_headers.ensures.grew.keeps in
+    let k2 = c.instantiate_both.ensures.grew.keeps in
     let equal : AreEqualHeaders es w x three u h.0 h.1 = subst (λ o. IfSome o (λ (p : ImplHeader × ImplHeader). AreEqualHeaders es w x three u p.0 p.1)) c.in-Some.is c.in_ok-headers.ensures.equal in
     let I = unknowns_for empty_table w in
     let J = unknowns_for (with_unknowns_for empty_table w) x in

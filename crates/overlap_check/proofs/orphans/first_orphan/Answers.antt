@@ -1,5 +1,5 @@
-use Rattle.std.proofs.Common.{◌≤◌, ap, ◌∙◌, subst, arith, Err}
-use Rattle.infer_table.proofs.FullFacts.{handed-on}
+use Rattle.std.proofs.Common.{◌≤◌, subst, arith}
+use Rattle.term_folds.proofs.Grown.{grew-on}
 use Rattle.declarations.specs.Items.{declared}
 use Rattle.declarations.proofs.Growth.{all-declared, all-held}
 use Rattle.overlap_check.specs.Orphans.{IsErrorOf}
@@ -7,14 +7,11 @@ use Rattle.overlap_check.proofs.Judged.{kept-more, kept-first, kept-all, well-wr
 use Rattle.overlap_check.proofs.orphans.first_orphan.Goals as goal
 
 pub impl_error-requires-clause-held : goal.impl_error-requires-clause-held
-impl_error-requires-clause-held c = all-held c.args.cx.now.entries c.loop-index.cx.entries c.loop-index.invariant.keeps c.args.declarations.now c.requires.held
+impl_error-requires-clause-held c = all-held c.args.cx.now.entries c.loop-index.cx.entries c.loop-index.invariant.grew.keeps c.args.declarations.now c.requires.held
 
 pub impl_error-requires-clause-written : goal.impl_error-requires-clause-written
 impl_error-requires-clause-written c =
-    well-written-later c.args.cx.now.entries c.loop-index.cx.entries c.loop-index.invariant.keeps c.args.declarations.now c.requires.held c.requires.written
-
-pub returns-in_err-error-clause-full : goal.returns-in_err-error-clause-full
-returns-in_err-error-clause-full c = λ q. handed-on c.from_residual.result c.from_residual.ensures.1 (λ p. c.in_err-error.ensures.full (ap Err p)) q
+    well-written-later c.args.cx.now.entries c.loop-index.cx.entries c.loop-index.invariant.grew.keeps c.args.declarations.now c.requires.held c.requires.written
 
 pub returns-in-Some-clause-first : goal.returns-in-Some-clause-first
 returns-in-Some-clause-first c =
@@ -25,7 +22,7 @@ returns-in-Some-clause-first c =
     let n = c.loop-index.index in
     kept-first (declared old d) d.local n new c.in-Some.error c.loop-index.invariant.kept
     (subst (IsErrorOf (declared old d) d.local n new) c.in-Some.is
-    (subst (λ W. IsErrorOf W d.local n new c.in_ok-error.field-0) (all-declared old now c.loop-index.invariant.keeps d c.requires.held) c.in_ok-error.ensures.found))
+    (subst (λ W. IsErrorOf W d.local n new c.in_ok-error.field-0) (all-declared old now c.loop-index.invariant.grew.keeps d c.requires.held) c.in_ok-error.ensures.found))
 
 pub loop-index-preserved : goal.loop-index-preserved
 loop-index-preserved c =
@@ -34,10 +31,9 @@ loop-index-preserved c =
     let new = c.impl_error.new.cx.entries in
     let d = c.args.declarations.now in
     let n = c.loop-index.index in
-    let k = c.loop-index.invariant.keeps in
+    let k = c.loop-index.invariant.grew.keeps in
     record {
-      keeps = λ i e h. c.impl_error.ensures.keeps i e (k i e h);
-      limit = c.impl_error.ensures.limit ∙ c.loop-index.invariant.limit;
+      grew = grew-on c.loop-index.invariant.grew c.impl_error.ensures.grew;
       kept = kept-more (declared old d) d.local n new c.loop-index.invariant.kept
           (subst (IsErrorOf (declared old d) d.local n new) c.in_default.is
           (subst (λ W. IsErrorOf W d.local n new c.in_ok-error.field-0) (all-declared old now k d c.requires.held) c.in_ok-error.ensures.found));

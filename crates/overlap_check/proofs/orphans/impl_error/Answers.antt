@@ -1,9 +1,8 @@
 use Rattle.std.proofs.Common.{sym, ◌∙◌}
 use Rattle.type_terms.specs.Erased.{erased_impl}
-use Rattle.infer_table.proofs.FullFacts.{or-then}
 use Rattle.declarations.specs.Items.{declared, impl_in}
 use Rattle.overlap_check.specs.Orphans.{IsErrorOf, IsHeaderError}
-use Rattle.overlap_check.proofs.Judged.{ok-then, not-there, own-home, other-home, found-well, found-runs-out}
+use Rattle.overlap_check.proofs.Judged.{ok-then, not-there, own-home, other-home, found-well}
 use Rattle.overlap_check.proofs.orphans.impl_error.Goals as goal
 
 pub returns-in_default-clause-found : goal.returns-in_default-clause-found
@@ -28,9 +27,6 @@ returns-then-is_local-clause-found c =
     let x = erased_impl (impl_in es c.args.id c.in-Some.def.now) in
     ok-then (IsHeaderError (declared es d) d.local x.header new) (IsErrorOf (declared es d) d.local c.args.id.index new) c.header_error.result
     (own-home (declared es d) c.args.id.index x (c.in-Some.ensures.found es) d.local new (sym c.is_local.ensures ∙ c.if-is_local.true)) c.header_error.ensures.found
-
-pub returns-then-is_local-clause-full : goal.returns-then-is_local-clause-full
-returns-then-is_local-clause-full c = λ q. or-then (found-runs-out c.args.declarations.now c.args.id.index c.in-Some.def.now c.in-Some.ensures.is) (c.header_error.ensures.full q)
 
 pub returns-else-is_local-clause-found : goal.returns-else-is_local-clause-found
 returns-else-is_local-clause-found c =

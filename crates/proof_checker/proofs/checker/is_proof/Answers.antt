@@ -1,9 +1,9 @@
-use Rattle.std.proofs.Common.{◌≡◌, ◌<◌, ◌++◌, inl, inr, ap, sym, ◌∙◌, subst, Some, Err, arith}
+use Rattle.std.proofs.Common.{◌≡◌, ◌<◌, ◌++◌, inl, inr, ap, sym, ◌∙◌, subst, Some, arith}
 use Rattle.std.specs.List.{slice_get}
 use Rattle.type_terms.specs.Proofs.{In}
+use Rattle.term_folds.proofs.Grown.{grew-on}
 use Rattle.declarations.specs.Items.{declared}
 use Rattle.declarations.specs.Held.{ReferenceHeld}
-use Rattle.declarations.proofs.Bounded.{handed-on}
 use Rattle.declarations.proofs.Growth.{reference-kept, each-kept}
 use Rattle.proof_checker.specs.declared.steps.Step.{Step}
 use Rattle.proof_checker.specs.Steps.{terms_of, steps_say, assumed_in, StepHeld}
@@ -14,27 +14,24 @@ use Rattle.proof_checker.proofs.Ends.{StepFollows, get-below, are-proof, moved, 
 use Rattle.proof_checker.proofs.checker.is_proof.Goals as goal
 
 pub is_step-requires-clause-declared : goal.is_step-requires-clause-declared
-is_step-requires-clause-declared c = c.declarations_are_kept.ensures.held c.args.cx.now.entries c.steps.cx.entries c.args.declarations.now c.steps.invariant.keeps c.requires.declared
+is_step-requires-clause-declared c = c.declarations_are_kept.ensures.held c.args.cx.now.entries c.steps.cx.entries c.args.declarations.now c.steps.invariant.grew.keeps c.requires.declared
 
 pub is_step-requires-clause-covered : goal.is_step-requires-clause-covered
 is_step-requires-clause-covered c = λ i h.
-    let same = c.declarations_are_kept.ensures.written c.args.cx.now.entries c.steps.cx.entries c.args.declarations.now c.steps.invariant.keeps c.requires.declared in
+    let same = c.declarations_are_kept.ensures.written c.args.cx.now.entries c.steps.cx.entries c.args.declarations.now c.steps.invariant.grew.keeps c.requires.declared in
     c.requires.covered i (subst (λ V. In i V.impls) same h)
 
 pub is_step-requires-clause-clauses : goal.is_step-requires-clause-clauses
 is_step-requires-clause-clauses c =
     let es = c.args.cx.now.entries in
     let now = c.steps.cx.entries in
-    each-kept (ReferenceHeld es) (ReferenceHeld now) (λ r h. reference-kept es now c.steps.invariant.keeps r h) c.args.clauses.now c.requires.clauses
+    each-kept (ReferenceHeld es) (ReferenceHeld now) (λ r h. reference-kept es now c.steps.invariant.grew.keeps r h) c.args.clauses.now c.requires.clauses
 
 pub is_step-requires-clause-steps : goal.is_step-requires-clause-steps
-is_step-requires-clause-steps c = steps-kept c.args.cx.now.entries c.steps.cx.entries c.steps.invariant.keeps c.args.steps.now c.requires.steps
+is_step-requires-clause-steps c = steps-kept c.args.cx.now.entries c.steps.cx.entries c.steps.invariant.grew.keeps c.args.steps.now c.requires.steps
 
 pub is_step-requires-clause-step : goal.is_step-requires-clause-step
 is_step-requires-clause-step c = get-at c.args.steps.now c.steps.place c.index-steps-place.result c.steps-test.true c.index-steps-place.is
-
-pub returns-in_err-is_step-clause-full : goal.returns-in_err-is_step-clause-full
-returns-in_err-is_step-clause-full c = λ q. handed-on c.from_residual.result c.from_residual.ensures.1 (λ p. c.in_err-is_step.ensures.full (ap Err p)) q
 
 pub steps-preserved : goal.steps-preserved
 steps-preserved c =
@@ -51,16 +48,15 @@ steps-preserved c =
     let rs = steps_say es ss in
     let got = get-at ss n st c.steps-test.true c.index-steps-place.is in
     let held = each-at (StepHeld es) ss n st c.requires.steps got in
-    let say = say-same es now inv.keeps ss c.requires.steps in
-    let both : terms_of now cl ++ assumed_in now ss ≡ E = ap (λ l. l ++ assumed_in now ss) (terms-same es now inv.keeps cl c.requires.clauses) ∙ ap (λ l. terms_of es cl ++ l) (assumed-same es now inv.keeps ss c.requires.steps) in
+    let say = say-same es now inv.grew.keeps ss c.requires.steps in
+    let both : terms_of now cl ++ assumed_in now ss ≡ E = ap (λ l. l ++ assumed_in now ss) (terms-same es now inv.grew.keeps cl c.requires.clauses) ∙ ap (λ l. terms_of es cl ++ l) (assumed-same es now inv.grew.keeps ss c.requires.steps) in
     let q = c.if-not-branch.false in
     let at_now : StepFollows (declared now d) (terms_of now cl ++ assumed_in now ss) now (steps_say now ss) n st = record { rule = c.in_ok-is_step.ensures.rule q; stand = c.in_ok-is_step.ensures.stand q } in
     let here : StepFollows W E es rs n st =
     moved (declared now d) W (terms_of now cl ++ assumed_in now ss) E now es (steps_say now ss) rs n st
-    (c.declarations_are_kept.ensures.declares es now d inv.keeps c.requires.declared) both (term-same es now inv.keeps st.reference held.0) say at_now in
+    (c.declarations_are_kept.ensures.declares es now d inv.grew.keeps c.requires.declared) both (term-same es now inv.grew.keeps st.reference held.0) say at_now in
     record {
-      keeps = λ j e h. c.is_step.ensures.keeps j e (inv.keeps j e h);
-      limit = c.is_step.ensures.limit ∙ inv.limit;
+      grew = grew-on inv.grew c.is_step.ensures.grew;
       follow = λ i s h g. elim (one-more-place i n h) [
         | inl m ↦ inv.follow i s m g
         | inr m ↦ (let e : slice_get ss n ≡ Some s = subst (λ k. slice_get ss k ≡ Some s) m g in

@@ -1,8 +1,7 @@
-use Rattle.std.proofs.Common.{ap, sym, ◌∙◌, subst, Err}
+use Rattle.std.proofs.Common.{sym, ◌∙◌, subst}
 use Rattle.type_terms.specs.Proofs.{In}
 use Rattle.declarations.specs.Items.{declared}
 use Rattle.declarations.specs.Merges.{Each}
-use Rattle.declarations.proofs.Bounded.{handed-on}
 use Rattle.declarations.proofs.Growth.{reference-kept}
 use Rattle.proof_checker.specs.Steps.{term_of, terms_of, steps_say, StepHeld}
 use Rattle.proof_checker.proofs.Results.{mapped}
@@ -11,20 +10,17 @@ use Rattle.proof_checker.proofs.Later.{term-same}
 use Rattle.proof_checker.proofs.Moved.{concludes, last-said}
 use Rattle.proof_checker.proofs.checker.is_proof_of.Goals as goal
 
-pub returns-in_err-is_proof-clause-full : goal.returns-in_err-is_proof-clause-full
-returns-in_err-is_proof-clause-full c = λ q. handed-on c.from_residual.result c.from_residual.ensures.1 (λ p. c.in_err-is_proof.ensures.full (ap Err p)) q
-
 pub are_one-requires-clause-one : goal.are_one-requires-clause-one
 are_one-requires-clause-one c =
     let P = StepHeld c.args.cx.now.entries in
     let held = each-end P c.in-Some.field-0-1.now c.in-Some.last.now (subst (Each P) c.in-Some.ensures.cases.0 c.requires.steps) in
-    reference-kept c.args.cx.now.entries c.is_proof.new.cx.entries c.is_proof.ensures.keeps c.in-Some.last.now.reference held.0
+    reference-kept c.args.cx.now.entries c.is_proof.new.cx.entries c.is_proof.ensures.grew.keeps c.in-Some.last.now.reference held.0
 
 pub returns-in-Some-clause-proof : goal.returns-in-Some-clause-proof
 returns-in-Some-clause-proof c =
     let es = c.args.cx.now.entries in
     let fs = c.is_proof.new.cx.entries in
-    let k = c.is_proof.ensures.keeps in
+    let k = c.is_proof.ensures.grew.keeps in
     let ss = c.args.steps.now in
     let W = declared es c.args.declarations.now in
     let E = terms_of es c.args.clauses.now in

@@ -1,11 +1,10 @@
-use Rattle.std.proofs.Common.{◌≡◌, ◌++◌, [], refl, ap, sym, ◌∙◌, subst, take, Err}
+use Rattle.std.proofs.Common.{◌≡◌, ◌++◌, [], refl, ap, sym, ◌∙◌, subst, take}
 use Rattle.std.specs.Prelude.{IfSome, List}
 use Rattle.type_terms.specs.Worlds.{Reference}
 use Rattle.type_terms.specs.Rules as rule
 use Rattle.type_terms.specs.Rules.{is_coinductive}
 use Rattle.type_terms.specs.Proofs.{In, Every}
 use Rattle.declarations.specs.Items.{declared}
-use Rattle.declarations.proofs.Bounded.{handed-on}
 use Rattle.proof_checker.specs.Checked.{IsRuleByWay, IsBuiltInRule}
 use Rattle.proof_checker.specs.Steps.{term_of, terms_of, steps_say, at_places, assumed_in, IsWayOf, StepHeld}
 use Rattle.proof_checker.proofs.Results.{mapped, both}
@@ -15,21 +14,8 @@ use Rattle.proof_checker.proofs.Later.{steps-kept, say-same, say-length, stand-a
 use Rattle.proof_checker.proofs.checker.is_step.Goals as goal
 use Rattle.proof_checker.proofs.checker.is_step.Goals.{then-is_coinductive, else-is_coinductive}
 
-pub returns-in_err-premises-in-Impl-clause-full : goal.returns-in_err-premises-in-Impl-clause-full
-returns-in_err-premises-in-Impl-clause-full c = λ q. handed-on c.from_residual.result c.from_residual.ensures.1 (λ p. c.in_err-premises-in-Impl.ensures.full (ap Err p)) q
-
-pub returns-in_err-found-in-Clause-clause-full : goal.returns-in_err-found-in-Clause-clause-full
-returns-in_err-found-in-Clause-clause-full c = λ q.
-    let handed = c.from_residual-in_err-found-in-Clause in
-    handed-on handed.result handed.ensures.1 (λ p. c.in_err-found-in-Clause.ensures.full (ap Err p)) q
-
-pub returns-in_err-found-in-Supertrait-clause-full : goal.returns-in_err-found-in-Supertrait-clause-full
-returns-in_err-found-in-Supertrait-clause-full c = λ q.
-    let handed = c.from_residual-in_err-found-in-Supertrait in
-    handed-on handed.result handed.ensures.1 (λ p. c.in_err-found-in-Supertrait.ensures.full (ap Err p)) q
-
 pub premises_stand-requires-clause-steps : goal.premises_stand-requires-clause-steps
-premises_stand-requires-clause-steps c = steps-kept c.args.cx.now.entries c.by_impl.new.cx.entries c.by_impl.ensures.keeps c.args.steps.now c.requires.steps
+premises_stand-requires-clause-steps c = steps-kept c.args.cx.now.entries c.by_impl.new.cx.entries c.by_impl.ensures.grew.keeps c.args.steps.now c.requires.steps
 
 pub by_clause-requires-clause-reference : goal.by_clause-requires-clause-reference
 by_clause-requires-clause-reference c = (each-at (StepHeld c.args.cx.now.entries) c.args.steps.now c.args.place c.args.step.now c.requires.steps c.requires.step).0
@@ -49,7 +35,7 @@ returns-in-Some-clause-rule c =
     let rs = steps_say es ss in
     let ps = c.args.step.now.premises.items in
     let way = rule.by_impl c.in-Impl.id.index in
-    let same = say-same es fs c.by_impl.ensures.keeps ss c.requires.steps in
+    let same = say-same es fs c.by_impl.ensures.grew.keeps ss c.requires.steps in
     let by = subst (λ o. IfSome o (λ v. (F : _) → IsRuleByWay W F r way (terms_of fs v.items))) c.in-Some.is c.in_ok-premises-in-Impl.ensures.rule in
     mapped _ _ c.premises_stand.result
     (λ b are q.
@@ -67,7 +53,7 @@ returns-in-Some-clause-stand c =
     let t = c.args.step.now.reference.def_id.index in
     let rs = steps_say es ss in
     let ps = at_places rs c.args.step.now.premises.items in
-    let same = say-same es fs c.by_impl.ensures.keeps ss c.requires.steps in
+    let same = say-same es fs c.by_impl.ensures.grew.keeps ss c.requires.steps in
     let n = c.if-is_coinductive.allowed in
     let co = c.is_coinductive.ensures es in
     both _ _ _ c.premises_stand.result
@@ -83,13 +69,8 @@ returns-in-Some-clause-stand c =
     c.premises_stand.ensures.are c.premises_stand.ensures.stand
 
 -- ---- built-in rules
-pub returns-in_err-premises-in-BuiltIn-clause-full : goal.returns-in_err-premises-in-BuiltIn-clause-full
-returns-in_err-premises-in-BuiltIn-clause-full c = λ q.
-    let handed = c.from_residual-in_err-premises-in-BuiltIn in
-    handed-on handed.result handed.ensures.1 (λ p. c.in_err-premises-in-BuiltIn.ensures.full (ap Err p)) q
-
 pub premises_stand-requires-in-Some-2-clause-steps : goal.premises_stand-requires-in-Some-2-clause-steps
-premises_stand-requires-in-Some-2-clause-steps c = steps-kept c.args.cx.now.entries c.by_built_in.new.cx.entries c.by_built_in.ensures.keeps c.args.steps.now c.requires.steps
+premises_stand-requires-in-Some-2-clause-steps c = steps-kept c.args.cx.now.entries c.by_built_in.new.cx.entries c.by_built_in.ensures.grew.keeps c.args.steps.now c.requires.steps
 
 pub by_built_in-requires-clause-reference : goal.by_built_in-requires-clause-reference
 by_built_in-requires-clause-reference c = (each-at (StepHeld c.args.cx.now.entries) c.args.steps.now c.args.place c.args.step.now c.requires.steps c.requires.step).0
@@ -104,7 +85,7 @@ returns-in-Some-2-clause-rule c =
     let r = term_of es c.args.step.now.reference in
     let rs = steps_say es ss in
     let ps = c.args.step.now.premises.items in
-    let same = say-same es fs c.by_built_in.ensures.keeps ss c.requires.steps in
+    let same = say-same es fs c.by_built_in.ensures.grew.keeps ss c.requires.steps in
     let found = subst (λ o. IfSome o (λ v. (F : List Reference) → IsBuiltInRule W F r (terms_of fs v.items))) c.in-Some-2.is c.in_ok-premises-in-BuiltIn.ensures.rule E in
     let way = rule.built_in found.0 in
     mapped _ _ c.premises_stand-in-Some-2.result
@@ -123,7 +104,7 @@ returns-in-Some-2-clause-stand c =
     let t = c.args.step.now.reference.def_id.index in
     let rs = steps_say es ss in
     let ps = at_places rs c.args.step.now.premises.items in
-    let same = say-same es fs c.by_built_in.ensures.keeps ss c.requires.steps in
+    let same = say-same es fs c.by_built_in.ensures.grew.keeps ss c.requires.steps in
     let n = c.if-is_coinductive.allowed in
     let co = c.is_coinductive.ensures es in
     both _ _ _ c.premises_stand-in-Some-2.result

@@ -1,17 +1,17 @@
 use Rattle.std.proofs.Common.{◌≡◌, ◌++◌, length, None, map}
 use Rattle.type_terms.specs.Trees.{instantiate}
 use Rattle.type_terms.specs.Kinds.{TysHeld}
-use Rattle.type_terms.specs.Terms.{Keeps, trees_at}
+use Rattle.type_terms.specs.Terms.{trees_at}
 use Rattle.type_terms.specs.declared.kinds.Ty.{Ty}
 use Rattle.term_folds.specs.Arguments.{first_misfit}
 use Rattle.declarations.specs.Merges.{Each}
 use Rattle.declarations.specs.Unsizing.{field_trees}
+use Rattle.term_folds.specs.Growth.{Grew}
 use Rattle.proof_checker.proofs.fields.fields_with.Given as goal
 
 abbrev pub invariant-fields : goal.invariant-fields
 invariant-fields l = record {
-  keeps : Keeps l.fn.cx.entries l.cx.entries;
-  limit : l.cx.limit ≡ l.fn.cx.limit;
+  grew : Grew l.fn.cx l.cx;
   left_held : TysHeld l.fn.cx.entries l.left;
   fits : Each (λ (f : Ty). first_misfit (trees_at l.fn.cx.entries l.fn.args.0) (trees_at l.fn.cx.entries f.0) ≡ None) l.left → Each (λ (f : Ty). first_misfit (trees_at l.fn.cx.entries l.fn.args.0) (trees_at l.fn.cx.entries f.0) ≡ None) l.fn.fields;
   found_held : TysHeld l.cx.entries l.found.items;

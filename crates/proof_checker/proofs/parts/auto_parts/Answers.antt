@@ -1,4 +1,4 @@
-use Rattle.std.proofs.Common.{◌≡◌, [], ◌∷◌, List, sym, ap, ◌∙◌, subst, Err}
+use Rattle.std.proofs.Common.{◌≡◌, [], ◌∷◌, List, sym, ap, ◌∙◌, subst}
 use Rattle.type_terms.specs.Kept.{trees-is}
 use Rattle.type_terms.specs.Kinds.{TysHeld}
 use Rattle.type_terms.specs.Label.{slice, uint}
@@ -7,7 +7,6 @@ use Rattle.type_terms.specs.Terms.{types, type_lists, trees_at}
 use Rattle.type_terms.specs.Trees.{erase, leaf, none, tree}
 use Rattle.type_terms.specs.declared.kinds.Ty.{Ty}
 use Rattle.declarations.specs.Items.{declared}
-use Rattle.declarations.proofs.Bounded.{handed-on}
 use Rattle.proof_checker.specs.Rows.{IsOneRow, each_asked_of}
 use Rattle.proof_checker.proofs.PartRows.{pointee-row, referent-row, item-row, element-row, struct-row}
 use Rattle.proof_checker.proofs.Results.{both-some}
@@ -72,9 +71,6 @@ returns-in-Adt-clause-asks c =
     subst (λ s. IsOneRow (auto_rules_plain V t (erase s)) (each_asked_of new t v.items)) (sym self)
     (struct-row V c.in-Adt.def_id.index (erase (trees_at es c.in-Adt.args.0)) new t v.items c.lawful-in-Adt.ensures held are))
     c.struct_fields-found.ensures.held c.struct_fields-found.ensures.are
-
-pub returns-in_err-bytes-in-Str-clause-full : goal.returns-in_err-bytes-in-Str-clause-full
-returns-in_err-bytes-in-Str-clause-full c = λ q. handed-on c.from_residual.result c.from_residual.ensures.1 (λ p. c.in_err-bytes-in-Str.ensures.full (ap Err p)) q
 
 pub returns-in_ok-tys-in-Str-clause-asks : goal.returns-in_ok-tys-in-Str-clause-asks
 returns-in_ok-tys-in-Str-clause-asks c = λ t.

@@ -1,4 +1,4 @@
-use Rattle.std.proofs.Common.{List, sym, ap, ◌∙◌, subst, Err}
+use Rattle.std.proofs.Common.{List, sym, ap, ◌∙◌, subst}
 use Rattle.std.specs.Prelude.{IfSome}
 use Rattle.type_terms.specs.Kept.{trees-is}
 use Rattle.type_terms.specs.Kinds.{TysHeld, tys_trees}
@@ -7,14 +7,10 @@ use Rattle.type_terms.specs.Terms.{types, trees_at}
 use Rattle.type_terms.specs.Trees.{erase}
 use Rattle.type_terms.specs.declared.kinds.Ty.{Ty}
 use Rattle.declarations.specs.Items.{declared}
-use Rattle.declarations.proofs.Bounded.{handed-on}
 use Rattle.proof_checker.specs.Rows.{AreFields, IsOneRow, each_asked_of, last_type}
 use Rattle.proof_checker.proofs.PartRows.{sized-struct-row}
 use Rattle.proof_checker.proofs.TypeRows.{held-last}
 use Rattle.proof_checker.proofs.parts.sized_part.Goals as goal
-
-pub returns-in_err-found-clause-full : goal.returns-in_err-found-clause-full
-returns-in_err-found-clause-full c = λ q. handed-on c.from_residual.result c.from_residual.ensures.1 (λ p. c.in_err-found.ensures.full (ap Err p)) q
 
 pub returns-in_ok-last-in-Some-clause-asks : goal.returns-in_ok-last-in-Some-clause-asks
 returns-in_ok-last-in-Some-clause-asks c =

@@ -1,15 +1,14 @@
 use Rattle.std.proofs.Common.{◌≡◌, ◌++◌, length}
 use Rattle.type_terms.specs.Kinds.{TysHeld}
-use Rattle.type_terms.specs.Terms.{Keeps}
 use Rattle.declarations.specs.Applied.{TraitRefsHeld}
+use Rattle.term_folds.specs.Growth.{Grew}
 use Rattle.proof_checker.specs.Rows.{each_asked_of}
 use Rattle.proof_checker.specs.Steps.{terms_of}
 use Rattle.proof_checker.proofs.rows.all_asked.Given as goal
 
 abbrev pub invariant-tys : goal.invariant-tys
 invariant-tys l = record {
-  keeps : Keeps l.fn.cx.entries l.cx.entries;
-  limit : l.cx.limit ≡ l.fn.cx.limit;
+  grew : Grew l.fn.cx l.cx;
   left_held : TysHeld l.fn.cx.entries l.left;
   found_held : TraitRefsHeld l.cx.entries l.found.items;
   are : terms_of l.cx.entries l.found.items ++ each_asked_of l.fn.cx.entries l.fn.def_id.index l.left ≡ each_asked_of l.fn.cx.entries l.fn.def_id.index l.fn.tys;

@@ -1,22 +1,16 @@
-use Rattle.std.proofs.Common.{ap, sym, ◌∙◌, subst, Err}
+use Rattle.std.proofs.Common.{ap, sym, ◌∙◌, subst}
 use Rattle.std.specs.Prelude.{IfSome}
 use Rattle.type_terms.specs.Rules.{asked}
 use Rattle.type_terms.specs.Terms.{trees_at}
 use Rattle.type_terms.specs.Trees.{erase}
 use Rattle.type_terms.specs.Worlds.{World}
 use Rattle.declarations.specs.Items.{declared}
-use Rattle.declarations.proofs.Bounded.{handed-on}
 use Rattle.proof_checker.specs.Checked.{IsBuiltInRule}
 use Rattle.proof_checker.specs.Rows.{HasRow, each_asked_of}
 use Rattle.proof_checker.specs.Steps.{terms_of}
 use Rattle.proof_checker.proofs.Results.{mapped-some}
 use Rattle.proof_checker.proofs.TypeRows.{built-in-rule}
 use Rattle.proof_checker.proofs.rows.by_built_in.Goals as goal
-
-pub returns-in_err-premises-in-Some-2-clause-full : goal.returns-in_err-premises-in-Some-2-clause-full
-returns-in_err-premises-in-Some-2-clause-full c = λ q.
-    let handed = c.from_residual-in_err-premises-in-Some-2 in
-    handed-on handed.result handed.ensures.1 (λ p. c.in_err-premises-in-Some-2.ensures.full (ap Err p)) q
 
 pub returns-in_ok-premises-in-Some-2-clause-rule : goal.returns-in_ok-premises-in-Some-2-clause-rule
 returns-in_ok-premises-in-Some-2-clause-rule c = λ E.

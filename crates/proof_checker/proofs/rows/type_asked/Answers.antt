@@ -6,14 +6,14 @@ use Rattle.type_terms.specs.Terms.{args_lists, trees_at}
 use Rattle.type_terms.specs.Trees.{erase}
 use Rattle.type_terms.proofs.FailFacts.{refused-term}
 use Rattle.type_terms.proofs.TreeLaws.{append-none}
-use Rattle.declarations.proofs.Bounded.{handed-on}
+use Rattle.declarations.proofs.Bounded.{at-limit}
 use Rattle.proof_checker.proofs.rows.type_asked.Goals as goal
 
 pub returns-in_err-args-clause-full : goal.returns-in_err-args-clause-full
-returns-in_err-args-clause-full c = λ q.
+returns-in_err-args-clause-full c =
     let refused = c.in_err-args.ensures in
     let handed = c.from_residual-in_err-args in
-    handed-on handed.result handed.ensures.1 (λ p. refused-term args_lists (omega arith) (refused.full (ap Err p)) refused.limit refused.refused) q
+    at-limit handed.result handed.ensures.1 (λ p. refused-term args_lists (omega arith) (refused.full (ap Err p)) refused.limit refused.refused)
 
 pub returns-clause-is : goal.returns-clause-is
 returns-clause-is c =

@@ -1,4 +1,4 @@
-use Rattle.std.proofs.Common.{◌≡◌, ◌==◌, [], ap, sym, ◌∙◌, subst, map, None, Err}
+use Rattle.std.proofs.Common.{◌≡◌, ◌==◌, [], ap, sym, ◌∙◌, subst, map, None}
 use Rattle.std.specs.Prelude.{IfSome}
 use Rattle.type_terms.specs.Worlds.{ImplDecl, with_args, all_with_args}
 use Rattle.type_terms.specs.Erased.{erased_reference}
@@ -13,7 +13,7 @@ use Rattle.declarations.specs.Held.{ReferenceHeld}
 use Rattle.declarations.specs.Merges.{Each}
 use Rattle.declarations.specs.Applied.{references_in, TraitRefsHeld}
 use Rattle.declarations.proofs.Growth.{reference-same, reference-kept, each-kept}
-use Rattle.declarations.proofs.Bounded.{all-same, handed-on}
+use Rattle.declarations.proofs.Bounded.{all-same}
 use Rattle.proof_checker.proofs.Results.{both-some}
 use Rattle.proof_checker.proofs.Fitting.{fits-of}
 use Rattle.proof_checker.proofs.Impls.{args-made, clauses-fit, fits-back, terms-map, by-the-impl}
@@ -23,19 +23,11 @@ pub all_with_arguments-requires-clause-held : goal.all_with_arguments-requires-c
 all_with_arguments-requires-clause-held c =
     let es = c.args.cx.now.entries in
     let es2 = c.are_one.new.cx.entries in
-    let k1 = c.with_arguments.ensures.keeps in
-    let k2 = c.are_one.ensures.keeps in
+    let k1 = c.with_arguments.ensures.grew.keeps in
+    let k2 = c.are_one.ensures.grew.keeps in
     let ih = c.in-Some.ensures.held es c.requires.declared in
     subst (TraitRefsHeld es2) (sym c.deref.ensures.value)
     (each-kept (ReferenceHeld es) (ReferenceHeld es2) (λ r h. reference-kept es es2 (λ j e g. k2 j e (k1 j e g)) r h) c.in-Some.def.now.clauses.items ih.clauses)
-
-pub returns-in_err-made-clause-full : goal.returns-in_err-made-clause-full
-returns-in_err-made-clause-full c = λ q. handed-on c.from_residual.result c.from_residual.ensures.1 (λ p. c.in_err-made.ensures.full (ap Err p)) q
-
-pub returns-in_err-are_one-clause-full : goal.returns-in_err-are_one-clause-full
-returns-in_err-are_one-clause-full c = λ q.
-    let handed = c.from_residual-in_err-are_one in
-    handed-on handed.result handed.ensures.1 (λ p. c.in_err-are_one.ensures.full (ap Err p)) q
 
 pub returns-clause-rule : goal.returns-clause-rule
 returns-clause-rule c =
@@ -43,8 +35,8 @@ returns-clause-rule c =
     let es1 = c.with_arguments.new.cx.entries in
     let es2 = c.are_one.new.cx.entries in
     let es3 = c.all_with_arguments.new.cx.entries in
-    let k1 = c.with_arguments.ensures.keeps in
-    let k2 = c.are_one.ensures.keeps in
+    let k1 = c.with_arguments.ensures.grew.keeps in
+    let k2 = c.are_one.ensures.grew.keeps in
     let law = c.lawful.ensures in
     let A = trees_at es c.args.args.0 in
     let B = trees_at es2 c.args.args.0 in

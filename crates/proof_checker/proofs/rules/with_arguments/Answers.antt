@@ -1,10 +1,6 @@
 use Rattle.std.proofs.Common.{◌≡◌, ◌∙◌, ap, subst, None, Err}
-use Rattle.std.specs.Prelude.{Option, Result}
-use Rattle.type_terms.specs.declared.Fault.{Fault}
-use Rattle.type_terms.specs.declared.Fault.TheVariants.{Full}
 use Rattle.type_terms.specs.Terms.{trees_at}
 use Rattle.term_folds.specs.Arguments.{first_misfit}
-use Rattle.term_folds.specs.declared.instantiate.InstantiateError.{InstantiateError}
 use Rattle.term_folds.specs.declared.instantiate.InstantiateError.TheVariants as error
 use Rattle.term_folds.specs.declared.predicate.TraitRef.{TraitRef}
 use Rattle.proof_checker.proofs.Misfits.{no-misfit}
@@ -17,8 +13,5 @@ returns-in-Ok-clause-fits c =
     subst (λ (b : TraitRef). first_misfit A (trees_at es b.args.0) ≡ None) c.bind.ensures
     (no-misfit c.in-Ok.instance A (trees_at es c.bind.result.value.args.0) c.in-Ok.ensures.out_of_range c.in-Ok.ensures.other_kind)
 
-fault-inside : (f : Fault) → ◌≡◌ {A = Result (Option TraitRef) Fault} (Err f) (Err Full) → ◌≡◌ {A = Result TraitRef InstantiateError} (Err (error.Fault f)) (Err (error.Fault Full))
-fault-inside f q = let e : f ≡ Full = cc in ap (λ x. Err (error.Fault x)) e
-
 pub returns-in-Err-Fault-clause-full : goal.returns-in-Err-Fault-clause-full
-returns-in-Err-Fault-clause-full c = λ q. c.in-Err-Fault.ensures.full (ap Err c.in-Err-Fault.field-0-is ∙ fault-inside c.in-Err-Fault.fault q)
+returns-in-Err-Fault-clause-full c = λ q. c.in-Err-Fault.ensures.full (ap Err (c.in-Err-Fault.field-0-is ∙ ap error.Fault q))

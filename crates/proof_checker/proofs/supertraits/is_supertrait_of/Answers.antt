@@ -1,27 +1,23 @@
-use Rattle.std.proofs.Common.{ap, ◌∙◌, sym, subst, Err}
+use Rattle.std.proofs.Common.{◌∙◌, sym, subst}
 use Rattle.type_terms.specs.Worlds.{World, Reference}
 use Rattle.type_terms.specs.Rules.{strict_supertraits, written_supertraits}
 use Rattle.type_terms.specs.Proofs.{In}
 use Rattle.term_folds.specs.declared.predicate.TraitRef.{TraitRef}
+use Rattle.term_folds.proofs.Grown.{grew-on}
 use Rattle.declarations.specs.Items.{declared}
 use Rattle.declarations.specs.Merges.{Each}
-use Rattle.declarations.proofs.Bounded.{handed-on}
 use Rattle.declarations.proofs.Growth.{reference-kept}
 use Rattle.proof_checker.specs.Steps.{term_of}
 use Rattle.proof_checker.proofs.Later.{term-same}
 use Rattle.proof_checker.proofs.Above.{IsAbove, first-above, next-above, above-later, each-append, each-front, each-end}
 use Rattle.proof_checker.proofs.supertraits.is_supertrait_of.Goals as goal
 
-pub returns-in_err-waiting-clause-full : goal.returns-in_err-waiting-clause-full
-returns-in_err-waiting-clause-full c = λ q. handed-on c.from_residual.result c.from_residual.ensures.1 (λ p. c.in_err-waiting.ensures.full (ap Err p)) q
-
 pub looked-init : goal.looked-init
 looked-init c =
     let es = c.args.cx.now.entries in
     let fs = c.written_supertraits.new.cx.entries in
     record {
-      keeps = c.written_supertraits.ensures.keeps;
-      limit = c.written_supertraits.ensures.limit;
+      grew = c.written_supertraits.ensures.grew;
       above = first-above es c.args.declarations.now c.requires.bounds (term_of es c.args.below) fs c.in_ok-waiting.waiting.items c.in_ok-waiting.ensures.held c.in_ok-waiting.ensures.are;
     }
 
@@ -31,11 +27,6 @@ are_one-requires-clause-one c =
     let P = IsAbove (declared es c.args.declarations.now) (term_of es c.args.below) c.looked.cx.entries in
     (each-end P c.pop.new.self.items c.in-Some.next (subst (Each P) c.in-Some.ensures.items c.looked.invariant.above)).0
 
-pub returns-in_err-are_one-in-Some-clause-full : goal.returns-in_err-are_one-in-Some-clause-full
-returns-in_err-are_one-in-Some-clause-full c = λ q.
-    let handed = c.from_residual-in_err-are_one-in-Some in
-    handed-on handed.result handed.ensures.1 (λ p. c.in_err-are_one-in-Some.ensures.full (ap Err p)) q
-
 pub returns-then-branch-clause-above : goal.returns-then-branch-clause-above
 returns-then-branch-clause-above c = λ _.
     let es = c.args.cx.now.entries in
@@ -44,11 +35,11 @@ returns-then-branch-clause-above c = λ _.
     let r = term_of es c.args.below in
     let P = IsAbove W r now in
     let stands = each-end P c.pop.new.self.items c.in-Some.next (subst (Each P) c.in-Some.ensures.items c.looked.invariant.above) in
-    subst (λ t. In t (strict_supertraits W r)) (c.in_ok-are_one-in-Some.ensures.one c.if-branch.true ∙ term-same es now c.looked.invariant.keeps c.args.reference c.requires.reference) stands.1
+    subst (λ t. In t (strict_supertraits W r)) (c.in_ok-are_one-in-Some.ensures.one c.if-branch.true ∙ term-same es now c.looked.invariant.grew.keeps c.args.reference c.requires.reference) stands.1
 
 pub written_supertraits-requires-in-Some-clause-declared : goal.written_supertraits-requires-in-Some-clause-declared
 written_supertraits-requires-in-Some-clause-declared c =
-    c.declarations_are_kept.ensures.held c.args.cx.now.entries c.are_one.new.cx.entries c.args.declarations.now (λ i e h. c.are_one.ensures.keeps i e (c.looked.invariant.keeps i e h)) c.requires.declared
+    c.declarations_are_kept.ensures.held c.args.cx.now.entries c.are_one.new.cx.entries c.args.declarations.now (λ i e h. c.are_one.ensures.grew.keeps i e (c.looked.invariant.grew.keeps i e h)) c.requires.declared
 
 pub written_supertraits-requires-in-Some-clause-reference : goal.written_supertraits-requires-in-Some-clause-reference
 written_supertraits-requires-in-Some-clause-reference c =
@@ -56,12 +47,7 @@ written_supertraits-requires-in-Some-clause-reference c =
     let now = c.looked.cx.entries in
     let P = IsAbove (declared es c.args.declarations.now) (term_of es c.args.below) now in
     let stands = each-end P c.pop.new.self.items c.in-Some.next (subst (Each P) c.in-Some.ensures.items c.looked.invariant.above) in
-    reference-kept now c.are_one.new.cx.entries c.are_one.ensures.keeps c.in-Some.next stands.0
-
-pub returns-in_err-above-in-Some-clause-full : goal.returns-in_err-above-in-Some-clause-full
-returns-in_err-above-in-Some-clause-full c = λ q.
-    let handed = c.from_residual-in_err-above-in-Some in
-    handed-on handed.result handed.ensures.1 (λ p. c.in_err-above-in-Some.ensures.full (ap Err p)) q
+    reference-kept now c.are_one.new.cx.entries c.are_one.ensures.grew.keeps c.in-Some.next stands.0
 
 pub looked-preserved : goal.looked-preserved
 looked-preserved c =
@@ -76,16 +62,15 @@ looked-preserved c =
     let all = subst (Each (IsAbove W r now)) c.in-Some.ensures.items c.looked.invariant.above in
     let rest = each-front (IsAbove W r now) c.pop.new.self.items next all in
     let stands = each-end (IsAbove W r now) c.pop.new.self.items next all in
-    let k1 = c.are_one.ensures.keeps in
-    let k2 = c.written_supertraits-in-Some.ensures.keeps in
+    let k1 = c.are_one.ensures.grew.keeps in
+    let k2 = c.written_supertraits-in-Some.ensures.grew.keeps in
     let found = c.in_ok-above-in-Some.above.items in
     let same = term-same now mid k1 next stands.0 in
-    let before = c.declarations_are_kept.ensures.declares es mid d (λ i e h. k1 i e (c.looked.invariant.keeps i e h)) c.requires.declared in
+    let before = c.declarations_are_kept.ensures.declares es mid d (λ i e h. k1 i e (c.looked.invariant.grew.keeps i e h)) c.requires.declared in
     let are = subst (λ (V : World). Each (λ (s : TraitRef). In (term_of fs s) (written_supertraits V (term_of now next))) found) before
     (subst (λ (x : Reference). Each (λ (s : TraitRef). In (term_of fs s) (written_supertraits (declared mid d) x)) found) same c.in_ok-above-in-Some.ensures.are) in
     record {
-      keeps = λ i e h. k2 i e (k1 i e (c.looked.invariant.keeps i e h));
-      limit = c.written_supertraits-in-Some.ensures.limit ∙ c.are_one.ensures.limit ∙ c.looked.invariant.limit;
+      grew = grew-on (grew-on c.looked.invariant.grew c.are_one.ensures.grew) c.written_supertraits-in-Some.ensures.grew;
       above = subst (Each (IsAbove W r fs)) (sym c.in_ok-put_all-in-Some.ensures.put)
           (each-append (IsAbove W r fs) c.pop.new.self.items c.deref.result.now (above-later W r now fs (λ i e h. k2 i e (k1 i e h)) c.pop.new.self.items rest)
           (subst (Each (IsAbove W r fs)) (sym c.deref.ensures.value) (next-above es d c.requires.bounds r (term_of now next) stands.1 fs found c.in_ok-above-in-Some.ensures.held are)));

@@ -1,14 +1,12 @@
-use Rattle.std.proofs.Common.{◌≡◌}
-use Rattle.type_terms.specs.Terms.{Keeps}
 use Rattle.declarations.specs.Items.{declared}
 use Rattle.declarations.specs.Merges.{Each}
+use Rattle.term_folds.specs.Growth.{Grew}
 use Rattle.proof_checker.specs.Steps.{term_of}
 use Rattle.proof_checker.proofs.Above.{IsAbove}
 use Rattle.proof_checker.proofs.supertraits.is_supertrait_of.Given as goal
 
 abbrev pub invariant-looked : goal.invariant-looked
 invariant-looked l = record {
-  keeps : Keeps l.fn.cx.entries l.cx.entries;
-  limit : l.cx.limit ≡ l.fn.cx.limit;
+  grew : Grew l.fn.cx l.cx;
   above : Each (IsAbove (declared l.fn.cx.entries l.fn.declarations) (term_of l.fn.cx.entries l.fn.below) l.cx.entries) l.waiting.items;
 }

@@ -1,4 +1,4 @@
-use Rattle.std.proofs.Common.{◌≡◌, ap, ◌∙◌, sym, subst, None, Err}
+use Rattle.std.proofs.Common.{◌≡◌, ap, ◌∙◌, sym, subst, None}
 use Rattle.std.specs.Prelude.{IfSome}
 use Rattle.type_terms.specs.Worlds.{all_with_args}
 use Rattle.type_terms.specs.Terms.{trees_at}
@@ -6,15 +6,11 @@ use Rattle.term_folds.specs.Arguments.{first_misfit}
 use Rattle.term_folds.specs.declared.predicate.TraitRef.{TraitRef}
 use Rattle.declarations.specs.Applied.{references_in, TraitRefsHeld}
 use Rattle.declarations.specs.Merges.{Each}
-use Rattle.declarations.proofs.Bounded.{handed-on}
 use Rattle.proof_checker.proofs.Above.{supertraits-are}
 use Rattle.proof_checker.proofs.supertraits.written_supertraits.Goals as goal
 
 pub all_with_arguments-requires-clause-held : goal.all_with_arguments-requires-clause-held
 all_with_arguments-requires-clause-held c = subst (TraitRefsHeld c.args.cx.now.entries) (sym c.deref.ensures.value) (c.in-Some.ensures.held c.args.cx.now.entries c.requires.declared)
-
-pub returns-in_err-supertraits-clause-full : goal.returns-in_err-supertraits-clause-full
-returns-in_err-supertraits-clause-full c = λ q. handed-on c.from_residual.result c.from_residual.ensures.1 (λ p. c.in_err-supertraits.ensures.full (ap Err p)) q
 
 pub returns-in-Some-2-clause-are : goal.returns-in-Some-2-clause-are
 returns-in-Some-2-clause-are c =

@@ -11,4 +11,4 @@ common_header-common-requires-clause-right_written c = (c.in-Some.ensures.writte
 pub returns-clause-advances : goal.returns-clause-advances
 returns-clause-advances c =
     grown c.args.cx.now (record { alloc = c.args.cx.now.alloc; interner = c.common_header-common.new.cx; handler = c.args.cx.now.handler; store = c.args.cx.now.store }) c.requires.ready
-    (record { handler = refl; store = refl; entries = c.common_header-common.ensures.keeps; lawful = c.lawful.ensures; limit = c.common_header-common.ensures.limit })
+    (record { handler = refl; store = refl; entries = c.common_header-common.ensures.grew.keeps; lawful = c.lawful.ensures; limit = c.common_header-common.ensures.grew.limit })

@@ -12,14 +12,14 @@ impl_args-found-requires-clause-written c =
 pub returns-in-Ok-Some-clause-advances : goal.returns-in-Ok-Some-clause-advances
 returns-in-Ok-Some-clause-advances c =
     grown c.args.cx.now (record { alloc = c.args.cx.now.alloc; interner = c.impl_args-found.new.cx; handler = c.args.cx.now.handler; store = c.args.cx.now.store }) c.requires.ready
-    (record { handler = refl; store = refl; entries = c.impl_args-found.ensures.keeps; lawful = c.lawful.ensures; limit = c.impl_args-found.ensures.limit })
+    (record { handler = refl; store = refl; entries = c.impl_args-found.ensures.grew.keeps; lawful = c.lawful.ensures; limit = c.impl_args-found.ensures.grew.limit })
 
 pub returns-in-Ok-None-clause-advances : goal.returns-in-Ok-None-clause-advances
 returns-in-Ok-None-clause-advances c =
     grown c.args.cx.now (record { alloc = c.args.cx.now.alloc; interner = c.impl_args-found.new.cx; handler = c.args.cx.now.handler; store = c.args.cx.now.store }) c.requires.ready
-    (record { handler = refl; store = refl; entries = c.impl_args-found.ensures.keeps; lawful = c.lawful.ensures; limit = c.impl_args-found.ensures.limit })
+    (record { handler = refl; store = refl; entries = c.impl_args-found.ensures.grew.keeps; lawful = c.lawful.ensures; limit = c.impl_args-found.ensures.grew.limit })
 
 pub returns-in-Err-clause-advances : goal.returns-in-Err-clause-advances
 returns-in-Err-clause-advances c =
     grown c.args.cx.now (record { alloc = c.args.cx.now.alloc; interner = c.impl_args-found.new.cx; handler = c.args.cx.now.handler; store = c.args.cx.now.store }) c.requires.ready
-    (record { handler = refl; store = refl; entries = c.impl_args-found.ensures.keeps; lawful = c.lawful.ensures; limit = c.impl_args-found.ensures.limit })
+    (record { handler = refl; store = refl; entries = c.impl_args-found.ensures.grew.keeps; lawful = c.lawful.ensures; limit = c.impl_args-found.ensures.grew.limit })

@@ -1,9 +1,4 @@
 use Rattle.std.proofs.Common.{refl}
-use Rattle.sessions.specs.Shortages.{in_header}
-use Rattle.candidate_assembly.specs.SolverMeaning.{solver_by_view}
-use Rattle.sessions.proofs.ShortCalls.{either, short-of-terms}
-use Rattle.candidate_assembly.specs.declared.solver.Solver.{Solver}
-use Rattle.solver_context.specs.declared.context.SolverCx.{SolverCx}
 use Rattle.sessions.proofs.checked.first_broken_header.Goals as goal
 
 pub first_orphan-found-requires-clause-held : goal.first_orphan-found-requires-clause-held
@@ -15,15 +10,10 @@ first_orphan-found-requires-clause-written c = (c.ready_impls_are_written_well.e
 pub returns-clause-advances : goal.returns-clause-advances
 returns-clause-advances c =
     c.rest_laws.ensures.interner c.args.cx.now (record { alloc = c.args.cx.now.alloc; interner = c.first_orphan-found.new.cx; handler = c.args.cx.now.handler; store = c.args.cx.now.store }) c.requires.ready
-    (record { handler = refl; store = refl; entries = c.first_orphan-found.ensures.keeps; lawful = c.lawful.ensures; limit = c.first_orphan-found.ensures.limit })
+    (record { handler = refl; store = refl; entries = c.first_orphan-found.ensures.grew.keeps; lawful = c.lawful.ensures; limit = c.first_orphan-found.ensures.grew.limit })
 
 pub returns-clause-held : goal.returns-clause-held
 returns-clause-held c = c.first_orphan-found.ensures.held
 
 pub returns-clause-first : goal.returns-clause-first
 returns-clause-first c = c.first_orphan-found.ensures.first
-
-pub returns-clause-full : goal.returns-clause-full
-returns-clause-full c = λ q.
-    let new : SolverCx Solver = record { alloc = c.args.cx.now.alloc; interner = c.first_orphan-found.new.cx; handler = c.args.cx.now.handler; store = c.args.cx.now.store } in
-    either (c.first_orphan-found.ensures.full q) (short-of-terms solver_by_view new) in_header

@@ -1,11 +1,6 @@
 use Rattle.std.proofs.Common.{refl}
 use Rattle.declarations.specs.Items.{declared}
 use Rattle.sessions.proofs.PairChecks.{none-apart, apart-at, found-ok}
-use Rattle.sessions.specs.Shortages.{in_pair}
-use Rattle.candidate_assembly.specs.SolverMeaning.{solver_by_view}
-use Rattle.sessions.proofs.ShortCalls.{either, short-of-terms}
-use Rattle.candidate_assembly.specs.declared.solver.Solver.{Solver}
-use Rattle.solver_context.specs.declared.context.SolverCx.{SolverCx}
 use Rattle.sessions.proofs.checked.intersection_at.Goals as goal
 
 pub returns-in_default-clause-apart : goal.returns-in_default-clause-apart
@@ -33,7 +28,7 @@ impl_intersection-found-requires-clause-right_written c =
 pub returns-clause-advances : goal.returns-clause-advances
 returns-clause-advances c =
     c.rest_laws.ensures.interner c.args.cx.now (record { alloc = c.args.cx.now.alloc; interner = c.impl_intersection-found.new.cx; handler = c.args.cx.now.handler; store = c.args.cx.now.store }) c.requires.ready
-    (record { handler = refl; store = refl; entries = c.impl_intersection-found.ensures.keeps; lawful = c.lawful.ensures; limit = c.impl_intersection-found.ensures.limit })
+    (record { handler = refl; store = refl; entries = c.impl_intersection-found.ensures.grew.keeps; lawful = c.lawful.ensures; limit = c.impl_intersection-found.ensures.grew.limit })
 
 pub returns-clause-apart : goal.returns-clause-apart
 returns-clause-apart c = λ e.
@@ -47,10 +42,3 @@ returns-clause-found c =
     let d = c.args.cx.now.handler.declarations in
     found-ok es c.impl_intersection-found.new.cx.entries d c.args.later c.args.earlier c.in-Some.left.now c.in-Some.right.now (c.in-Some.ensures.pair es)
     (c.ready_impls_are_written_well.ensures es d c.requires.ready.handler).1 c.impl_intersection-found.result c.impl_intersection-found.ensures.found c.impl_intersection-found.ensures.solved c.impl_intersection-found.ensures.posed
-
-pub returns-clause-full : goal.returns-clause-full
-returns-clause-full c = λ q.
-    let es = c.args.cx.now.interner.entries in
-    let new : SolverCx Solver = record { alloc = c.args.cx.now.alloc; interner = c.impl_intersection-found.new.cx; handler = c.args.cx.now.handler; store = c.args.cx.now.store } in
-    either (c.impl_intersection-found.ensures.full q) (short-of-terms solver_by_view new)
-    (in_pair es c.args.later c.args.earlier c.in-Some.left.now c.in-Some.right.now c.impl_intersection-found.ensures.keeps (c.in-Some.ensures.pair es))

@@ -1,13 +1,11 @@
-use Rattle.std.proofs.Common.{rules, ◌≡◌, Ok, None, sym, subst, ap, Err, inl, inr}
+use Rattle.std.proofs.Common.{rules, ◌≡◌, Ok, None, sym, subst}
 use Rattle.std.specs.Prelude.{IfSome}
 use Rattle.sessions.specs.Checking.{IsFoundAt, IsJudgedAt, solving_in}
 use Rattle.sessions.specs.Promises.{view_in}
 use Rattle.sessions.proofs.PairChecks.{apart-passes, judged}
-use Rattle.infer_table.proofs.FullFacts.{handed-on}
-use Rattle.sessions.specs.Shortages.{in_clause}
-use Rattle.sessions.proofs.ShortCalls.{either}
 use Rattle.solver_context.proofs.Growing.{limits-further}
 use Rattle.sessions.proofs.Keeping.{limits-searched}
+use Rattle.sessions.proofs.ShortCalls.{handed-by-terms}
 use Rattle.sessions.proofs.checked.overlap_at.Goals as goal
 
 pub returns-in_err-found-clause-rest : goal.returns-in_err-found-clause-rest
@@ -38,14 +36,6 @@ returns-clause-judged c = λ d n depth s.
     c.open_pair_goals_are_possible.ensures c.requires.rest.ready.lawful (solving_in c.intersection_at.new.cx) (c.rest_laws.ensures.meaning c.args.cx.now c.intersection_at.new.cx c.requires.rest.ready c.intersection_at.ensures.advances)
     c.requires.numbers c.in_ok-refused.refused c.in_ok-refused.ensures.impossible c.in_ok-refused.ensures.left_open)
 
-pub returns-in_err-found-clause-full : goal.returns-in_err-found-clause-full
-returns-in_err-found-clause-full c = handed-on c.from_residual.result c.from_residual.ensures.1 (λ p. c.in_err-found.ensures.full (ap Err p))
-
-pub returns-in_err-refused-clause-full : goal.returns-in_err-refused-clause-full
-returns-in_err-refused-clause-full c = λ q.
-    either (handed-on c.from_residual-in_err-refused.result c.from_residual-in_err-refused.ensures.1 (λ p. c.in_err-refused.ensures.full (ap Err p)) q)
-    inl (λ h. in_clause c.intersection_at.new.cx c.args.graph.now c.in-Some.found.table h.0 c.in_err-refused.ensures.entries h.2)
-
 pub returns-in_err-refused-clause-limits : goal.returns-in_err-refused-clause-limits
 returns-in_err-refused-clause-limits c =
     limits-further c.args.cx.now c.intersection_at.new.cx c.has_impossible_obligation.new.cx c.intersection_at.ensures.advances.limits
@@ -55,3 +45,6 @@ pub returns-clause-limits : goal.returns-clause-limits
 returns-clause-limits c =
     limits-further c.args.cx.now c.intersection_at.new.cx c.has_impossible_obligation.new.cx c.intersection_at.ensures.advances.limits
     (limits-searched _ c.intersection_at.new.cx c.has_impossible_obligation.new.cx c.has_impossible_obligation.ensures.keeps)
+
+pub returns-in_err-found-clause-full : goal.returns-in_err-found-clause-full
+returns-in_err-found-clause-full c = handed-by-terms c.intersection_at.new.cx c.from_residual.result c.from_residual.ensures.1 c.in_err-found.ensures.full

@@ -1,11 +1,6 @@
-use Rattle.std.proofs.Common.{refl, Some}
-use Rattle.infer_table.specs.declared.certainty.TypingMode.TheVariants.{Coherence}
+use Rattle.std.proofs.Common.{refl}
 use Rattle.infer_table.specs.declared.goal.Goal.{Goal}
-use Rattle.infer_table.proofs.FullFacts.{or-then}
-use Rattle.solver_context.specs.Evaluations.{asked_in}
-use Rattle.solver_context.specs.Results.{IsResult}
-use Rattle.solver_context.specs.Searching.{solver_meaning}
-use Rattle.sessions.proofs.ImpossibleAlone.{left-open, still-open, goal-is-alone, alone-has-none, root-runs-out}
+use Rattle.sessions.proofs.ImpossibleAlone.{left-open, still-open, goal-is-alone, alone-has-none}
 use Rattle.sessions.proofs.impossible.evaluate_alone.Goals as goal
 
 pub returns-clause-impossible : goal.returns-clause-impossible
@@ -21,13 +16,3 @@ returns-clause-left_open g c = λ q.
     still-open g.H.GoalHandler.meaning c.args.cx.now c.args.graph.now c.args.table.now asked c.args.trait_ref
     (goal-is-alone c.args.cx.now.interner.entries asked c.args.trait_ref c.new.ensures.items refl)
     (left-open _ _ _ c.evaluate_root_goal-evaluated.result c.evaluate_root_goal-evaluated.ensures.says (λ e x. (x.answer.0, x.answer.1.found)) c.evaluate_root_goal-evaluated.ensures.faults.not_plain q)
-
-pub returns-clause-full : goal.returns-clause-full
-returns-clause-full g c = λ q.
-    let asked : Goal = record { param_env = c.new.result; predicate = record { trait_ref = c.args.trait_ref } } in
-    or-then (root-runs-out g.H.GoalHandler.meaning c.args.cx.now c.args.graph.now c.args.table.now asked c.args.trait_ref
-    (goal-is-alone c.args.cx.now.interner.entries asked c.args.trait_ref c.new.ensures.items refl)
-    (λ a. IsResult (solver_meaning g.H.GoalHandler.meaning) c.args.cx.now c.args.cache.now c.args.graph.now
-    c.evaluate_root_goal-evaluated.new.cx c.evaluate_root_goal-evaluated.new.cache c.evaluate_root_goal-evaluated.new.graph (asked_in Coherence c.args.cx.now.interner.entries c.args.table.now asked) (Some a))
-    (λ a x. x.found))
-    (c.evaluate_root_goal-evaluated.ensures.faults.full q)

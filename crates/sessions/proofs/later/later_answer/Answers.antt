@@ -1,5 +1,4 @@
-use Rattle.std.proofs.Common.{ap, ◌∙◌, map, Err}
-use Rattle.infer_table.proofs.FullFacts.{handed-on}
+use Rattle.std.proofs.Common.{ap, ◌∙◌, map}
 use Rattle.sessions.specs.Given.{later_of}
 use Rattle.sessions.specs.Later.{header_in, section_headers}
 use Rattle.sessions.proofs.LaterChecks.{answer-grown}
@@ -10,6 +9,3 @@ returns-clause-answer c =
     let new = c.added_impls.new.cx in
     answer-grown c.args.cx.now new c.requires.ready c.in_ok-impls.ensures.advances (map (header_in new.interner.entries) c.deref.result.now) (section_headers c.args.workspace.now c.args.section)
     (ap (map (header_in new.interner.entries)) c.deref.ensures.value ∙ c.in_ok-impls.ensures.headers) (later_of c.first_breaking.result) c.first_breaking.ensures
-
-pub returns-in_err-impls-clause-full : goal.returns-in_err-impls-clause-full
-returns-in_err-impls-clause-full c = λ q. handed-on c.from_residual.result c.from_residual.ensures.1 (λ p. c.in_err-impls.ensures.full (ap Err p)) q

@@ -1,26 +1,20 @@
-use Rattle.std.proofs.Common.{rules, sym, ap, subst, Result, Ok, Err}
+use Rattle.std.proofs.Common.{rules, sym, subst, Result, Ok, Err}
 use Rattle.std.specs.Prelude.{IfOk}
 use Rattle.infer_table.specs.Content.{Ready}
 use Rattle.infer_table.specs.Kept.{ready-later}
-use Rattle.infer_table.proofs.FullFacts.{handed-on, or-then}
 use Rattle.declarations.specs.Held.{ReferenceHeld}
 use Rattle.declarations.specs.Merges.{Each}
 use Rattle.declarations.proofs.Growth.{references-kept}
 use Rattle.search_graph.proofs.Graphs.{Keeps-trans}
 use Rattle.solver_context.specs.Searching.{solver_meaning}
-use Rattle.sessions.specs.Impossible.{IsImpossible, SearchLeavesOpen, GoalRunsOut}
-use Rattle.sessions.proofs.ImpossibleAlone.{open-before, runs-out-before, impossible-before}
+use Rattle.sessions.specs.Impossible.{IsImpossible, SearchLeavesOpen}
+use Rattle.sessions.proofs.ImpossibleAlone.{open-before, impossible-before}
 use Rattle.sessions.proofs.Lists.{each-then, in-list, of-first, of-second}
 use Rattle.sessions.proofs.obligations.has_impossible_obligation.Goals as goal
 
 ok-then : {T E : Type 0} (P Q : T → Type 0) (r : Result T E) → ((x : T) → P x → Q x) → IfOk r P → IfOk r Q
 ok-then P Q (Ok x) f h = f x h
 ok-then P Q (Err e) f h = h
-
-pub returns-in_err-some_is_impossible-clause-full : goal.returns-in_err-some_is_impossible-clause-full
-returns-in_err-some_is_impossible-clause-full g c = λ q.
-    or-then (of-first (GoalRunsOut g.H.GoalHandler.meaning c.args.cx.now c.args.graph.now c.args.found.now.table) c.deref.result.now c.args.found.now.left.items c.args.found.now.right.items c.deref.ensures.value)
-    (handed-on c.from_residual.result c.from_residual.ensures.1 (λ p. c.in_err-some_is_impossible.ensures.full (ap Err p)) q)
 
 pub returns-then-branch-clause-impossible : goal.returns-then-branch-clause-impossible
 returns-then-branch-clause-impossible g c = λ _.
@@ -61,10 +55,3 @@ returns-clause-left_open g c =
           (subst (Each (SearchLeavesOpen g.H.GoalHandler.meaning c.some_is_impossible.new.cx c.some_is_impossible.new.graph c.some_is_impossible.new.table)) c.deref-2.ensures.value (f q)),
     ))
     c.some_is_impossible-2.ensures.left_open
-
-pub returns-clause-full : goal.returns-clause-full
-returns-clause-full g c = λ q.
-    or-then (of-second (GoalRunsOut g.H.GoalHandler.meaning c.some_is_impossible.new.cx c.some_is_impossible.new.graph c.some_is_impossible.new.table)
-    (GoalRunsOut g.H.GoalHandler.meaning c.args.cx.now c.args.graph.now c.args.found.now.table) c.deref-2.result.now c.args.found.now.right.items c.args.found.now.left.items c.deref-2.ensures.value
-    (λ r at. runs-out-before g.H.GoalHandler.meaning c.args.cx.now c.some_is_impossible.new.cx c.some_is_impossible.ensures.keeps c.args.graph.now c.some_is_impossible.new.graph c.some_is_impossible.ensures.depth c.args.found.now.table c.some_is_impossible.new.table c.some_is_impossible.ensures.same c.requires.table r (in-list (ReferenceHeld c.args.cx.now.interner.entries) c.args.found.now.right.items r c.requires.right at)))
-    (c.some_is_impossible-2.ensures.full q)

@@ -1,14 +1,13 @@
-use Rattle.std.proofs.Common.{rules, ◌∙◌, sym, ap, subst, Err}
+use Rattle.std.proofs.Common.{rules, ◌∙◌, sym, subst}
 use Rattle.type_terms.specs.Terms.{args_lists}
 use Rattle.type_terms.specs.Kept.{has-later}
 use Rattle.infer_table.specs.Content.{Ready}
 use Rattle.infer_table.specs.Kept.{ready-later}
-use Rattle.infer_table.proofs.FullFacts.{handed-on, or-then}
 use Rattle.declarations.specs.Held.{ReferenceHeld}
 use Rattle.search_graph.proofs.Graphs.{Keeps-trans}
 use Rattle.solver_context.specs.Searching.{solver_meaning}
 use Rattle.sessions.specs.Impossible.{SearchLeavesOpen}
-use Rattle.sessions.proofs.ImpossibleAlone.{open-before, runs-out-before, impossible-before}
+use Rattle.sessions.proofs.ImpossibleAlone.{open-before, impossible-before}
 use Rattle.sessions.proofs.Lists.{each-here, in-here, each-more}
 use Rattle.sessions.proofs.obligations.some_is_impossible.Goals as goal
 
@@ -28,17 +27,6 @@ returns-in_err-is_impossible-clause-consistent g c = λ h. c.is_impossible.ensur
 pub returns-in_err-is_impossible-clause-keeps : goal.returns-in_err-is_impossible-clause-keeps
 returns-in_err-is_impossible-clause-keeps g c =
     Keeps-trans (solver_meaning g.H.GoalHandler.meaning) c.args.cx.now c.references.cx c.is_impossible.new.cx c.references.invariant.keeps c.is_impossible.ensures.keeps
-
-pub returns-in_err-is_impossible-clause-full : goal.returns-in_err-is_impossible-clause-full
-returns-in_err-is_impossible-clause-full g c = λ q.
-    let item = c.trait_ref-item.result in
-    let held = each-here c.args.references.now c.references.trait_ref-index item c.trait_ref-item.is c.references-test.true (ReferenceHeld c.args.cx.now.interner.entries) c.requires.held in
-    or-then (λ h. (
-      item,
-      in-here c.args.references.now c.references.trait_ref-index item c.trait_ref-item.is c.references-test.true,
-      runs-out-before g.H.GoalHandler.meaning c.args.cx.now c.references.cx c.references.invariant.keeps c.args.graph.now c.references.graph c.references.invariant.depth c.args.table.now c.references.table c.references.invariant.same c.requires.table item held h,
-    ))
-    (handed-on c.from_residual.result c.from_residual.ensures.1 (λ p. c.in_err-is_impossible.ensures.full (ap Err p)) q)
 
 pub returns-then-branch-clause-consistent : goal.returns-then-branch-clause-consistent
 returns-then-branch-clause-consistent g c = λ h. c.is_impossible.ensures.consistent (c.references.invariant.consistent h)

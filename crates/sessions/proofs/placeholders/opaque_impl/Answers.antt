@@ -1,8 +1,9 @@
-use Rattle.std.proofs.Common.{◌≡◌, ◌∙◌, ap, map, sym, subst, Err, inl, ◌≤◌, length}
+use Rattle.std.proofs.Common.{◌≡◌, ◌∙◌, ap, map, sym, subst}
 use Rattle.type_terms.specs.Trees.{outer_binder}
 use Rattle.type_terms.specs.Worlds.{with_args, all_with_args}
 use Rattle.type_terms.specs.Kept.{has-later, trees-later}
 use Rattle.type_terms.specs.Terms.{args_lists, trees_at}
+use Rattle.term_folds.proofs.Grown.{grew-on}
 use Rattle.declarations.specs.Applied.{TraitRefsHeld, references_in, sort_of_param}
 use Rattle.declarations.specs.Items.{reference_in}
 use Rattle.declarations.proofs.Bounded.{all-same}
@@ -10,14 +11,11 @@ use Rattle.declarations.proofs.Growth.{reference-kept, references-kept, referenc
 use Rattle.sessions.specs.Placeholders.{placeholders_from}
 use Rattle.sessions.proofs.OpaqueTerms.{placeholders-closed}
 use Rattle.sessions.proofs.OpaqueFound.{header-fits, clauses-fit, header-is, clauses-are}
-use Rattle.infer_table.proofs.FullFacts.{handed-on}
-use Rattle.type_terms.specs.declared.TheConstants.{MAX_INDEX}
-use Rattle.sessions.proofs.ShortCalls.{either}
 use Rattle.sessions.proofs.placeholders.opaque_impl.Goals as goal
 
 pub instantiate_trait_ref-requires-clause-held : goal.instantiate_trait_ref-requires-clause-held
 instantiate_trait_ref-requires-clause-held c =
-    reference-kept c.args.cx.now.entries c.placeholders_for_item.new.cx.entries c.placeholders_for_item.ensures.keeps c.args.def.now.header c.requires.held.header
+    reference-kept c.args.cx.now.entries c.placeholders_for_item.new.cx.entries c.placeholders_for_item.ensures.grew.keeps c.args.def.now.header c.requires.held.header
 
 pub instantiate_trait_ref-requires-clause-args : goal.instantiate_trait_ref-requires-clause-args
 instantiate_trait_ref-requires-clause-args c = c.in_ok-args.ensures.held
@@ -27,7 +25,7 @@ instantiate_trait_ref-requires-clause-closed c = ap outer_binder c.in_ok-args.en
 
 pub instantiate_trait_ref-requires-clause-fits : goal.instantiate_trait_ref-requires-clause-fits
 instantiate_trait_ref-requires-clause-fits c =
-    header-fits c.args.cx.now.entries c.placeholders_for_item.new.cx.entries c.placeholders_for_item.ensures.keeps c.args.def.now c.requires.held c.requires.written c.in_ok-args.args.0
+    header-fits c.args.cx.now.entries c.placeholders_for_item.new.cx.entries c.placeholders_for_item.ensures.grew.keeps c.args.def.now c.requires.held c.requires.written c.in_ok-args.args.0
     (c.in_ok-args.ensures.are ∙ ap (λ ps. placeholders_from 0 (map sort_of_param ps)) c.deref.ensures.value)
 
 pub instantiate_clauses-requires-clause-held : goal.instantiate_clauses-requires-clause-held
@@ -35,29 +33,29 @@ instantiate_clauses-requires-clause-held c =
     let old = c.args.cx.now.entries in
     let two = c.instantiate_trait_ref.new.cx.entries in
     subst (TraitRefsHeld two) (sym c.deref-2.ensures.value)
-    (references-kept old two (λ i e h. c.instantiate_trait_ref.ensures.keeps i e (c.placeholders_for_item.ensures.keeps i e h)) c.args.def.now.clauses.items c.requires.held.clauses)
+    (references-kept old two (λ i e h. c.instantiate_trait_ref.ensures.grew.keeps i e (c.placeholders_for_item.ensures.grew.keeps i e h)) c.args.def.now.clauses.items c.requires.held.clauses)
 
 pub instantiate_clauses-requires-clause-args : goal.instantiate_clauses-requires-clause-args
 instantiate_clauses-requires-clause-args c =
-    has-later c.placeholders_for_item.new.cx.entries c.instantiate_trait_ref.new.cx.entries c.instantiate_trait_ref.ensures.keeps args_lists c.in_ok-args.args.0 c.in_ok-args.ensures.held
+    has-later c.placeholders_for_item.new.cx.entries c.instantiate_trait_ref.new.cx.entries c.instantiate_trait_ref.ensures.grew.keeps args_lists c.in_ok-args.args.0 c.in_ok-args.ensures.held
 
 pub instantiate_clauses-requires-clause-closed : goal.instantiate_clauses-requires-clause-closed
 instantiate_clauses-requires-clause-closed c =
-    ap outer_binder (trees-later c.placeholders_for_item.new.cx.entries c.instantiate_trait_ref.new.cx.entries c.instantiate_trait_ref.ensures.keeps args_lists c.in_ok-args.args.0 c.in_ok-args.ensures.held ∙ c.in_ok-args.ensures.are)
+    ap outer_binder (trees-later c.placeholders_for_item.new.cx.entries c.instantiate_trait_ref.new.cx.entries c.instantiate_trait_ref.ensures.grew.keeps args_lists c.in_ok-args.args.0 c.in_ok-args.ensures.held ∙ c.in_ok-args.ensures.are)
     ∙ placeholders-closed 0 (map sort_of_param c.deref.result.now)
 
 pub instantiate_clauses-requires-clause-fits : goal.instantiate_clauses-requires-clause-fits
 instantiate_clauses-requires-clause-fits c =
     let one = c.placeholders_for_item.new.cx.entries in
     let two = c.instantiate_trait_ref.new.cx.entries in
-    let k = c.instantiate_trait_ref.ensures.keeps in
+    let k = c.instantiate_trait_ref.ensures.grew.keeps in
     let A = c.in_ok-args.args.0 in
-    clauses-fit c.args.cx.now.entries two (λ i e h. k i e (c.placeholders_for_item.ensures.keeps i e h)) c.args.def.now c.requires.held c.requires.written A
+    clauses-fit c.args.cx.now.entries two (λ i e h. k i e (c.placeholders_for_item.ensures.grew.keeps i e h)) c.args.def.now c.requires.held c.requires.written A
     (trees-later one two k args_lists A c.in_ok-args.ensures.held ∙ c.in_ok-args.ensures.are ∙ ap (λ ps. placeholders_from 0 (map sort_of_param ps)) c.deref.ensures.value)
     c.deref-2.result.now c.deref-2.ensures.value
 
-pub returns-clause-keeps : goal.returns-clause-keeps
-returns-clause-keeps c = λ i e h. c.instantiate_clauses.ensures.keeps i e (c.instantiate_trait_ref.ensures.keeps i e (c.placeholders_for_item.ensures.keeps i e h))
+pub returns-clause-grew : goal.returns-clause-grew
+returns-clause-grew c = grew-on c.placeholders_for_item.ensures.grew (grew-on c.instantiate_trait_ref.ensures.grew c.instantiate_clauses.ensures.grew)
 
 pub returns-clause-is : goal.returns-clause-is
 returns-clause-is c =
@@ -66,9 +64,9 @@ returns-clause-is c =
     let two = c.instantiate_trait_ref.new.cx.entries in
     let new = c.instantiate_clauses.new.cx.entries in
     let def = c.args.def.now in
-    let k1 = c.placeholders_for_item.ensures.keeps in
-    let k2 = c.instantiate_trait_ref.ensures.keeps in
-    let k3 = c.instantiate_clauses.ensures.keeps in
+    let k1 = c.placeholders_for_item.ensures.grew.keeps in
+    let k2 = c.instantiate_trait_ref.ensures.grew.keeps in
+    let k3 = c.instantiate_clauses.ensures.grew.keeps in
     let A = c.in_ok-args.args.0 in
     let P = placeholders_from 0 (map sort_of_param def.params.items) in
     let are : trees_at one A ≡ P = c.in_ok-args.ensures.are ∙ ap (λ ps. placeholders_from 0 (map sort_of_param ps)) c.deref.ensures.value in
@@ -83,14 +81,3 @@ returns-clause-is c =
       header_held = reference-kept two new k3 r held;
       clauses_held = c.in_ok-clauses.ensures.held;
     }
-
-pub returns-in_err-args-clause-full : goal.returns-in_err-args-clause-full
-returns-in_err-args-clause-full c = λ q.
-    either (handed-on c.from_residual.result c.from_residual.ensures.1 (λ p. c.in_err-args.ensures.full (ap Err p)) q)
-    (λ s. s) (λ m. subst (λ (ps : _). MAX_INDEX ≤ length ps) c.deref.ensures.value m)
-
-pub returns-in_err-header-clause-full : goal.returns-in_err-header-clause-full
-returns-in_err-header-clause-full c = handed-on c.from_residual-in_err-header.result c.from_residual-in_err-header.ensures.1 (λ p. inl (c.in_err-header.ensures.full (ap Err p)))
-
-pub returns-in_err-clauses-clause-full : goal.returns-in_err-clauses-clause-full
-returns-in_err-clauses-clause-full c = handed-on c.from_residual-in_err-clauses.result c.from_residual-in_err-clauses.ensures.1 (λ p. inl (c.in_err-clauses.ensures.full (ap Err p)))

@@ -1,17 +1,15 @@
 use Rattle.std.proofs.Common.{ap, Err, arith}
 use Rattle.type_terms.specs.Terms.{types, consts}
 use Rattle.type_terms.proofs.FailFacts.{refused-term}
-use Rattle.infer_table.proofs.FullFacts.{handed-on}
+use Rattle.solver_context.proofs.Shortages.{handed}
 use Rattle.sessions.proofs.placeholders.placeholder_for_param.Goals as goal
 
 pub returns-in_err-ty-in-Type-clause-full : goal.returns-in_err-ty-in-Type-clause-full
 returns-in_err-ty-in-Type-clause-full c =
     let refused = c.in_err-ty-in-Type.ensures in
-    let handed = c.from_residual in
-    handed-on handed.result handed.ensures.1 (λ p. refused-term types (omega arith) (refused.full (ap Err p)) refused.limit refused.refused)
+    handed _ c.from_residual.result c.from_residual.ensures.1 (λ p. refused-term types (omega arith) (refused.full (ap Err p)) refused.limit refused.refused)
 
 pub returns-in_err-value-in-Const-clause-full : goal.returns-in_err-value-in-Const-clause-full
 returns-in_err-value-in-Const-clause-full c =
     let refused = c.in_err-value-in-Const.ensures in
-    let handed = c.from_residual-in_err-value-in-Const in
-    handed-on handed.result handed.ensures.1 (λ p. refused-term consts (omega arith) (refused.full (ap Err p)) refused.limit refused.refused)
+    handed _ c.from_residual-in_err-value-in-Const.result c.from_residual-in_err-value-in-Const.ensures.1 (λ p. refused-term consts (omega arith) (refused.full (ap Err p)) refused.limit refused.refused)

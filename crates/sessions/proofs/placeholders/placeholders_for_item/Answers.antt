@@ -1,4 +1,4 @@
-use Rattle.std.proofs.Common.{◌≡◌, List, ◌∷◌, [], map, length, refl, sym, ◌∙◌, subst, arith, Ok, Err, ap, inl, inr}
+use Rattle.std.proofs.Common.{◌≡◌, List, ◌∷◌, [], map, length, refl, sym, ◌∙◌, subst, arith, Ok, Err, ap}
 use Rattle.std.specs.Prelude.{Result, IfOk}
 use Rattle.type_terms.specs.Trees.{◌+++◌}
 use Rattle.type_terms.proofs.TreeLaws.{append-none}
@@ -10,10 +10,10 @@ use Rattle.infer_table.proofs.Values.{args-held-push}
 use Rattle.declarations.specs.Applied.{sort_of_param}
 use Rattle.sessions.specs.Placeholders.{placeholders_from}
 use Rattle.sessions.proofs.OpaqueTerms.{one-more-placeholder}
-use Rattle.infer_table.proofs.FullFacts.{handed-on}
 use Rattle.type_terms.specs.Terms.{args_lists}
 use Rattle.type_terms.proofs.FailFacts.{refused-term}
-use Rattle.sessions.proofs.ShortCalls.{on-err}
+use Rattle.solver_context.proofs.Shortages.{at-error}
+use Rattle.sessions.proofs.ShortCalls.{when-err}
 use Rattle.sessions.proofs.placeholders.placeholders_for_item.Goals as goal
 
 pub params-preserved : goal.params-preserved
@@ -21,7 +21,7 @@ params-preserved c =
     let now = c.params.cx.entries in
     let next = c.placeholder_for_param.new.cx.entries in
     let inv = c.params.invariant in
-    let k = c.placeholder_for_param.ensures.keeps in
+    let k = c.placeholder_for_param.ensures.grew.keeps in
     let kind = c.in-Some.kind.now in
     let rest = c.in-Some.others.now in
     let a = c.in_ok-arg.arg in
@@ -31,8 +31,7 @@ params-preserved c =
     let put = c.in_ok-push.ensures.items in
     record {
       keeps = λ j e h. k j e (inv.keeps j e h);
-      limit = c.placeholder_for_param.ensures.limit ∙ inv.limit;
-      count = omega (arith, inv.count, ap length back, c.in_ok-place.ensures.next);
+      limit = c.placeholder_for_param.ensures.grew.limit ∙ inv.limit;
       held = subst (ArgsHeld next) (sym put) (args-held-push next xs a (args-held-later now next k xs inv.held) c.in_ok-arg.ensures.held);
       are = subst (λ l. args_trees next l +++ placeholders_from c.in_ok-place.place (map sort_of_param rest) ≡ all) (sym put)
           (one-more-placeholder now next k xs a c.params.place c.in_ok-place.place (sort_of_param kind) (map sort_of_param rest) all inv.held c.in_ok-arg.ensures.is c.in_ok-place.ensures.next
@@ -57,13 +56,5 @@ returns-clause-are c =
     if-ok (λ (a : GenericArgs). Is new args_lists a.0 (args_trees now xs)) (λ a. trees_at new a.0 ≡ all) c.mk_args.result
     (λ a h. trees-is new args_lists a.0 (args_trees now xs) h ∙ sym (append-none (args_trees now xs)) ∙ done) c.mk_args.ensures.is
 
-pub returns-in_err-arg-clause-full : goal.returns-in_err-arg-clause-full
-returns-in_err-arg-clause-full c = handed-on c.from_residual.result c.from_residual.ensures.1 (λ p. inl (c.in_err-arg.ensures.full (ap Err p)))
-
-pub returns-in_err-place-clause-full : goal.returns-in_err-place-clause-full
-returns-in_err-place-clause-full c =
-    handed-on c.from_residual-in_err-place.result c.from_residual-in_err-place.ensures.1
-    (λ p. inr (omega (arith, c.in_err-place.ensures.full (ap Err p), c.params.invariant.count)))
-
 pub returns-clause-full : goal.returns-clause-full
-returns-clause-full c = λ q. inl (refused-term args_lists (omega arith) (c.mk_args.ensures.full q) c.mk_args.ensures.limit (on-err c.mk_args.result q c.mk_args.ensures.refused))
+returns-clause-full c = when-err _ c.mk_args.result (λ fault is q. refused-term args_lists (omega arith) (c.mk_args.ensures.full (is ∙ ap Err q)) c.mk_args.ensures.limit (at-error c.mk_args.result (is ∙ ap Err q) c.mk_args.ensures.refused))

@@ -1,4 +1,4 @@
-use Rattle.std.proofs.Common.{◌≡◌, ◌+◌, map, length}
+use Rattle.std.proofs.Common.{◌≡◌, map, length}
 use Rattle.type_terms.specs.Trees.{◌+++◌}
 use Rattle.type_terms.specs.Terms.{Keeps}
 use Rattle.type_terms.specs.Kinds.{ArgsHeld, args_trees}
@@ -10,7 +10,6 @@ abbrev pub invariant-params : goal.invariant-params
 invariant-params l = record {
   keeps : Keeps l.fn.cx.entries l.cx.entries;
   limit : l.cx.limit ≡ l.fn.cx.limit;
-  count : l.place + length l.left ≡ length l.params;
   held : ArgsHeld l.cx.entries l.placeholders.items;
   are : args_trees l.cx.entries l.placeholders.items +++ placeholders_from l.place (map sort_of_param l.left) ≡ placeholders_from 0 (map sort_of_param l.params);
 }

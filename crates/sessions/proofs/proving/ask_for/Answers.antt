@@ -1,4 +1,4 @@
-use Rattle.std.proofs.Common.{rules, ◌≡◌, ◌∙◌, map, Ok, subst, ap, Err}
+use Rattle.std.proofs.Common.{rules, ◌≡◌, ◌∙◌, map, Ok, subst}
 use Rattle.term_folds.specs.Arguments.{arg_sort}
 use Rattle.type_terms.specs.Kept.{args-held-later}
 use Rattle.sessions.specs.declared.settling.Outcome.TheVariants as outcome
@@ -7,10 +7,10 @@ use Rattle.sessions.proofs.Posing.{over-ok}
 use Rattle.infer_table.specs.Content.{Table}
 use Rattle.sessions.specs.Frames.{AskingsOf}
 use Rattle.sessions.specs.declared.settling.TheConstants.{MAX_ASKINGS}
-use Rattle.infer_table.proofs.FullFacts.{handed-on}
-use Rattle.sessions.proofs.ShortCalls.{short-of-terms, short-when-settling}
 use Rattle.solver_context.proofs.Growing.{limits-further}
 use Rattle.sessions.proofs.Keeping.{limits-searched}
+use Rattle.std.proofs.lemmas.Result.{IfErr-weaker}
+use Rattle.sessions.proofs.ShortCalls.{full-of-terms}
 use Rattle.sessions.proofs.proving.ask_for.Goals as goal
 
 pub ask_until_settled-requires : goal.ask_until_settled-requires
@@ -115,14 +115,6 @@ pub returns-in-Maybe-clause-frames : goal.returns-in-Maybe-clause-frames
 returns-in-Maybe-clause-frames g c =
     subst (λ (t : Table). AskingsOf g.H.GoalHandler.meaning MAX_ASKINGS c.args.cx.now c.args.graph.now t c.args.goal.now c.ask_until_settled.new.graph) c.requires.table c.ask_until_settled.ensures.frames
 
-pub returns-in_err-ask_until_settled-clause-full : goal.returns-in_err-ask_until_settled-clause-full
-returns-in_err-ask_until_settled-clause-full g c = λ q.
-    short-when-settling g.H.GoalHandler.meaning c.args.graph.now c.args.cache.now c.args.cx.now c.args.table.now c.args.goal.now c.ask_until_settled.new.cx
-    (handed-on c.from_residual.result c.from_residual.ensures.1 (λ p. c.in_err-ask_until_settled.ensures.full (ap Err p)) q)
-
-pub returns-in-Proved-clause-full : goal.returns-in-Proved-clause-full
-returns-in-Proved-clause-full g c = λ q. short-of-terms g.H.GoalHandler.meaning c.read_values_in.new.cx (c.read_values_in.ensures.full q)
-
 pub returns-in_err-ask_until_settled-clause-limits : goal.returns-in_err-ask_until_settled-clause-limits
 returns-in_err-ask_until_settled-clause-limits g c = limits-searched _ c.args.cx.now c.ask_until_settled.new.cx c.ask_until_settled.ensures.asked.keeps
 
@@ -135,3 +127,6 @@ returns-in-Unproved-clause-limits g c = limits-searched _ c.args.cx.now c.ask_un
 
 pub returns-in-Maybe-clause-limits : goal.returns-in-Maybe-clause-limits
 returns-in-Maybe-clause-limits g c = limits-searched _ c.args.cx.now c.ask_until_settled.new.cx c.ask_until_settled.ensures.asked.keeps
+
+pub returns-in-Proved-clause-full : goal.returns-in-Proved-clause-full
+returns-in-Proved-clause-full g c = IfErr-weaker c.read_values_in.result _ _ (full-of-terms c.read_values_in.new.cx) c.read_values_in.ensures.full

@@ -16,13 +16,10 @@ elaborate-elaborated-requires-clause-applied c = c.requires.applied
 pub returns-clause-advances : goal.returns-clause-advances
 returns-clause-advances c =
     c.rest_laws.ensures.interner c.args.cx.now (record { alloc = c.args.cx.now.alloc; interner = c.elaborate-elaborated.new.cx; handler = c.args.cx.now.handler; store = c.args.cx.now.store }) c.requires.ready
-    (record { handler = refl; store = refl; entries = c.elaborate-elaborated.ensures.keeps; lawful = c.lawful.ensures; limit = c.elaborate-elaborated.ensures.limit })
+    (record { handler = refl; store = refl; entries = c.elaborate-elaborated.ensures.grew.keeps; lawful = c.lawful.ensures; limit = c.elaborate-elaborated.ensures.grew.limit })
 
 pub returns-clause-held : goal.returns-clause-held
 returns-clause-held c = c.elaborate-elaborated.ensures.held
 
 pub returns-clause-are : goal.returns-clause-are
 returns-clause-are c = c.elaborate-elaborated.ensures.are
-
-pub returns-clause-full : goal.returns-clause-full
-returns-clause-full c = c.elaborate-elaborated.ensures.full

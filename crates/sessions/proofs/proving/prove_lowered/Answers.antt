@@ -1,4 +1,4 @@
-use Rattle.std.proofs.Common.{rules, ◌≡◌, ◌∙◌, map, ap, sym, subst, Err, inl, length, ◌≤◌}
+use Rattle.std.proofs.Common.{rules, ◌≡◌, ◌∙◌, map, ap, sym, subst}
 use Rattle.type_terms.specs.Kinds.{arg_trees, ArgsHeld}
 use Rattle.term_folds.specs.Arguments.{arg_sort}
 use Rattle.type_terms.specs.Kept.{args-held-later}
@@ -13,10 +13,8 @@ use Rattle.sessions.proofs.Posing.{over-ok, args-later, answer-is, same-asked}
 use Rattle.sessions.proofs.VariableKinds.{kinds-are}
 use Rattle.candidate_assembly.specs.SolverMeaning.{solver_by_view}
 use Rattle.sessions.proofs.FramesStarted.{asked-none, settles-same}
-use Rattle.type_terms.specs.declared.TheConstants.{MAX_INDEX}
-use Rattle.infer_table.proofs.FullFacts.{handed-on}
-use Rattle.sessions.proofs.ShortCalls.{either, short-of-terms, many-variables}
 use Rattle.solver_context.proofs.Growing.{limits-further}
+use Rattle.sessions.proofs.ShortCalls.{handed-by-terms}
 use Rattle.sessions.proofs.proving.prove_lowered.Goals as goal
 
 pub elaborate_in-requires-clause-ready : goal.elaborate_in-requires-clause-ready
@@ -115,19 +113,11 @@ returns-clause-frames c = λ q low.
     (ap (references_in new) cs ∙ c.in_ok-clauses.ensures.are ∙ ap (λ (rs : _). elaborate V (references_in old rs)) given ∙ ap (elaborate V) low.clauses) (reference-is q old new c.requires.rest.ready.lawful k l low))
     c.prove_under.ensures.frames
 
-pub returns-in_err-clauses-clause-full : goal.returns-in_err-clauses-clause-full
-returns-in_err-clauses-clause-full c = λ q low e.
-    inl (short-of-terms solver_by_view c.elaborate_in.new.cx (handed-on c.from_residual.result c.from_residual.ensures.1 (λ p. c.in_err-clauses.ensures.full (ap Err p)) e))
-
-pub returns-clause-full : goal.returns-clause-full
-returns-clause-full c = λ q low e.
-    let us = c.args.lowered.now.unknowns.items in
-    let vs : c.deref-3.result.now ≡ us = search rules in
-    either (c.prove_under.ensures.full e) (λ s. s)
-    (λ m. many-variables c.args.cx.now.interner.entries c.requires.rest.ready.lawful us q low.unknowns_held low.unknowns (subst (λ (xs : _). MAX_INDEX ≤ length xs) vs m))
-
 pub returns-in_err-clauses-clause-limits : goal.returns-in_err-clauses-clause-limits
 returns-in_err-clauses-clause-limits c = c.elaborate_in.ensures.advances.limits
 
 pub returns-clause-limits : goal.returns-clause-limits
 returns-clause-limits c = limits-further c.args.cx.now c.elaborate_in.new.cx c.prove_under.new.cx c.elaborate_in.ensures.advances.limits c.prove_under.ensures.limits
+
+pub returns-in_err-clauses-clause-full : goal.returns-in_err-clauses-clause-full
+returns-in_err-clauses-clause-full c = handed-by-terms c.elaborate_in.new.cx c.from_residual.result c.from_residual.ensures.1 c.in_err-clauses.ensures.full

@@ -1,4 +1,4 @@
-use Rattle.std.proofs.Common.{◌∙◌, sym, subst, ap, Err}
+use Rattle.std.proofs.Common.{◌∙◌, sym, subst}
 use Rattle.declarations.specs.Applied.{AreApplied}
 use Rattle.candidate_assembly.specs.Solving.{Solving}
 use Rattle.candidate_assembly.specs.declared.solver.Solver.{Solver}
@@ -7,9 +7,8 @@ use Rattle.sessions.proofs.Posing.{over-ok}
 use Rattle.candidate_assembly.specs.SolverMeaning.{solver_by_view}
 use Rattle.sessions.specs.Frames.{QuestionInFrames}
 use Rattle.sessions.proofs.FramesStarted.{asked-none}
-use Rattle.infer_table.proofs.FullFacts.{handed-on}
-use Rattle.sessions.proofs.ShortCalls.{either, short-of-terms, more-variables}
 use Rattle.solver_context.proofs.Growing.{limits-further}
+use Rattle.sessions.proofs.ShortCalls.{handed-by-terms}
 use Rattle.sessions.proofs.proving.prove_question.Goals as goal
 
 pub lower_in-requires-clause-ready : goal.lower_in-requires-clause-ready
@@ -69,16 +68,11 @@ returns-clause-frames c = λ q is.
     (c.rest_laws.ensures.meaning c.args.cx.now c.lower_in.new.cx c.requires.rest.ready c.lower_in.ensures.advances)
     (c.prove_lowered.ensures.frames q (c.in_ok-lowered.ensures.lowered q is))
 
-pub returns-in_err-lowered-clause-full : goal.returns-in_err-lowered-clause-full
-returns-in_err-lowered-clause-full c = λ q is e.
-    either (handed-on c.from_residual.result c.from_residual.ensures.1 (λ p. c.in_err-lowered.ensures.full q is (ap Err p)) e)
-    (short-of-terms solver_by_view c.lower_in.new.cx) (more-variables q)
-
-pub returns-clause-full : goal.returns-clause-full
-returns-clause-full c = λ q is e. c.prove_lowered.ensures.full q (c.in_ok-lowered.ensures.lowered q is) e
-
 pub returns-in_err-lowered-clause-limits : goal.returns-in_err-lowered-clause-limits
 returns-in_err-lowered-clause-limits c = c.lower_in.ensures.advances.limits
 
 pub returns-clause-limits : goal.returns-clause-limits
 returns-clause-limits c = limits-further c.args.cx.now c.lower_in.new.cx c.prove_lowered.new.cx c.lower_in.ensures.advances.limits c.prove_lowered.ensures.limits
+
+pub returns-in_err-lowered-clause-full : goal.returns-in_err-lowered-clause-full
+returns-in_err-lowered-clause-full c = handed-by-terms c.lower_in.new.cx c.from_residual.result c.from_residual.ensures.1 c.in_err-lowered.ensures.full

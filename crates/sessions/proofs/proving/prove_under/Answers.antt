@@ -1,4 +1,4 @@
-use Rattle.std.proofs.Common.{◌∙◌, map, refl, sym, subst, ap, Err, inl}
+use Rattle.std.proofs.Common.{◌∙◌, map, refl, sym, subst}
 use Rattle.type_terms.specs.Kept.{args-held-later, has-later}
 use Rattle.type_terms.specs.Kinds.{arg_trees}
 use Rattle.type_terms.specs.Terms.{Has, args_lists}
@@ -14,9 +14,8 @@ use Rattle.sessions.specs.Goals.{goal_of}
 use Rattle.sessions.proofs.Posing.{over-ok, args-later, goal-answered, goal-held, same-asked}
 use Rattle.candidate_assembly.specs.SolverMeaning.{solver_by_view}
 use Rattle.sessions.proofs.FramesStarted.{asked-none, settles-same}
-use Rattle.infer_table.proofs.FullFacts.{handed-on}
-use Rattle.sessions.proofs.ShortCalls.{either, short-of-terms}
 use Rattle.solver_context.proofs.Growing.{limits-further}
+use Rattle.sessions.proofs.ShortCalls.{handed-by-terms}
 use Rattle.sessions.proofs.proving.prove_under.Goals as goal
 
 pub question_table_in-requires : goal.question_table_in-requires
@@ -106,16 +105,11 @@ returns-clause-frames c =
     ∙ same-asked (references_in new rs) (references_in old rs) (reference_in new r) (reference_in old r) (all-same old new k rs c.requires.clauses) (reference-same old new k r c.requires.asked))
     c.ask_for.ensures.frames
 
-pub returns-in_err-table-clause-full : goal.returns-in_err-table-clause-full
-returns-in_err-table-clause-full c = λ q.
-    either (handed-on c.from_residual-in_err-table.result c.from_residual-in_err-table.ensures.1 (λ p. c.in_err-table.ensures.full (ap Err p)) q)
-    (short-of-terms solver_by_view c.question_table_in.new.cx) (λ m. m)
-
-pub returns-clause-full : goal.returns-clause-full
-returns-clause-full c = λ q. inl (c.ask_for.ensures.full q)
-
 pub returns-in_err-table-clause-limits : goal.returns-in_err-table-clause-limits
 returns-in_err-table-clause-limits c = c.question_table_in.ensures.advances.limits
 
 pub returns-clause-limits : goal.returns-clause-limits
 returns-clause-limits c = limits-further c.args.cx.now c.question_table_in.new.cx c.ask_for.new.cx c.question_table_in.ensures.advances.limits c.ask_for.ensures.limits
+
+pub returns-in_err-table-clause-full : goal.returns-in_err-table-clause-full
+returns-in_err-table-clause-full c = handed-by-terms c.question_table_in.new.cx c.from_residual-in_err-table.result c.from_residual-in_err-table.ensures.1 c.in_err-table.ensures.full

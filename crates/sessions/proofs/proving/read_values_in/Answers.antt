@@ -4,10 +4,7 @@ use Rattle.sessions.proofs.proving.read_values_in.Goals as goal
 pub returns-clause-advances : goal.returns-clause-advances
 returns-clause-advances g c =
     c.rest_laws.ensures.interner c.args.cx.now (record { alloc = c.args.cx.now.alloc; interner = c.read_values-read.new.cx; handler = c.args.cx.now.handler; store = c.args.cx.now.store }) c.requires.ready
-    (record { handler = refl; store = refl; entries = c.read_values-read.ensures.keeps; lawful = c.lawful.ensures; limit = c.read_values-read.ensures.limit })
+    (record { handler = refl; store = refl; entries = c.read_values-read.ensures.grew.keeps; lawful = c.lawful.ensures; limit = c.read_values-read.ensures.grew.limit })
 
 pub returns-clause-held : goal.returns-clause-held
 returns-clause-held g c = c.read_values-read.ensures.held
-
-pub returns-clause-full : goal.returns-clause-full
-returns-clause-full g c = c.read_values-read.ensures.full

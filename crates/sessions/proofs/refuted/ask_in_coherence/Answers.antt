@@ -11,8 +11,6 @@ use Rattle.sessions.specs.Frames.{frames_for}
 use Rattle.sessions.proofs.Alone.{alone-is, asked-is, no-proof}
 use Rattle.sessions.proofs.ImpossibleAlone.{left-open}
 use Rattle.std.proofs.Math.Nat.{le_refl}
-use Rattle.infer_table.specs.declared.certainty.TypingMode.TheVariants.{Coherence}
-use Rattle.sessions.proofs.Settled.{or-else, runs-out-more}
 use Rattle.sessions.proofs.ShortCalls.{full-inside}
 use Rattle.sessions.proofs.refuted.ask_in_coherence.Goals as goal
 
@@ -45,16 +43,4 @@ returns-clause-frames g c =
     (c.evaluate_root_goal-evaluated.ensures.costs.frames _ (le_refl _))
 
 pub returns-clause-full : goal.returns-clause-full
-returns-clause-full g c = λ q.
-    let asked : Goal = record { param_env = c.new.result; predicate = record { trait_ref = c.args.asked } } in
-    let is = full-inside c.evaluate_root_goal-evaluated.result c.answer_of.result c.answer_of.ensures.fault q in
-    or-else (runs-out-more (c.evaluate_root_goal-evaluated.ensures.faults.full is) (λ a r. r.found))
-    (λ h. record {
-      mode = Coherence;
-      graph_then = c.args.graph.now;
-      context_then = c.args.cx.now;
-      table_then = c.args.table.now;
-      goal = asked;
-      known = c.evaluate_root_goal-evaluated.ensures.rests.entries;
-      runs_out = h;
-    })
+returns-clause-full g c = full-inside c.evaluate_root_goal-evaluated.new.cx c.evaluate_root_goal-evaluated.result c.answer_of.result c.evaluate_root_goal-evaluated.ensures.faults.full c.answer_of.ensures.fault

@@ -1,4 +1,4 @@
-use Rattle.std.proofs.Common.{rules, ◌≡◌, ◌∙◌, map, ap, Err, inl, length, ◌≤◌, subst}
+use Rattle.std.proofs.Common.{rules, ◌≡◌, ◌∙◌, map, ap}
 use Rattle.std.proofs.Math.Nat.{le-add_right}
 use Rattle.term_folds.specs.Arguments.{arg_sort}
 use Rattle.declarations.specs.Items.{reference_in}
@@ -8,10 +8,8 @@ use Rattle.sessions.specs.Asking.{IsLeftOpen, IsRefusedAlone}
 use Rattle.sessions.specs.Frames.{StartsFramesOfOne}
 use Rattle.sessions.specs.Tables.{table_of}
 use Rattle.sessions.proofs.Alone.{clean-there, known-there, refused-there, reference-is, moved}
-use Rattle.type_terms.specs.declared.TheConstants.{MAX_INDEX}
-use Rattle.infer_table.proofs.FullFacts.{handed-on}
-use Rattle.sessions.proofs.ShortCalls.{either, short-of-terms, many-variables}
 use Rattle.solver_context.proofs.Growing.{limits-further}
+use Rattle.sessions.proofs.ShortCalls.{handed-by-terms}
 use Rattle.sessions.proofs.refuted.refute_lowered.Goals as goal
 
 pub returns-in_err-table-clause-rest : goal.returns-in_err-table-clause-rest
@@ -82,16 +80,8 @@ returns-clause-frames g c =
     (reference-is q old new c.requires.rest.ready.lawful c.question_table_in.ensures.advances.entries l low)
     c.ask_in_coherence.ensures.frames
 
-pub returns-in_err-table-clause-full : goal.returns-in_err-table-clause-full
-returns-in_err-table-clause-full g c = λ q low e.
-    let us = c.args.lowered.now.unknowns.items in
-    let vs : c.deref.result.now ≡ us = search rules in
-    either (handed-on c.from_residual.result c.from_residual.ensures.1 (λ p. c.in_err-table.ensures.full (ap Err p)) e)
-    (short-of-terms g.H.GoalHandler.meaning c.question_table_in.new.cx)
-    (λ m. many-variables c.args.cx.now.interner.entries c.requires.rest.ready.lawful us q low.unknowns_held low.unknowns (subst (λ (xs : _). MAX_INDEX ≤ length xs) vs m))
-
-pub returns-clause-full : goal.returns-clause-full
-returns-clause-full g c = λ q low e. inl (c.ask_in_coherence.ensures.full e)
-
 pub returns-clause-limits : goal.returns-clause-limits
 returns-clause-limits g c = limits-further c.args.cx.now c.question_table_in.new.cx c.ask_in_coherence.new.cx c.question_table_in.ensures.advances.limits c.ask_in_coherence.ensures.limits
+
+pub returns-in_err-table-clause-full : goal.returns-in_err-table-clause-full
+returns-in_err-table-clause-full g c = handed-by-terms c.question_table_in.new.cx c.from_residual.result c.from_residual.ensures.1 c.in_err-table.ensures.full

@@ -1,4 +1,4 @@
-use Rattle.std.proofs.Common.{true, ap, subst, ◌≡◌, Err}
+use Rattle.std.proofs.Common.{true, ap, subst, ◌≡◌}
 use Rattle.std.proofs.Math.Nat.{le-add_right}
 use Rattle.type_terms.specs.Made.{terms, is_made, is_in_range}
 use Rattle.type_terms.specs.Worlds.{Reference}
@@ -7,9 +7,8 @@ use Rattle.view_lowering.specs.Plain.{unbound_reference}
 use Rattle.sessions.specs.Asking.{HasNoProof, IsLeftOpen, IsRefusedAlone, goal_alone}
 use Rattle.sessions.specs.Frames.{StartsFramesOfOne}
 use Rattle.sessions.proofs.Alone.{on-ok}
-use Rattle.infer_table.proofs.FullFacts.{handed-on}
-use Rattle.sessions.proofs.ShortCalls.{either, short-of-terms, more-variables}
 use Rattle.solver_context.proofs.Growing.{limits-further}
+use Rattle.sessions.proofs.ShortCalls.{handed-by-terms}
 use Rattle.sessions.proofs.refuted.refute_question.Goals as goal
 
 pub returns-in_err-lowered-clause-rest : goal.returns-in_err-lowered-clause-rest
@@ -63,13 +62,8 @@ returns-clause-frames g c =
     (c.rest_laws.ensures.meaning c.args.cx.now c.lower_in.new.cx c.requires.rest.ready c.lower_in.ensures.advances)
     (c.refute_lowered.ensures.frames q (c.in_ok-lowered.ensures.lowered q is))
 
-pub returns-in_err-lowered-clause-full : goal.returns-in_err-lowered-clause-full
-returns-in_err-lowered-clause-full g c = λ q is e.
-    either (handed-on c.from_residual.result c.from_residual.ensures.1 (λ p. c.in_err-lowered.ensures.full q is (ap Err p)) e)
-    (short-of-terms g.H.GoalHandler.meaning c.lower_in.new.cx) (more-variables q)
-
-pub returns-clause-full : goal.returns-clause-full
-returns-clause-full g c = λ q is e. c.refute_lowered.ensures.full q (c.in_ok-lowered.ensures.lowered q is) e
-
 pub returns-clause-limits : goal.returns-clause-limits
 returns-clause-limits g c = limits-further c.args.cx.now c.lower_in.new.cx c.refute_lowered.new.cx c.lower_in.ensures.advances.limits c.refute_lowered.ensures.limits
+
+pub returns-in_err-lowered-clause-full : goal.returns-in_err-lowered-clause-full
+returns-in_err-lowered-clause-full g c = handed-by-terms c.lower_in.new.cx c.from_residual.result c.from_residual.ensures.1 c.in_err-lowered.ensures.full

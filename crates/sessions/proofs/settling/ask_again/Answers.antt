@@ -1,7 +1,6 @@
-use Rattle.std.proofs.Common.{rules, ◌≡◌, ◌+◌, ◌-◌, suc, ap, Ok, Err}
-use Rattle.infer_table.proofs.FullFacts.{handed-on}
+use Rattle.std.proofs.Common.{rules, ◌≡◌, ◌+◌, ◌-◌, suc, Ok}
 use Rattle.sessions.specs.declared.settling.Asking.TheVariants as asking
-use Rattle.sessions.proofs.Settled.{or-else, asked-further, proved-further, first-out, later-out}
+use Rattle.sessions.proofs.Settled.{asked-further, proved-further}
 use Rattle.sessions.specs.declared.settling.TheConstants.{MAX_ASKINGS}
 use Rattle.sessions.proofs.FramesStarted.{one-less, once, again, as-many, asked-none}
 use Rattle.sessions.proofs.settling.ask_again.Goals as goal
@@ -17,12 +16,6 @@ returns-in-Holds-clause-asked g c =
 pub returns-in-IsUnsure-clause-asked : goal.returns-in-IsUnsure-clause-asked
 returns-in-IsUnsure-clause-asked g c =
     asked-further g.H.GoalHandler.meaning c.args.graph.now c.loop-asking.graph c.ask_once.new.graph c.args.cache.now c.loop-asking.cache c.ask_once.new.cache c.args.cx.now c.loop-asking.cx c.ask_once.new.cx c.args.table.now c.loop-asking.table c.ask_once.new.table c.loop-asking.invariant.asked c.ask_once.ensures.asked
-
-pub returns-in_err-ask_once-clause-full : goal.returns-in_err-ask_once-clause-full
-returns-in_err-ask_once-clause-full g c = λ q.
-    or-else (handed-on c.from_residual.result c.from_residual.ensures.1 (λ p. c.in_err-ask_once.ensures.full (ap Err p)) q)
-    (λ h. later-out g.H.GoalHandler.meaning c.args.graph.now c.loop-asking.graph c.args.cache.now c.loop-asking.cache c.args.cx.now c.loop-asking.cx c.ask_once.new.cx c.args.table.now c.loop-asking.table c.args.goal.now c.loop-asking.invariant.asked
-    (first-out g.H.GoalHandler.meaning c.loop-asking.graph c.loop-asking.cache c.loop-asking.cx c.ask_once.new.cx c.loop-asking.table c.args.goal.now c.ask_once.ensures.asked.entries h))
 
 pub returns-in-Holds-clause-proved : goal.returns-in-Holds-clause-proved
 returns-in-Holds-clause-proved g c = λ _.

@@ -1,12 +1,11 @@
-use Rattle.std.proofs.Common.{rules, ◌≡◌, ◌∙◌, sym, inr, Err}
+use Rattle.std.proofs.Common.{◌∙◌, sym, inr, ap}
 use Rattle.infer_table.specs.Unification.{table_trees}
 use Rattle.infer_table.proofs.Numbers.{goal-held-later}
 use Rattle.std.proofs.Math.Nat.{le_refl}
 use Rattle.solver_context.proofs.WithoutCanonical.{evaluations-keep-out}
 use Rattle.solver_context.specs.Roots.{goal_in}
 use Rattle.solver_context.specs.declared.outcome.RootError.TheVariants as Root
-use Rattle.type_terms.specs.declared.Fault.TheVariants.{Full}
-use Rattle.sessions.proofs.Settled.{not-definite-changed, not-definite-unsure, runs-out-more, ok-same, narrows-refused, clean-refused, proved-once}
+use Rattle.sessions.proofs.Settled.{not-definite-changed, not-definite-unsure, ok-same, narrows-refused, clean-refused, proved-once}
 use Rattle.sessions.proofs.FrameBounds.{older-are-terms}
 use Rattle.sessions.proofs.settling.ask_once.Goals as goal
 
@@ -127,11 +126,6 @@ returns-in-Ok-clause-unsure g c = λ e.
     let a = c.in-Ok.ensures.says.answer in
     inr (a.0, a.1.found, not-definite-unsure a.0 (λ q. c.read.ensures.unsure (ok-same e) (a.2.certainty ∙ q)))
 
-pub returns-in-Err-Fault-clause-full : goal.returns-in-Err-Fault-clause-full
-returns-in-Err-Fault-clause-full g c = λ e.
-    let is : c.evaluate_root_goal.result ≡ Err (Root.Fault Full) = search rules in
-    runs-out-more (c.evaluate_root_goal.ensures.faults.full is) (λ a r. r.found)
-
 pub returns-in-Ok-clause-frames : goal.returns-in-Ok-clause-frames
 returns-in-Ok-clause-frames g c = c.evaluate_root_goal.ensures.costs.frames _ (le_refl _)
 
@@ -148,3 +142,6 @@ pub returns-in-Ok-clause-left : goal.returns-in-Ok-clause-left
 returns-in-Ok-clause-left g c = λ _.
     let a = c.in-Ok.ensures.says.answer in
     (a.0, a.1.found, a.3, older-are-terms _ _ c.evaluate_root_goal.ensures.rests.table.older)
+
+pub returns-in-Err-Fault-clause-full : goal.returns-in-Err-Fault-clause-full
+returns-in-Err-Fault-clause-full g c = λ q. c.in-Err-Fault.ensures.faults.full (c.in-Err-Fault.field-0-is ∙ ap Root.Fault q)

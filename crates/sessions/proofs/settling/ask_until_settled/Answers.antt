@@ -1,15 +1,9 @@
-use Rattle.std.proofs.Common.{rules, ◌≡◌, ◌-◌, suc, refl, ap, Ok, Err}
-use Rattle.infer_table.proofs.FullFacts.{handed-on}
-use Rattle.sessions.proofs.Settled.{or-else, asked-further, proved-further, first-out, later-out}
+use Rattle.std.proofs.Common.{rules, ◌≡◌, ◌-◌, suc, refl, Ok}
+use Rattle.sessions.proofs.Settled.{asked-further, proved-further}
 use Rattle.sessions.specs.declared.settling.TheConstants.{MAX_ASKINGS}
 use Rattle.sessions.specs.declared.settling.Asking.TheVariants as asking
 use Rattle.sessions.proofs.FramesStarted.{once, again, as-many}
 use Rattle.sessions.proofs.settling.ask_until_settled.Goals as goal
-
-pub returns-in_err-ask_once-clause-full : goal.returns-in_err-ask_once-clause-full
-returns-in_err-ask_once-clause-full g c = λ q.
-    or-else (handed-on c.from_residual.result c.from_residual.ensures.1 (λ p. c.in_err-ask_once.ensures.full (ap Err p)) q)
-    (λ h. first-out g.H.GoalHandler.meaning c.args.graph.now c.args.cache.now c.args.cx.now c.ask_once.new.cx c.args.table.now c.args.goal.now c.ask_once.ensures.asked.entries h)
 
 pub returns-in-Changes-clause-asked : goal.returns-in-Changes-clause-asked
 returns-in-Changes-clause-asked g c =
@@ -21,11 +15,6 @@ returns-in-Changes-clause-proved g c = λ e.
     proved-further g.H.GoalHandler.meaning (g.H.GoalHandler.meaning.world c.args.cx.now.handler c.args.cx.now.interner.entries) (g.H.GoalHandler.meaning.world c.ask_once.new.cx.handler c.ask_once.new.cx.interner.entries)
     c.ask_once.ensures.asked.keeps.world c.args.graph.now c.ask_once.new.graph c.args.cache.now c.ask_once.new.cache c.args.cx.now c.ask_once.new.cx c.ask_again.new.cx
     c.args.table.now c.ask_once.new.table c.ask_again.new.table c.args.goal.now c.requires.goal c.ask_once.ensures.asked (c.ask_again.ensures.proved e)
-
-pub returns-in-Changes-clause-full : goal.returns-in-Changes-clause-full
-returns-in-Changes-clause-full g c = λ e.
-    or-else (c.ask_again.ensures.full e)
-    (λ h. later-out g.H.GoalHandler.meaning c.args.graph.now c.ask_once.new.graph c.args.cache.now c.ask_once.new.cache c.args.cx.now c.ask_once.new.cx c.ask_again.new.cx c.args.table.now c.ask_once.new.table c.args.goal.now c.ask_once.ensures.asked h)
 
 pub returns-in_err-ask_once-clause-frames : goal.returns-in_err-ask_once-clause-frames
 returns-in_err-ask_once-clause-frames g c =

@@ -14,12 +14,12 @@ unknowns-preserved c =
     let now = c.unknowns.cx.entries in
     let next = c.equate.new.cx.entries in
     let inv = c.unknowns.invariant in
-    let k = c.equate.ensures.keeps in
+    let k = c.equate.ensures.grew.keeps in
     let left = subst (ArgsHeld now) c.in-Some.ensures.cases.0 inv.left_held in
     let given = subst (ArgsHeld now) c.in-Some-split_first.ensures.cases.0 inv.given_held in
     record {
       keeps = λ j e h. k j e (inv.keeps j e h);
-      limit = c.equate.ensures.limit ∙ inv.limit;
+      limit = c.equate.ensures.grew.limit ∙ inv.limit;
       ready = c.equate.ensures.ready;
       left_held = args-held-later now next k c.in-Some.unknowns_left.now left.1;
       given_held = args-held-later now next k c.in-Some-split_first.values_left.now given.1;

@@ -1,16 +1,13 @@
-use Rattle.std.proofs.Common.{◌≡◌, ◌∙◌, refl, List}
+use Rattle.std.proofs.Common.{List}
 use Rattle.type_terms.specs.Kept.{args-held-later}
 use Rattle.type_terms.specs.Terms.{Entry}
-use Rattle.declarations.specs.Items.{reference_in}
-use Rattle.declarations.proofs.Growth.{reference-kept, reference-same, references-kept}
-use Rattle.proof_checker.specs.Steps.{term_of, terms_of}
-use Rattle.proof_checker.proofs.Later.{steps-kept, terms-same}
+use Rattle.declarations.proofs.Growth.{reference-kept, references-kept}
+use Rattle.proof_checker.proofs.Later.{steps-kept}
 use Rattle.proof_checker.proofs.Results.{mapped}
 use Rattle.solver_context.proofs.Growing.{further}
 use Rattle.candidate_assembly.specs.Ready.{AreReadyDeclarations}
 use Rattle.candidate_assembly.specs.declared.solver.Solver.{Solver}
-use Rattle.sessions.specs.Checking.{rules_in}
-use Rattle.sessions.proofs.ShownProofs.{rules-later, shown-under}
+use Rattle.sessions.proofs.ShownProofs.{shown-under}
 use Rattle.sessions.proofs.shown.is_proof_under.Goals as goal
 
 abbrev ready : Solver → List Entry → Type 0

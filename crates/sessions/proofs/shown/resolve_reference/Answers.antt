@@ -21,5 +21,5 @@ returns-clause-resolved c =
       table = t;
       ready = c.in_ok-equate_all.ensures.ready;
       trait = refl;
-      args = ap first_trees c.in_ok-args.ensures.resolved ∙ ap (resolved (content fs t.values)) (trees-later es fs c.equate_all.ensures.keeps args_lists c.args.reference.args.0 c.requires.reference);
+      args = ap first_trees c.in_ok-args.ensures.resolved ∙ ap (resolved (content fs t.values)) (trees-later es fs c.equate_all.ensures.grew.keeps args_lists c.args.reference.args.0 c.requires.reference);
     }

@@ -1,4 +1,4 @@
-use Rattle.std.proofs.Common.{◌+◌, ap, ◌∙◌, sym, subst, Err, inl, arith, inr, length, ◌≤◌}
+use Rattle.std.proofs.Common.{◌+◌, ap, ◌∙◌, sym, subst}
 use Rattle.declarations.specs.Applied.{TraitRefsHeld, references_in}
 use Rattle.declarations.specs.Held.{ReferenceHeld}
 use Rattle.declarations.specs.Items.{reference_in}
@@ -10,8 +10,6 @@ use Rattle.sessions.specs.Supertraits.{IsFirstTold, SolverTells}
 use Rattle.sessions.specs.declared.settling.Outcome.TheVariants.{Proved, Unproved, Maybe}
 use Rattle.sessions.proofs.HeaderChecks.{first-told, more-told, told-of}
 use Rattle.sessions.proofs.Lists.{each-here}
-use Rattle.infer_table.proofs.FullFacts.{handed-on}
-use Rattle.type_terms.specs.declared.TheConstants.{MAX_INDEX}
 use Rattle.solver_context.proofs.Growing.{limits-further}
 use Rattle.sessions.proofs.supertraits.first_unproved.Goals as goal
 
@@ -89,11 +87,3 @@ loop-supertrait-preserved c =
       place = c.in_ok-place.ensures.next ∙ ap (λ n. n + 1) inv.place;
       told = more-told s depth F old xs c.loop-supertrait.supertrait-index item c.supertrait-item.is c.loop-supertrait-test.true inv.told told;
     }
-
-pub returns-in_err-place-clause-full : goal.returns-in_err-place-clause-full
-returns-in_err-place-clause-full c =
-    handed-on c.from_residual.result c.from_residual.ensures.1
-    (λ p. inr (subst (λ (rs : _). MAX_INDEX ≤ length rs) c.deref-supertrait-items.ensures.value (omega (arith, c.in_err-place.ensures.full (ap Err p), c.loop-supertrait.invariant.place, c.loop-supertrait-test.true))))
-
-pub returns-in_err-ask_under-clause-full : goal.returns-in_err-ask_under-clause-full
-returns-in_err-ask_under-clause-full c = handed-on c.from_residual-in_err-ask_under.result c.from_residual-in_err-ask_under.ensures.1 (λ p. inl (c.in_err-ask_under.ensures.full (ap Err p)))

@@ -1,5 +1,6 @@
-use Rattle.std.proofs.Common.{◌∙◌, ap, sym, subst, Err, inl}
+use Rattle.std.proofs.Common.{◌∙◌, ap, sym, subst}
 use Rattle.type_terms.specs.Worlds.{World}
+use Rattle.term_folds.proofs.Grown.{grew-on}
 use Rattle.declarations.specs.Applied.{TraitRefsHeld, AreApplied, references_in}
 use Rattle.declarations.specs.Elaboration.{elaborate, supertraits}
 use Rattle.declarations.specs.Items.{reference_in, written}
@@ -7,15 +8,14 @@ use Rattle.declarations.proofs.Bounded.{all-same}
 use Rattle.declarations.proofs.Elaborating.{have-bounds-later}
 use Rattle.declarations.proofs.Growth.{all-held, all-written, references-kept}
 use Rattle.sessions.proofs.OpaqueFound.{header-applies, clauses-apply}
-use Rattle.infer_table.proofs.FullFacts.{handed-on}
 use Rattle.sessions.proofs.supertraits.goals_of.Goals as goal
 
 pub supertraits-requires-clause-held : goal.supertraits-requires-clause-held
-supertraits-requires-clause-held c = all-held c.args.cx.now.entries c.opaque_impl.new.cx.entries c.opaque_impl.ensures.keeps c.args.declarations.now c.requires.ready.held
+supertraits-requires-clause-held c = all-held c.args.cx.now.entries c.opaque_impl.new.cx.entries c.opaque_impl.ensures.grew.keeps c.args.declarations.now c.requires.ready.held
 
 pub supertraits-requires-clause-bounds : goal.supertraits-requires-clause-bounds
 supertraits-requires-clause-bounds c =
-    have-bounds-later c.args.cx.now.entries c.opaque_impl.new.cx.entries c.opaque_impl.ensures.keeps c.args.declarations.now c.requires.ready.held c.requires.ready.bounds
+    have-bounds-later c.args.cx.now.entries c.opaque_impl.new.cx.entries c.opaque_impl.ensures.grew.keeps c.args.declarations.now c.requires.ready.held c.requires.ready.bounds
 
 pub supertraits-requires-clause-reference : goal.supertraits-requires-clause-reference
 supertraits-requires-clause-reference c = c.in_ok-opaque.ensures.is.header_held
@@ -28,16 +28,16 @@ supertraits-requires-clause-applied c =
 
 pub elaborate-requires-clause-held : goal.elaborate-requires-clause-held
 elaborate-requires-clause-held c =
-    all-held c.args.cx.now.entries c.supertraits.new.cx.entries (λ i e h. c.supertraits.ensures.keeps i e (c.opaque_impl.ensures.keeps i e h)) c.args.declarations.now c.requires.ready.held
+    all-held c.args.cx.now.entries c.supertraits.new.cx.entries (λ i e h. c.supertraits.ensures.grew.keeps i e (c.opaque_impl.ensures.grew.keeps i e h)) c.args.declarations.now c.requires.ready.held
 
 pub elaborate-requires-clause-bounds : goal.elaborate-requires-clause-bounds
 elaborate-requires-clause-bounds c =
-    have-bounds-later c.args.cx.now.entries c.supertraits.new.cx.entries (λ i e h. c.supertraits.ensures.keeps i e (c.opaque_impl.ensures.keeps i e h)) c.args.declarations.now c.requires.ready.held c.requires.ready.bounds
+    have-bounds-later c.args.cx.now.entries c.supertraits.new.cx.entries (λ i e h. c.supertraits.ensures.grew.keeps i e (c.opaque_impl.ensures.grew.keeps i e h)) c.args.declarations.now c.requires.ready.held c.requires.ready.bounds
 
 pub elaborate-requires-clause-references : goal.elaborate-requires-clause-references
 elaborate-requires-clause-references c =
     let two = c.supertraits.new.cx.entries in
-    subst (TraitRefsHeld two) (sym c.deref.ensures.value) (references-kept c.opaque_impl.new.cx.entries two c.supertraits.ensures.keeps c.in_ok-opaque.opaque.clauses.items c.in_ok-opaque.ensures.is.clauses_held)
+    subst (TraitRefsHeld two) (sym c.deref.ensures.value) (references-kept c.opaque_impl.new.cx.entries two c.supertraits.ensures.grew.keeps c.in_ok-opaque.opaque.clauses.items c.in_ok-opaque.ensures.is.clauses_held)
 
 pub elaborate-requires-clause-applied : goal.elaborate-requires-clause-applied
 elaborate-requires-clause-applied c =
@@ -47,16 +47,16 @@ elaborate-requires-clause-applied c =
     let rs = c.in_ok-opaque.opaque.clauses.items in
     let is = c.in_ok-opaque.ensures.is in
     subst (AreApplied two c.args.declarations.now) (sym c.deref.ensures.value)
-    (clauses-apply c.args.declarations.now (reference_in es c.args.def.now.header) (references_in es c.args.def.now.clauses.items) c.requires.applied two rs (all-same one two c.supertraits.ensures.keeps rs is.clauses_held ∙ is.clauses))
+    (clauses-apply c.args.declarations.now (reference_in es c.args.def.now.header) (references_in es c.args.def.now.clauses.items) c.requires.applied two rs (all-same one two c.supertraits.ensures.grew.keeps rs is.clauses_held ∙ is.clauses))
 
-pub returns-in_err-supertraits-clause-keeps : goal.returns-in_err-supertraits-clause-keeps
-returns-in_err-supertraits-clause-keeps c = λ i e h. c.supertraits.ensures.keeps i e (c.opaque_impl.ensures.keeps i e h)
+pub returns-in_err-supertraits-clause-grew : goal.returns-in_err-supertraits-clause-grew
+returns-in_err-supertraits-clause-grew c = grew-on c.opaque_impl.ensures.grew c.supertraits.ensures.grew
 
-pub returns-in_err-clauses-clause-keeps : goal.returns-in_err-clauses-clause-keeps
-returns-in_err-clauses-clause-keeps c = λ i e h. c.elaborate.ensures.keeps i e (c.supertraits.ensures.keeps i e (c.opaque_impl.ensures.keeps i e h))
+pub returns-in_err-clauses-clause-grew : goal.returns-in_err-clauses-clause-grew
+returns-in_err-clauses-clause-grew c = grew-on c.opaque_impl.ensures.grew (grew-on c.supertraits.ensures.grew c.elaborate.ensures.grew)
 
-pub returns-clause-keeps : goal.returns-clause-keeps
-returns-clause-keeps c = λ i e h. c.elaborate.ensures.keeps i e (c.supertraits.ensures.keeps i e (c.opaque_impl.ensures.keeps i e h))
+pub returns-clause-grew : goal.returns-clause-grew
+returns-clause-grew c = grew-on c.opaque_impl.ensures.grew (grew-on c.supertraits.ensures.grew c.elaborate.ensures.grew)
 
 pub returns-clause-are : goal.returns-clause-are
 returns-clause-are c =
@@ -66,9 +66,9 @@ returns-clause-are c =
     let new = c.elaborate.new.cx.entries in
     let d = c.args.declarations.now in
     let V = written es d in
-    let k1 = c.opaque_impl.ensures.keeps in
-    let k2 = c.supertraits.ensures.keeps in
-    let k3 = c.elaborate.ensures.keeps in
+    let k1 = c.opaque_impl.ensures.grew.keeps in
+    let k2 = c.supertraits.ensures.grew.keeps in
+    let k3 = c.elaborate.ensures.grew.keeps in
     let is = c.in_ok-opaque.ensures.is in
     let rs = c.in_ok-opaque.opaque.clauses.items in
     let supers = c.in_ok-supertraits.supertraits.items in
@@ -80,12 +80,3 @@ returns-clause-are c =
       supertraits_held = references-kept two new k3 supers c.in_ok-supertraits.ensures.held;
       clauses_held = c.in_ok-clauses.ensures.held;
     }
-
-pub returns-in_err-opaque-clause-full : goal.returns-in_err-opaque-clause-full
-returns-in_err-opaque-clause-full c = handed-on c.from_residual.result c.from_residual.ensures.1 (λ p. c.in_err-opaque.ensures.full (ap Err p))
-
-pub returns-in_err-supertraits-clause-full : goal.returns-in_err-supertraits-clause-full
-returns-in_err-supertraits-clause-full c = handed-on c.from_residual-in_err-supertraits.result c.from_residual-in_err-supertraits.ensures.1 (λ p. inl (c.in_err-supertraits.ensures.full (ap Err p)))
-
-pub returns-in_err-clauses-clause-full : goal.returns-in_err-clauses-clause-full
-returns-in_err-clauses-clause-full c = handed-on c.from_residual-in_err-clauses.result c.from_residual-in_err-clauses.ensures.1 (λ p. inl (c.in_err-clauses.ensures.full (ap Err p)))

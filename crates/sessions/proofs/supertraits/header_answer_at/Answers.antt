@@ -1,15 +1,11 @@
-use Rattle.std.proofs.Common.{subst, ap, Err, inl, inr, ◌∙◌, sym}
+use Rattle.std.proofs.Common.{subst}
 use Rattle.declarations.specs.Items.{written}
 use Rattle.candidate_assembly.specs.Fitting.{solving_of}
 use Rattle.sessions.specs.Supertraits.{AreOfOwn}
 use Rattle.sessions.proofs.HeaderChecks.{goals-checked, none-checked}
 use Rattle.sessions.proofs.Posing.{over-ok}
-use Rattle.infer_table.proofs.FullFacts.{handed-on}
-use Rattle.std.specs.Prelude.{Some}
-use Rattle.candidate_assembly.specs.Solving.{Solving}
-use Rattle.sessions.specs.Shortages.{in_supertraits}
-use Rattle.sessions.proofs.ShortCalls.{either}
 use Rattle.solver_context.proofs.Growing.{limits-further}
+use Rattle.sessions.proofs.ShortCalls.{handed-by-terms}
 use Rattle.sessions.proofs.supertraits.header_answer_at.Goals as goal
 
 pub returns-in_err-goals-clause-rest : goal.returns-in_err-goals-clause-rest
@@ -42,18 +38,8 @@ returns-clause-checked c = λ d n depth s.
     (c.rest_laws.ensures.meaning c.args.cx.now c.own_goals_in.new.cx c.requires.rest.ready c.own_goals_in.ensures.advances) c.in-Some.goals goals a h)
     c.first_unproved.ensures.told
 
-pub returns-in_err-goals-clause-full : goal.returns-in_err-goals-clause-full
-returns-in_err-goals-clause-full c = handed-on c.from_residual.result c.from_residual.ensures.1 (λ p. c.in_err-goals.ensures.full (ap Err p))
-
-pub returns-clause-full : goal.returns-clause-full
-returns-clause-full c = λ q.
-    let mid = c.own_goals_in.new.cx in
-    let same = c.first_unproved.ensures.solving ∙ c.rest_laws.ensures.meaning c.args.cx.now mid c.requires.rest.ready c.own_goals_in.ensures.advances in
-    let V = written c.args.cx.now.interner.entries c.args.cx.now.handler.declarations in
-    let goals = subst (AreOfOwn V c.args.cx.now.handler.declarations.local c.args.id.index mid.interner.entries) c.in-Some.is c.in_ok-goals.ensures.goals in
-    either (c.first_unproved.ensures.full q) (λ s. s)
-    (λ m. in_supertraits c.args.id.index mid.interner.entries c.in-Some.goals c.first_unproved.ensures.keeps
-    (subst (λ (s : Solving). AreOfOwn s.view s.crate c.args.id.index mid.interner.entries (Some c.in-Some.goals)) (sym same) goals) m)
-
 pub returns-clause-limits : goal.returns-clause-limits
 returns-clause-limits c = limits-further c.args.cx.now c.own_goals_in.new.cx c.first_unproved.new.cx c.own_goals_in.ensures.advances.limits c.first_unproved.ensures.limits
+
+pub returns-in_err-goals-clause-full : goal.returns-in_err-goals-clause-full
+returns-in_err-goals-clause-full c = handed-by-terms c.own_goals_in.new.cx c.from_residual.result c.from_residual.ensures.1 c.in_err-goals.ensures.full

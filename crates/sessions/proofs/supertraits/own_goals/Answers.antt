@@ -1,9 +1,7 @@
-use Rattle.std.proofs.Common.{◌∙◌, sym, ap, Err, inl}
+use Rattle.std.proofs.Common.{◌∙◌, sym}
 use Rattle.declarations.specs.Items.{impl_in, written}
 use Rattle.overlap_check.proofs.Judged.{found-well}
 use Rattle.sessions.proofs.OpaqueFound.{none-own, of-own, other-crates, stands-there}
-use Rattle.infer_table.proofs.FullFacts.{handed-on}
-use Rattle.sessions.proofs.ShortCalls.{either}
 use Rattle.sessions.proofs.supertraits.own_goals.Goals as goal
 
 pub returns-in_default-clause-goals : goal.returns-in_default-clause-goals
@@ -40,8 +38,3 @@ returns-else-is_local-clause-goals c =
     let es = c.args.cx.now.entries in
     let d = c.args.declarations.now in
     other-crates (written es d) d.local c.args.id.index (impl_in es c.args.id c.in-Some.def.now) (c.in-Some.ensures.written es) (sym c.is_local.ensures ∙ c.if-is_local.false)
-
-pub returns-in_err-goals-clause-full : goal.returns-in_err-goals-clause-full
-returns-in_err-goals-clause-full c = λ q.
-    either (handed-on c.from_residual.result c.from_residual.ensures.1 (λ p. c.in_err-goals.ensures.full (ap Err p)) q)
-    (λ s. s) (λ m. (c.in-Some.def.now, c.in-Some.ensures.is, m))

@@ -1,9 +1,4 @@
 use Rattle.std.proofs.Common.{refl}
-use Rattle.sessions.specs.Shortages.{in_params}
-use Rattle.candidate_assembly.specs.SolverMeaning.{solver_by_view}
-use Rattle.sessions.proofs.ShortCalls.{either, short-of-terms}
-use Rattle.candidate_assembly.specs.declared.solver.Solver.{Solver}
-use Rattle.solver_context.specs.declared.context.SolverCx.{SolverCx}
 use Rattle.sessions.proofs.supertraits.own_goals_in.Goals as goal
 
 pub own_goals-goals-requires-clause-ready : goal.own_goals-goals-requires-clause-ready
@@ -15,12 +10,7 @@ own_goals-goals-requires-clause-applied c = c.requires.applied
 pub returns-clause-advances : goal.returns-clause-advances
 returns-clause-advances c =
     c.rest_laws.ensures.interner c.args.cx.now (record { alloc = c.args.cx.now.alloc; interner = c.own_goals-goals.new.cx; handler = c.args.cx.now.handler; store = c.args.cx.now.store }) c.requires.ready
-    (record { handler = refl; store = refl; entries = c.own_goals-goals.ensures.keeps; lawful = c.lawful.ensures; limit = c.own_goals-goals.ensures.limit })
+    (record { handler = refl; store = refl; entries = c.own_goals-goals.ensures.grew.keeps; lawful = c.lawful.ensures; limit = c.own_goals-goals.ensures.grew.limit })
 
 pub returns-clause-goals : goal.returns-clause-goals
 returns-clause-goals c = c.own_goals-goals.ensures.goals
-
-pub returns-clause-full : goal.returns-clause-full
-returns-clause-full c = λ q.
-    let new : SolverCx Solver = record { alloc = c.args.cx.now.alloc; interner = c.own_goals-goals.new.cx; handler = c.args.cx.now.handler; store = c.args.cx.now.store } in
-    either (c.own_goals-goals.ensures.full q) (short-of-terms solver_by_view new) (in_params c.args.id.index)

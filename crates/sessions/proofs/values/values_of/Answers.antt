@@ -1,4 +1,4 @@
-use Rattle.std.proofs.Common.{◌≡◌, ◌∙◌, refl, ap, List, [], ◌∷◌, Err}
+use Rattle.std.proofs.Common.{◌≡◌, ◌∙◌, refl, ap, List, [], ◌∷◌}
 use Rattle.type_terms.specs.Trees.{Trees, none}
 use Rattle.type_terms.specs.Kinds.{ArgHeld, arg_trees}
 use Rattle.type_terms.specs.Kept.{arg-held-later, arg-trees-later, args-held-later}
@@ -6,7 +6,6 @@ use Rattle.type_terms.specs.Pieces.{Piece}
 use Rattle.infer_table.specs.Content.{content}
 use Rattle.infer_table.specs.Kept.{content-kept}
 use Rattle.infer_table.specs.Solutions.{Binding, resolved}
-use Rattle.infer_table.proofs.Refusals.{handed-on}
 use Rattle.infer_table.proofs.Values.{args-held-push}
 use Rattle.sessions.proofs.Resolved.{held-at, one-more-value}
 use Rattle.sessions.proofs.values.values_of.Goals as goal
@@ -42,7 +41,7 @@ loop-unknown-preserved c =
     let ys = c.loop-unknown.values.items in
     let x = c.unknown-item.result in
     let y = c.in_ok-value.value in
-    let k = c.eager_resolve_vars.ensures.keeps in
+    let k = c.eager_resolve_vars.ensures.grew.keeps in
     let bs = content es c.args.table.now.values in
     let had : ArgHeld es x = rw c.unknown-item.is (held-at es xs i x c.requires.held c.loop-unknown-test.true) in
     let one : arg_trees next y ≡ resolved bs (arg_trees es x) =
@@ -51,11 +50,8 @@ loop-unknown-preserved c =
     ∙ ap (resolved bs) (arg-trees-later es now inv.keeps x had) in
     record {
       keeps = λ j e h. k j e (inv.keeps j e h);
-      limit = c.eager_resolve_vars.ensures.limit ∙ inv.limit;
+      limit = c.eager_resolve_vars.ensures.grew.limit ∙ inv.limit;
       ready = c.eager_resolve_vars.ensures.ready;
       held = rw c.in_ok-push.ensures.items (args-held-push next ys y (args-held-later now next k ys inv.held) c.in_ok-value.ensures.held);
       are = rw c.in_ok-push.ensures.items (one-more-value bs es now next k xs ys i x y c.loop-unknown-test.true c.unknown-item.is inv.held inv.are one);
     }
-
-pub returns-in_err-value-clause-full : goal.returns-in_err-value-clause-full
-returns-in_err-value-clause-full c = λ q. handed-on c.from_residual.result c.from_residual.ensures.1 (λ p. c.in_err-value.ensures.full (ap Err p)) q

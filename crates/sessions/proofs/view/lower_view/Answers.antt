@@ -1,9 +1,4 @@
-use Rattle.std.proofs.Common.{ap, Err}
-use Rattle.infer_table.proofs.FullFacts.{handed-on}
 use Rattle.sessions.proofs.view.lower_view.Goals as goal
-
-pub returns-in_err-decls-clause-full : goal.returns-in_err-decls-clause-full
-returns-in_err-decls-clause-full c = handed-on c.from_residual.result c.from_residual.ensures.1 (λ p. c.in_err-decls.ensures.full (ap Err p))
 
 pub lower-requires-clause-begin : goal.lower-requires-clause-begin
 lower-requires-clause-begin c = c.impls_begin_declared.ensures c.requires.text.0 c.args.workspace.now c.requires.text.1

@@ -1,12 +1,11 @@
-use Rattle.std.proofs.Common.{◌≡◌, refl, sym, ◌∙◌, ap, subst, inl, Err}
+use Rattle.std.proofs.Common.{◌≡◌, refl, sym, ◌∙◌, ap, subst}
 use Rattle.infer_table.specs.Canonical.{canonical_form, goal_leaves}
 use Rattle.infer_table.specs.Goals.{GoalHeld, goal_trees}
-use Rattle.infer_table.proofs.FullFacts.{handed-on, or-then}
 use Rattle.infer_table.specs.Leaves.{labels}
 use Rattle.infer_table.proofs.Numbers.{goal-held-later, goal-trees-later}
-use Rattle.solver_context.specs.Shortages.{GoalHasNoForm, interner, store}
+use Rattle.solver_context.specs.Shortages.{ContextFullAtLimit, interner}
 use Rattle.solver_context.proofs.Growing.{later}
-use Rattle.solver_context.proofs.Shortages.{interner-first}
+use Rattle.solver_context.proofs.Shortages.{handed}
 use Rattle.solver_context.proofs.Later.{keeps-further, goal-in-later}
 use Rattle.solver_context.proofs.asking.ask.Goals as goal
 
@@ -17,36 +16,36 @@ pub returns-in_err-resolved-clause-advances : goal.returns-in_err-resolved-claus
 returns-in_err-resolved-clause-advances g c =
     later g.H.GoalHandler.meaning.IsReady g.met.H.GoalHandler.lawful.ready_kept c.args.cx.now
     (record { alloc = c.args.cx.now.alloc; interner = c.resolve_goal-resolved.new.cx; handler = c.args.cx.now.handler; store = c.args.cx.now.store }) c.requires.ready refl refl
-    c.resolve_goal-resolved.ensures.keeps c.lawful.ensures c.resolve_goal-resolved.ensures.limit
+    c.resolve_goal-resolved.ensures.grew.keeps c.lawful.ensures c.resolve_goal-resolved.ensures.grew.limit
 
 pub canonicalize_goal-canonicalized-requires-clause-held :
     goal.canonicalize_goal-canonicalized-requires-clause-held
 canonicalize_goal-canonicalized-requires-clause-held g c =
-    goal-held-later c.args.cx.now.interner.entries c.resolve_goal-resolved.new.cx.entries c.resolve_goal-resolved.ensures.keeps c.args.goal.now c.requires.goal
+    goal-held-later c.args.cx.now.interner.entries c.resolve_goal-resolved.new.cx.entries c.resolve_goal-resolved.ensures.grew.keeps c.args.goal.now c.requires.goal
 
 pub returns-in_err-input-clause-advances : goal.returns-in_err-input-clause-advances
 returns-in_err-input-clause-advances g c =
     later g.H.GoalHandler.meaning.IsReady g.met.H.GoalHandler.lawful.ready_kept c.args.cx.now
     (record { alloc = c.args.cx.now.alloc; interner = c.canonicalize_goal-canonicalized.new.cx; handler = c.args.cx.now.handler; store = c.args.cx.now.store }) c.requires.ready refl refl
-    (keeps-further c.args.cx.now.interner.entries c.resolve_goal-resolved.new.cx.entries c.canonicalize_goal-canonicalized.new.cx.entries c.resolve_goal-resolved.ensures.keeps
-    c.canonicalize_goal-canonicalized.ensures.keeps) c.lawful-2.ensures (c.canonicalize_goal-canonicalized.ensures.limit ∙ c.resolve_goal-resolved.ensures.limit)
+    (keeps-further c.args.cx.now.interner.entries c.resolve_goal-resolved.new.cx.entries c.canonicalize_goal-canonicalized.new.cx.entries c.resolve_goal-resolved.ensures.grew.keeps
+    c.canonicalize_goal-canonicalized.ensures.grew.keeps) c.lawful-2.ensures (c.canonicalize_goal-canonicalized.ensures.grew.limit ∙ c.resolve_goal-resolved.ensures.grew.limit)
 
 pub keep_goal-requires-clause-ready : goal.keep_goal-requires-clause-ready
 keep_goal-requires-clause-ready g c =
     (later g.H.GoalHandler.meaning.IsReady g.met.H.GoalHandler.lawful.ready_kept c.args.cx.now
     (record { alloc = c.args.cx.now.alloc; interner = c.canonicalize_goal-canonicalized.new.cx; handler = c.args.cx.now.handler; store = c.args.cx.now.store }) c.requires.ready refl refl
-    (keeps-further c.args.cx.now.interner.entries c.resolve_goal-resolved.new.cx.entries c.canonicalize_goal-canonicalized.new.cx.entries c.resolve_goal-resolved.ensures.keeps
-    c.canonicalize_goal-canonicalized.ensures.keeps) c.lawful-2.ensures (c.canonicalize_goal-canonicalized.ensures.limit ∙ c.resolve_goal-resolved.ensures.limit)).ready
+    (keeps-further c.args.cx.now.interner.entries c.resolve_goal-resolved.new.cx.entries c.canonicalize_goal-canonicalized.new.cx.entries c.resolve_goal-resolved.ensures.grew.keeps
+    c.canonicalize_goal-canonicalized.ensures.grew.keeps) c.lawful-2.ensures (c.canonicalize_goal-canonicalized.ensures.grew.limit ∙ c.resolve_goal-resolved.ensures.grew.limit)).ready
 
 pub returns-clause-held : goal.returns-clause-held
 returns-clause-held g c =
     subst (λ z. GoalHeld z.entries c.in_ok-resolved.resolved) (sym c.keep_goal.ensures.interner)
-    (goal-held-later c.resolve_goal-resolved.new.cx.entries c.canonicalize_goal-canonicalized.new.cx.entries c.canonicalize_goal-canonicalized.ensures.keeps c.in_ok-resolved.resolved c.in_ok-resolved.ensures.held)
+    (goal-held-later c.resolve_goal-resolved.new.cx.entries c.canonicalize_goal-canonicalized.new.cx.entries c.canonicalize_goal-canonicalized.ensures.grew.keeps c.in_ok-resolved.resolved c.in_ok-resolved.ensures.held)
 
 pub returns-clause-resolved : goal.returns-clause-resolved
 returns-clause-resolved g c =
     ap (λ z. goal_trees z.entries c.in_ok-resolved.resolved) c.keep_goal.ensures.interner
-    ∙ goal-trees-later c.resolve_goal-resolved.new.cx.entries c.canonicalize_goal-canonicalized.new.cx.entries c.canonicalize_goal-canonicalized.ensures.keeps c.in_ok-resolved.resolved c.in_ok-resolved.ensures.held
+    ∙ goal-trees-later c.resolve_goal-resolved.new.cx.entries c.canonicalize_goal-canonicalized.new.cx.entries c.canonicalize_goal-canonicalized.ensures.grew.keeps c.in_ok-resolved.resolved c.in_ok-resolved.ensures.held
     ∙ c.in_ok-resolved.ensures.resolved
 
 pub returns-clause-input : goal.returns-clause-input
@@ -56,7 +55,7 @@ returns-clause-input g c = (
       ∙ pair _ _ _ _ c.in_ok-input.ensures.mode
       (c.in_ok-input.ensures.form.form
       ∙ ap canonical_form
-      (goal-in-later c.args.cx.now.interner.entries c.resolve_goal-resolved.new.cx.entries c.resolve_goal-resolved.ensures.keeps c.args.table.now c.requires.table c.args.goal.now c.requires.goal)),
+      (goal-in-later c.args.cx.now.interner.entries c.resolve_goal-resolved.new.cx.entries c.resolve_goal-resolved.ensures.grew.keeps c.args.table.now c.requires.table c.args.goal.now c.requires.goal)),
 )
 
 pub returns-clause-values : goal.returns-clause-values
@@ -64,20 +63,12 @@ returns-clause-values g c =
     ap (λ z. labels z.entries c.in_ok-input.field-0.values.items) c.keep_goal.ensures.interner
     ∙ c.in_ok-input.ensures.values
     ∙ ap goal_leaves
-    (goal-in-later c.args.cx.now.interner.entries c.resolve_goal-resolved.new.cx.entries c.resolve_goal-resolved.ensures.keeps c.args.table.now c.requires.table c.args.goal.now c.requires.goal)
+    (goal-in-later c.args.cx.now.interner.entries c.resolve_goal-resolved.new.cx.entries c.resolve_goal-resolved.ensures.grew.keeps c.args.table.now c.requires.table c.args.goal.now c.requires.goal)
 
 pub returns-in_err-resolved-clause-full : goal.returns-in_err-resolved-clause-full
-returns-in_err-resolved-clause-full g c = λ q. inl (interner (handed-on c.from_residual.result c.from_residual.ensures.1 (λ p. c.in_err-resolved.ensures.full (ap Err p)) q))
+returns-in_err-resolved-clause-full g c = handed (ContextFullAtLimit _) c.from_residual.result c.from_residual.ensures.1 (λ q. interner (c.in_err-resolved.ensures.full q))
 
 pub returns-in_err-input-clause-full : goal.returns-in_err-input-clause-full
-returns-in_err-input-clause-full g c = λ q.
-    let handed = c.from_residual-in_err-input in
-    interner-first _
-    (or-then
-    (λ h. subst GoalHasNoForm (goal-in-later c.args.cx.now.interner.entries c.resolve_goal-resolved.new.cx.entries c.resolve_goal-resolved.ensures.keeps c.args.table.now c.requires.table c.args.goal.now c.requires.goal) h)
-    (handed-on handed.result handed.ensures.1 (λ p. c.in_err-input.ensures.full (ap Err p)) q))
-
-pub returns-in_err-input-2-clause-full : goal.returns-in_err-input-2-clause-full
-returns-in_err-input-2-clause-full g c = λ q.
-    let handed = c.from_residual-in_err-input-2 in
-    inl (store (handed-on handed.result handed.ensures.1 (λ p. c.in_err-input-2.ensures.full (ap Err p)) q))
+returns-in_err-input-clause-full g c =
+    let again = c.from_residual-in_err-input in
+    handed (ContextFullAtLimit _) again.result again.ensures.1 (λ q. interner (c.in_err-input.ensures.full q))

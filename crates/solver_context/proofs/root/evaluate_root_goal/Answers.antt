@@ -1,6 +1,4 @@
-use Rattle.std.proofs.Common.{rules, ◌≡◌, refl, sym, ◌∙◌, ap, subst, inl, Some, None, Result, Err}
-use Rattle.infer_table.proofs.PairFacts.{table-kept}
-use Rattle.evaluation.proofs.Shortages.{same-shortage}
+use Rattle.std.proofs.Common.{rules, ◌≡◌, refl, sym, ◌∙◌, ap, subst, Some, None, Result, Err}
 use Rattle.infer_table.specs.Canonical.{goal_leaves}
 use Rattle.infer_table.specs.Content.{variables_of}
 use Rattle.infer_table.specs.Growth.{grows-refl}
@@ -25,8 +23,8 @@ use Rattle.solver_context.proofs.Answers.{values-are}
 use Rattle.solver_context.proofs.Caches.{justified-later}
 use Rattle.solver_context.proofs.Later.{left-later, values-later}
 use Rattle.solver_context.specs.Contexts.{goal_of}
-use Rattle.solver_context.specs.Shortages.{answer}
-use Rattle.solver_context.proofs.Shortages.{applied-full, asked-full, handed-error, handed-root, out-of-numbers}
+use Rattle.solver_context.specs.Shortages.{RootFullAtLimit, interner}
+use Rattle.solver_context.proofs.Shortages.{equation-full, handed, root-fault}
 use Rattle.solver_context.proofs.Results.{no-frames, no-cost, no-limits, frames-before, free-before, limits-before, result-before, result-later}
 use Rattle.solver_context.proofs.Rooted.{definite, keeps-two, entries-two, keeps-three, right-at, limits-two}
 use Rattle.solver_context.proofs.Searched.{root-proof, root-agrees}
@@ -88,9 +86,7 @@ pub returns-in_err-asked-clause-faults : goal.returns-in_err-asked-clause-faults
 returns-in_err-asked-clause-faults g c = record {
   not_plain = search rules;
   conflict = search rules;
-  full =
-      λ q.
-      asked-full (handed-root c.from_residual.result c.from_residual.ensures.1 (λ p. c.in_err-asked.ensures.full (ap Err p)) q);
+  full = handed (RootFullAtLimit c.ask.new.cx) c.from_residual.result c.from_residual.ensures.1 (root-fault c.in_err-asked.ensures.full);
 }
 
 pub returns-in_err-answer-clause-rests : goal.returns-in_err-answer-clause-rests
@@ -119,10 +115,7 @@ pub returns-in_err-answer-clause-faults : goal.returns-in_err-answer-clause-faul
 returns-in_err-answer-clause-faults g c = record {
   not_plain = search rules;
   conflict = search rules;
-  full =
-      λ q.
-      let handed = c.from_residual-in_err-answer in
-      inl (handed-error handed.result handed.ensures.1 (λ p. c.in_err-answer.ensures.full (ap Err p)) q);
+  full = search rules;
 }
 
 pub returns-in_default-clause-rests : goal.returns-in_default-clause-rests
@@ -164,13 +157,13 @@ pub returns-in-Ok-clause-rests : goal.returns-in-Ok-clause-rests
 returns-in-Ok-clause-rests g c = record {
   empty = search rules;
   depth = search rules;
-  cache = justified-later (solver_meaning g.H.GoalHandler.meaning) c.search.new.cx (record { alloc = c.search.new.cx.alloc; interner = c.apply_answer-applied.new.cx; handler = c.search.new.cx.handler; store = c.search.new.cx.store }) c.search.new.cache (keeps g.H.GoalHandler.meaning g.met.H.GoalHandler.lawful.world_kept c.search.new.cx (record { alloc = c.search.new.cx.alloc; interner = c.apply_answer-applied.new.cx; handler = c.search.new.cx.handler; store = c.search.new.cx.store }) c.search.ensures.ready (later g.H.GoalHandler.meaning.IsReady g.met.H.GoalHandler.lawful.ready_kept c.search.new.cx (record { alloc = c.search.new.cx.alloc; interner = c.apply_answer-applied.new.cx; handler = c.search.new.cx.handler; store = c.search.new.cx.store }) c.search.ensures.ready refl refl c.apply_answer-applied.ensures.keeps c.lawful.ensures c.apply_answer-applied.ensures.limit)) c.search.ensures.cache;
+  cache = justified-later (solver_meaning g.H.GoalHandler.meaning) c.search.new.cx (record { alloc = c.search.new.cx.alloc; interner = c.apply_answer-applied.new.cx; handler = c.search.new.cx.handler; store = c.search.new.cx.store }) c.search.new.cache (keeps g.H.GoalHandler.meaning g.met.H.GoalHandler.lawful.world_kept c.search.new.cx (record { alloc = c.search.new.cx.alloc; interner = c.apply_answer-applied.new.cx; handler = c.search.new.cx.handler; store = c.search.new.cx.store }) c.search.ensures.ready (later g.H.GoalHandler.meaning.IsReady g.met.H.GoalHandler.lawful.ready_kept c.search.new.cx (record { alloc = c.search.new.cx.alloc; interner = c.apply_answer-applied.new.cx; handler = c.search.new.cx.handler; store = c.search.new.cx.store }) c.search.ensures.ready refl refl c.apply_answer-applied.ensures.grew.keeps c.lawful.ensures c.apply_answer-applied.ensures.grew.limit)) c.search.ensures.cache;
   consistent = search rules;
   results = search rules;
-  ready = (later g.H.GoalHandler.meaning.IsReady g.met.H.GoalHandler.lawful.ready_kept c.search.new.cx (record { alloc = c.search.new.cx.alloc; interner = c.apply_answer-applied.new.cx; handler = c.search.new.cx.handler; store = c.search.new.cx.store }) c.search.ensures.ready refl refl c.apply_answer-applied.ensures.keeps c.lawful.ensures c.apply_answer-applied.ensures.limit).ready;
-  keeps = keeps-three g.H.GoalHandler.meaning g.met.H.GoalHandler.lawful.world_kept c.args.cx.now c.ask.new.cx c.search.new.cx c.requires.ready c.ask.ensures.advances c.search.ensures.keeps (record { alloc = c.search.new.cx.alloc; interner = c.apply_answer-applied.new.cx; handler = c.search.new.cx.handler; store = c.search.new.cx.store }) c.search.ensures.ready (later g.H.GoalHandler.meaning.IsReady g.met.H.GoalHandler.lawful.ready_kept c.search.new.cx (record { alloc = c.search.new.cx.alloc; interner = c.apply_answer-applied.new.cx; handler = c.search.new.cx.handler; store = c.search.new.cx.store }) c.search.ensures.ready refl refl c.apply_answer-applied.ensures.keeps c.lawful.ensures c.apply_answer-applied.ensures.limit);
-  entries = λ i e h. c.apply_answer-applied.ensures.keeps i e (entries-two g.H.GoalHandler.meaning g.met.H.GoalHandler.lawful.world_kept c.args.cx.now c.ask.new.cx c.search.new.cx c.requires.ready c.ask.ensures.advances c.search.ensures.keeps i e h);
-  limits = limits-further c.args.cx.now c.search.new.cx (record { alloc = c.search.new.cx.alloc; interner = c.apply_answer-applied.new.cx; handler = c.search.new.cx.handler; store = c.search.new.cx.store }) (limits-two g.H.GoalHandler.meaning g.met.H.GoalHandler.lawful.world_kept c.args.cx.now c.ask.new.cx c.search.new.cx c.requires.ready c.ask.ensures.advances c.search.ensures.keeps) (record { terms = c.apply_answer-applied.ensures.limit; kept = refl });
+  ready = (later g.H.GoalHandler.meaning.IsReady g.met.H.GoalHandler.lawful.ready_kept c.search.new.cx (record { alloc = c.search.new.cx.alloc; interner = c.apply_answer-applied.new.cx; handler = c.search.new.cx.handler; store = c.search.new.cx.store }) c.search.ensures.ready refl refl c.apply_answer-applied.ensures.grew.keeps c.lawful.ensures c.apply_answer-applied.ensures.grew.limit).ready;
+  keeps = keeps-three g.H.GoalHandler.meaning g.met.H.GoalHandler.lawful.world_kept c.args.cx.now c.ask.new.cx c.search.new.cx c.requires.ready c.ask.ensures.advances c.search.ensures.keeps (record { alloc = c.search.new.cx.alloc; interner = c.apply_answer-applied.new.cx; handler = c.search.new.cx.handler; store = c.search.new.cx.store }) c.search.ensures.ready (later g.H.GoalHandler.meaning.IsReady g.met.H.GoalHandler.lawful.ready_kept c.search.new.cx (record { alloc = c.search.new.cx.alloc; interner = c.apply_answer-applied.new.cx; handler = c.search.new.cx.handler; store = c.search.new.cx.store }) c.search.ensures.ready refl refl c.apply_answer-applied.ensures.grew.keeps c.lawful.ensures c.apply_answer-applied.ensures.grew.limit);
+  entries = λ i e h. c.apply_answer-applied.ensures.grew.keeps i e (entries-two g.H.GoalHandler.meaning g.met.H.GoalHandler.lawful.world_kept c.args.cx.now c.ask.new.cx c.search.new.cx c.requires.ready c.ask.ensures.advances c.search.ensures.keeps i e h);
+  limits = limits-further c.args.cx.now c.search.new.cx (record { alloc = c.search.new.cx.alloc; interner = c.apply_answer-applied.new.cx; handler = c.search.new.cx.handler; store = c.search.new.cx.store }) (limits-two g.H.GoalHandler.meaning g.met.H.GoalHandler.lawful.world_kept c.args.cx.now c.ask.new.cx c.search.new.cx c.requires.ready c.ask.ensures.advances c.search.ensures.keeps) (record { terms = c.apply_answer-applied.ensures.grew.limit; kept = refl });
   table = search rules;
   grows = search rules;
 }
@@ -184,13 +177,13 @@ returns-in-Ok-clause-costs g c = record {
 
 pub returns-in-Ok-clause-says : goal.returns-in-Ok-clause-says
 returns-in-Ok-clause-says g c = record {
-  held = goal-held-later c.ask.new.cx.interner.entries c.apply_answer-applied.new.cx.entries (λ i e h. c.apply_answer-applied.ensures.keeps i e (c.search.ensures.keeps.held (of_term i e) h)) c.in_ok-asked.asked.goal c.in_ok-asked.ensures.held;
-  resolved = goal-trees-later c.ask.new.cx.interner.entries c.apply_answer-applied.new.cx.entries (λ i e h. c.apply_answer-applied.ensures.keeps i e (c.search.ensures.keeps.held (of_term i e) h)) c.in_ok-asked.asked.goal c.in_ok-asked.ensures.held ∙ c.in_ok-asked.ensures.resolved;
+  held = goal-held-later c.ask.new.cx.interner.entries c.apply_answer-applied.new.cx.entries (λ i e h. c.apply_answer-applied.ensures.grew.keeps i e (c.search.ensures.keeps.held (of_term i e) h)) c.in_ok-asked.asked.goal c.in_ok-asked.ensures.held;
+  resolved = goal-trees-later c.ask.new.cx.interner.entries c.apply_answer-applied.new.cx.entries (λ i e h. c.apply_answer-applied.ensures.grew.keeps i e (c.search.ensures.keeps.held (of_term i e) h)) c.in_ok-asked.asked.goal c.in_ok-asked.ensures.held ∙ c.in_ok-asked.ensures.resolved;
   answer =
       let d : c.deref.result.now ≡ c.in_ok-asked.asked.values.items = search rules in
       let v = (values-later c.ask.new.cx.interner.entries c.search.new.cx.interner.entries (λ i e h. c.search.ensures.keeps.held (of_term i e) h) c.in_ok-asked.asked.values.items c.deref.result.now d (goal_leaves (goal_in c.args.cx.now.interner.entries c.args.table.now c.args.goal.now)) c.in_ok-asked.ensures.args c.in_ok-asked.ensures.leaves c.in_ok-asked.ensures.values) in (
         (answer_trees c.search.new.cx.interner.entries c.in-Some.answer),
-        (result-later (solver_meaning g.H.GoalHandler.meaning) c.args.cx.now c.search.new.cx (record { alloc = c.search.new.cx.alloc; interner = c.apply_answer-applied.new.cx; handler = c.search.new.cx.handler; store = c.search.new.cx.store }) (keeps g.H.GoalHandler.meaning g.met.H.GoalHandler.lawful.world_kept c.search.new.cx (record { alloc = c.search.new.cx.alloc; interner = c.apply_answer-applied.new.cx; handler = c.search.new.cx.handler; store = c.search.new.cx.store }) c.search.ensures.ready (later g.H.GoalHandler.meaning.IsReady g.met.H.GoalHandler.lawful.ready_kept c.search.new.cx (record { alloc = c.search.new.cx.alloc; interner = c.apply_answer-applied.new.cx; handler = c.search.new.cx.handler; store = c.search.new.cx.store }) c.search.ensures.ready refl refl c.apply_answer-applied.ensures.keeps c.lawful.ensures c.apply_answer-applied.ensures.limit)) c.args.cache.now c.search.new.cache c.search.ensures.cache c.args.graph.now c.search.new.graph (asked_in c.args.mode c.args.cx.now.interner.entries c.args.table.now c.args.goal.now) (Some (answer_trees c.search.new.cx.interner.entries c.in-Some.answer))
+        (result-later (solver_meaning g.H.GoalHandler.meaning) c.args.cx.now c.search.new.cx (record { alloc = c.search.new.cx.alloc; interner = c.apply_answer-applied.new.cx; handler = c.search.new.cx.handler; store = c.search.new.cx.store }) (keeps g.H.GoalHandler.meaning g.met.H.GoalHandler.lawful.world_kept c.search.new.cx (record { alloc = c.search.new.cx.alloc; interner = c.apply_answer-applied.new.cx; handler = c.search.new.cx.handler; store = c.search.new.cx.store }) c.search.ensures.ready (later g.H.GoalHandler.meaning.IsReady g.met.H.GoalHandler.lawful.ready_kept c.search.new.cx (record { alloc = c.search.new.cx.alloc; interner = c.apply_answer-applied.new.cx; handler = c.search.new.cx.handler; store = c.search.new.cx.store }) c.search.ensures.ready refl refl c.apply_answer-applied.ensures.grew.keeps c.lawful.ensures c.apply_answer-applied.ensures.grew.limit)) c.args.cache.now c.search.new.cache c.search.ensures.cache c.args.graph.now c.search.new.graph (asked_in c.args.mode c.args.cx.now.interner.entries c.args.table.now c.args.goal.now) (Some (answer_trees c.search.new.cx.interner.entries c.in-Some.answer))
             (result-before (solver_meaning g.H.GoalHandler.meaning) c.args.cx.now c.ask.new.cx (keeps g.H.GoalHandler.meaning g.met.H.GoalHandler.lawful.world_kept c.args.cx.now c.ask.new.cx c.requires.ready c.ask.ensures.advances) (goal_of c.ask.new.cx c.in_ok-asked.asked.input) (asked_in c.args.mode c.args.cx.now.interner.entries c.args.table.now c.args.goal.now) c.in_ok-asked.ensures.input.1 c.args.graph.now c.search.new.graph c.args.cache.now c.requires.cache c.search.new.cache c.search.new.cx (result_read c.search.new.cx.interner.entries c.in_ok-answer.field-0) (Some (answer_trees c.search.new.cx.interner.entries c.in-Some.answer)) (ap (result_read c.search.new.cx.interner.entries) c.in-Some.is) c.in_ok-answer.ensures.found)),
         record { certainty = refl; has_changed = c.has_changed-changed.ensures },
         left-later c.args.cx.now.interner.entries c.search.new.cx.interner.entries (entries-two g.H.GoalHandler.meaning g.met.H.GoalHandler.lawful.world_kept c.args.cx.now c.ask.new.cx c.search.new.cx c.requires.ready c.ask.ensures.advances c.search.ensures.keeps) c.args.table.now c.requires.table (values_of c.search.new.cx.interner.entries c.deref.result.now) (goal_in c.args.cx.now.interner.entries c.args.table.now c.args.goal.now) (answer_trees c.search.new.cx.interner.entries c.in-Some.answer) (values-are c.search.new.cx.interner.entries c.search.ensures.ready.lawful c.deref.result.now (goal_in c.args.cx.now.interner.entries c.args.table.now c.args.goal.now) v.args v.leaves v.labels_are) ∙ c.in-Ok.ensures.exact,
@@ -215,13 +208,13 @@ pub returns-in-Err-clause-rests : goal.returns-in-Err-clause-rests
 returns-in-Err-clause-rests g c = record {
   empty = search rules;
   depth = search rules;
-  cache = justified-later (solver_meaning g.H.GoalHandler.meaning) c.search.new.cx (record { alloc = c.search.new.cx.alloc; interner = c.apply_answer-applied.new.cx; handler = c.search.new.cx.handler; store = c.search.new.cx.store }) c.search.new.cache (keeps g.H.GoalHandler.meaning g.met.H.GoalHandler.lawful.world_kept c.search.new.cx (record { alloc = c.search.new.cx.alloc; interner = c.apply_answer-applied.new.cx; handler = c.search.new.cx.handler; store = c.search.new.cx.store }) c.search.ensures.ready (later g.H.GoalHandler.meaning.IsReady g.met.H.GoalHandler.lawful.ready_kept c.search.new.cx (record { alloc = c.search.new.cx.alloc; interner = c.apply_answer-applied.new.cx; handler = c.search.new.cx.handler; store = c.search.new.cx.store }) c.search.ensures.ready refl refl c.apply_answer-applied.ensures.keeps c.lawful.ensures c.apply_answer-applied.ensures.limit)) c.search.ensures.cache;
+  cache = justified-later (solver_meaning g.H.GoalHandler.meaning) c.search.new.cx (record { alloc = c.search.new.cx.alloc; interner = c.apply_answer-applied.new.cx; handler = c.search.new.cx.handler; store = c.search.new.cx.store }) c.search.new.cache (keeps g.H.GoalHandler.meaning g.met.H.GoalHandler.lawful.world_kept c.search.new.cx (record { alloc = c.search.new.cx.alloc; interner = c.apply_answer-applied.new.cx; handler = c.search.new.cx.handler; store = c.search.new.cx.store }) c.search.ensures.ready (later g.H.GoalHandler.meaning.IsReady g.met.H.GoalHandler.lawful.ready_kept c.search.new.cx (record { alloc = c.search.new.cx.alloc; interner = c.apply_answer-applied.new.cx; handler = c.search.new.cx.handler; store = c.search.new.cx.store }) c.search.ensures.ready refl refl c.apply_answer-applied.ensures.grew.keeps c.lawful.ensures c.apply_answer-applied.ensures.grew.limit)) c.search.ensures.cache;
   consistent = search rules;
   results = search rules;
-  ready = (later g.H.GoalHandler.meaning.IsReady g.met.H.GoalHandler.lawful.ready_kept c.search.new.cx (record { alloc = c.search.new.cx.alloc; interner = c.apply_answer-applied.new.cx; handler = c.search.new.cx.handler; store = c.search.new.cx.store }) c.search.ensures.ready refl refl c.apply_answer-applied.ensures.keeps c.lawful.ensures c.apply_answer-applied.ensures.limit).ready;
-  keeps = keeps-three g.H.GoalHandler.meaning g.met.H.GoalHandler.lawful.world_kept c.args.cx.now c.ask.new.cx c.search.new.cx c.requires.ready c.ask.ensures.advances c.search.ensures.keeps (record { alloc = c.search.new.cx.alloc; interner = c.apply_answer-applied.new.cx; handler = c.search.new.cx.handler; store = c.search.new.cx.store }) c.search.ensures.ready (later g.H.GoalHandler.meaning.IsReady g.met.H.GoalHandler.lawful.ready_kept c.search.new.cx (record { alloc = c.search.new.cx.alloc; interner = c.apply_answer-applied.new.cx; handler = c.search.new.cx.handler; store = c.search.new.cx.store }) c.search.ensures.ready refl refl c.apply_answer-applied.ensures.keeps c.lawful.ensures c.apply_answer-applied.ensures.limit);
-  entries = λ i e h. c.apply_answer-applied.ensures.keeps i e (entries-two g.H.GoalHandler.meaning g.met.H.GoalHandler.lawful.world_kept c.args.cx.now c.ask.new.cx c.search.new.cx c.requires.ready c.ask.ensures.advances c.search.ensures.keeps i e h);
-  limits = limits-further c.args.cx.now c.search.new.cx (record { alloc = c.search.new.cx.alloc; interner = c.apply_answer-applied.new.cx; handler = c.search.new.cx.handler; store = c.search.new.cx.store }) (limits-two g.H.GoalHandler.meaning g.met.H.GoalHandler.lawful.world_kept c.args.cx.now c.ask.new.cx c.search.new.cx c.requires.ready c.ask.ensures.advances c.search.ensures.keeps) (record { terms = c.apply_answer-applied.ensures.limit; kept = refl });
+  ready = (later g.H.GoalHandler.meaning.IsReady g.met.H.GoalHandler.lawful.ready_kept c.search.new.cx (record { alloc = c.search.new.cx.alloc; interner = c.apply_answer-applied.new.cx; handler = c.search.new.cx.handler; store = c.search.new.cx.store }) c.search.ensures.ready refl refl c.apply_answer-applied.ensures.grew.keeps c.lawful.ensures c.apply_answer-applied.ensures.grew.limit).ready;
+  keeps = keeps-three g.H.GoalHandler.meaning g.met.H.GoalHandler.lawful.world_kept c.args.cx.now c.ask.new.cx c.search.new.cx c.requires.ready c.ask.ensures.advances c.search.ensures.keeps (record { alloc = c.search.new.cx.alloc; interner = c.apply_answer-applied.new.cx; handler = c.search.new.cx.handler; store = c.search.new.cx.store }) c.search.ensures.ready (later g.H.GoalHandler.meaning.IsReady g.met.H.GoalHandler.lawful.ready_kept c.search.new.cx (record { alloc = c.search.new.cx.alloc; interner = c.apply_answer-applied.new.cx; handler = c.search.new.cx.handler; store = c.search.new.cx.store }) c.search.ensures.ready refl refl c.apply_answer-applied.ensures.grew.keeps c.lawful.ensures c.apply_answer-applied.ensures.grew.limit);
+  entries = λ i e h. c.apply_answer-applied.ensures.grew.keeps i e (entries-two g.H.GoalHandler.meaning g.met.H.GoalHandler.lawful.world_kept c.args.cx.now c.ask.new.cx c.search.new.cx c.requires.ready c.ask.ensures.advances c.search.ensures.keeps i e h);
+  limits = limits-further c.args.cx.now c.search.new.cx (record { alloc = c.search.new.cx.alloc; interner = c.apply_answer-applied.new.cx; handler = c.search.new.cx.handler; store = c.search.new.cx.store }) (limits-two g.H.GoalHandler.meaning g.met.H.GoalHandler.lawful.world_kept c.args.cx.now c.ask.new.cx c.search.new.cx c.requires.ready c.ask.ensures.advances c.search.ensures.keeps) (record { terms = c.apply_answer-applied.ensures.grew.limit; kept = refl });
   table = search rules;
   grows = search rules;
 }
@@ -241,7 +234,7 @@ returns-in-Err-clause-refusal g c = record {
       let d : c.deref.result.now ≡ c.in_ok-asked.asked.values.items = search rules in
       let v = (values-later c.ask.new.cx.interner.entries c.search.new.cx.interner.entries (λ i e h. c.search.ensures.keeps.held (of_term i e) h) c.in_ok-asked.asked.values.items c.deref.result.now d (goal_leaves (goal_in c.args.cx.now.interner.entries c.args.table.now c.args.goal.now)) c.in_ok-asked.ensures.args c.in_ok-asked.ensures.leaves c.in_ok-asked.ensures.values) in (
         Some (answer_trees c.search.new.cx.interner.entries c.in-Some.answer),
-        (result-later (solver_meaning g.H.GoalHandler.meaning) c.args.cx.now c.search.new.cx (record { alloc = c.search.new.cx.alloc; interner = c.apply_answer-applied.new.cx; handler = c.search.new.cx.handler; store = c.search.new.cx.store }) (keeps g.H.GoalHandler.meaning g.met.H.GoalHandler.lawful.world_kept c.search.new.cx (record { alloc = c.search.new.cx.alloc; interner = c.apply_answer-applied.new.cx; handler = c.search.new.cx.handler; store = c.search.new.cx.store }) c.search.ensures.ready (later g.H.GoalHandler.meaning.IsReady g.met.H.GoalHandler.lawful.ready_kept c.search.new.cx (record { alloc = c.search.new.cx.alloc; interner = c.apply_answer-applied.new.cx; handler = c.search.new.cx.handler; store = c.search.new.cx.store }) c.search.ensures.ready refl refl c.apply_answer-applied.ensures.keeps c.lawful.ensures c.apply_answer-applied.ensures.limit)) c.args.cache.now c.search.new.cache c.search.ensures.cache c.args.graph.now c.search.new.graph (asked_in c.args.mode c.args.cx.now.interner.entries c.args.table.now c.args.goal.now) (Some (answer_trees c.search.new.cx.interner.entries c.in-Some.answer))
+        (result-later (solver_meaning g.H.GoalHandler.meaning) c.args.cx.now c.search.new.cx (record { alloc = c.search.new.cx.alloc; interner = c.apply_answer-applied.new.cx; handler = c.search.new.cx.handler; store = c.search.new.cx.store }) (keeps g.H.GoalHandler.meaning g.met.H.GoalHandler.lawful.world_kept c.search.new.cx (record { alloc = c.search.new.cx.alloc; interner = c.apply_answer-applied.new.cx; handler = c.search.new.cx.handler; store = c.search.new.cx.store }) c.search.ensures.ready (later g.H.GoalHandler.meaning.IsReady g.met.H.GoalHandler.lawful.ready_kept c.search.new.cx (record { alloc = c.search.new.cx.alloc; interner = c.apply_answer-applied.new.cx; handler = c.search.new.cx.handler; store = c.search.new.cx.store }) c.search.ensures.ready refl refl c.apply_answer-applied.ensures.grew.keeps c.lawful.ensures c.apply_answer-applied.ensures.grew.limit)) c.args.cache.now c.search.new.cache c.search.ensures.cache c.args.graph.now c.search.new.graph (asked_in c.args.mode c.args.cx.now.interner.entries c.args.table.now c.args.goal.now) (Some (answer_trees c.search.new.cx.interner.entries c.in-Some.answer))
             (result-before (solver_meaning g.H.GoalHandler.meaning) c.args.cx.now c.ask.new.cx (keeps g.H.GoalHandler.meaning g.met.H.GoalHandler.lawful.world_kept c.args.cx.now c.ask.new.cx c.requires.ready c.ask.ensures.advances) (goal_of c.ask.new.cx c.in_ok-asked.asked.input) (asked_in c.args.mode c.args.cx.now.interner.entries c.args.table.now c.args.goal.now) c.in_ok-asked.ensures.input.1 c.args.graph.now c.search.new.graph c.args.cache.now c.requires.cache c.search.new.cache c.search.new.cx (result_read c.search.new.cx.interner.entries c.in_ok-answer.field-0) (Some (answer_trees c.search.new.cx.interner.entries c.in-Some.answer)) (ap (result_read c.search.new.cx.interner.entries) c.in-Some.is) c.in_ok-answer.ensures.found)),
         left-later c.args.cx.now.interner.entries c.search.new.cx.interner.entries (entries-two g.H.GoalHandler.meaning g.met.H.GoalHandler.lawful.world_kept c.args.cx.now c.ask.new.cx c.search.new.cx c.requires.ready c.ask.ensures.advances c.search.ensures.keeps) c.args.table.now c.requires.table (values_of c.search.new.cx.interner.entries c.deref.result.now) (goal_in c.args.cx.now.interner.entries c.args.table.now c.args.goal.now) (answer_trees c.search.new.cx.interner.entries c.in-Some.answer) (values-are c.search.new.cx.interner.entries c.search.ensures.ready.lawful c.deref.result.now (goal_in c.args.cx.now.interner.entries c.args.table.now c.args.goal.now) v.args v.leaves v.labels_are) ∙ c.in-Err.ensures.refusal (ap Err (refused c.in-Err.error (sym c.from.ensures ∙ err-is _ _ n))),
       );
@@ -258,16 +251,5 @@ pub returns-in-Err-clause-faults : goal.returns-in-Err-clause-faults
 returns-in-Err-clause-faults g c = record {
   not_plain = λ n. absurd (no-conflict c.in-Err.error (sym c.from.ensures ∙ err-is _ _ n));
   conflict = λ n. absurd (no-conflict c.in-Err.error (sym c.from.ensures ∙ err-is _ _ n));
-  full =
-      λ n.
-      let d : c.deref.result.now ≡ c.in_ok-asked.asked.values.items = search rules in
-      let goal_is = goal_in c.args.cx.now.interner.entries c.args.table.now c.args.goal.now in
-      let v = (values-later c.ask.new.cx.interner.entries c.search.new.cx.interner.entries (λ i e h. c.search.ensures.keeps.held (of_term i e) h) c.in_ok-asked.asked.values.items c.deref.result.now d (goal_leaves goal_is) c.in_ok-asked.ensures.args c.in_ok-asked.ensures.leaves c.in_ok-asked.ensures.values) in
-      let k = entries-two g.H.GoalHandler.meaning g.met.H.GoalHandler.lawful.world_kept c.args.cx.now c.ask.new.cx c.search.new.cx c.requires.ready c.ask.ensures.advances c.search.ensures.keeps in
-      applied-full
-      (λ h. answer (answer_trees c.search.new.cx.interner.entries c.in-Some.answer)
-      (result-later (solver_meaning g.H.GoalHandler.meaning) c.args.cx.now c.search.new.cx (record { alloc = c.search.new.cx.alloc; interner = c.apply_answer-applied.new.cx; handler = c.search.new.cx.handler; store = c.search.new.cx.store }) (keeps g.H.GoalHandler.meaning g.met.H.GoalHandler.lawful.world_kept c.search.new.cx (record { alloc = c.search.new.cx.alloc; interner = c.apply_answer-applied.new.cx; handler = c.search.new.cx.handler; store = c.search.new.cx.store }) c.search.ensures.ready (later g.H.GoalHandler.meaning.IsReady g.met.H.GoalHandler.lawful.ready_kept c.search.new.cx (record { alloc = c.search.new.cx.alloc; interner = c.apply_answer-applied.new.cx; handler = c.search.new.cx.handler; store = c.search.new.cx.store }) c.search.ensures.ready refl refl c.apply_answer-applied.ensures.keeps c.lawful.ensures c.apply_answer-applied.ensures.limit)) c.args.cache.now c.search.new.cache c.search.ensures.cache c.args.graph.now c.search.new.graph (asked_in c.args.mode c.args.cx.now.interner.entries c.args.table.now c.args.goal.now) (Some (answer_trees c.search.new.cx.interner.entries c.in-Some.answer))
-      (result-before (solver_meaning g.H.GoalHandler.meaning) c.args.cx.now c.ask.new.cx (keeps g.H.GoalHandler.meaning g.met.H.GoalHandler.lawful.world_kept c.args.cx.now c.ask.new.cx c.requires.ready c.ask.ensures.advances) (goal_of c.ask.new.cx c.in_ok-asked.asked.input) (asked_in c.args.mode c.args.cx.now.interner.entries c.args.table.now c.args.goal.now) c.in_ok-asked.ensures.input.1 c.args.graph.now c.search.new.graph c.args.cache.now c.requires.cache c.search.new.cache c.search.new.cx (result_read c.search.new.cx.interner.entries c.in_ok-answer.field-0) (Some (answer_trees c.search.new.cx.interner.entries c.in-Some.answer)) (ap (result_read c.search.new.cx.interner.entries) c.in-Some.is) c.in_ok-answer.ensures.found))
-      (same-shortage {a = answer_trees c.search.new.cx.interner.entries c.in-Some.answer} (table-kept c.args.cx.now.interner.entries c.search.new.cx.interner.entries k c.args.table.now c.requires.table) (values-are c.search.new.cx.interner.entries c.search.ensures.ready.lawful c.deref.result.now goal_is v.args v.leaves v.labels_are) refl h))
-      (c.in-Err.ensures.full (ap Err (out-of-numbers c.in-Err.error (sym c.from.ensures ∙ err-is _ _ n))));
+  full = λ n. interner (c.in-Err.ensures.full (equation-full c.in-Err.error (sym c.from.ensures ∙ n)));
 }

@@ -1,7 +1,5 @@
-use Rattle.std.proofs.Common.{◌≡◌, ◌∙◌, Some, Err, length, refl, sym, ap, subst}
-use Rattle.std.specs.Prelude.{◌<◌}
-use Rattle.type_terms.specs.declared.TheConstants.{MAX_INDEX}
-use Rattle.infer_table.proofs.FullFacts.{handed-on, or-then}
+use Rattle.std.proofs.Common.{◌≡◌, ◌∙◌, Some, Err, refl, sym, ap, subst}
+use Rattle.infer_table.proofs.FullFacts.{handed-on}
 use Rattle.evaluation.proofs.Shortages.{some-kind}
 use Rattle.evaluation.specs.TableAnswers.{IsWellFormed}
 use Rattle.goal_frames.specs.HandlerPrograms.{silent}
@@ -11,8 +9,7 @@ use Rattle.solver_context.specs.Contexts.{goal_of, answer_of, ResponseIsMade}
 use Rattle.solver_context.specs.declared.context.SolverCx.{SolverCx}
 use Rattle.solver_context.proofs.Checks.{raw-is}
 use Rattle.solver_context.proofs.Growing.{later}
-use Rattle.solver_context.specs.Shortages.{store}
-use Rattle.solver_context.proofs.Shortages.{silent-full}
+use Rattle.solver_context.specs.Shortages.{interner}
 use Rattle.solver_context.proofs.Silences.{one-ok, silent-to, silent-fits}
 use Rattle.solver_context.proofs.silent.silent_answer.Goals as goal
 
@@ -20,13 +17,13 @@ pub returns-in_err-response-clause-advances : goal.returns-in_err-response-claus
 returns-in_err-response-clause-advances g c =
     let cx = c.args.cx.now in
     let mid : SolverCx g.row.H.Denot = record cx { interner = c.response_no_constraints_raw-made.new.cx } in
-    later g.H.GoalHandler.meaning.IsReady g.met.H.GoalHandler.lawful.ready_kept cx mid c.requires.0 refl refl c.response_no_constraints_raw-made.ensures.keeps c.lawful.ensures c.response_no_constraints_raw-made.ensures.limit
+    later g.H.GoalHandler.meaning.IsReady g.met.H.GoalHandler.lawful.ready_kept cx mid c.requires.0 refl refl c.response_no_constraints_raw-made.ensures.grew.keeps c.lawful.ensures c.response_no_constraints_raw-made.ensures.grew.limit
 
 pub keep_answer-requires-clause-ready : goal.keep_answer-requires-clause-ready
 keep_answer-requires-clause-ready g c =
     let cx = c.args.cx.now in
     let mid : SolverCx g.row.H.Denot = record cx { interner = c.response_no_constraints_raw-made.new.cx } in
-    (later g.H.GoalHandler.meaning.IsReady g.met.H.GoalHandler.lawful.ready_kept cx mid c.requires.0 refl refl c.response_no_constraints_raw-made.ensures.keeps c.lawful.ensures c.response_no_constraints_raw-made.ensures.limit).ready
+    (later g.H.GoalHandler.meaning.IsReady g.met.H.GoalHandler.lawful.ready_kept cx mid c.requires.0 refl refl c.response_no_constraints_raw-made.ensures.grew.keeps c.lawful.ensures c.response_no_constraints_raw-made.ensures.grew.limit).ready
 
 pub keep_answer-requires-clause-fits : goal.keep_answer-requires-clause-fits
 keep_answer-requires-clause-fits g c =
@@ -51,11 +48,5 @@ returns-clause-is g c =
 
 pub returns-in_err-response-clause-full : goal.returns-in_err-response-clause-full
 returns-in_err-response-clause-full g c = λ q.
-    let cx = c.args.cx.now in
-    let mid : SolverCx g.row.H.Denot = record cx { interner = c.response_no_constraints_raw-made.new.cx } in
-    silent-full mid c.args.input c.input.result.now c.input.ensures.is
-    (or-then (λ lt. subst (λ ks. MAX_INDEX < length ks) (c.in_ok-variables.ensures.items ∙ c.deref.ensures.value) lt)
-    (some-kind (handed-on c.from_residual-in_err-response.result c.from_residual-in_err-response.ensures.1 (λ p. c.in_err-response.ensures.full (ap Err p)) q)))
-
-pub returns-clause-full : goal.returns-clause-full
-returns-clause-full g c = λ q. store (c.keep_answer.ensures.full q)
+    let again = c.from_residual-in_err-response in
+    interner (some-kind (handed-on again.result again.ensures.1 (λ p. c.in_err-response.ensures.full (ap Err p)) q))

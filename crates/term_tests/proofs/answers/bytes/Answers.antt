@@ -6,5 +6,5 @@ canonicalize_response-requires-clause-ready c = ready-later c.args.cx.now.entrie
 
 pub returns-clause-ready : goal.returns-clause-ready
 returns-clause-ready c =
-    ready-later c.mk_ty.new.self.entries c.canonicalize_response.new.cx.entries c.args.table.now c.canonicalize_response.ensures.keeps
+    ready-later c.mk_ty.new.self.entries c.canonicalize_response.new.cx.entries c.args.table.now c.canonicalize_response.ensures.grew.keeps
     (ready-later c.args.cx.now.entries c.mk_ty.new.self.entries c.args.table.now c.mk_ty.ensures.keeps c.requires)

@@ -1,10 +1,9 @@
-use Rattle.std.proofs.Common.{arith, ◌≡◌, ℕ, List, [], ◌∷◌, map, length, refl, subst, sym, ap, ◌∙◌, Err}
+use Rattle.std.proofs.Common.{arith, ◌≡◌, ℕ, List, [], ◌∷◌, map, length, refl, subst, sym, ap, ◌∙◌}
 use Rattle.std.proofs.lemmas.List.{length-map}
 use Rattle.type_terms.specs.Worlds.{ImplDecl, Reference}
 use Rattle.declarations.specs.Applied.{sort_of_param}
 use Rattle.declarations.specs.Heads.{begins_declared}
 use Rattle.declarations.proofs.Growth.{reference-kept, reference-same, args-same}
-use Rattle.infer_table.proofs.FullFacts.{handed-on}
 use Rattle.workspace.specs.Made.{ReferencesMade, is_arg}
 use Rattle.workspace.specs.Views.{sort_of_kind, sorted_params, reference_of}
 use Rattle.workspace.specs.declared.declared.Param.{Param}
@@ -32,7 +31,7 @@ returns-clause-is c =
     let kept = named_in c.deref-2.result.now in
     join e.id.index e.owner.index _ _ _ _ _ _
     (sym (length-map c.in_ok-params.params.items sort_of_param) ∙ ap length (c.in_ok-params.ensures ∙ ap (map (λ p. sort_of_kind p.kind)) c.deref.ensures.value) ∙ length-map e.params.items (λ p. sort_of_kind p.kind))
-    (reference-same old new c.lower_references.ensures.keeps c.in_ok-header.header c.in_ok-header.ensures.held ∙ c.in_ok-header.ensures.is)
+    (reference-same old new c.lower_references.ensures.grew.keeps c.in_ok-header.header c.in_ok-header.ensures.held ∙ c.in_ok-header.ensures.is)
     (c.in_ok-clauses.ensures.are ∙ ap (λ x. map (plain_reference kept) (map reference_of x)) c.deref-3.ensures.value
     ∙ references-same kept (stands_in (reference_of e.header).args) (λ i. ap (λ x. named_in x i) c.deref-2.ensures.value ∙ named-stands is_arg cs c.requires.header i) (map reference_of e.clauses.items))
   where
@@ -44,7 +43,7 @@ pub returns-clause-held : goal.returns-clause-held
 returns-clause-held c =
     let old = c.lower_reference.new.cx.entries in
     let new = c.lower_references.new.cx.entries in
-    let k = c.lower_references.ensures.keeps in
+    let k = c.lower_references.ensures.grew.keeps in
     let r = c.in_ok-header.header in
     record {
       header = reference-kept old new k r c.in_ok-header.ensures.held;
@@ -56,12 +55,6 @@ returns-clause-held c =
 
 pub returns-clause-sorts : goal.returns-clause-sorts
 returns-clause-sorts c = c.in_ok-params.ensures ∙ ap (map (λ p. sort_of_kind p.kind)) c.deref.ensures.value ∙ sym (twice c.args.entry.now.params.items)
-
-pub returns-in_err-header-clause-full : goal.returns-in_err-header-clause-full
-returns-in_err-header-clause-full c = handed-on c.from_residual-in_err-header.result c.from_residual-in_err-header.ensures.1 (λ p. c.in_err-header.ensures.full (ap Err p))
-
-pub returns-in_err-clauses-clause-full : goal.returns-in_err-clauses-clause-full
-returns-in_err-clauses-clause-full c = handed-on c.from_residual-in_err-clauses.result c.from_residual-in_err-clauses.ensures.1 (λ p. c.in_err-clauses.ensures.full (ap Err p))
 
 pub returns-in_err-header-clause-few : goal.returns-in_err-header-clause-few
 returns-in_err-header-clause-few c = omega (arith, c.lower_reference.ensures.few)

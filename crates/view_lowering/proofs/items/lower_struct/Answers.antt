@@ -1,5 +1,5 @@
 use Rattle.std.proofs.Common.{◌≡◌, List, arith, ap, sym, subst, ◌∙◌, map, Err}
-use Rattle.infer_table.proofs.FullFacts.{handed-on}
+use Rattle.declarations.proofs.Bounded.{at-limit}
 use Rattle.workspace.specs.Made.{AreMade, is_type}
 use Rattle.workspace.specs.TermCells.{trees_of}
 use Rattle.workspace.specs.Views.{cells_of}
@@ -7,7 +7,6 @@ use Rattle.view_lowering.specs.Plain.{none_kept, plain}
 use Rattle.view_lowering.specs.PlainCells.{plain_cell}
 use Rattle.view_lowering.proofs.Plainly.{trees-plain}
 use Rattle.view_lowering.proofs.Structs.{struct-lowered}
-use Rattle.view_lowering.proofs.Refusals.{never-full}
 use Rattle.std.specs.Prelude.{sum_by}
 use Rattle.workspace.specs.TermCounts.{parts}
 use Rattle.workspace.specs.declared.cell.TermCell.{TermCell}
@@ -24,10 +23,7 @@ returns-clause-is c =
     (c.in_ok-fields.ensures.is ∙ ap (λ x. trees_of (cells_of x)) c.deref-3.ensures.value ∙ ap trees_of (c.in_ok-cells.ensures.are ∙ ap (λ x. map (plain_cell none_kept) (cells_of x)) c.deref-2.ensures.value) ∙ trees-plain none_kept cs)
 
 pub returns-in_err-fields-clause-full : goal.returns-in_err-fields-clause-full
-returns-in_err-fields-clause-full c = handed-on c.from_residual-in_err-fields.result c.from_residual-in_err-fields.ensures.1 (λ p. c.in_err-fields.ensures.full (ap Err p))
-
-pub returns-clause-full : goal.returns-clause-full
-returns-clause-full c = never-full c.new.result c.new.ensures.memory
+returns-in_err-fields-clause-full c = at-limit c.from_residual-in_err-fields.result c.from_residual-in_err-fields.ensures.1 (λ p. c.in_err-fields.ensures.full (ap Err p))
 
 -- the fields are as many parts as they were
 same_parts : (plain_cells given : List TermCell) (fields : List TermCell) → plain_cells ≡ given → cells_of given ≡ map (plain_cell none_kept) (cells_of fields) → sum_by parts (trees_of (cells_of plain_cells)) ≡ sum_by parts (trees_of (cells_of fields))

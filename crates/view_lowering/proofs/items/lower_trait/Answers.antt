@@ -1,7 +1,6 @@
-use Rattle.std.proofs.Common.{arith, subst, sym, ap, ◌∙◌, map, Err}
+use Rattle.std.proofs.Common.{arith, subst, sym, ap, ◌∙◌, map}
 use Rattle.std.specs.Prelude.{sum_by}
 use Rattle.type_terms.specs.Worlds.{TraitDecl}
-use Rattle.infer_table.proofs.FullFacts.{handed-on}
 use Rattle.workspace.specs.Made.{ReferencesMade}
 use Rattle.workspace.specs.TermCounts.{reference_terms}
 use Rattle.workspace.specs.Views.{reference_of}
@@ -16,9 +15,6 @@ returns-clause-is c =
     let e = c.args.entry.now in
     ap (λ bs. (let t : TraitDecl = record { name = e.id.index; home = e.owner.index; is_fundamental = e.is_fundamental; is_auto = e.is_auto; bounds = bs } in t))
     (c.in_ok-bounds.ensures.are ∙ ap (λ x. map (plain_reference none_kept) (map reference_of x)) c.deref-2.ensures.value)
-
-pub returns-in_err-bounds-clause-full : goal.returns-in_err-bounds-clause-full
-returns-in_err-bounds-clause-full c = handed-on c.from_residual-in_err-bounds.result c.from_residual-in_err-bounds.ensures.1 (λ p. c.in_err-bounds.ensures.full (ap Err p))
 
 pub returns-in_err-bounds-clause-few : goal.returns-in_err-bounds-clause-few
 returns-in_err-bounds-clause-few c =

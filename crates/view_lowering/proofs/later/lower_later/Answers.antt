@@ -1,11 +1,10 @@
-use Rattle.std.proofs.Common.{◌≡◌, ◌≤◌, ℕ, length, arith, ◌+◌, ◌∙◌, ap, sym, subst, refl, true, Err}
+use Rattle.std.proofs.Common.{◌≡◌, ◌≤◌, ℕ, length, arith, ◌+◌, ◌∙◌, ap, sym, subst, refl, true}
 use Rattle.std.proofs.lemmas.List.{length-map}
 use Rattle.std.proofs.lemmas.Option.{slice_get_read, slice_get-map}
 use Rattle.std.specs.Prelude.{◌==◌, slice_get}
 use Rattle.std.specs.Option.{option_map}
 use Rattle.text_definitions.specs.Declarations.{LaterImpl}
 use Rattle.declarations.specs.Heads.{begins_declared}
-use Rattle.infer_table.proofs.FullFacts.{handed-on}
 use Rattle.workspace.specs.Views.{later_of}
 use Rattle.view_lowering.proofs.LaterImpls.{LaterAdded, each-kept, later-all, later-sorted, later-taken}
 use Rattle.view_lowering.proofs.later.lower_later.Goals as goal
@@ -43,7 +42,7 @@ loop-entry-preserved c =
     let new = c.lower_impl.new.cx in
     let lowered = c.in_ok-def.ensures in
     subst (λ ds. LaterAdded d k old.entries old.limit (i + 1) new.entries new.limit ds) (sym c.in_ok-push.ensures.items)
-    (later-taken d k old.entries old.limit i es.entries es.limit now (later_of x) new.entries new.limit x.entry.id c.in_ok-def.def at c.lower_impl.ensures.keeps c.lower_impl.ensures.limit lowered.is lowered.sorts lowered.held inv)
+    (later-taken d k old.entries old.limit i es.entries es.limit now (later_of x) new.entries new.limit x.entry.id c.in_ok-def.def at c.lower_impl.ensures.grew.keeps c.lower_impl.ensures.grew.limit lowered.is lowered.sorts lowered.held inv)
 
 pub returns-clause-impls : goal.returns-clause-impls
 returns-clause-impls c =
@@ -64,6 +63,3 @@ returns-clause-sorts c =
   where
     at-end : (n i : ℕ) → n ≤ i → i ≤ n → n ≡ i
     at-end n i h g = omega (arith, h, g)
-
-pub returns-in_err-def-clause-full : goal.returns-in_err-def-clause-full
-returns-in_err-def-clause-full c = handed-on c.from_residual.result c.from_residual.ensures.1 (λ p. c.in_err-def.ensures.full (ap Err p))

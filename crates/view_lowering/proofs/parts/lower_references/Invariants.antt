@@ -1,17 +1,16 @@
 use Rattle.std.proofs.Common.{◌≡◌, ◌+◌, ◌≤◌, length, map, take}
 use Rattle.std.specs.Prelude.{sum_by}
-use Rattle.type_terms.specs.Terms.{Keeps}
 use Rattle.declarations.specs.Applied.{references_in, TraitRefsHeld}
 use Rattle.workspace.specs.TermCounts.{reference_terms}
 use Rattle.workspace.specs.Views.{reference_of}
+use Rattle.term_folds.specs.Growth.{Grew}
 use Rattle.view_lowering.specs.Plain.{plain_reference}
 use Rattle.view_lowering.specs.PlainCells.{is_kept}
 use Rattle.view_lowering.proofs.parts.lower_references.Given as goal
 
 abbrev pub invariant-loop-cells : goal.invariant-loop-cells
 invariant-loop-cells l = record {
-  keeps : Keeps l.fn.cx.entries l.cx.entries;
-  limit : l.cx.limit ≡ l.fn.cx.limit;
+  grew : Grew l.fn.cx l.cx;
   few : length l.cx.entries ≤ length l.fn.cx.entries + sum_by reference_terms (map reference_of (take l.cells-index l.list));
   are : references_in l.cx.entries l.refs.items ≡ map (plain_reference (is_kept l.kept)) (map reference_of (take l.cells-index l.list));
   held : TraitRefsHeld l.cx.entries l.refs.items;

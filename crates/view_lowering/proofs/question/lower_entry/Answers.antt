@@ -1,15 +1,10 @@
-use Rattle.std.proofs.Common.{◌∙◌, ap, sym, subst, map, Err, inl, List, length, ◌<◌}
-use Rattle.std.specs.Prelude.{◌⊎◌}
+use Rattle.std.proofs.Common.{◌∙◌, ap, sym, subst, map}
 use Rattle.text_definitions.specs.Names.{own_from}
 use Rattle.type_terms.specs.Terms.{Keeps}
-use Rattle.type_terms.specs.declared.TheConstants.{MAX_INDEX}
-use Rattle.type_terms.specs.Failures.{SomeKindIsFull}
 use Rattle.declarations.proofs.Growth.{reference-same, reference-kept, references-kept}
 use Rattle.declarations.proofs.Bounded.{all-same}
-use Rattle.infer_table.proofs.FullFacts.{handed-on}
 use Rattle.workspace.specs.Made.{ReferencesMade}
 use Rattle.workspace.specs.Views.{reference_of, variable_of}
-use Rattle.workspace.specs.declared.declared.Param.{Param}
 use Rattle.view_lowering.specs.Plain.{unbound_references}
 use Rattle.view_lowering.proofs.question.lower_entry.Goals as goal
 
@@ -21,8 +16,8 @@ returns-clause-lowered c =
     let one = c.lower_reference.new.cx.entries in
     let two = c.lower_references.new.cx.entries in
     let all = c.own_unknowns.new.cx.entries in
-    let j = c.lower_references.ensures.keeps in
-    let k = c.own_unknowns.ensures.keeps in
+    let j = c.lower_references.ensures.grew.keeps in
+    let k = c.own_unknowns.ensures.grew.keeps in
     let jk : Keeps one all = λ i e h. k i e (j i e h) in
     let asked = c.in_ok-asked.asked in
     let clauses = c.in_ok-clauses.clauses.items in
@@ -36,15 +31,3 @@ returns-clause-lowered c =
       clauses_held = references-kept two all k clauses c.in_ok-clauses.ensures.held;
       unknowns_held = c.in_ok-unknowns.ensures.held;
     }
-
-pub returns-in_err-asked-clause-full : goal.returns-in_err-asked-clause-full
-returns-in_err-asked-clause-full c = handed-on c.from_residual.result c.from_residual.ensures.1 (λ p. inl (c.in_err-asked.ensures.full (ap Err p)))
-
-pub returns-in_err-clauses-clause-full : goal.returns-in_err-clauses-clause-full
-returns-in_err-clauses-clause-full c = handed-on c.from_residual-in_err-clauses.result c.from_residual-in_err-clauses.ensures.1 (λ p. inl (c.in_err-clauses.ensures.full (ap Err p)))
-
-pub returns-in_err-unknowns-clause-full : goal.returns-in_err-unknowns-clause-full
-returns-in_err-unknowns-clause-full c =
-    let SomeKind = SomeKindIsFull c.own_unknowns.new.cx.entries c.own_unknowns.new.cx.limit in
-    let handed = c.from_residual-in_err-unknowns in
-    handed-on handed.result handed.ensures.1 (λ p. subst (λ (vs : List Param). SomeKind ⊎ (MAX_INDEX < length vs)) c.deref-2.ensures.value (c.in_err-unknowns.ensures.full (ap Err p)))

@@ -2,7 +2,6 @@ use Rattle.std.proofs.Common.{◌-◌, subst, IfOk}
 use Rattle.workspace.specs.Views.{question_of}
 use Rattle.view_lowering.specs.Questions.{IsLowered}
 use Rattle.view_lowering.proofs.Unknowns.{row-read}
-use Rattle.view_lowering.proofs.Refusals.{of-question}
 use Rattle.view_lowering.proofs.question.lower_question.Goals as goal
 
 pub lower_entry-requires-clause-asked : goal.lower_entry-requires-clause-asked
@@ -26,11 +25,3 @@ returns-clause-lowered c = λ q h.
     let r = c.index-entries-number.result in
     let same = (row-read question_of rows c.args.workspace.now.questions n q r c.question_entries-entries.ensures.items h.there c.index-entries-number.is).1 in
     subst (λ y. IfOk c.lower_entry.result (λ lowered. IsLowered c.lower_entry.new.cx.entries y lowered)) same c.lower_entry.ensures.lowered
-
-pub returns-clause-full : goal.returns-clause-full
-returns-clause-full c = λ q h e.
-    let n = c.args.number - 1 in
-    let rows = c.question_entries-entries.result.now in
-    let r = c.index-entries-number.result in
-    let same = (row-read question_of rows c.args.workspace.now.questions n q r c.question_entries-entries.ensures.items h.there c.index-entries-number.is).1 in
-    of-question r q same (c.lower_entry.ensures.full e)

@@ -1,10 +1,9 @@
-use Rattle.std.proofs.Common.{◌∙◌, ◌+◌, ◌++◌, ◌∷◌, ap, sym, subst, map, drop, ◌≡◌, refl, arith, Err}
+use Rattle.std.proofs.Common.{◌∙◌, ◌+◌, ◌++◌, ◌∷◌, ap, sym, subst, map, drop, ◌≡◌, refl}
 use Rattle.text_definitions.specs.Names.{own_from}
 use Rattle.type_terms.specs.Kinds.{arg_trees, ArgsHeld}
-use Rattle.infer_table.proofs.FullFacts.{handed-on}
+use Rattle.term_folds.proofs.Grown.{grew-on}
 use Rattle.workspace.specs.Views.{variable_of}
 use Rattle.view_lowering.proofs.Unknowns.{unknowns-further, args-more, next-left}
-use Rattle.view_lowering.proofs.Refusals.{past-all}
 use Rattle.view_lowering.proofs.question.own_unknowns.Goals as goal
 
 pub loop-variable-preserved : goal.loop-variable-preserved
@@ -14,7 +13,7 @@ loop-variable-preserved c =
     let vs = c.args.variables.now in
     let old = c.loop-variable.cx.entries in
     let new = c.next_unknown.new.cx.entries in
-    let k = c.next_unknown.ensures.keeps in
+    let k = c.next_unknown.ensures.grew.keeps in
     let inv = c.loop-variable.invariant in
     let before = c.loop-variable.counts in
     let behind = c.next_unknown.new.counts in
@@ -27,12 +26,7 @@ loop-variable-preserved c =
     ap (λ l. own_from before.types before.consts (map variable_of l)) (next-left vs i x c.loop-variable-test.true c.variable-item.is)
     ∙ c.in_ok-unknown.ensures.is (variable_of x) (map variable_of (drop (i + 1) vs)) refl in
     record {
-      keeps = λ j e h. k j e (inv.keeps j e h);
-      limit = c.next_unknown.ensures.limit ∙ inv.limit;
+      grew = grew-on inv.grew c.next_unknown.ensures.grew;
       are = ap (λ l. map (arg_trees new) l ++ rest) put ∙ unknowns-further old new k us u left rest (own_from 0 0 (map variable_of vs)) inv.held inv.are cut;
       held = subst (ArgsHeld new) (sym put) (args-more old new k us u inv.held c.in_ok-unknown.ensures.held);
-      counted = let one = c.in_ok-unknown.ensures.counted in let all = inv.counted in omega (arith, one, all);
     }
-
-pub returns-in_err-unknown-clause-full : goal.returns-in_err-unknown-clause-full
-returns-in_err-unknown-clause-full c = handed-on c.from_residual.result c.from_residual.ensures.1 (λ p. past-all c.loop-variable.invariant.counted c.loop-variable-test.true (c.in_err-unknown.ensures.full (ap Err p)))

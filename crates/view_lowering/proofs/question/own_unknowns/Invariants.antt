@@ -1,15 +1,13 @@
-use Rattle.std.proofs.Common.{◌≡◌, ◌≤◌, ◌+◌, ◌++◌, map, drop}
+use Rattle.std.proofs.Common.{◌≡◌, ◌++◌, map, drop}
 use Rattle.text_definitions.specs.Names.{own_from}
 use Rattle.type_terms.specs.Kinds.{arg_trees, ArgsHeld}
-use Rattle.type_terms.specs.Terms.{Keeps}
 use Rattle.workspace.specs.Views.{variable_of}
+use Rattle.term_folds.specs.Growth.{Grew}
 use Rattle.view_lowering.proofs.question.own_unknowns.Given as goal
 
 abbrev pub invariant-loop-variable : goal.invariant-loop-variable
 invariant-loop-variable l = record {
-  keeps : Keeps l.fn.cx.entries l.cx.entries;
-  limit : l.cx.limit ≡ l.fn.cx.limit;
+  grew : Grew l.fn.cx l.cx;
   are : map (arg_trees l.cx.entries) l.unknowns.items ++ own_from l.counts.types l.counts.consts (map variable_of (drop l.variable-index l.variables)) ≡ own_from 0 0 (map variable_of l.variables);
   held : ArgsHeld l.cx.entries l.unknowns.items;
-  counted : l.counts.types + l.counts.consts ≤ l.variable-index;
 }

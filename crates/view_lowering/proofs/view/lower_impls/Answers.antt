@@ -1,4 +1,4 @@
-use Rattle.std.proofs.Common.{◌≡◌, ◌≤◌, ℕ, length, arith, ◌+◌, ◌∙◌, ap, sym, subst, refl, Err}
+use Rattle.std.proofs.Common.{◌≡◌, ◌≤◌, ℕ, length, arith, ◌+◌, ◌∙◌, ap, sym, subst, refl}
 use Rattle.std.proofs.lemmas.List.{length-map}
 use Rattle.std.proofs.lemmas.Option.{slice_get_read, slice_get-map}
 use Rattle.std.specs.Prelude.{slice_get, ◌<◌}
@@ -6,7 +6,6 @@ use Rattle.std.specs.Option.{option_map}
 use Rattle.declarations.specs.Items.{held_impl}
 use Rattle.declarations.specs.Merges.{Each}
 use Rattle.declarations.proofs.Growth.{all-held}
-use Rattle.infer_table.proofs.FullFacts.{handed-on}
 use Rattle.workspace.specs.Views.{impl_of}
 use Rattle.view_lowering.proofs.Views.{ImplsAdded, impls-passed, impls-all, impls-few, impls-fewer, impls-taken}
 use Rattle.view_lowering.proofs.view.lower_impls.Goals.{then-sees+in_ok-def+in_ok-add_impl, else-sees}
@@ -54,12 +53,12 @@ loop-entry-preserved c =
       | then-sees+in_ok-def+in_ok-add_impl w ↦
           let new = w.lower_impl.new.cx in
           let next = w.add_impl.new.self in
-          let k = w.lower_impl.ensures.keeps in
+          let k = w.lower_impl.ensures.grew.keeps in
           let held = w.in_ok-add_impl.ensures.held (all-held es.entries new.entries k now inv.held) in
           subst (λ y. ImplsAdded d n old.entries old.limit c.args.decls.now (i + 1) y.entries y.limit c.if-sees.decls) (sym w.cx-is)
           (subst (λ ds. ImplsAdded d n old.entries old.limit c.args.decls.now (i + 1) new.entries new.limit ds) (sym w.decls-is)
           (impls-taken d n old.entries old.limit c.args.decls.now i es.entries es.limit now (impl_of x) new.entries new.limit (held_impl new.entries x.id w.in_ok-def.def) next at (sym c.sees.ensures ∙ w.if-sees.true)
-          (c.crates.ensures.numbered.impls i (impl_of x) at).0 k w.lower_impl.ensures.limit w.in_ok-def.ensures.is w.in_ok-def.ensures.sorts w.in_ok-add_impl.ensures.added held w.lower_impl.ensures.few inv))
+          (c.crates.ensures.numbered.impls i (impl_of x) at).0 k w.lower_impl.ensures.grew.limit w.in_ok-def.ensures.is w.in_ok-def.ensures.sorts w.in_ok-add_impl.ensures.added held w.lower_impl.ensures.few inv))
       | else-sees w ↦
           subst (λ y. ImplsAdded d n old.entries old.limit c.args.decls.now (i + 1) y.entries y.limit c.if-sees.decls) (sym w.cx-is)
           (subst (λ ds. ImplsAdded d n old.entries old.limit c.args.decls.now (i + 1) es.entries es.limit ds) (sym w.decls-is)
@@ -75,9 +74,6 @@ returns-clause-impls c =
   where
     at-end : (n i : ℕ) → n ≤ i → i ≤ n → n ≡ i
     at-end n i h g = omega (arith, h, g)
-
-pub returns-in_err-def-clause-full : goal.returns-in_err-def-clause-full
-returns-in_err-def-clause-full c = handed-on c.from_residual.result c.from_residual.ensures.1 (λ p. c.in_err-def.ensures.full (ap Err p))
 
 pub returns-in_err-def-clause-few : goal.returns-in_err-def-clause-few
 returns-in_err-def-clause-few c =

@@ -1,10 +1,9 @@
-use Rattle.std.proofs.Common.{◌≡◌, ◌≤◌, ℕ, length, arith, ◌+◌, ◌∙◌, ap, sym, subst, refl, Err}
+use Rattle.std.proofs.Common.{◌≡◌, ◌≤◌, ℕ, length, arith, ◌+◌, ◌∙◌, ap, sym, subst, refl}
 use Rattle.std.proofs.lemmas.List.{length-map}
 use Rattle.std.proofs.lemmas.Option.{slice_get_read, slice_get-map}
 use Rattle.std.specs.Prelude.{slice_get}
 use Rattle.std.specs.Option.{option_map}
 use Rattle.declarations.proofs.Growth.{all-held}
-use Rattle.infer_table.proofs.FullFacts.{handed-on}
 use Rattle.workspace.specs.Views.{trait_of}
 use Rattle.view_lowering.proofs.Views.{TraitsAdded, traits-passed, traits-all, traits-few, traits-fewer, traits-taken, traits-absent}
 use Rattle.view_lowering.proofs.view.lower_traits.Goals.{then-sees+in_ok-def+in_ok-add_trait, else-sees}
@@ -40,12 +39,12 @@ loop-entry-preserved c =
       | then-sees+in_ok-def+in_ok-add_trait w ↦
           let new = w.lower_trait.new.cx in
           let next = w.add_trait.new.self in
-          let k = w.lower_trait.ensures.keeps in
+          let k = w.lower_trait.ensures.grew.keeps in
           let held = w.in_ok-add_trait.ensures.held new.entries (all-held es.entries new.entries k now inv.held) w.in_ok-def.ensures.held in
           subst (λ y. TraitsAdded d n old.entries old.limit c.args.decls.now (i + 1) y.entries y.limit c.if-sees.decls) (sym w.cx-is)
           (subst (λ ds. TraitsAdded d n old.entries old.limit c.args.decls.now (i + 1) new.entries new.limit ds) (sym w.decls-is)
           (traits-taken d n old.entries old.limit c.args.decls.now i es.entries es.limit now (trait_of x) new.entries new.limit x.id w.in_ok-def.def next at (sym c.sees.ensures ∙ w.if-sees.true) (c.crates.ensures.numbered.traits i (trait_of x) at).0 k
-          w.lower_trait.ensures.limit w.in_ok-def.ensures.is w.in_ok-def.ensures.sorts w.in_ok-add_trait.ensures.added held w.lower_trait.ensures.few inv))
+          w.lower_trait.ensures.grew.limit w.in_ok-def.ensures.is w.in_ok-def.ensures.sorts w.in_ok-add_trait.ensures.added held w.lower_trait.ensures.few inv))
       | else-sees w ↦
           subst (λ y. TraitsAdded d n old.entries old.limit c.args.decls.now (i + 1) y.entries y.limit c.if-sees.decls) (sym w.cx-is)
           (subst (λ ds. TraitsAdded d n old.entries old.limit c.args.decls.now (i + 1) es.entries es.limit ds) (sym w.decls-is)
@@ -61,9 +60,6 @@ returns-clause-traits c =
   where
     at-end : (n i : ℕ) → n ≤ i → i ≤ n → n ≡ i
     at-end n i h g = omega (arith, h, g)
-
-pub returns-in_err-def-clause-full : goal.returns-in_err-def-clause-full
-returns-in_err-def-clause-full c = handed-on c.from_residual.result c.from_residual.ensures.1 (λ p. c.in_err-def.ensures.full (ap Err p))
 
 pub returns-in_err-def-clause-few : goal.returns-in_err-def-clause-few
 returns-in_err-def-clause-few c =

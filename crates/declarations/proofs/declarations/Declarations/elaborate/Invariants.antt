@@ -1,10 +1,10 @@
-use Rattle.std.proofs.Common.{◌≡◌}
+use Rattle.term_folds.specs.Growth.{Grew}
 use Rattle.declarations.proofs.Elaborating.{Elaborates, to_come}
 use Rattle.declarations.proofs.declarations.Declarations.elaborate.Given as goal
 
 abbrev pub invariant-stack : goal.invariant-stack
 invariant-stack l = record {
-  limit : l.cx.limit ≡ l.fn.cx.limit;
+  grew : Grew l.fn.cx l.cx;
   elaborates : Elaborates l.fn.cx.entries l.fn.self l.fn.references l.cx.entries l.elaborator l.found.items;
 }
 

@@ -1,15 +1,13 @@
-use Rattle.std.proofs.Common.{◌≡◌, ◌⊎◌, [], ◌∷◌, ◌∙◌, ap, sym, subst, OnOk, Result, Ok, Err}
+use Rattle.std.proofs.Common.{sym, subst, OnOk, Result}
+use Rattle.std.specs.Prelude.{IfErr}
 use Rattle.type_terms.specs.Kinds.{arg_trees}
 use Rattle.infer_table.specs.Content.{Table, content, Ready}
-use Rattle.type_terms.specs.declared.Fault.TheVariants.{Full}
-use Rattle.type_terms.specs.Failures.{SomeKindIsFull}
-use Rattle.infer_table.specs.Numbers.{RunsOut}
+use Rattle.infer_table.specs.Shortages.{EqFullAtLimit}
 use Rattle.infer_table.specs.Solutions.{OlderStays}
-use Rattle.infer_table.specs.Unification.{table_trees}
 use Rattle.evaluation.specs.Context.{Context, IsReadyContext}
 use Rattle.evaluation.proofs.Contexts.{ready-with-table}
 use Rattle.evaluation.specs.declared.error.EvalError.{EvalError}
-use Rattle.evaluation.specs.declared.error.EvalError.TheVariants as Eval
+use Rattle.evaluation.specs.Shortages.{EvalFullAtLimit}
 use Rattle.evaluation.proofs.Shortages.{given-up}
 use Rattle.evaluation.proofs.context.EvalCtxt.eq.Goals as goal
 use Rattle.evaluation.proofs.context.EvalCtxt.eq.Goals.{in-Ok, in-Err}
@@ -19,7 +17,7 @@ eq-requires-clause-ready c = subst (λ (x : Context). Ready c.args.cx.now.entrie
 
 pub returns-clause-ready : goal.returns-clause-ready
 returns-clause-ready c =
-    ready-with-table c.args.cx.now.entries c.eq.new.cx.entries _ c.eq.new.self c.eq.ensures.keeps
+    ready-with-table c.args.cx.now.entries c.eq.new.cx.entries _ c.eq.new.self c.eq.ensures.grew.keeps
     (subst (λ (x : Context). IsReadyContext c.args.cx.now.entries x) (sym c.self.view_is) c.requires.ready)
     c.eq.ensures.ready
 
@@ -33,15 +31,11 @@ returns-clause-older c =
       | in-Err w ↦ subst (λ r. OnOk r (Stays c.self.inside.table)) (sym w.result-is) tt
     ])
 
-no-error : {A : Type 0} (r : Result (Unit {0}) EvalError) (x : Unit {0}) → r ≡ Ok x → r ≡ Err (Eval.Fault Full) → A
-no-error r x e q = cc
-
 pub returns-clause-full : goal.returns-clause-full
-returns-clause-full c = λ q.
-    let es = c.args.cx.now.entries in
-    let Short = λ (t : Table). SomeKindIsFull c.eq.new.cx.entries c.eq.new.cx.limit ⊎ RunsOut (table_trees es t) ((arg_trees es c.args.left, arg_trees es c.args.right) ∷ []) in
-    subst (λ (x : Context). Short x.table) c.self.view_is
-    (elim c.match-eq.branch [
-      | in-Ok w ↦ no-error c.match-eq.result _ w.result-is q
-      | in-Err w ↦ c.eq.ensures.full (w.in-Err.is ∙ ap Err (given-up w.in-Err.error _ w.from.ensures (sym w.result-is ∙ q)))
-    ])
+returns-clause-full c =
+    let AtLimit = λ (r : Result (Unit {0}) EvalError). IfErr r (EvalFullAtLimit c.eq.new.cx) in
+    elim c.match-eq.branch [
+      | in-Ok w ↦ subst AtLimit (sym w.result-is) tt
+      | in-Err w ↦ subst AtLimit (sym w.result-is)
+          (λ q. subst (λ r. IfErr r (EqFullAtLimit c.eq.new.cx)) w.in-Err.is c.eq.ensures.full (given-up w.in-Err.error _ w.from.ensures q))
+    ]

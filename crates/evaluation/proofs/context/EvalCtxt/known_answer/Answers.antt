@@ -1,18 +1,8 @@
-use Rattle.std.proofs.Common.{◌≤◌, length, ap, sym, subst, IfOk, Err}
-use Rattle.type_terms.specs.Trees.{Trees, ◌+++◌}
-use Rattle.type_terms.specs.declared.TheConstants.{MAX_INDEX}
-use Rattle.infer_table.specs.Applied.{trees_of}
-use Rattle.infer_table.specs.Responses.{answer_leaves}
-use Rattle.infer_table.specs.Solutions.{resolved}
-use Rattle.infer_table.specs.Unification.{table_trees}
-use Rattle.infer_table.specs.Values.{values_of}
-use Rattle.infer_table.proofs.FullFacts.{or-then, handed-on}
-use Rattle.infer_table.proofs.InTurn.{row-of}
+use Rattle.std.proofs.Common.{sym, subst, IfOk}
 use Rattle.infer_table.specs.Content.{Ready}
 use Rattle.evaluation.specs.Context.{Context}
 use Rattle.evaluation.specs.ContextView.{context_of}
 use Rattle.evaluation.specs.OwnAnswers.{SaysWhatIsKnown}
-use Rattle.evaluation.specs.Shortages.{KnowsTooMuch}
 use Rattle.evaluation.proofs.OwnAnswers.{says-known, known-is}
 use Rattle.evaluation.proofs.context.EvalCtxt.known_answer.Goals as goal
 
@@ -33,14 +23,3 @@ returns-clause-says c =
 pub returns-clause-is : goal.returns-clause-is
 returns-clause-is c =
     known-is c.args.cx.now.entries c.canonicalize_response.new.cx.entries c.lawful.ensures c.args.self.now c.in_ok-answer.answer c.args.certainty c.in_ok-answer.ensures.certainty (returns-clause-says c)
-
-pub returns-in_err-answer-clause-full : goal.returns-in_err-answer-clause-full
-returns-in_err-answer-clause-full c = λ q.
-    let es = c.args.cx.now.entries in
-    let inside = context_of c.self.inside in
-    let t = table_trees es inside.table in
-    let Lacks = λ (row : Trees). MAX_INDEX ≤ length (answer_leaves (resolved t.bindings (row +++ t.constraints))) in
-    or-then
-    (λ h. subst (λ (x : Context). KnowsTooMuch (values_of es x.values) (table_trees es x.table)) c.self.view_is
-    (subst (λ xs. Lacks (trees_of (values_of es xs))) c.deref.ensures.value (subst Lacks (sym (row-of es c.deref.result.now)) h)))
-    (handed-on c.from_residual.result c.from_residual.ensures.1 (λ p. c.in_err-answer.ensures.full (ap Err p)) q)

@@ -9,8 +9,6 @@ use Rattle.evaluation.specs.Evaluating.{evaluation, goals_trees, replies_trees}
 use Rattle.evaluation.specs.Steps.{RoundsEnd}
 use Rattle.evaluation.proofs.Contexts.{ready-with-table}
 use Rattle.evaluation.proofs.Undone.{clone-same, clones-same}
-use Rattle.infer_table.proofs.FullFacts.{or-then}
-use Rattle.evaluation.specs.Shortages.{RoundsRunOut, GoalsRunOut}
 use Rattle.evaluation.proofs.context.EvalCtxt.run_rounds.Goals as goal
 
 pub rounds-requires-clause-ready : goal.rounds-requires-clause-ready
@@ -23,7 +21,7 @@ rounds-requires-clause-goals c =
 
 pub returns-clause-ready : goal.returns-clause-ready
 returns-clause-ready c =
-    ready-with-table c.args.cx.now.entries c.rounds.new.cx.entries _ c.rounds.new.table c.rounds.ensures.keeps
+    ready-with-table c.args.cx.now.entries c.rounds.new.cx.entries _ c.rounds.new.table c.rounds.ensures.grew.keeps
     (subst (λ (x : Context). IsReadyContext c.args.cx.now.entries x) (sym c.self.view_is) c.requires.ready)
     c.rounds.ensures.ready
 
@@ -38,14 +36,3 @@ returns-clause-runs c =
     (subst
     (λ rs. RoundsEnd c.self.inside.mode c.rounds.new.cx.entries c.rounds.new.table (run (rounds (evaluation c.self.inside.mode) FIXPOINT_STEP_LIMIT (goals_trees es (map nested_goal c.in_ok-goals.goals.items)) (table_trees es c.self.inside.table)) (replies_trees es rs)) c.rounds.result) c.deref.ensures.value
     c.rounds.ensures.runs))
-
-pub returns-clause-full : goal.returns-clause-full
-returns-clause-full c = λ q.
-    let es = c.args.cx.now.entries in
-    let inside = c.self.inside in
-    let cloned = clones-same _ (λ n m r. clone-same n m r.0 r.1.0 r.1.1) inside.nested_goals.items c.in_ok-goals.goals.items c.in_ok-goals.ensures.cases.0 in
-    or-then
-    (λ h. subst (λ (x : Context). GoalsRunOut es x) c.self.view_is
-    (subst (λ ns. RoundsRunOut inside.mode FIXPOINT_STEP_LIMIT (goals_trees es ns) (table_trees es inside.table) (replies_trees es inside.replies.items)) cloned
-    (subst (λ rs. RoundsRunOut inside.mode FIXPOINT_STEP_LIMIT (goals_trees es (map nested_goal c.in_ok-goals.goals.items)) (table_trees es inside.table) (replies_trees es rs)) c.deref.ensures.value h)))
-    (c.rounds.ensures.full q)

@@ -1,12 +1,9 @@
 use Rattle.std.proofs.Common.{◌≡◌, ◌∷◌, ◌-◌, [], List, length, IfOk, suc, sym, ◌∙◌, ap, subst, arith, rules}
-use Rattle.infer_table.proofs.FullFacts.{or-then}
 use Rattle.evaluation.specs.OpenCandidates.{rest_script, StandsAt, CandidateIsOver, most_questions, AsksAtMost}
-use Rattle.evaluation.specs.OpenShortages.{RestRunsOut, RunsOutOnly}
 use Rattle.infer_table.specs.declared.goal.Goal.{Goal}
 use Rattle.evaluation.specs.declared.goal.GoalSource.{GoalSource}
 use Rattle.evaluation.proofs.OpenCandidates.{next-round}
-use Rattle.evaluation.proofs.OpenQuestions.{next-most, ok-more}
-use Rattle.evaluation.proofs.OpenShortages.{over-only, over-most, only-more, short-settled, short-overflowed, short-next}
+use Rattle.evaluation.proofs.OpenQuestions.{next-most, over-most, ok-more}
 use Rattle.evaluation.proofs.resuming.Evaluation.+go_on.Goals as goal
 
 -- ---- a goal is asked
@@ -15,36 +12,11 @@ returns-in-Some-clause-stands t c =
     let all : c.args.goals.items ≡ c.in-Some.goal ∷ c.pop_front.new.self.items = c.in-Some.ensures.items in
     subst (λ gs. StandsAt c.ask.new.cx.entries (rest_script c.args.cx.now.entries c.args.self c.args.rounds_left c.args.round gs) c.ask.result) (sym all) c.ask.ensures.stands
 
-pub returns-in-Some-clause-full : goal.returns-in-Some-clause-full
-returns-in-Some-clause-full t c = λ q.
-    let all : c.args.goals.items ≡ c.in-Some.goal ∷ c.pop_front.new.self.items = c.in-Some.ensures.items in
-    or-then (subst (λ gs. RestRunsOut c.args.cx.now.entries c.args.self c.args.rounds_left c.args.round gs []) (sym all)) (c.ask.ensures.full q)
-
-pub returns-in-Some-clause-later : goal.returns-in-Some-clause-later
-returns-in-Some-clause-later t c =
-    let all : c.args.goals.items ≡ c.in-Some.goal ∷ c.pop_front.new.self.items = c.in-Some.ensures.items in
-    subst (λ gs. IfOk c.ask.result (RunsOutOnly (RestRunsOut c.args.cx.now.entries c.args.self c.args.rounds_left c.args.round gs) c.ask.new.cx.entries)) (sym all) c.ask.ensures.later
-
 -- ---- no values came
 pub returns-then-not-round-clause-most : goal.returns-then-not-round-clause-most
 returns-then-not-round-clause-most t c =
     let most = most_questions c.args.rounds_left (length c.args.round.left.items) (length c.args.goals.items) in
     ok-more CandidateIsOver (AsksAtMost most) (over-most most) c.answer.result c.answer.ensures.over
-
-pub returns-then-not-round-clause-full : goal.returns-then-not-round-clause-full
-returns-then-not-round-clause-full t c = λ q.
-    let es = c.args.cx.now.entries in
-    let none-left : c.args.goals.items ≡ [] = search rules in
-    let sure = c.certainty_of_goals-certainty in
-    or-then
-    (λ h. subst (λ gs. RestRunsOut es c.args.self c.args.rounds_left c.args.round gs []) (sym none-left)
-    (short-settled es c.args.self c.args.rounds_left c.args.round [] sure.result c.if-not-round.true sure.ensures h))
-    (c.answer.ensures.full q)
-
-pub returns-then-not-round-clause-later : goal.returns-then-not-round-clause-later
-returns-then-not-round-clause-later t c =
-    let P = RestRunsOut c.args.cx.now.entries c.args.self c.args.rounds_left c.args.round c.args.goals.items in
-    ok-more CandidateIsOver (RunsOutOnly P c.answer.new.cx.entries) (over-only P c.answer.new.cx.entries) c.answer.result c.answer.ensures.over
 
 -- ---- values came in the last of all rounds
 pub returns-then-rounds_left-eq0-clause-most : goal.returns-then-rounds_left-eq0-clause-most
@@ -52,21 +24,6 @@ returns-then-rounds_left-eq0-clause-most t c =
     let most = most_questions c.args.rounds_left (length c.args.round.left.items) (length c.args.goals.items) in
     let call = c.answer-then-rounds_left-eq0 in
     ok-more CandidateIsOver (AsksAtMost most) (over-most most) call.result call.ensures.over
-
-pub returns-then-rounds_left-eq0-clause-full : goal.returns-then-rounds_left-eq0-clause-full
-returns-then-rounds_left-eq0-clause-full t c = λ q.
-    let es = c.args.cx.now.entries in
-    let none-left : c.args.goals.items ≡ [] = search rules in
-    or-then
-    (λ h. subst (λ gs. RestRunsOut es c.args.self c.args.rounds_left c.args.round gs []) (sym none-left)
-    (short-overflowed es c.args.self c.args.rounds_left c.args.round [] c.if-not-round.false c.if-rounds_left-eq0.true h))
-    (c.answer-then-rounds_left-eq0.ensures.full q)
-
-pub returns-then-rounds_left-eq0-clause-later : goal.returns-then-rounds_left-eq0-clause-later
-returns-then-rounds_left-eq0-clause-later t c =
-    let P = RestRunsOut c.args.cx.now.entries c.args.self c.args.rounds_left c.args.round c.args.goals.items in
-    let call = c.answer-then-rounds_left-eq0 in
-    ok-more CandidateIsOver (RunsOutOnly P call.new.cx.entries) (over-only P call.new.cx.entries) call.result call.ensures.over
 
 -- ---- the next round begins
 pub returns-clause-stands : goal.returns-clause-stands
@@ -92,31 +49,3 @@ returns-clause-most t c =
     ap (λ (z : List (GoalSource × Goal)). most_questions before (length z) left) c.new-next.ensures.left ∙ sym (next-most before left)
     ∙ sym (ap (λ m. most_questions m left (length c.args.goals.items)) more ∙ ap (λ (z : List (GoalSource × Goal)). most_questions (suc before) left (length z)) none-left) in
     subst (λ n. IfOk c.go_on.result (AsksAtMost n)) same c.go_on.ensures.most
-
-pub returns-clause-full : goal.returns-clause-full
-returns-clause-full t c = λ q.
-    let es = c.args.cx.now.entries in
-    let none-left : c.args.goals.items ≡ [] = search rules in
-    let before = c.args.rounds_left - 1 in
-    let more : c.args.rounds_left ≡ suc before = let no = c.if-rounds_left-eq0.false in omega (arith, no) in
-    let next = c.new-next in
-    or-then
-    (λ h. subst (λ gs. RestRunsOut es c.args.self c.args.rounds_left c.args.round gs []) (sym none-left)
-    (short-next es c.args.self c.args.rounds_left c.args.round [] before next.result c.if-not-round.false more next.ensures.left next.ensures.changed next.ensures.certainty h))
-    (c.go_on.ensures.full q)
-
-pub returns-clause-later : goal.returns-clause-later
-returns-clause-later t c =
-    let es = c.args.cx.now.entries in
-    let new = c.go_on.new.cx.entries in
-    let e = c.args.self in
-    let none-left : c.args.goals.items ≡ [] = search rules in
-    let before = c.args.rounds_left - 1 in
-    let more : c.args.rounds_left ≡ suc before = let no = c.if-rounds_left-eq0.false in omega (arith, no) in
-    let next = c.new-next in
-    let P = RestRunsOut es e before next.result c.args.round.left.items in
-    let Q = RestRunsOut es e c.args.rounds_left c.args.round c.args.goals.items in
-    ok-more (RunsOutOnly P new) (RunsOutOnly Q new)
-    (only-more P Q (λ rs h. subst (λ gs. RestRunsOut es e c.args.rounds_left c.args.round gs rs) (sym none-left)
-    (short-next es e c.args.rounds_left c.args.round rs before next.result c.if-not-round.false more next.ensures.left next.ensures.changed next.ensures.certainty h)) new)
-    c.go_on.result c.go_on.ensures.later

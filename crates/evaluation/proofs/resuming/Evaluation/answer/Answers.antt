@@ -1,14 +1,9 @@
-use Rattle.std.proofs.Common.{◌⊎◌, ap, sym, subst, Err}
+use Rattle.std.proofs.Common.{ap, sym, subst}
 use Rattle.type_terms.specs.Kinds.{ArgsHeld}
-use Rattle.type_terms.specs.Failures.{SomeKindIsFull}
-use Rattle.infer_table.proofs.FullFacts.{or-then}
 use Rattle.infer_table.specs.Content.{Ready}
-use Rattle.infer_table.specs.Unification.{table_trees}
-use Rattle.infer_table.specs.Values.{values_of}
 use Rattle.evaluation.specs.Context.{Context}
-use Rattle.evaluation.specs.Runs.{HasNoOwnAnswer}
-use Rattle.evaluation.proofs.Shortages.{handed-fault, same-answer-lacks}
 use Rattle.evaluation.proofs.TrialContexts.{ready-begun}
+use Rattle.evaluation.proofs.Shortages.{eval-at-limit}
 use Rattle.evaluation.proofs.resuming.Evaluation.answer.Goals as goal
 
 pub answer-requires : goal.answer-requires
@@ -22,10 +17,4 @@ answer-requires c =
     }
 
 pub returns-in_err-answer-clause-full : goal.returns-in_err-answer-clause-full
-returns-in_err-answer-clause-full c = λ q.
-    let es = c.args.cx.now.entries in
-    let made = c.new-context.ensures in
-    or-then
-    (same-answer-lacks (ap (λ (z : Context). z.variables) made) (ap (λ (z : Context). values_of es z.values) made) (ap (λ (z : Context). table_trees es z.table) made) c.and.ensures)
-    (handed-fault {A = SomeKindIsFull c.answer.new.cx.entries c.answer.new.cx.limit ⊎ HasNoOwnAnswer es c.new-context.result c.and.result}
-    c.from_residual.result c.from_residual.ensures.1 (λ p. c.in_err-answer.ensures.runs_out (ap Err p)) q)
+returns-in_err-answer-clause-full c = eval-at-limit c.from_residual.result c.from_residual.ensures.1 c.in_err-answer.ensures.full

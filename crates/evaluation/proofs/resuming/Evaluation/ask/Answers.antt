@@ -1,25 +1,18 @@
-use Rattle.std.proofs.Common.{◌⊎◌, ◌∙◌, ap, [], Err}
+use Rattle.std.proofs.Common.{◌∙◌, []}
 use Rattle.std.specs.Prelude.{map, ◌∷◌}
-use Rattle.type_terms.specs.Failures.{SomeKindIsFull}
 use Rattle.type_terms.specs.Kept.{args-held-later}
-use Rattle.infer_table.proofs.FullFacts.{or-then}
-use Rattle.infer_table.specs.Unification.{table_trees}
 use Rattle.evaluation.specs.Context.{nested_goal}
-use Rattle.evaluation.specs.Evaluating.{nested_trees}
-use Rattle.evaluation.specs.OpenShortages.{form}
-use Rattle.evaluation.specs.Shortages.{HasNoForm}
 use Rattle.evaluation.specs.declared.resuming.OpenCandidate.{OpenCandidate}
 use Rattle.evaluation.proofs.Contexts.{nested-later}
 use Rattle.evaluation.proofs.OpenCandidates.{asks-next, asked-later}
-use Rattle.evaluation.proofs.OpenShortages.{rest-earlier}
-use Rattle.evaluation.proofs.Shortages.{handed-fault}
+use Rattle.evaluation.proofs.Shortages.{eval-at-limit}
 use Rattle.evaluation.proofs.resuming.Evaluation.ask.Goals as goal
 
 pub returns-clause-held : goal.returns-clause-held
 returns-clause-held c =
     let es = c.args.cx.now.entries in
     let new = c.question_for.new.cx.entries in
-    let k = c.question_for.ensures.keeps in
+    let k = c.question_for.ensures.grew.keeps in
     let e = c.args.self in (
       record {
         evaluation = record { table = c.question_for.ensures.ready; own = args-held-later es new k e.own.items c.requires.evaluation.own };
@@ -35,17 +28,8 @@ returns-clause-held c =
 pub returns-clause-stands : goal.returns-clause-stands
 returns-clause-stands c =
     let waiting : OpenCandidate = record { evaluation = c.args.self; rounds_left = c.args.rounds_left; round = c.args.round; goal = c.args.goal; values = c.in_ok-asked.asked.values; goals = c.args.goals } in
-    asks-next c.args.cx.now.entries c.question_for.new.cx.entries c.question_for.ensures.keeps waiting
+    asks-next c.args.cx.now.entries c.question_for.new.cx.entries c.question_for.ensures.grew.keeps waiting
     c.requires.evaluation c.requires.left c.requires.goal c.requires.goals c.in_ok-asked.asked.input c.in_ok-asked.ensures.question
 
 pub returns-in_err-asked-clause-full : goal.returns-in_err-asked-clause-full
-returns-in_err-asked-clause-full c = λ q.
-    let es = c.args.cx.now.entries in
-    or-then form
-    (handed-fault {A = SomeKindIsFull c.question_for.new.cx.entries c.question_for.new.cx.limit ⊎ HasNoForm (table_trees es c.args.self.table) (nested_trees es (nested_goal c.args.goal))}
-    c.from_residual.result c.from_residual.ensures.1 (λ p. c.in_err-asked.ensures.full (ap Err p)) q)
-
-pub returns-clause-later : goal.returns-clause-later
-returns-clause-later c = λ more h.
-    rest-earlier c.args.cx.now.entries c.question_for.new.cx.entries c.question_for.ensures.keeps c.args.self c.requires.evaluation c.args.rounds_left c.args.round c.requires.left
-    (c.args.goal ∷ c.args.goals.items) (c.requires.goal, c.requires.goals) more h
+returns-in_err-asked-clause-full c = eval-at-limit c.from_residual.result c.from_residual.ensures.1 c.in_err-asked.ensures.full

@@ -1,13 +1,10 @@
-use Rattle.std.proofs.Common.{◌≡◌, ◌*◌, ◌∙◌, List, length, IfOk, map, [], subst, sym, ap}
-use Rattle.infer_table.proofs.FullFacts.{or-then}
+use Rattle.std.proofs.Common.{◌≡◌, ◌*◌, ◌∙◌, List, length, IfOk, map, subst, sym, ap}
 use Rattle.evaluation.specs.Context.{NestedHeld, nested_goal}
 use Rattle.evaluation.specs.OpenCandidates.{StandsAt, most_questions, AsksAtMost}
-use Rattle.evaluation.specs.OpenShortages.{RestRunsOut, WholeRunsOut, RunsOutOnly}
 use Rattle.infer_table.specs.declared.goal.Goal.{Goal}
 use Rattle.evaluation.specs.declared.goal.GoalSource.{GoalSource}
 use Rattle.evaluation.proofs.OpenBeginnings.{rounds-begin}
-use Rattle.evaluation.proofs.OpenQuestions.{most-begins, ok-more}
-use Rattle.evaluation.proofs.OpenShortages.{whole-open, only-more}
+use Rattle.evaluation.proofs.OpenQuestions.{most-begins}
 use Rattle.evaluation.proofs.resuming.Evaluation.begin_rounds.Goals as goal
 
 pub go_on-requires-clause-left : goal.go_on-requires-clause-left
@@ -27,20 +24,3 @@ returns-clause-most c =
     let same : most_questions 7 (length c.new-round.result.left.items) n ≡ 8 * n =
     ap (λ (z : List (GoalSource × Goal)). most_questions 7 (length z) n) c.new-round.ensures.left ∙ most-begins n in
     subst (λ m. IfOk c.go_on.result (AsksAtMost m)) same c.go_on.ensures.most
-
-pub returns-clause-full : goal.returns-clause-full
-returns-clause-full c = λ q.
-    let a = c.args in
-    let round = c.new-round in
-    or-then (whole-open a.cx.now.entries a.self round.result round.ensures.left round.ensures.changed round.ensures.certainty a.goals.items []) (c.go_on.ensures.full q)
-
-pub returns-clause-later : goal.returns-clause-later
-returns-clause-later c =
-    let a = c.args in
-    let es = a.cx.now.entries in
-    let new = c.go_on.new.cx.entries in
-    let round = c.new-round in
-    let P = RestRunsOut es a.self 7 round.result a.goals.items in
-    let Q = WholeRunsOut es a.self a.goals.items in
-    ok-more (RunsOutOnly P new) (RunsOutOnly Q new)
-    (only-more P Q (whole-open es a.self round.result round.ensures.left round.ensures.changed round.ensures.certainty a.goals.items) new) c.go_on.result c.go_on.ensures.later

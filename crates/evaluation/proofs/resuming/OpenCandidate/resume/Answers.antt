@@ -1,17 +1,7 @@
-use Rattle.std.proofs.Common.{◌≡◌, ◌⊎◌, ℕ, ◌+◌, length, List, ◌∷◌, [], map, Option, option_map, Err, refl, sym, ◌∙◌, ap, subst}
+use Rattle.std.proofs.Common.{◌≡◌, ℕ, ◌+◌, length, ◌∷◌, [], map, option_map, refl, sym, ◌∙◌, ap, subst}
 use Rattle.type_terms.specs.Terms.{Keeps}
 use Rattle.type_terms.specs.Kept.{args-held-later}
-use Rattle.type_terms.specs.Failures.{SomeKindIsFull}
-use Rattle.infer_table.proofs.FullFacts.{or-then}
-use Rattle.infer_table.specs.AnswersApplied.{NumbersRunOut}
-use Rattle.infer_table.specs.Responses.{AnswerTrees, ResponseHeld, answer_trees}
-use Rattle.infer_table.specs.Shortages.{IsOutOfNumbers}
-use Rattle.infer_table.specs.Unification.{table_trees}
-use Rattle.infer_table.specs.Values.{values_of}
-use Rattle.evaluation.specs.declared.resuming.Evaluation.{Evaluation}
-use Rattle.evaluation.specs.OpenShortages.{reply, RestRunsOut, OpenRunsOut, RunsOutOnly}
-use Rattle.evaluation.proofs.Shortages.{handed-error, handed-fault}
-use Rattle.evaluation.proofs.OpenShortages.{resumed-short, only-more}
+use Rattle.infer_table.specs.Responses.{ResponseHeld, answer_trees}
 use Rattle.evaluation.specs.Context.{nested_goal}
 use Rattle.evaluation.specs.Readings.{ResultHeld}
 use Rattle.evaluation.specs.Runs.{with_response}
@@ -20,41 +10,42 @@ use Rattle.evaluation.proofs.Contexts.{nested-later}
 use Rattle.evaluation.specs.declared.resuming.CandidateStep.{CandidateStep}
 use Rattle.evaluation.proofs.OpenCandidates.{left-held, resumed}
 use Rattle.evaluation.proofs.OpenQuestions.{most-falls, one-more-left, ok-more, asks-fewer, fewer-than}
+use Rattle.term_folds.proofs.Grown.{grew-on}
 use Rattle.evaluation.proofs.resuming.OpenCandidate.resume.Goals as goal
 
 pub judge-requires : goal.judge-requires
 judge-requires c =
     let es = c.args.cx.now.entries in
     let hr : ResponseHeld es c.in-Some.response = subst (ResultHeld es) c.in-Some.is c.requires.reply in
-    args-held-later es c.apply_response.new.cx.entries c.apply_response.ensures.keeps c.in-Some.response.var_values.items hr.values
+    args-held-later es c.apply_response.new.cx.entries c.apply_response.ensures.grew.keeps c.in-Some.response.var_values.items hr.values
 
 pub go_on-requires-clause-evaluation : goal.go_on-requires-clause-evaluation
 go_on-requires-clause-evaluation c =
     record {
       table = c.apply_response.ensures.ready;
-      own = args-held-later c.args.cx.now.entries c.apply_response.new.cx.entries c.apply_response.ensures.keeps c.args.self.evaluation.own.items c.requires.held.evaluation.own;
+      own = args-held-later c.args.cx.now.entries c.apply_response.new.cx.entries c.apply_response.ensures.grew.keeps c.args.self.evaluation.own.items c.requires.held.evaluation.own;
     }
 
 pub go_on-requires-clause-left : goal.go_on-requires-clause-left
 go_on-requires-clause-left c =
     let es = c.args.cx.now.entries in
     let es2 = c.apply_response.new.cx.entries in
-    let k = c.apply_response.ensures.keeps in
+    let k = c.apply_response.ensures.grew.keeps in
     let o = c.args.self in
     left-held es2 o c.in_ok-round.round (is_definite es2 c.in-Some.response) (is_definite es2 c.in-Some.response) refl c.in_ok-round.ensures.dropped c.in_ok-round.ensures.left
     (nested-later es es2 k (map nested_goal o.round.left.items) c.requires.held.left) (nested-later es es2 k (nested_goal o.goal ∷ []) (c.requires.held.goal, tt)).0
 
 pub go_on-requires-clause-goals : goal.go_on-requires-clause-goals
-go_on-requires-clause-goals c = nested-later c.args.cx.now.entries c.apply_response.new.cx.entries c.apply_response.ensures.keeps (map nested_goal c.args.self.goals.items) c.requires.held.goals
+go_on-requires-clause-goals c = nested-later c.args.cx.now.entries c.apply_response.new.cx.entries c.apply_response.ensures.grew.keeps (map nested_goal c.args.self.goals.items) c.requires.held.goals
 
-pub returns-clause-keeps : goal.returns-clause-keeps
-returns-clause-keeps c = λ i x h. c.go_on.ensures.keeps i x (c.apply_response.ensures.keeps i x h)
+pub returns-clause-grew : goal.returns-clause-grew
+returns-clause-grew c = grew-on c.apply_response.ensures.grew c.go_on.ensures.grew
 
 pub returns-clause-stands : goal.returns-clause-stands
 returns-clause-stands c =
     let es = c.args.cx.now.entries in
     let es2 = c.apply_response.new.cx.entries in
-    let k : Keeps es es2 = c.apply_response.ensures.keeps in
+    let k : Keeps es es2 = c.apply_response.ensures.grew.keeps in
     let o = c.args.self in
     let r = c.in-Some.response in
     let T = c.apply_response.new.table in
@@ -75,56 +66,3 @@ returns-clause-fewer c =
     let falls = most-falls o.rounds_left (length o.round.left.items) (length round.left.items) (length o.goals.items) (one-more-left o round d d refl c.in_ok-round.ensures.dropped c.in_ok-round.ensures.left) in
     ok-more (AsksAtMost most) (λ (s : CandidateStep). (n : ℕ) → n + 1 ≡ questions_left o → AsksAtMost n s)
     (λ s a n e. asks-fewer most n (fewer-than most n (questions_left o) falls e) s a) c.go_on.result c.go_on.ensures.most
-
--- ---- where numbers run out
-pub returns-in_err-apply_response-clause-full : goal.returns-in_err-apply_response-clause-full
-returns-in_err-apply_response-clause-full c = λ q.
-    let es = c.args.cx.now.entries in
-    let o = c.args.self in
-    let r = c.in-Some.response in
-    let handed-on = c.from_residual in
-    or-then
-    (λ h. subst (λ x. OpenRunsOut es o (option_map (answer_trees es) x ∷ [])) (sym c.in-Some.is)
-    (reply (subst (λ vs. IsOutOfNumbers (table_trees es o.evaluation.table) vs (answer_trees es r)) (ap (values_of es) c.deref.ensures.value ∙ c.requires.held.values_are) h)))
-    (handed-error {A = SomeKindIsFull c.apply_response.new.cx.entries c.apply_response.new.cx.limit ⊎ NumbersRunOut es o.evaluation.table c.deref.result.now r}
-    handed-on.result handed-on.ensures.1 (λ p. c.in_err-apply_response.ensures.full (ap Err p)) q)
-
-pub returns-in_err-round-clause-full : goal.returns-in_err-round-clause-full
-returns-in_err-round-clause-full c = λ q. handed-fault c.from_residual-in_err-round.result c.from_residual-in_err-round.ensures.1 (λ p. let memory = c.in_err-round.ensures.fault in cc) q
-
-pub returns-clause-full : goal.returns-clause-full
-returns-clause-full c = λ q.
-    let es = c.args.cx.now.entries in
-    let es2 = c.apply_response.new.cx.entries in
-    let k : Keeps es es2 = c.apply_response.ensures.keeps in
-    let o = c.args.self in
-    let r = c.in-Some.response in
-    let T = c.apply_response.new.table in
-    let hr : ResponseHeld es r = subst (ResultHeld es) c.in-Some.is c.requires.reply in
-    let put = ap (λ vs. with_response es o.evaluation.table vs r) (sym c.deref.ensures.value) ∙ c.in_ok-apply_response.ensures.applied in
-    let e = c.in_ok-round.ensures in
-    or-then
-    (λ h. subst (λ x. OpenRunsOut es o (option_map (answer_trees es) x ∷ [])) (sym c.in-Some.is)
-    (resumed-short es es2 k o c.requires.held r hr T put c.in_ok-round.round (is_definite es2 r) refl e.dropped e.left e.changed e.certainty [] h))
-    (c.go_on.ensures.full q)
-
-pub returns-clause-later : goal.returns-clause-later
-returns-clause-later c =
-    let es = c.args.cx.now.entries in
-    let es2 = c.apply_response.new.cx.entries in
-    let new = c.go_on.new.cx.entries in
-    let k : Keeps es es2 = c.apply_response.ensures.keeps in
-    let o = c.args.self in
-    let r = c.in-Some.response in
-    let T = c.apply_response.new.table in
-    let hr : ResponseHeld es r = subst (ResultHeld es) c.in-Some.is c.requires.reply in
-    let put = ap (λ vs. with_response es o.evaluation.table vs r) (sym c.deref.ensures.value) ∙ c.in_ok-apply_response.ensures.applied in
-    let e = c.in_ok-round.ensures in
-    let now : Evaluation = record o.evaluation { table = T } in
-    let P = RestRunsOut es2 now o.rounds_left c.in_ok-round.round o.goals.items in
-    let Q : List (Option AnswerTrees) → Type 0 = λ more. OpenRunsOut es o (option_map (answer_trees es) c.args.reply ∷ more) in
-    ok-more (RunsOutOnly P new) (RunsOutOnly Q new)
-    (only-more P Q
-    (λ more h. subst (λ x. OpenRunsOut es o (option_map (answer_trees es) x ∷ more)) (sym c.in-Some.is)
-    (resumed-short es es2 k o c.requires.held r hr T put c.in_ok-round.round (is_definite es2 r) refl e.dropped e.left e.changed e.certainty more h)) new)
-    c.go_on.result c.go_on.ensures.later

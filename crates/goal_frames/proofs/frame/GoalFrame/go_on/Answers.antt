@@ -1,12 +1,9 @@
-use Rattle.std.proofs.Common.{◌⊎◌, map, ap, subst, sym, None, Err}
-use Rattle.type_terms.specs.Failures.{SomeKindIsFull}
+use Rattle.std.proofs.Common.{map, subst, sym, None}
 use Rattle.infer_table.specs.Inputs.{form_of}
-use Rattle.infer_table.proofs.FullFacts.{handed-on}
 use Rattle.evaluation.specs.Readings.{HandlerStepHeld}
 use Rattle.evaluation.specs.StepReadings.{shown_by}
 use Rattle.goal_frames.specs.Fitting.{StepFits}
 use Rattle.goal_frames.specs.Places.{IsIgnoring}
-use Rattle.goal_frames.specs.Shortages.{NextRunsOut}
 use Rattle.goal_frames.specs.declared.frame.Place.TheVariants.{Entering}
 use Rattle.goal_frames.proofs.GoingOn.{ComesNext, considers-next, answers-next, refuses-next}
 use Rattle.goal_frames.proofs.Held.{frame-at, frame-later, answers-stand}
@@ -17,7 +14,7 @@ returns-in-Consider-clause-held g c =
     let f = c.args.self.now in
     let held = subst (HandlerStepHeld c.step.new.cx.entries) c.in-Consider.is c.in_ok-spec.ensures.held in
     let fits = subst (StepFits f.goal.variables.items c.step.new.cx.entries) c.in-Consider.is c.in_ok-spec.ensures.fits in
-    (frame-at c.args.cx.now.entries c.step.new.cx.entries c.step.ensures.keeps f c.requires.held (Entering c.in-Consider.spec) (held, fits), tt)
+    (frame-at c.args.cx.now.entries c.step.new.cx.entries c.step.ensures.grew.keeps f c.requires.held (Entering c.in-Consider.spec) (held, fits), tt)
 
 pub returns-in-Consider-clause-asks : goal.returns-in-Consider-clause-asks
 returns-in-Consider-clause-asks g c =
@@ -26,7 +23,7 @@ returns-in-Consider-clause-asks g c =
     let new = c.step.new.cx.entries in
     let h = g.H.GoalHandler.meaning.goals.handled (g.H.GoalHandler.meaning.world c.args.handler.now old) f.goal.mode (form_of old f.goal) in
     λ p b.
-    considers-next h f.goal.mode old new c.step.ensures.keeps f.considered.items c.requires.held.considered c.in-Consider.spec p
+    considers-next h f.goal.mode old new c.step.ensures.grew.keeps f.considered.items c.requires.held.considered c.in-Consider.spec p
     (subst (ComesNext h new (map (shown_by old) f.considered.items)) c.in-Consider.is (rw (← c.deref.ensures.value) c.in_ok-spec.ensures.next)) b
 
 pub returns-in-Answer-clause-held : goal.returns-in-Answer-clause-held
@@ -34,7 +31,7 @@ returns-in-Answer-clause-held g c =
     let f = c.args.self.now in
     let old = c.args.cx.now.entries in
     let new = c.step.new.cx.entries in
-    c.ignore_from.ensures.held new (frame-later old new c.step.ensures.keeps f c.requires.held) (subst (HandlerStepHeld new) c.in-Answer.is c.in_ok-spec.ensures.held)
+    c.ignore_from.ensures.held new (frame-later old new c.step.ensures.grew.keeps f c.requires.held) (subst (HandlerStepHeld new) c.in-Answer.is c.in_ok-spec.ensures.held)
     (subst (StepFits f.goal.variables.items new) c.in-Answer.is c.in_ok-spec.ensures.fits)
 
 pub returns-in-Answer-clause-asks : goal.returns-in-Answer-clause-asks
@@ -55,7 +52,7 @@ returns-in-NoSolution-clause-held g c =
     let f = c.args.self.now in
     let old = c.args.cx.now.entries in
     let new = c.step.new.cx.entries in
-    c.ignore_from-in-NoSolution.ensures.held new (frame-later old new c.step.ensures.keeps f c.requires.held) tt tt
+    c.ignore_from-in-NoSolution.ensures.held new (frame-later old new c.step.ensures.grew.keeps f c.requires.held) tt tt
 
 pub returns-in-NoSolution-clause-asks : goal.returns-in-NoSolution-clause-asks
 returns-in-NoSolution-clause-asks g c =
@@ -69,11 +66,3 @@ returns-in-NoSolution-clause-asks g c =
     (subst (ComesNext h new (map (shown_by old) f.considered.items)) c.in-NoSolution.is (rw (← c.deref.ensures.value) c.in_ok-spec.ensures.next)) b in
     let o = c.ignore_from-in-NoSolution.ensures.asks new f.goal.mode p (subst (λ ns. IsIgnoring None ns p) (sym c.new.ensures.items) i) in
     (o.0, answers-stand h new c.ignore_from-in-NoSolution.new.self.goal (map (shown_by new) c.ignore_from-in-NoSolution.new.self.considered.items) c.ignore_from-in-NoSolution.new.self.place p o.1)
-
-pub returns-in_err-spec-clause-full : goal.returns-in_err-spec-clause-full
-returns-in_err-spec-clause-full g c = λ q.
-    let f = c.args.self.now in
-    let old = c.args.cx.now.entries in
-    let h = g.H.GoalHandler.meaning.goals.handled (g.H.GoalHandler.meaning.world c.args.handler.now old) f.goal.mode (form_of old f.goal) in
-    subst (λ done. SomeKindIsFull c.step.new.cx.entries c.step.new.cx.limit ⊎ NextRunsOut old h f.goal.variables.items done) c.deref.ensures.value
-    (handed-on c.from_residual.result c.from_residual.ensures.1 (λ p. c.in_err-spec.ensures.full (ap Err p)) q)

@@ -1,6 +1,5 @@
-use Rattle.std.proofs.Common.{◌≡◌, ◌∙◌, ◌∷◌, ◌+◌, suc, List, ℕ, map, drop, ap, sym, subst, arith}
+use Rattle.std.proofs.Common.{◌≡◌, ◌∙◌, ◌∷◌, ◌+◌, suc, ℕ, map, drop, ap, sym, subst, arith}
 use Rattle.infer_table.specs.Inputs.{form_of}
-use Rattle.infer_table.proofs.FullFacts.{or-then}
 use Rattle.evaluation.specs.History.{begin, entered, ignored, evaluated, finished, position, request, CameInOrder}
 use Rattle.evaluation.specs.Promises.{frame_of_goal, Anything}
 use Rattle.evaluation.specs.declared.candidate.Considered.{Considered}
@@ -10,16 +9,12 @@ use Rattle.goal_frames.specs.Places.{FrameStanding, PositionStands, IsBetween, I
 use Rattle.goal_frames.specs.Frames.{FrameHistory, FrameHeld, HasHeard, PlaceHeld, RequestHeld, ReplyIsMade, IsRequestOf, ReplyIsDue, FrameSteps, reply_read}
 use Rattle.goal_frames.specs.Steps.{AsksFewer}
 use Rattle.goal_frames.specs.declared.frame.Place.{Place}
-use Rattle.search_graph.specs.declared.delegate.Reply.TheVariants as Replied
-use Rattle.goal_frames.specs.Shortages.{NextRunsOut}
 use Rattle.goal_frames.specs.declared.frame.Place.TheVariants as InCode
 use Rattle.goal_frames.proofs.Held.{answers-stand}
-use Rattle.goal_frames.proofs.Shortages.{runs-out-there}
 use Rattle.goal_frames.proofs.Stepping.{both-ok, shown-more, steps-to, begun-there, inside-there, hears-there, finishes-there, ignores-there, begun-waits, entering-waits, inside-waits, finishing-waits, ignoring-waits, over-waits}
-use Rattle.goal_frames.proofs.Opened.{goes-at, begun-comes, resumed-comes, open-held, open-steps, entered-fewer, resumed-fewer, closed-fewer}
+use Rattle.goal_frames.proofs.Opened.{goes-at, begun-comes, resumed-comes, open-held, open-steps, entered-fewer, resumed-fewer, closed-fewer, candidate-fault}
 use Rattle.goal_frames.proofs.Running.{result-fits}
 use Rattle.std.specs.Prelude.{IfOk}
-use Rattle.type_terms.specs.declared.Fault.TheVariants.{Full}
 use Rattle.goal_frames.proofs.frame.GoalFrame.step.Goals as goal
 use Rattle.goal_frames.proofs.frame.GoalFrame.step.Goals.{in_default-via-in-Begun+in_default, in_default-via-in-Entering+in_default, in_default-via-in-Inside+in_default, in_default-via-in-Finishing+in_default, in_default-via-in-Ignoring+in_default, in_default-via-in_default}
 
@@ -114,9 +109,9 @@ returns-in-Entering-Entered-clause-held g c =
     let moving : FrameHeld es (record f { place = c.replace.new.dest }) = record { goal = held.goal; considered = held.considered; fits = held.fits; place = subst (PlaceHeld f.goal es) (sym c.replace.ensures.after) tt } in
     let due = subst (λ r. ReplyIsDue es h f (reply_read es r)) x.is-1 c.requires.due in
     let came = λ (heard : FrameHistory) (b : HasHeard es h f heard) (o : CameInOrder (Anything frame_tables h) (frame_of_goal frame_tables h) (entered ∷ heard)).
-    begun-comes h f.goal (map (shown_by es) f.considered.items) new step.result es x.spec (subst (PlaceHeld f.goal es) is held.place).1 step.ensures.stands step.ensures.later
+    begun-comes h f.goal (map (shown_by es) f.considered.items) new step.result es x.spec (subst (PlaceHeld f.goal es) is held.place).1 step.ensures.stands
     (position (frame_of_goal frame_tables h) (entered ∷ heard)) (inside-there h es f heard b x.spec is) in
-    open-held h es new step.ensures.keeps f c.replace.new.dest after x.spec.source step.result entered due came moving step.ensures.held c.go_on_with.result (goes-at _ es new c.go_on_with.result c.go_on_with.ensures.goes_on)
+    open-held h es new step.ensures.grew.keeps f c.replace.new.dest after x.spec.source step.result entered due came moving step.ensures.held c.go_on_with.result (goes-at _ es new c.go_on_with.result c.go_on_with.ensures.goes_on)
 
 pub returns-in-Entering-Entered-clause-steps : goal.returns-in-Entering-Entered-clause-steps
 returns-in-Entering-Entered-clause-steps g c =
@@ -133,10 +128,10 @@ returns-in-Entering-Entered-clause-steps g c =
     let moving : FrameHeld es (record f { place = c.replace.new.dest }) = record { goal = held.goal; considered = held.considered; fits = held.fits; place = subst (PlaceHeld f.goal es) (sym c.replace.ensures.after) tt } in
     let due = subst (λ r. ReplyIsDue es h f (reply_read es r)) x.is-1 c.requires.due in
     let came = λ (heard : FrameHistory) (b : HasHeard es h f heard) (o : CameInOrder (Anything frame_tables h) (frame_of_goal frame_tables h) (entered ∷ heard)).
-    begun-comes h f.goal (map (shown_by es) f.considered.items) new step.result es x.spec (subst (PlaceHeld f.goal es) is held.place).1 step.ensures.stands step.ensures.later
+    begun-comes h f.goal (map (shown_by es) f.considered.items) new step.result es x.spec (subst (PlaceHeld f.goal es) is held.place).1 step.ensures.stands
     (position (frame_of_goal frame_tables h) (entered ∷ heard)) (inside-there h es f heard b x.spec is) in
     subst (λ r. IfOk c.go_on_with.result (FrameSteps es h f (reply_read es r) new after)) (sym x.is-1)
-    (open-steps h es new step.ensures.keeps f c.replace.new.dest after x.spec.source step.result entered due came moving step.ensures.held c.go_on_with.result (goes-at _ es new c.go_on_with.result c.go_on_with.ensures.goes_on))
+    (open-steps h es new step.ensures.grew.keeps f c.replace.new.dest after x.spec.source step.result entered due came moving step.ensures.held c.go_on_with.result (goes-at _ es new c.go_on_with.result c.go_on_with.ensures.goes_on))
 
 pub returns-in-Entering-Entered-clause-fewer : goal.returns-in-Entering-Entered-clause-fewer
 returns-in-Entering-Entered-clause-fewer g c =
@@ -162,9 +157,9 @@ returns-in-Inside-Result-clause-held g c =
     let came = λ (heard : FrameHistory) (b : HasHeard es h f heard) (o : CameInOrder (Anything frame_tables h) (frame_of_goal frame_tables h) (evaluated (result_read es x.answer) ∷ heard)).
     let there = hears-there h es f heard b x.source x.waiting (result_read es x.answer) is o in
     resumed-comes h f.goal (map (shown_by es) f.considered.items) new step.result es x.source x.waiting (result_read es x.answer) (position (frame_of_goal frame_tables h) heard) there.0
-    (result-fits es x.answer (subst (ReplyIsMade es) x.is-1 c.requires.reply).1) step.ensures.stands step.ensures.later
+    (result-fits es x.answer (subst (ReplyIsMade es) x.is-1 c.requires.reply).1) step.ensures.stands
     (position (frame_of_goal frame_tables h) (evaluated (result_read es x.answer) ∷ heard)) there.1 in
-    open-held h es new step.ensures.keeps f c.replace.new.dest after x.source step.result (evaluated (result_read es x.answer)) due came moving step.ensures.held c.go_on_with-in-Inside-Result.result (goes-at _ es new c.go_on_with-in-Inside-Result.result c.go_on_with-in-Inside-Result.ensures.goes_on)
+    open-held h es new step.ensures.grew.keeps f c.replace.new.dest after x.source step.result (evaluated (result_read es x.answer)) due came moving step.ensures.held c.go_on_with-in-Inside-Result.result (goes-at _ es new c.go_on_with-in-Inside-Result.result c.go_on_with-in-Inside-Result.ensures.goes_on)
 
 pub returns-in-Inside-Result-clause-steps : goal.returns-in-Inside-Result-clause-steps
 returns-in-Inside-Result-clause-steps g c =
@@ -183,10 +178,10 @@ returns-in-Inside-Result-clause-steps g c =
     let came = λ (heard : FrameHistory) (b : HasHeard es h f heard) (o : CameInOrder (Anything frame_tables h) (frame_of_goal frame_tables h) (evaluated (result_read es x.answer) ∷ heard)).
     let there = hears-there h es f heard b x.source x.waiting (result_read es x.answer) is o in
     resumed-comes h f.goal (map (shown_by es) f.considered.items) new step.result es x.source x.waiting (result_read es x.answer) (position (frame_of_goal frame_tables h) heard) there.0
-    (result-fits es x.answer (subst (ReplyIsMade es) x.is-1 c.requires.reply).1) step.ensures.stands step.ensures.later
+    (result-fits es x.answer (subst (ReplyIsMade es) x.is-1 c.requires.reply).1) step.ensures.stands
     (position (frame_of_goal frame_tables h) (evaluated (result_read es x.answer) ∷ heard)) there.1 in
     subst (λ r. IfOk c.go_on_with-in-Inside-Result.result (FrameSteps es h f (reply_read es r) new after)) (sym x.is-1)
-    (open-steps h es new step.ensures.keeps f c.replace.new.dest after x.source step.result (evaluated (result_read es x.answer)) due came moving step.ensures.held c.go_on_with-in-Inside-Result.result (goes-at _ es new c.go_on_with-in-Inside-Result.result c.go_on_with-in-Inside-Result.ensures.goes_on))
+    (open-steps h es new step.ensures.grew.keeps f c.replace.new.dest after x.source step.result (evaluated (result_read es x.answer)) due came moving step.ensures.held c.go_on_with-in-Inside-Result.result (goes-at _ es new c.go_on_with-in-Inside-Result.result c.go_on_with-in-Inside-Result.ensures.goes_on))
 
 pub returns-in-Inside-Result-clause-fewer : goal.returns-in-Inside-Result-clause-fewer
 returns-in-Inside-Result-clause-fewer g c =
@@ -244,43 +239,13 @@ returns-in-Ignoring-Ignored-clause-steps g c =
     (there.0, answers-stand h es after.goal (map (shown_by es) after.considered.items) after.place p there.1))
     (c.ignore_from.ensures.held es (record { goal = held.goal; considered = held.considered; fits = held.fits; place = subst (PlaceHeld f.goal es) (sym c.replace.ensures.after) tt }) place.0 place.1).0)
 
--- ---- where it ends for want of numbers
-pub returns-in-Begun-Begin-clause-full : goal.returns-in-Begun-Begin-clause-full
-returns-in-Begun-Begin-clause-full g c = λ q.
-    let es = c.args.cx.now.entries in
-    let f = c.args.self.now in
-    let h = g.H.GoalHandler.meaning.goals.handled (g.H.GoalHandler.meaning.world c.args.handler.now es) f.goal.mode (form_of es f.goal) in
-    or-then (λ n. runs-out-there es h f InCode.Begun c.args.reply Replied.Begin (sym c.replace.ensures.value ∙ c.in-Begun-Begin.is-0) c.in-Begun-Begin.is-1 n) (c.go_on.ensures.full q)
-
+-- ---- where it ends for want of room
 pub returns-in-Entering-Entered-clause-full : goal.returns-in-Entering-Entered-clause-full
-returns-in-Entering-Entered-clause-full g c = λ q.
-    let es = c.args.cx.now.entries in
-    let f = c.args.self.now in
-    let h = g.H.GoalHandler.meaning.goals.handled (g.H.GoalHandler.meaning.world c.args.handler.now es) f.goal.mode (form_of es f.goal) in
-    let x = c.in-Entering-Entered in
-    or-then (λ n. runs-out-there es h f (InCode.Entering x.spec) c.args.reply Replied.Entered (sym c.replace.ensures.value ∙ x.is-0) x.is-1 n)
-    (c.begin_candidate-step.ensures.full (c.go_on_with.ensures.fault Full q))
+returns-in-Entering-Entered-clause-full g c = candidate-fault c.begin_candidate-step.new.cx c.go_on_with.result c.begin_candidate-step.result c.go_on_with.ensures.fault c.begin_candidate-step.ensures.full
 
 pub returns-in-Inside-Result-clause-full : goal.returns-in-Inside-Result-clause-full
-returns-in-Inside-Result-clause-full g c = λ q.
-    let es = c.args.cx.now.entries in
-    let f = c.args.self.now in
-    let h = g.H.GoalHandler.meaning.goals.handled (g.H.GoalHandler.meaning.world c.args.handler.now es) f.goal.mode (form_of es f.goal) in
-    let x = c.in-Inside-Result in
-    or-then (λ n. runs-out-there es h f (InCode.Inside x.source x.waiting) c.args.reply (Replied.Result x.answer) (sym c.replace.ensures.value ∙ x.is-0) x.is-1 n)
-    (c.resume-step.ensures.full (c.go_on_with-in-Inside-Result.ensures.fault Full q))
-
-pub returns-in_ok-push-in-Finishing-Finished-clause-full : goal.returns-in_ok-push-in-Finishing-Finished-clause-full
-returns-in_ok-push-in-Finishing-Finished-clause-full g c = λ q.
-    let es = c.args.cx.now.entries in
-    let f = c.args.self.now in
-    let h = g.H.GoalHandler.meaning.goals.handled (g.H.GoalHandler.meaning.world c.args.handler.now es) f.goal.mode (form_of es f.goal) in
-    let x = c.in-Finishing-Finished in
-    or-then
-    (λ n.
-    runs-out-there es h f (InCode.Finishing x.source x.outcome) c.args.reply (Replied.Finished x.head_usages) (sym c.replace.ensures.value ∙ x.is-0) x.is-1
-    (subst (λ (done : List Considered). NextRunsOut es h f.goal.variables.items done) c.in_ok-push-in-Finishing-Finished.ensures.items n))
-    (c.go_on-in-Finishing-Finished.ensures.full q)
+returns-in-Inside-Result-clause-full g c =
+    candidate-fault c.resume-step.new.cx c.go_on_with-in-Inside-Result.result c.resume-step.result c.go_on_with-in-Inside-Result.ensures.fault c.resume-step.ensures.full
 
 -- ---- at the other places no candidate is open
 pub returns-in-Begun-Begin-clause-fewer : goal.returns-in-Begun-Begin-clause-fewer

@@ -1,4 +1,4 @@
-use Rattle.std.proofs.Common.{sym, ◌∙◌, ap}
+use Rattle.std.proofs.Common.{◌∙◌, ap}
 use Rattle.search_graph.specs.declared.delegate.Reply.TheVariants.{Entered}
 use Rattle.goal_walk.proofs.Steps.{stepped, enters-due}
 use Rattle.goal_walk.proofs.frames.FrameWalk.enter.Goals as goal

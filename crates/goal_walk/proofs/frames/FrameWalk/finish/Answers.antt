@@ -1,4 +1,4 @@
-use Rattle.std.proofs.Common.{sym, ◌∙◌, ap, false, [], ◌∷◌, ◌++◌}
+use Rattle.std.proofs.Common.{◌∙◌, ap, false, [], ◌∷◌, ◌++◌}
 use Rattle.search_graph.specs.declared.delegate.Reply.TheVariants.{Finished}
 use Rattle.goal_walk.proofs.Steps.{stepped, finishes-due}
 use Rattle.goal_walk.proofs.frames.FrameWalk.finish.Goals as goal

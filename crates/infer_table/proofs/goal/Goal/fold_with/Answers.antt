@@ -13,10 +13,10 @@ pub fold_clauses-requires-clause-held : goal.fold_clauses-requires-clause-held
 fold_clauses-requires-clause-held g c = rw c.deref.ensures.value c.requires.held.environment
 
 pub fold_with-requires-clause-ready : goal.fold_with-requires-clause-ready
-fold_with-requires-clause-ready g c = g.met.F.TypeFolder.ready_kept c.args.folder.now c.args.cx.now.entries c.fold_clauses.new.cx.entries c.fold_clauses.ensures.keeps c.requires.ready
+fold_with-requires-clause-ready g c = g.met.F.TypeFolder.ready_kept c.args.folder.now c.args.cx.now.entries c.fold_clauses.new.cx.entries c.fold_clauses.ensures.grew.keeps c.requires.ready
 
 pub fold_with-requires-clause-held : goal.fold_with-requires-clause-held
-fold_with-requires-clause-held g c = has-later c.args.cx.now.entries c.fold_clauses.new.cx.entries c.fold_clauses.ensures.keeps args_lists c.args.self.now.predicate.trait_ref.args.0 c.requires.held.predicate
+fold_with-requires-clause-held g c = has-later c.args.cx.now.entries c.fold_clauses.new.cx.entries c.fold_clauses.ensures.grew.keeps args_lists c.args.self.now.predicate.trait_ref.args.0 c.requires.held.predicate
 
 pub returns-clause-held : goal.returns-clause-held
 returns-clause-held g c = record {
@@ -32,7 +32,7 @@ returns-clause-folded g c =
     let es = c.args.cx.now.entries in
     let mid = c.fold_clauses.new.cx.entries in
     let end = c.fold_with.new.cx.entries in
-    let k = c.fold_clauses.ensures.keeps in
+    let k = c.fold_clauses.ensures.grew.keeps in
     let f = g.F.TypeFolder.action c.args.folder.now es in
     let p = c.args.self.now.predicate.trait_ref.args.0 in
     let q = c.in_ok-predicate.predicate.trait_ref.args.0 in

@@ -1,10 +1,9 @@
-use Rattle.std.proofs.Common.{◌≡◌, ◌∙◌, refl, sym, ap, subst, ◌∷◌, [], ◌++◌, ℕ, inl, length, arith}
+use Rattle.std.proofs.Common.{◌≡◌, ◌∙◌, sym, ap, subst, ◌∷◌, ℕ, inl, length, arith}
 use Rattle.infer_table.specs.Worklists.{equation_trees, worklist}
 use Rattle.infer_table.specs.Related.{Tracks, Begins}
 use Rattle.infer_table.specs.declared.related.Related.{Related}
 use Rattle.infer_table.proofs.RunFacts.{stands-on}
-use Rattle.infer_table.proofs.FullFacts.{runs-out-later}
-use Rattle.infer_table.proofs.RelatedSteps.{worklist-length, skip-tracks, skip-stands, skip-out, skip-same, skip-advances, step-tracks, handed-same}
+use Rattle.infer_table.proofs.RelatedSteps.{worklist-length, skip-tracks, skip-stands, skip-same, skip-advances, step-tracks}
 use Rattle.infer_table.proofs.infer_ctxt.InferCtxt.equate_next.Goals.{then-len-left, else-len-left}
 use Rattle.infer_table.proofs.infer_ctxt.InferCtxt.equate_next.Goals as goal
 
@@ -38,16 +37,6 @@ returns-then-is_settled-clause-exact c = λ end s.
     skip-stands es c.lawful.ensures t c.requires.ready c.args.todo.now.items c.requires.todo_held c.args.equation c.requires.left c.requires.right
     (c.is_settled.ensures.settled c.if-is_settled.true es t (equation_trees es c.args.equation ∷ worklist es c.args.todo.now.items) c.requires.tracked.tracked) end s
 
-pub returns-then-is_settled-clause-later : goal.returns-then-is_settled-clause-later
-returns-then-is_settled-clause-later c = λ h.
-    let es = c.args.cx.now.entries in
-    let t = c.args.self.now in
-    skip-out es c.lawful.ensures t c.requires.ready c.args.todo.now.items c.requires.todo_held c.args.equation c.requires.left c.requires.right
-    (c.is_settled.ensures.settled c.if-is_settled.true es t (equation_trees es c.args.equation ∷ worklist es c.args.todo.now.items) c.requires.tracked.tracked) h
-
-pub returns-in_err-found-clause-full : goal.returns-in_err-found-clause-full
-returns-in_err-found-clause-full c = handed-same c.from_residual.result c.from_residual.ensures.1 c.in_err-found.ensures.full
-
 pub returns-clause-tracked : goal.returns-clause-tracked
 returns-clause-tracked c =
     let es = c.args.cx.now.entries in
@@ -58,7 +47,7 @@ returns-clause-tracked c =
     let left = c.equate.new.todo.items in
     let on : (new : Related) → new.settled ≡ c.args.related.now.settled → Begins c.args.equation (length before) t.region_vars c.args.related.now.begun.items new.begun.items → Tracks fs u (worklist fs left) new =
     λ new.
-    step-tracks es fs c.lawful.ensures c.equate.ensures.keeps t u c.requires.ready c.equate.ensures.grows c.args.equation c.requires.left c.requires.right before left c.in_ok-found.found c.in_ok-found.ensures.exact
+    step-tracks es fs c.lawful.ensures c.equate.ensures.grew.keeps t u c.requires.ready c.equate.ensures.grows c.args.equation c.requires.left c.requires.right before left c.in_ok-found.found c.in_ok-found.ensures.exact
     c.args.related.now new c.requires.tracked in
     c.finish-2.ensures.tracks fs u (worklist fs left)
     (elim c.if-len-left.branch [
@@ -72,7 +61,3 @@ returns-clause-tracked c =
 pub returns-clause-exact : goal.returns-clause-exact
 returns-clause-exact c = λ end s.
     stands-on end c.args.cx.now.entries c.equate.new.cx.entries c.args.self.now c.equate.new.self c.args.equation c.args.todo.now.items c.equate.new.todo.items s c.in_ok-found.found c.in_ok-found.ensures.exact c.in_ok-found.ensures.advances
-
-pub returns-clause-later : goal.returns-clause-later
-returns-clause-later c = λ h.
-    runs-out-later c.args.cx.now.entries c.args.self.now c.args.equation (c.args.todo.now.items ++ c.args.equation ∷ []) c.args.todo.now.items refl c.equate.new.cx.entries c.equate.new.self c.equate.new.todo.items c.in_ok-found.found c.in_ok-found.ensures.exact h

@@ -1,4 +1,4 @@
-use Rattle.std.proofs.Common.{rules, ◌≡◌, Some, None, subst, length, sym, ap, ◌∙◌, Err}
+use Rattle.std.proofs.Common.{rules, ◌≡◌, Some, None, subst, length, sym, ap, ◌∙◌}
 use Rattle.std.specs.Prelude.{IfSome}
 use Rattle.orphan_check.specs.Held.{ErrorHeld}
 use Rattle.text_definitions.specs.Declarations.{Declarations}
@@ -6,7 +6,6 @@ use Rattle.overlap_check.specs.Verdicts.{KeepsOrphanRule}
 use Rattle.sessions.specs.Checking.{HasOrphan, HasOverlap}
 use Rattle.sessions.specs.Promises.{view_in}
 use Rattle.sessions.proofs.CheckedSubjects.{stays-on, overlap-before, all-passed, numbered-still}
-use Rattle.infer_table.proofs.FullFacts.{handed-on}
 use Rattle.sessions.proofs.session.Session.check_crate.Goals as goal
 
 pub first_overlap-requires : goal.first_overlap-requires
@@ -54,9 +53,3 @@ returns-in-None-clause-verdict c =
 
 pub returns-in-None-clause-stays : goal.returns-in-None-clause-stays
 returns-in-None-clause-stays c = stays-on c.args.self.now c.first_orphan.new.self c.first_overlap.new.self c.first_orphan.ensures.stays c.first_overlap.ensures.stays
-
-pub returns-in_err-id-clause-full : goal.returns-in_err-id-clause-full
-returns-in_err-id-clause-full c = handed-on c.from_residual.result c.from_residual.ensures.1 (λ p. c.in_err-id.ensures.full (ap Err p))
-
-pub returns-in_err-later-clause-full : goal.returns-in_err-later-clause-full
-returns-in_err-later-clause-full c = handed-on c.from_residual-in_err-later.result c.from_residual-in_err-later.ensures.1 (λ p. c.in_err-later.ensures.full (ap Err p))

@@ -2,11 +2,13 @@ use Rattle.std.proofs.Common.{refl, sym, subst, length}
 use Rattle.goal_frames.specs.Stores.{kept_inputs, kept_responses}
 use Rattle.std.specs.Prelude.{IfOk}
 use Rattle.type_terms.specs.Failures.{SomeKindIsFull}
+use Rattle.term_folds.specs.Growth.{FullAtLimit}
 use Rattle.sessions.specs.Given.{later_of}
 use Rattle.sessions.specs.Releases.{IsSectionOf, IsLaterAnswer}
 use Rattle.sessions.specs.Subjects.{Subject, StaysOn}
 use Rattle.sessions.proofs.Keeping.{session-kept, session-rests, limits-stay}
 use Rattle.sessions.proofs.LaterChecks.{answered-here}
+use Rattle.sessions.proofs.ShortCalls.{at-err}
 use Rattle.sessions.proofs.session.Session.check_later.Goals as goal
 
 pub later_answer-requires-clause-ready : goal.later_answer-requires-clause-ready
@@ -40,7 +42,8 @@ pub returns-clause-full : goal.returns-clause-full
 returns-clause-full c = λ q.
     let i = c.self.inside in
     let next = c.later_answer.new.cx in
-    subst (SomeKindIsFull next.interner.entries) (limits-stay i.limits.handles i.cx next c.self.invariant.limits c.later_answer.ensures.advances.limits).terms (c.later_answer.ensures.full q)
+    subst (SomeKindIsFull next.interner.entries) (limits-stay i.limits.handles i.cx next c.self.invariant.limits c.later_answer.ensures.advances.limits).terms
+    (at-err (FullAtLimit next.interner) c.later_answer.result c.later_answer.ensures.full q refl)
 
 pub returns-clause-stays : goal.returns-clause-stays
 returns-clause-stays c =

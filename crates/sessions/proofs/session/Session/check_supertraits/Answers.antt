@@ -1,8 +1,7 @@
-use Rattle.std.proofs.Common.{rules, ◌≡◌, ◌≤◌, length, arith, subst, ap, Err, inl}
+use Rattle.std.proofs.Common.{rules, ◌≡◌, ◌≤◌, length, arith, subst}
 use Rattle.sessions.specs.declared.supertraits.HeaderAnswer.TheVariants.{Held, Missing, Undecided}
 use Rattle.sessions.proofs.CheckedSubjects.{stays-on, none-below}
 use Rattle.sessions.proofs.HeaderChecks.{CheckedHere, HeldHere, all-held, checked-before, held-more, stops-at}
-use Rattle.infer_table.proofs.FullFacts.{handed-on}
 use Rattle.sessions.proofs.session.Session.check_supertraits.Goals as goal
 
 pub loop-number-init : goal.loop-number-init
@@ -54,6 +53,3 @@ returns-clause-answer c =
     let over : end ≤ c.loop-number.number = omega (arith, c.loop-number-test.false) in
     let all : length s.declarations.impls ≤ c.loop-number.number = omega (arith, is, over) in
     all-held s c.loop-number.number c.impl_end-end.ensures.numbered all c.loop-number.invariant.held
-
-pub returns-in_err-header_answer-clause-full : goal.returns-in_err-header_answer-clause-full
-returns-in_err-header_answer-clause-full c = handed-on c.from_residual.result c.from_residual.ensures.1 (λ p. c.in_err-header_answer.ensures.full (ap Err p))

@@ -8,7 +8,7 @@ use Rattle.workspace.specs.Numbered.{IsNumbered}
 use Rattle.sessions.proofs.CratesAside.{orphan-ok}
 use Rattle.sessions.proofs.ImplNumbers.{numbers-below}
 use Rattle.sessions.proofs.Keeping.{session-kept, session-rests, limits-stay}
-use Rattle.sessions.proofs.ShortCalls.{at-limit}
+use Rattle.sessions.proofs.ShortCalls.{terms-at-limit}
 use Rattle.sessions.proofs.session.Session.first_orphan.Goals as goal
 
 pub first_broken_header-requires-clause-ready : goal.first_broken_header-requires-clause-ready
@@ -48,8 +48,8 @@ returns-clause-stays c =
     (record { declarations = refl; of_crate = refl; depth = refl; handles = refl; terms = c.first_broken_header.ensures.advances.entries })
 
 pub returns-clause-full : goal.returns-clause-full
-returns-clause-full c = λ q.
+returns-clause-full c =
     let i = c.self.inside in
     let x = c.first_broken_header.new.cx in
     let new : Subject = record { declarations = i.workspace.now; of_crate = i.crate_id.index; depth = i.limits.depth; handles = i.limits.handles; terms = x.interner.entries; goals = length (kept_inputs x.store); answers = length (kept_responses x.store); frames = i.graph.frames } in
-    at-limit new x (record { terms = refl; goals = refl; answers = refl; limits = limits-stay i.limits.handles i.cx c.first_broken_header.new.cx c.self.invariant.limits c.first_broken_header.ensures.advances.limits }) (c.first_broken_header.ensures.full q)
+    terms-at-limit new x (record { terms = refl; goals = refl; answers = refl; limits = limits-stay i.limits.handles i.cx c.first_broken_header.new.cx c.self.invariant.limits c.first_broken_header.ensures.advances.limits }) c.first_broken_header.result c.first_broken_header.ensures.full

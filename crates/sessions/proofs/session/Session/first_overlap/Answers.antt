@@ -1,8 +1,7 @@
-use Rattle.std.proofs.Common.{rules, ◌≤◌, ◌<◌, ℕ, arith, Some, None, subst, ap, Err}
+use Rattle.std.proofs.Common.{rules, ◌≤◌, ◌<◌, ℕ, arith, Some, None, subst}
 use Rattle.sessions.specs.Checking.{HasPartner}
 use Rattle.sessions.proofs.CheckedSubjects.{Passed, stays-on, partner-before, numbered-still, none-below, one-more, up-to}
 use Rattle.sessions.proofs.Partners.{lists-still}
-use Rattle.infer_table.proofs.FullFacts.{handed-on}
 use Rattle.sessions.proofs.session.Session.first_overlap.Goals as goal
 
 pub loop-index-init : goal.loop-index-init
@@ -41,6 +40,3 @@ pub returns-clause-found : goal.returns-clause-found
 returns-clause-found c =
     let over : c.args.end ≤ c.loop-index.index = omega (arith, c.loop-index-test.false) in
     λ k j lt le. up-to (λ k. (j : ℕ) → j < c.args.end → Passed c.args.self.now k j) c.args.end c.loop-index.index over c.loop-index.invariant.passed k lt j le
-
-pub returns-in_err-earlier-clause-full : goal.returns-in_err-earlier-clause-full
-returns-in_err-earlier-clause-full c = handed-on c.from_residual-in_err-earlier.result c.from_residual-in_err-earlier.ensures.1 (λ p. c.in_err-earlier.ensures.full (ap Err p))

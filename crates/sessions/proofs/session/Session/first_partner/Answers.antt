@@ -1,11 +1,10 @@
-use Rattle.std.proofs.Common.{rules, ◌≡◌, ◌≤◌, true, false, length, ◌∙◌, subst, arith, ap, Err}
+use Rattle.std.proofs.Common.{rules, ◌≡◌, ◌≤◌, true, false, length, ◌∙◌, subst, arith}
 use Rattle.std.proofs.lemmas.List.{take_all}
 use Rattle.type_terms.specs.declared.ImplId.{ImplId}
 use Rattle.declarations.specs.Merges.{Each}
 use Rattle.sessions.proofs.CheckedSubjects.{Passed, stays-on, overlap-found, pair-passed, numbered-still}
 use Rattle.sessions.proofs.Lists.{each-more}
 use Rattle.sessions.proofs.Partners.{all-partners-passed}
-use Rattle.infer_table.proofs.FullFacts.{handed-on}
 use Rattle.sessions.proofs.session.Session.first_partner.Goals as goal
 
 pub overlaps-requires : goal.overlaps-requires
@@ -38,6 +37,3 @@ returns-clause-found c =
     let over : length items ≤ c.loop-earlier.earlier-index = omega (arith, c.loop-earlier-test.false) in
     all-partners-passed c.args.self.now c.args.later.index c.in_ok-partners.partners.items c.in_ok-partners.ensures
     (subst (Each (λ (i : ImplId). Passed c.args.self.now c.args.later.index i.index)) (take_all c.loop-earlier.earlier-index items over ∙ c.deref-earlier-items.ensures.value) c.loop-earlier.invariant.passed)
-
-pub returns-in_err-overlaps-clause-full : goal.returns-in_err-overlaps-clause-full
-returns-in_err-overlaps-clause-full c = handed-on c.from_residual-in_err-overlaps.result c.from_residual-in_err-overlaps.ensures.1 (λ p. c.in_err-overlaps.ensures.full (ap Err p))

@@ -39,8 +39,8 @@ returns-clause-stays c =
     (record { declarations = refl; of_crate = refl; depth = refl; handles = refl; terms = c.header_answer_at.ensures.keeps })
 
 pub returns-clause-full : goal.returns-clause-full
-returns-clause-full c = λ q.
+returns-clause-full c =
     let i = c.self.inside in
     let x = c.header_answer_at.new.cx in
     let new : Subject = record { declarations = i.workspace.now; of_crate = i.crate_id.index; depth = i.limits.depth; handles = i.limits.handles; terms = x.interner.entries; goals = length (kept_inputs x.store); answers = length (kept_responses x.store); frames = c.header_answer_at.new.graph.frames } in
-    at-limit new x (record { terms = refl; goals = refl; answers = refl; limits = limits-stay i.limits.handles i.cx c.header_answer_at.new.cx c.self.invariant.limits c.header_answer_at.ensures.limits }) (c.header_answer_at.ensures.full q)
+    at-limit new x (record { terms = refl; goals = refl; answers = refl; limits = limits-stay i.limits.handles i.cx c.header_answer_at.new.cx c.self.invariant.limits c.header_answer_at.ensures.limits }) c.header_answer_at.result c.header_answer_at.ensures.full

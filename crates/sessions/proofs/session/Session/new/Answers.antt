@@ -1,18 +1,19 @@
-use Rattle.std.proofs.Common.{◌∙◌, ap, subst, sym, length, arith, Err}
+use Rattle.std.proofs.Common.{◌∙◌, refl, ap, subst, sym, length, arith}
 use Rattle.type_terms.specs.Failures.{SomeKindIsFull}
 use Rattle.type_terms.specs.Terms.{Terms}
-use Rattle.infer_table.proofs.FullFacts.{handed-on}
 use Rattle.view_lowering.specs.MostTerms.{most_terms}
 use Rattle.candidate_assembly.specs.Ready.{AreReadyDeclarations}
 use Rattle.candidate_assembly.specs.declared.solver.Solver.{Solver}
-use Rattle.sessions.proofs.ShortCalls.{many-terms}
+use Rattle.term_folds.specs.Growth.{FullAtLimit}
+use Rattle.solver_context.proofs.Shortages.{handed}
+use Rattle.sessions.proofs.ShortCalls.{at-err, many-terms}
 use Rattle.sessions.proofs.Keeping.{solves-view, solves-seen, solver-rests-first}
 use Rattle.sessions.proofs.session.Session.new.Goals as goal
 
 pub returns-in_err-declarations-clause-full : goal.returns-in_err-declarations-clause-full
 returns-in_err-declarations-clause-full c = λ q.
     let es = c.lower_view.new.cx.entries in
-    let is-full = handed-on c.from_residual.result c.from_residual.ensures.1 (λ p. c.in_err-declarations.ensures.full (ap Err p)) q in
+    let is-full = at-err (FullAtLimit c.lower_view.new.cx) c.from_residual.result (handed (FullAtLimit c.lower_view.new.cx) c.from_residual.result c.from_residual.ensures.1 c.in_err-declarations.ensures.full) q refl in
     let limit = c.lower_view.ensures.limit ∙ c.new-interner.ensures.limit in
     let none = ap length c.new-interner.ensures.empty in
     let few = c.lower_view.ensures.few in

@@ -1,4 +1,4 @@
-use Rattle.std.proofs.Common.{[], refl, sym, subst, length, ◌≡◌, ◌⊎◌, Err}
+use Rattle.std.proofs.Common.{[], refl, sym, subst, length}
 use Rattle.goal_frames.specs.Stores.{kept_inputs, kept_responses}
 use Rattle.std.specs.Prelude.{IfOk}
 use Rattle.sessions.specs.Given.{answer_in}
@@ -17,9 +17,7 @@ use Rattle.sessions.proofs.FrameBounds.{seen-erased-world, question-within}
 use Rattle.sessions.specs.Proving.{goal_asking}
 use Rattle.sessions.specs.Tables.{table_of}
 use Rattle.sessions.specs.declared.settling.TheConstants.{MAX_ASKINGS}
-use Rattle.type_terms.specs.declared.Fault.TheVariants.{Full}
-use Rattle.sessions.specs.Shortages.{IsAtLimit, HasManyVariables}
-use Rattle.sessions.proofs.ShortCalls.{either, short-at-limit}
+use Rattle.sessions.proofs.ShortCalls.{at-limit}
 use Rattle.sessions.proofs.session.Session.prove.Goals as goal
 
 pub prove_question-requires-clause-rest : goal.prove_question-requires-clause-rest
@@ -82,7 +80,4 @@ returns-clause-full c =
     let i = c.self.inside in
     let x = c.prove_question.new in
     let new : Subject = record { declarations = i.workspace.now; of_crate = i.crate_id.index; depth = i.limits.depth; handles = i.limits.handles; terms = x.cx.interner.entries; goals = length (kept_inputs x.cx.store); answers = length (kept_responses x.cx.store); frames = x.graph.frames } in
-    subst (λ (old : Subject). (q : Question) → AsksProof old.declarations old.of_crate c.args.number q → c.prove_question.result ≡ Err Full → IsAtLimit new ⊎ HasManyVariables q) c.self.view_is
-    (λ q asks e.
-    either (c.prove_question.ensures.full q asks.asks.question e)
-    (short-at-limit new x.cx (record { terms = refl; goals = refl; answers = refl; limits = limits-stay i.limits.handles i.cx c.prove_question.new.cx c.self.invariant.limits c.prove_question.ensures.limits })) (λ m. m))
+    at-limit new x.cx (record { terms = refl; goals = refl; answers = refl; limits = limits-stay i.limits.handles i.cx c.prove_question.new.cx c.self.invariant.limits c.prove_question.ensures.limits }) c.prove_question.result c.prove_question.ensures.full

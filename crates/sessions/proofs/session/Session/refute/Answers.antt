@@ -1,4 +1,4 @@
-use Rattle.std.proofs.Common.{◌+◌, ◌≤◌, subst, length, ◌≡◌, ◌⊎◌, Err, refl}
+use Rattle.std.proofs.Common.{◌+◌, ◌≤◌, subst, length, refl}
 use Rattle.goal_frames.specs.Stores.{kept_inputs, kept_responses}
 use Rattle.std.specs.Prelude.{IfOk}
 use Rattle.candidate_assembly.specs.SolverMeaning.{solver_by_view}
@@ -14,9 +14,7 @@ use Rattle.sessions.specs.Subjects.{Subject, AsksRefutation}
 use Rattle.text_definitions.specs.Declarations.{Question}
 use Rattle.sessions.proofs.Alone.{on-map}
 use Rattle.sessions.proofs.Keeping.{answered-exactly, limits-stay}
-use Rattle.type_terms.specs.declared.Fault.TheVariants.{Full}
-use Rattle.sessions.specs.Shortages.{IsAtLimit, HasManyVariables}
-use Rattle.sessions.proofs.ShortCalls.{either, short-at-limit}
+use Rattle.sessions.proofs.ShortCalls.{at-limit}
 use Rattle.sessions.proofs.session.Session.refute.Goals as goal
 
 pub returns-clause-answer : goal.returns-clause-answer
@@ -48,7 +46,4 @@ returns-clause-full c =
     let i = c.self.inside in
     let x = c.refute_question.new in
     let new : Subject = record { declarations = i.workspace.now; of_crate = i.crate_id.index; depth = i.limits.depth; handles = i.limits.handles; terms = x.cx.interner.entries; goals = length (kept_inputs x.cx.store); answers = length (kept_responses x.cx.store); frames = x.graph.frames } in
-    subst (λ (old : Subject). (q : Question) → AsksRefutation old.declarations old.of_crate c.args.number q → c.refute_question.result ≡ Err Full → IsAtLimit new ⊎ HasManyVariables q) c.self.view_is
-    (λ q asks e.
-    either (c.refute_question.ensures.full q asks.asks.question e)
-    (short-at-limit new x.cx (record { terms = refl; goals = refl; answers = refl; limits = limits-stay i.limits.handles i.cx c.refute_question.new.cx c.self.invariant.limits c.refute_question.ensures.limits })) (λ m. m))
+    at-limit new x.cx (record { terms = refl; goals = refl; answers = refl; limits = limits-stay i.limits.handles i.cx c.refute_question.new.cx c.self.invariant.limits c.refute_question.ensures.limits }) c.refute_question.result c.refute_question.ensures.full

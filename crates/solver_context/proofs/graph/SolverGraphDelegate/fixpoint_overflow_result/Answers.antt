@@ -1,4 +1,3 @@
-use Rattle.std.proofs.Common.{inl}
 use Rattle.solver_context.proofs.Growing.{keeps}
 use Rattle.solver_context.proofs.graph.SolverGraphDelegate.fixpoint_overflow_result.Goals as goal
 
@@ -6,6 +5,3 @@ pub returns-clause-keeps : goal.returns-clause-keeps
 returns-clause-keeps g c =
     let h = g.H.GoalHandler in
     keeps h.meaning g.met.H.GoalHandler.lawful.world_kept c.args.cx.now c.silent_answer.new.cx c.requires.0 c.silent_answer.ensures.advances
-
-pub returns-clause-full : goal.returns-clause-full
-returns-clause-full g c = λ q. inl (c.silent_answer.ensures.full q)

@@ -1,4 +1,4 @@
-use Rattle.std.proofs.Common.{inl, ◌≡◌, sym, subst}
+use Rattle.std.proofs.Common.{◌≡◌, sym, subst}
 use Rattle.infer_table.specs.declared.certainty.Certainty.TheVariants.{Maybe}
 use Rattle.search_graph.specs.Meaning.{IsFair}
 use Rattle.goal_frames.specs.HandlerPrograms.{silent}
@@ -28,6 +28,3 @@ returns-clause-fair g c =
     (λ r. IsFair (solver_meaning h.meaning) w asked (answer_of c.silent_answer.new.cx r)) c.silent_answer.result
     (λ r x. subst (IsFair (solver_meaning h.meaning) w asked) (sym x.1) (silent-fair h.meaning lawful laws w asked (Maybe cause)))
     c.silent_answer.ensures.is
-
-pub returns-clause-full : goal.returns-clause-full
-returns-clause-full g c = λ q. inl (c.silent_answer.ensures.full q)

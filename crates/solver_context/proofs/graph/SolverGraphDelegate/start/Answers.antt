@@ -1,4 +1,3 @@
-use Rattle.infer_table.proofs.FullFacts.{handed-on}
 use Rattle.solver_context.specs.Contexts.{goal_of}
 use Rattle.solver_context.proofs.Growing.{started}
 use Rattle.solver_context.proofs.graph.SolverGraphDelegate.start.Goals as goal
@@ -12,6 +11,3 @@ returns-clause-started g c =
     let x = c.in_ok-goal in
     started h.meaning g.met.H.GoalHandler.lawful.world_kept cx c.args.input.now x.goal c.new.result c.requires x.ensures.is c.new.ensures.goal
     (c.new.ensures.heard es (h.meaning.world cx.handler es) asked.0 asked.1 (x.ensures.held es c.requires.0.store))
-
-pub returns-in_err-goal-clause-full : goal.returns-in_err-goal-clause-full
-returns-in_err-goal-clause-full g c = λ q. handed-on c.from_residual.result c.from_residual.ensures.1 (λ p. let memory = c.in_err-goal.ensures.memory in cc) q

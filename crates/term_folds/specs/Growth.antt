@@ -1,0 +1,15 @@
+-- What a call leaves of an interner, and why it may refuse.
+use Rattle.std.specs.Prelude.{◌≡◌}
+use Rattle.type_terms.specs.Failures.{SomeKindIsFull}
+use Rattle.type_terms.specs.Terms.{Terms, Keeps}
+use Rattle.type_terms.specs.declared.Fault.{Fault}
+use Rattle.type_terms.specs.declared.Fault.TheVariants.{Full}
+
+-- every handle there was keeps its kind and its trees, and the limit is the same
+pub record Grew (old new : Terms) : Type 0 where
+  pub keeps : Keeps old.entries new.entries
+  pub limit : new.limit ≡ old.limit
+
+-- the fault is `Full` only where some kind of term has reached the limit
+abbrev pub FullAtLimit : Terms → Fault → Type 0
+FullAtLimit t fault = fault ≡ Full → SomeKindIsFull t.entries t.limit
