@@ -1,7 +1,7 @@
 //! What is said of a later version that may break users.
 
 use diagnostics::{Diagnostic, Level, SpanLabel, on_line};
-use explanation_texts::{Texts, crate_name, is_fundamental, note, trait_name};
+use explanation_texts::{Name, Texts, crate_name, is_fundamental, push_note, trait_name};
 use session_walks::BreakingCause;
 use std::alloc::{AllocError, Global};
 use type_terms::{CrateId, TraitId};
@@ -22,8 +22,7 @@ fn relied_text(
     let Some(id) = relied else {
         return String::from_str(alloc, "users rely on what the trait is not implemented for");
     };
-    let name = trait_name(alloc, texts, id)?;
-    let name = name.as_str();
+    let name = trait_name(texts, id);
     let sort = if is_fundamental(texts, id) {
         "fundamental"
     } else {
@@ -36,7 +35,7 @@ fn relied_text(
 fn label_of(
     alloc: Global,
     texts: Texts<'_>,
-    name: &str,
+    name: Name<'_>,
     cause: BreakingCause,
     added: Option<TraitId>,
 ) -> Result<String, AllocError> {
@@ -86,8 +85,7 @@ pub(crate) fn breaking(
     number: u32,
     cause: BreakingCause,
 ) -> Result<Diagnostic, AllocError> {
-    let name = crate_name(alloc, texts, crate_id)?;
-    let name = name.as_str();
+    let name = crate_name(texts, crate_id);
     let message = format!(in alloc; "a later version of crate `{name}` may not add this impl")?;
     let mut told = Diagnostic::new(alloc, Level::Error, None, message);
     let added = added_trait(texts, section, number);
@@ -95,7 +93,7 @@ pub(crate) fn breaking(
     mark_added(texts, section, number, label, &mut told)?;
     if let Some(said) = meaning(cause) {
         let message = String::from_str(alloc, said)?;
-        told.children.push(note(alloc, message))?;
+        push_note(alloc, message, &mut told.children)?;
     }
     Ok(told)
 }

@@ -6,7 +6,9 @@ ghost use Rattle.session_walks.specs.Walked.{PairWalkHeld};
 
 use answer_lines::ShownNames;
 use diagnostics::{Diagnostic, ErrCode, Level, SpanLabel, Subdiagnostic, on_line};
-use explanation_texts::{Spoken, Story, Texts, conflict_text, impl_line, note, speak, tell};
+use explanation_texts::{
+    Spoken, Story, Texts, conflict_text, impl_line, note, push_note, speak, tell,
+};
 use session_walks::{Answer, Conflict, PairWalk, explain_overlap, impl_header, unseen_at};
 use sessions::Session;
 use std::alloc::{AllocError, Global};
@@ -191,8 +193,8 @@ fn mark(
 
 /// What is said of an impl of `core`, which has no line.
 fn core_text(alloc: Global, found: &Conflicting<'_>) -> Result<String, AllocError> {
-    let bound = found.common.bound.as_str();
-    let header = found.header.as_str();
+    let bound = &found.common.bound;
+    let header = &found.header;
     if header.is_empty() {
         format!(in alloc; "conflicting implementation of `{bound}` in crate `core`")
     } else {
@@ -209,12 +211,12 @@ fn mark_headers(
 ) -> Result<(), AllocError> {
     let first = String::from_str(alloc, "first implementation here")?;
     let has_line = mark(texts, found.earlier, first, false, told)?;
-    let subject = found.common.subject.as_str();
+    let subject = &found.common.subject;
     let second = format!(in alloc; "conflicting implementation for `{subject}`")?;
     let _marked = mark(texts, found.later, second, true, told)?;
     if !has_line {
         let said = core_text(alloc, found)?;
-        told.children.push(note(alloc, said))?;
+        push_note(alloc, said, &mut told.children)?;
     }
     Ok(())
 }
@@ -225,8 +227,8 @@ fn diagnose(
     texts: Texts<'_>,
     found: &Conflicting<'_>,
 ) -> Result<Diagnostic, AllocError> {
-    let bound = found.common.bound.as_str();
-    let subject = found.common.subject.as_str();
+    let bound = &found.common.bound;
+    let subject = &found.common.subject;
     let message = format!(in alloc;
         "conflicting implementations of trait `{bound}` for type `{subject}`"
     )?;

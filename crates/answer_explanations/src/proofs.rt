@@ -3,8 +3,10 @@
 ghost use Rattle.session_walks.specs.Walked.{ProofWalkHeld, StepsHeld};
 
 use answer_lines::ShownNames;
-use diagnostics::{Diagnostic, Level, ProofRow, Span, SpanLabel};
-use explanation_texts::{Spoken, Story, Texts, impl_name, note, source_name, speak, tell};
+use diagnostics::{Diagnostic, Level, ProofRow, Span};
+use explanation_texts::{
+    Spoken, Story, Texts, impl_name, message_at, push_note, source_name, speak, tell,
+};
 use session_walks::{ProofWalk, Step, Way};
 use std::alloc::{AllocError, Global};
 use type_terms::interner::Interner;
@@ -125,7 +127,6 @@ impl ToldProof<'_> {
             return ends(alloc, NOT_SHOWN);
         };
         let name = source_name(alloc, texts, candidate.source)?;
-        let name = name.as_str();
         let said = format!(in alloc; "{name}, not checked")?;
         Ok(Reason {
             said,
@@ -245,7 +246,7 @@ impl ToldProof<'_> {
         told.proof = rows;
         if !is_whole {
             let said = String::from_str(alloc, "the rest of the proof is not shown")?;
-            told.children.push(note(alloc, said))?;
+            push_note(alloc, said, &mut told.children)?;
         }
         Ok(())
     }
@@ -300,9 +301,8 @@ pub(crate) fn proved(
 ) -> Result<Diagnostic, AllocError> {
     let reference = proof.story.reference(0);
     let message = format!(in alloc; "`{reference}` holds")?;
-    let mut told = Diagnostic::new(alloc, Level::Note, None, message);
-    told.spans
-        .push(SpanLabel::primary(span, String::new(alloc)))?;
+    let label = String::new(alloc);
+    let mut told = message_at(alloc, Level::Note, None, message, span, label)?;
     match proof.last_step() {
         Some(last) => proof.push_rows(alloc, texts, last, &mut told)?,
         None => {

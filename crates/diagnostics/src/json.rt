@@ -9,7 +9,7 @@ use crate::rendering::render;
 use crate::row::push_shown;
 use crate::source::SourceFile;
 use crate::span::{Place, place_in};
-use crate::window::window;
+use crate::window::{place_in_window, window};
 use serde_json::{Map, Value, put};
 use std::alloc::{AllocError, Global};
 
@@ -59,7 +59,8 @@ fn put_nulls(alloc: Global, object: &mut Members, keys: &[&str]) -> Result<(), A
     Ok(())
 }
 
-/// Adds the line that a span is of, and where in it the span is; of a long line the part around the span.
+/// Adds the line that a span is of, and where in it the span is; of a long line the part around the span, and of a span that ends behind
+/// that part as much as is in it.
 fn put_line(
     alloc: Global,
     object: &mut Members,
@@ -72,12 +73,14 @@ fn put_line(
     let mut text = String::new(alloc);
     push_shown(&mut text, &line[view.start..view.end])?;
     put(object, alloc, "text", Value::String(text))?;
-    let start = place.start.saturating_sub(view.start).saturating_add(1);
-    let end = place.end.saturating_sub(view.start).saturating_add(1);
+    let marked = place_in_window(view, place);
     put_numbers(
         alloc,
         object,
-        &[("highlight_start", start), ("highlight_end", end)],
+        &[
+            ("highlight_start", marked.start.saturating_add(1)),
+            ("highlight_end", marked.end.saturating_add(1)),
+        ],
     )
 }
 
@@ -218,13 +221,21 @@ fn child_value(
     put_nulls(alloc, &mut object, &["code", "rendered"])?;
     Ok(Value::Object(object))
 }
-/// A proof as one note, a row a line.
+
+/// A proof as one note, a row a line, each whole.
 fn proof_value(alloc: Global, rows: &[ProofRow]) -> Result<Value, AllocError> {
     let mut message = String::from_str(alloc, "proof:")?;
     let columns = goal_columns(rows);
     for (index, row) in rows.iter().enumerate() {
         message.push_str("\n")?;
-        push_proof_row(&mut message, row, &rows[index + 1..], columns)?;
+        push_proof_row(
+            alloc,
+            &mut message,
+            row,
+            &rows[index + 1..],
+            columns,
+            usize::MAX,
+        )?;
     }
     child_value(
         alloc,
@@ -292,7 +303,8 @@ fn put_diagnostic(
 
 /// A line of the answer with its diagnostic, as a line of JSON without its end: the keys that rustc writes, and `answer`.
 ///
-/// `rendered` is the text for people, without colours, with an empty line behind it. A proof is the first child. Of a span's line at most 1,000 bytes are there.
+/// `rendered` is the text for people, without colours, with an empty line behind it. A proof is the first child, with its rows whole. Of a
+/// span's line at most 1,000 bytes are there, and what is marked lies in these.
 pub fn json_line(
     alloc: Global,
     file: &SourceFile<'_>,

@@ -1,13 +1,16 @@
 //! Proofs as trees of rows.
 
-ghost use Rattle.std.specs.Prelude.{◌≤◌};
+ghost use Rattle.std.specs.Prelude.{◌≤◌, ◌+◌, string_len};
 
 use crate::diagnostic::ProofRow;
-use crate::row::push_spaces;
-use std::alloc::AllocError;
+use crate::row::{push_cut, push_spaces};
+use std::alloc::{AllocError, Global};
 
 /// How many columns of a row are for the goal, so that the reasons of most stand below each other.
 const GOAL_COLUMNS: usize = 60;
+
+/// How many columns there are between a goal and its reason.
+const GAP: usize = 4;
 
 /// Whether another row of a depth stands in these, before any that is less deep.
 fn goes_on(rows: &[ProofRow], depth: usize) -> bool {
@@ -38,9 +41,19 @@ pub(crate) fn goal_columns(rows: &[ProofRow]) -> usize
     columns
 }
 
-/// Appends what stands before the goal of a row: the lines that lead to it and to those below.
-fn push_branches(out: &mut String, depth: usize, below: &[ProofRow]) -> Result<(), AllocError> {
-    for level in 1..depth {
+/// Appends what stands before the goal of a row: the lines that lead to it and to those below. Of a row that is deeper than so many levels
+/// the first ones are left out.
+fn push_branches(
+    out: &mut String,
+    depth: usize,
+    below: &[ProofRow],
+    levels: usize,
+) -> Result<(), AllocError> {
+    let hidden = depth.saturating_sub(levels);
+    if hidden > 0 {
+        out.push_str(".. ")?;
+    }
+    for level in hidden.saturating_add(1)..depth {
         out.push_str(if goes_on(below, level) { "|  " } else { "   " })?;
     }
     if depth > 0 {
@@ -49,20 +62,60 @@ fn push_branches(out: &mut String, depth: usize, below: &[ProofRow]) -> Result<(
     Ok(())
 }
 
-/// Appends a row of a proof without its end, above the rows that are given.
+/// A goal behind what stands before it, which takes about half of the row at most.
+fn goal_text(
+    alloc: Global,
+    row: &ProofRow,
+    below: &[ProofRow],
+    room: usize,
+) -> Result<String, AllocError> {
+    let mut text = String::new(alloc);
+    push_branches(&mut text, row.depth, below, room / 6)?;
+    text.push_str(row.goal.as_str())?;
+    Ok(text)
+}
+
+/// Appends a goal, and spaces up to so many columns, as far as there is room.
+fn push_goal(out: &mut String, goal: &str, columns: usize, room: usize) -> Result<(), AllocError>
+    ensures { string_len out.new ≤ string_len out.old + room }
+{
+    push_cut(out, goal, room)?;
+    push_spaces(out, columns.min(room).saturating_sub(goal.len()))
+}
+
+/// Appends a reason behind a goal, as far as there is room.
+fn push_reason(out: &mut String, reason: &str, room: usize) -> Result<(), AllocError>
+    ensures { string_len out.new ≤ string_len out.old + room }
+{
+    push_spaces(out, GAP.min(room))?;
+    push_cut(out, reason, room.saturating_sub(GAP))
+}
+
+/// How many columns are for a reason behind a goal of so many: all it takes if the goal has room beside it, and else half of a row.
+fn reason_columns(reason: usize, goal: usize, room: usize) -> usize
+    ensures { result ≤ room }
+{
+    let most = room.saturating_sub(goal).max(room / 2);
+    reason.saturating_add(GAP).min(most)
+}
+
+/// Appends a row of a proof without its end, above the rows that are given: the goal, which takes so many columns where there is room, and
+/// its reason. Where they have no room beside each other, each has half of the row at least, and is cut.
 pub(crate) fn push_proof_row(
+    alloc: Global,
     out: &mut String,
     row: &ProofRow,
     below: &[ProofRow],
     columns: usize,
-) -> Result<(), AllocError> {
-    push_branches(out, row.depth, below)?;
-    out.push_str(row.goal.as_str())?;
+    room: usize,
+) -> Result<(), AllocError>
+    ensures { string_len out.new ≤ string_len out.old + room }
+{
+    let goal = goal_text(alloc, row, below, room)?;
     if row.reason.is_empty() {
-        return Ok(());
+        return push_cut(out, goal.as_str(), room);
     }
-    let taken = indent(row.depth).saturating_add(row.goal.len());
-    push_spaces(out, columns.saturating_sub(taken))?;
-    out.push_str("    ")?;
-    out.push_str(row.reason.as_str())
+    let behind = reason_columns(row.reason.len(), goal.len(), room);
+    push_goal(out, goal.as_str(), columns, room - behind)?;
+    push_reason(out, row.reason.as_str(), behind)
 }

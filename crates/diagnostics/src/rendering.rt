@@ -1,11 +1,11 @@
 //! Diagnostics as text for people, in rustc's form.
 
-ghost use Rattle.std.specs.Prelude.{◌≤◌};
+ghost use Rattle.std.specs.Prelude.{◌≡◌, ◌≤◌, ◌+◌, false, string_len};
 
 use crate::diagnostic::{Diagnostic, ErrCode, Level, ProofRow, SpanLabel, Subdiagnostic};
 use crate::excerpt::{Frame, push_excerpt};
 use crate::proof_tree::{goal_columns, push_proof_row};
-use crate::row::{Ink, push_in, push_spaces};
+use crate::row::{COLUMNS, Ink, push_in, push_spaces};
 use crate::source::SourceFile;
 use std::alloc::{AllocError, Global};
 
@@ -79,20 +79,49 @@ fn push_title(
     out.push_str("\n")
 }
 
+/// Appends what stands before a row of a proof: the frame, and in the first row what follows.
+fn push_proof_head(out: &mut String, frame: Frame, is_first: bool) -> Result<(), AllocError>
+    ensures { frame.has_colors ≡ false → string_len out.new ≤ string_len out.old + frame.digits + 10 }
+{
+    push_spaces(out, frame.digits + 1)?;
+    if !is_first {
+        return push_spaces(out, 9);
+    }
+    push_in(out, frame.has_colors, Ink::Frame, "= ")?;
+    push_in(out, frame.has_colors, Ink::Bold, "proof")?;
+    out.push_str(": ")
+}
+
+/// Appends a row of a proof with its end, above the rows that are given.
+///
+/// So it has at most 100 columns.
+fn push_proof_line(
+    alloc: Global,
+    out: &mut String,
+    frame: Frame,
+    row: &ProofRow,
+    below: &[ProofRow],
+    columns: usize,
+    is_first: bool,
+) -> Result<(), AllocError>
+    ensures { frame.has_colors ≡ false → string_len out.new ≤ string_len out.old + COLUMNS + 1 }
+{
+    push_proof_head(out, frame, is_first)?;
+    push_proof_row(alloc, out, row, below, columns, COLUMNS - 10 - frame.digits)?;
+    out.push_str("\n")
+}
+
 /// Appends a proof, each goal in a row.
-fn push_proof(out: &mut String, frame: Frame, rows: &[ProofRow]) -> Result<(), AllocError> {
+fn push_proof(
+    alloc: Global,
+    out: &mut String,
+    frame: Frame,
+    rows: &[ProofRow],
+) -> Result<(), AllocError> {
     let columns = goal_columns(rows);
     for (index, row) in rows.iter().enumerate() {
-        push_spaces(out, frame.digits + 1)?;
-        if index == 0 {
-            push_in(out, frame.has_colors, Ink::Frame, "= ")?;
-            push_in(out, frame.has_colors, Ink::Bold, "proof")?;
-            out.push_str(": ")?;
-        } else {
-            push_spaces(out, 9)?;
-        }
-        push_proof_row(out, row, &rows[index + 1..], columns)?;
-        out.push_str("\n")?;
+        let below = &rows[index + 1..];
+        push_proof_line(alloc, out, frame, row, below, columns, index == 0)?;
     }
     Ok(())
 }
@@ -150,8 +179,8 @@ fn push_message(
 
 /// A diagnostic as rustc writes one, with colours if they are asked for; its last line has its end, and no empty line follows.
 ///
-/// An excerpt has at most 100 columns: of a longer line the part around its marks is shown, with `..` where something is left out. The
-/// only error is a refused request for memory.
+/// An excerpt has at most 100 columns: of a longer line the part around its marks is shown, with `..` where something is left out. So has a
+/// proof: of a goal or a reason that has no room there, what is behind `..` is left out. The only error is a refused request for memory.
 pub fn render(
     alloc: Global,
     file: &SourceFile<'_>,
@@ -164,7 +193,7 @@ pub fn render(
     if has_bar(diagnostic) {
         frame.push_bar(&mut out)?;
     }
-    push_proof(&mut out, frame, &diagnostic.proof)?;
+    push_proof(alloc, &mut out, frame, &diagnostic.proof)?;
     for child in &diagnostic.children {
         push_child(alloc, &mut out, frame, file, child)?;
     }

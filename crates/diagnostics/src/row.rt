@@ -1,6 +1,6 @@
 //! Rows of an excerpt: columns with a byte each, in colours.
 
-ghost use Rattle.std.specs.Prelude.{◌≡◌, ◌≤◌, ◌<◌, ◌+◌, ◌++◌, map, false, OnOk, string_bytes, string_len};
+ghost use Rattle.std.specs.Prelude.{◌≡◌, ◌≤◌, ◌<◌, ◌+◌, ◌++◌, length, map, min, false, OnOk, string_bytes, string_len};
 ghost use Rattle.diagnostics.specs.Shown.{shown};
 
 use crate::diagnostic::Level;
@@ -41,21 +41,15 @@ pub(crate) fn push_in(
     has_colors: bool,
     ink: Ink,
     text: &str,
-) -> Result<(), AllocError> {
+) -> Result<(), AllocError>
+    ensures { has_colors ≡ false → string_len out.new ≤ string_len out.old + length text.now }
+{
     if !has_colors {
         return out.push_str(text);
     }
     out.push_str(ink.codes())?;
     out.push_str(text)?;
     out.push_str(RESET)
-}
-
-/// Appends so many spaces.
-pub(crate) fn push_spaces(out: &mut String, count: usize) -> Result<(), AllocError> {
-    for _ in 0..count {
-        out.push_str(" ")?;
-    }
-    Ok(())
 }
 
 /// A byte as it is shown: a printable one of ASCII as it is, a tab as a space, any other as `?`.
@@ -71,14 +65,45 @@ pub(crate) fn shown(byte: u8) -> u8
     }
 }
 
+/// Appends a byte so many times, as it is shown.
+fn push_times(out: &mut String, byte: u8, count: usize) -> Result<(), AllocError>
+    ensures { string_len out.new ≤ string_len out.old + count }
+{
+    for _time in 0..count {
+        out.push(char::from(shown(byte)))?;
+    }
+    Ok(())
+}
+
+/// Appends so many spaces.
+pub(crate) fn push_spaces(out: &mut String, count: usize) -> Result<(), AllocError>
+    ensures { string_len out.new ≤ string_len out.old + count }
+{
+    push_times(out, b' ', count)
+}
+
 /// Appends the bytes of a text, each as it is shown.
 pub(crate) fn push_shown(out: &mut String, text: &[u8]) -> Result<(), AllocError>
-    ensures { OnOk result (string_bytes out.new ≡ string_bytes out.old ++ map shown text.now) }
+    ensures bytes { OnOk result (string_bytes out.new ≡ string_bytes out.old ++ map shown text.now) }
+    ensures len { string_len out.new ≤ string_len out.old + length text.now }
 {
     for byte in text {
         out.push(char::from(shown(*byte)))?;
     }
     Ok(())
+}
+
+/// Appends a text; of one that has more bytes than there are columns, as many as leave two columns for `..`, each as it is shown.
+pub(crate) fn push_cut(out: &mut String, text: &str, columns: usize) -> Result<(), AllocError>
+    ensures fits { string_len out.new ≤ string_len out.old + min (length text.now) columns }
+    ensures whole { length text.now ≤ columns → OnOk result (string_bytes out.new ≡ string_bytes out.old ++ text.now) }
+{
+    if text.len() <= columns {
+        return out.push_str(text);
+    }
+    let kept = columns.saturating_sub(2);
+    push_shown(out, &text.as_bytes()[..kept])?;
+    push_times(out, b'.', columns - kept)
 }
 
 /// A byte in its colour.

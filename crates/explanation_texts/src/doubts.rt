@@ -2,11 +2,11 @@
 
 ghost use Rattle.std.specs.Prelude.{◌≡◌, ◌<◌, ◌≤◌, ◌⊎◌, IfSome};
 
-use crate::items::{Texts, header_marks, help, impl_line, note};
+use crate::items::{Texts, header_marks, impl_line, message_at, note, push_help, push_note};
 use crate::links::{last_of, push_links, push_supertrait};
 use crate::sources::source_name;
 use crate::story::{Story, unsure_premise};
-use diagnostics::{Diagnostic, ErrCode, LIST_LIMIT, Level, Span, SpanLabel, Subdiagnostic};
+use diagnostics::{Diagnostic, ErrCode, LIST_LIMIT, Level, Span, Subdiagnostic};
 use evaluation::{CandidateSource, MaybeCause};
 use goal_walk::{Answer, CandidateNode};
 use std::alloc::{AllocError, Global};
@@ -191,7 +191,6 @@ fn push_way(
     children: &mut Vec<Subdiagnostic>,
 ) -> Result<(), AllocError> {
     let name = source_name(alloc, texts, source)?;
-    let name = name.as_str();
     let message = format!(in alloc; "the {name} may apply")?;
     let mut told = note(alloc, message);
     if let CandidateSource::Impl(id) = source {
@@ -214,8 +213,7 @@ fn push_ways(
     for (index, candidate) in story.candidates(place).iter().enumerate() {
         if index == LIST_LIMIT {
             let message = String::from_str(alloc, "others may apply too")?;
-            children.push(note(alloc, message))?;
-            return Ok(());
+            return push_note(alloc, message, children);
         }
         push_way(alloc, texts, candidate.source, children)?;
     }
@@ -244,7 +242,7 @@ fn push_deeper(
 ) -> Result<(), AllocError> {
     if let Some(other) = deeper(depth) {
         let message = format!(in alloc; "{advice}: `{other}` in place of `{depth}`")?;
-        children.push(help(alloc, message))?;
+        push_help(alloc, message, children)?;
     }
     Ok(())
 }
@@ -285,9 +283,8 @@ pub fn unsettled(
     let leaf = last_of(&path);
     let doubt = doubt_of(story, leaf);
     let (code, message) = message_of(alloc, story, doubt, leaf)?;
-    let mut told = Diagnostic::new(alloc, Level::Error, Some(code), message);
     let said = said_at(alloc, story, doubt, leaf, depth)?;
-    told.spans.push(SpanLabel::primary(span, said))?;
+    let mut told = message_at(alloc, Level::Error, Some(code), message, span, said)?;
     push_links(alloc, texts, story, &path, &mut told.children)?;
     push_supertrait(alloc, story, supertrait, &mut told.children)?;
     push_doubt(alloc, texts, story, doubt, leaf, depth, &mut told.children)?;

@@ -1,12 +1,12 @@
 //! What is said of a goal of which no proof was found: the deepest goal that failed, and who asked for it.
 
-use crate::items::{Texts, has_rules, help, impl_line, note, trait_name, written};
+use crate::items::{
+    Texts, has_rules, impl_line, message_at, push_help, push_note, trait_name, written,
+};
 use crate::links::{last_of, push_links, push_supertrait};
 use crate::refused::push_refused;
 use crate::story::{Story, refused_premise};
-use diagnostics::{
-    Diagnostic, ErrCode, LIST_LIMIT, Level, Span, SpanLabel, Subdiagnostic, cut_list,
-};
+use diagnostics::{Diagnostic, ErrCode, LIST_LIMIT, Level, Span, Subdiagnostic, cut_list};
 use std::alloc::{AllocError, Global};
 use type_terms::{ImplId, TraitId};
 
@@ -69,7 +69,6 @@ fn written_impl(
         found.parts.subject
     };
     let header = written(alloc, texts, line, place)?;
-    let header = header.as_str();
     let said = format!(in alloc; "`{header}` (line {line})")?;
     Ok(Some(said))
 }
@@ -108,8 +107,7 @@ fn is_implemented(texts: Texts<'_>, id: TraitId, seen: &[ImplId]) -> bool {
 
 /// That a trait has no impl.
 fn without_impls(alloc: Global, texts: Texts<'_>, id: TraitId) -> Result<String, AllocError> {
-    let name = trait_name(alloc, texts, id)?;
-    let name = name.as_str();
+    let name = trait_name(texts, id);
     if has_rules(texts, id) {
         format!(in alloc; "`{name}` has built-in rules alone here")
     } else {
@@ -124,11 +122,9 @@ fn with_impls(
     id: TraitId,
     impls: &[String],
 ) -> Result<String, AllocError> {
-    let name = trait_name(alloc, texts, id)?;
-    let name = name.as_str();
+    let name = trait_name(texts, id);
     let how = if has_params(texts, id) { "as" } else { "for" };
     let list = cut_list(alloc, impls)?;
-    let list = list.as_str();
     format!(in alloc; "`{name}` is implemented {how} {list}")
 }
 
@@ -143,10 +139,10 @@ fn push_implemented(
     let impls = written_impls(alloc, texts, id, seen)?;
     if !impls.is_empty() {
         let message = with_impls(alloc, texts, id, &impls)?;
-        children.push(help(alloc, message))?;
+        push_help(alloc, message, children)?;
     } else if !is_implemented(texts, id, seen) {
         let message = without_impls(alloc, texts, id)?;
-        children.push(help(alloc, message))?;
+        push_help(alloc, message, children)?;
     }
     Ok(())
 }
@@ -170,13 +166,13 @@ fn push_where(
         return Ok(());
     };
     if spoken.is_param {
-        let reference = spoken.reference.as_str();
+        let reference = &spoken.reference;
         let message = if is_impl {
             format!(in alloc; "consider a where-clause of the impl: `where {reference}`")?
         } else {
             format!(in alloc; "consider asking under a where-clause: `where {reference}`")?
         };
-        children.push(help(alloc, message))?;
+        push_help(alloc, message, children)?;
     }
     Ok(())
 }
@@ -191,12 +187,12 @@ fn push_leaf(
 ) -> Result<(), AllocError> {
     if story.is_cut(leaf) {
         let message = String::from_str(alloc, "the goals that this one asks are not shown")?;
-        children.push(note(alloc, message))?;
+        push_note(alloc, message, children)?;
     }
     if story.is_cycle(leaf) {
         let reference = story.reference(leaf);
         let message = format!(in alloc; "`{reference}` needs itself: such a cycle proves nothing")?;
-        children.push(note(alloc, message))?;
+        push_note(alloc, message, children)?;
     }
     push_refused(alloc, texts, story, leaf, "which was not proved", children)
 }
@@ -229,9 +225,9 @@ pub fn unproved(
     let leaf = last_of(&path);
     let reference = story.reference(leaf);
     let message = format!(in alloc; "the trait bound `{reference}` was not proved")?;
-    let mut told = Diagnostic::new(alloc, Level::Error, Some(ErrCode::E0277), message);
     let said = said_at(alloc, story, leaf)?;
-    told.spans.push(SpanLabel::primary(span, said))?;
+    let code = Some(ErrCode::E0277);
+    let mut told = message_at(alloc, Level::Error, code, message, span, said)?;
     push_links(alloc, texts, story, &path, &mut told.children)?;
     push_supertrait(alloc, story, asking.supertrait, &mut told.children)?;
     push_leaf(alloc, texts, story, leaf, &mut told.children)?;

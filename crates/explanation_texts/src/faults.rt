@@ -1,8 +1,9 @@
 //! What is said of a text with a fault.
 
+use crate::items::push_help;
 use crate::lines::whole_line;
 use crate::offending::{
-    Offence, above, hidden, mark, misplaced, other_byte, other_space, push_help, reads_above,
+    Offence, above, hidden, mark, misplaced, other_byte, other_space, push_any_help, reads_above,
     seeing_crate, taken, unknown,
 };
 use diagnostics::{Diagnostic, ErrCode, Level, SourceFile};
@@ -112,7 +113,7 @@ pub fn fault_diagnostic(
         Some(found) => {
             let Offence { place, label, help } = found;
             told.spans.push(mark(fault.line, place, label))?;
-            push_help(alloc, help, &mut told.children)?;
+            push_any_help(alloc, help, &mut told.children)?;
         }
         None => {
             let place = whole_line(file.line(fault.line));
@@ -122,7 +123,7 @@ pub fn fault_diagnostic(
     }
     if let Some(advice) = advice(fault.kind) {
         let help = String::from_str(alloc, advice)?;
-        push_help(alloc, Some(help), &mut told.children)?;
+        push_help(alloc, help, &mut told.children)?;
     }
     Ok(told)
 }

@@ -2,9 +2,12 @@
 
 use crate::lines::{ImplLine, ItemLines};
 use diagnostics::{
-    Level, Place, SourceFile, SpanLabel, Subdiagnostic, TYPE_LIMIT, cut_text, on_line, text_of,
+    Diagnostic, ErrCode, Level, Place, SourceFile, Span, SpanLabel, Subdiagnostic, TYPE_LIMIT,
+    cut_text, on_line, text_of,
 };
 use std::alloc::{AllocError, Global};
+use std::fmt;
+use std::fmt::Display;
 use type_terms::{CrateId, ImplId, TraitId};
 use workspace::Workspace;
 
@@ -49,32 +52,66 @@ pub fn impl_name(alloc: Global, texts: Texts<'_>, id: ImplId) -> Result<String, 
     }
 }
 
+/// A name as it is shown: as `cut_text` shows it, but by no request for memory.
+#[derive(Clone, Copy)]
+pub struct Name<'w> {
+    bytes: &'w [u8],
+}
+
+/// A byte of a name as it is shown.
+fn shown_char(byte: u8) -> char {
+    if byte.is_ascii_graphic() {
+        char::from(byte)
+    } else {
+        '?'
+    }
+}
+
+impl Display for Name<'_> {
+    fn fmt<W: fmt::Write>(&self, f: &mut fmt::Formatter<W>) -> fmt::Result {
+        let shown = self.bytes.get(..TYPE_LIMIT).unwrap_or(self.bytes);
+        for byte in shown {
+            f.write_char(shown_char(*byte))?;
+        }
+        if shown.len() < self.bytes.len() {
+            f.write_str("..")?;
+        }
+        Ok(())
+    }
+}
+
+/// A name in a text.
+pub(crate) fn name_of(bytes: &[u8]) -> Name<'_> {
+    Name { bytes }
+}
+
 /// The name of a trait.
-pub fn trait_name(alloc: Global, texts: Texts<'_>, id: TraitId) -> Result<String, AllocError> {
+pub fn trait_name<'w>(texts: Texts<'w>, id: TraitId) -> Name<'w> {
     match texts.workspace.traits().get(id.index as usize) {
-        Some(entry) => cut_text(alloc, &entry.name, TYPE_LIMIT),
-        None => Ok(String::new(alloc)),
+        Some(entry) => name_of(&entry.name),
+        None => name_of(&[]),
+    }
+}
+
+/// The name of a crate of a workspace.
+pub(crate) fn name_in(workspace: &Workspace, id: CrateId) -> Name<'_> {
+    if (id.index as usize) < workspace.crates().len() {
+        name_of(workspace.crate_name(id))
+    } else {
+        name_of(&[])
     }
 }
 
 /// The name of a crate.
-pub fn crate_name(alloc: Global, texts: Texts<'_>, id: CrateId) -> Result<String, AllocError> {
-    if (id.index as usize) < texts.workspace.crates().len() {
-        cut_text(alloc, texts.workspace.crate_name(id), TYPE_LIMIT)
-    } else {
-        Ok(String::new(alloc))
-    }
+pub fn crate_name<'w>(texts: Texts<'w>, id: CrateId) -> Name<'w> {
+    name_in(texts.workspace, id)
 }
 
 /// The name of the crate of a trait.
-pub(crate) fn trait_home(
-    alloc: Global,
-    texts: Texts<'_>,
-    id: TraitId,
-) -> Result<String, AllocError> {
+pub(crate) fn trait_home<'w>(texts: Texts<'w>, id: TraitId) -> Name<'w> {
     match texts.workspace.traits().get(id.index as usize) {
-        Some(entry) => crate_name(alloc, texts, entry.owner),
-        None => Ok(String::new(alloc)),
+        Some(entry) => crate_name(texts, entry.owner),
+        None => name_of(&[]),
     }
 }
 
@@ -99,9 +136,38 @@ pub fn note(alloc: Global, message: String) -> Subdiagnostic {
     Subdiagnostic::new(alloc, Level::Note, message)
 }
 
-/// A help without a place.
-pub(crate) fn help(alloc: Global, message: String) -> Subdiagnostic {
-    Subdiagnostic::new(alloc, Level::Help, message)
+/// Adds a note without a place.
+pub fn push_note(
+    alloc: Global,
+    message: String,
+    children: &mut Vec<Subdiagnostic>,
+) -> Result<(), AllocError> {
+    children.push(note(alloc, message))?;
+    Ok(())
+}
+
+/// Adds a help without a place.
+pub(crate) fn push_help(
+    alloc: Global,
+    message: String,
+    children: &mut Vec<Subdiagnostic>,
+) -> Result<(), AllocError> {
+    children.push(Subdiagnostic::new(alloc, Level::Help, message))?;
+    Ok(())
+}
+
+/// A message that is about a span, with what is said there.
+pub fn message_at(
+    alloc: Global,
+    level: Level,
+    code: Option<ErrCode>,
+    message: String,
+    span: Span,
+    label: String,
+) -> Result<Diagnostic, AllocError> {
+    let mut told = Diagnostic::new(alloc, level, code, message);
+    told.spans.push(SpanLabel::primary(span, label))?;
+    Ok(told)
 }
 
 /// A mark that says nothing beside it.

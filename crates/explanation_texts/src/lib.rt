@@ -25,7 +25,10 @@ mod words;
 pub use doubts::unsettled;
 pub use failures::{Asking, unproved};
 pub use faults::fault_diagnostic;
-pub use items::{Texts, crate_name, impl_line, impl_name, is_fundamental, note, trait_name};
+pub use items::{
+    Name, Texts, crate_name, impl_line, impl_name, is_fundamental, message_at, note, push_note,
+    trait_name,
+};
 pub use lines::{ImplLine, ItemLines, item_lines};
 pub use open_questions::left_open;
 pub use orphans::orphan;

@@ -1,6 +1,6 @@
 //! For what the goals of a path are required.
 
-use crate::items::{Texts, header_marks, impl_line, note};
+use crate::items::{Texts, header_marks, impl_line, note, push_note};
 use crate::sources::source_name;
 use crate::story::Story;
 use diagnostics::{SpanLabel, Subdiagnostic, on_line};
@@ -94,7 +94,6 @@ fn by_text(
         Some(CandidateSource::Impl(_)) => Ok(String::new(alloc)),
         Some(other) => {
             let name = source_name(alloc, texts, other)?;
-            let name = name.as_str();
             format!(in alloc; ", by a {name}")
         }
     }
@@ -112,7 +111,6 @@ fn link_note(
     let bound = story.bound(link.asker);
     let asks = asking(story, link);
     let by = by_text(alloc, texts, asks.map(|found| found.0.source))?;
-    let by = by.as_str();
     let message = format!(in alloc; "required for `{subject}` to implement `{bound}`{by}")?;
     let mut told = note(alloc, message);
     if let Some((candidate, clause)) = asks {
@@ -133,7 +131,7 @@ fn push_hidden(
     if hidden > 0 {
         let plural = if hidden == 1 { "" } else { "s" };
         let message = format!(in alloc; "{hidden} redundant requirement{plural} hidden")?;
-        children.push(note(alloc, message))?;
+        push_note(alloc, message, children)?;
     }
     Ok(())
 }
@@ -167,7 +165,7 @@ pub(crate) fn push_supertrait(
         let message = format!(in alloc;
             "`{reference}` is supertrait {number} of the header: an impl of a trait needs its supertraits to hold"
         )?;
-        children.push(note(alloc, message))?;
+        push_note(alloc, message, children)?;
     }
     Ok(())
 }

@@ -1,9 +1,10 @@
 //! The token that a fault is about.
 
+use crate::items::{name_in, name_of, push_help};
 use crate::lines::whole_line;
 use crate::similar::similar_name;
 use diagnostics::{
-    Level, Place, SourceFile, SpanLabel, Subdiagnostic, TYPE_LIMIT, cut_text, on_line, text_of,
+    Place, SourceFile, SpanLabel, Subdiagnostic, TYPE_LIMIT, cut_text, on_line, text_of,
     token_places,
 };
 use line_reader::{Cell, Length, LineRead, Param, Statement};
@@ -25,9 +26,7 @@ pub(crate) struct Offence {
 pub(crate) fn reading(alloc: Global, line: &[u8]) -> Result<Option<LineRead<'_>>, AllocError> {
     match line_form(alloc, line)? {
         LineForm::Read(read) => Ok(Some(read)),
-        LineForm::OtherByte => Ok(None),
-        LineForm::Blank => Ok(None),
-        LineForm::Unwritten => Ok(None),
+        LineForm::OtherByte | LineForm::Blank | LineForm::Unwritten => Ok(None),
     }
 }
 
@@ -76,9 +75,7 @@ pub(crate) fn other_space(alloc: Global, line: &[u8]) -> Result<Option<Offence>,
 /// The name of a parameter.
 fn param_name<'a>(param: &Param<'a>) -> &'a [u8] {
     match param {
-        Param::Lifetime(name) => name,
-        Param::Type(name) => name,
-        Param::Const(name) => name,
+        Param::Lifetime(name) | Param::Type(name) | Param::Const(name) => name,
     }
 }
 
@@ -107,9 +104,7 @@ fn declares(read: &LineRead<'_>, name: &[u8]) -> bool {
 /// The name that a cell uses.
 fn used_in<'a>(cell: &Cell<'a>) -> Option<&'a [u8]> {
     match cell {
-        Cell::Named { name, .. } => Some(name),
-        Cell::Bound { name, .. } => Some(name),
-        Cell::Lifetime(name) => Some(name),
+        Cell::Named { name, .. } | Cell::Bound { name, .. } | Cell::Lifetime(name) => Some(name),
         Cell::Reference { lifetime, .. } => *lifetime,
         Cell::Array(Length::Name(name)) => Some(name),
         _ => None,
@@ -131,9 +126,7 @@ fn uses_crate(statement: &Statement<'_>, name: &[u8]) -> bool {
         Statement::Refute { crate_name, .. } => *crate_name == name,
         Statement::Later { crate_name } => *crate_name == name,
         Statement::Supers { crate_name } => *crate_name == name,
-        Statement::Struct { .. } => false,
-        Statement::Trait { .. } => false,
-        Statement::Impl { .. } => false,
+        _ => false,
     }
 }
 
@@ -221,16 +214,14 @@ fn unknown_help(
     name: &[u8],
 ) -> Result<Option<String>, AllocError> {
     let shown = cut_text(alloc, name, TYPE_LIMIT)?;
-    let shown = shown.as_str();
     if let Some(below) = declared_below(alloc, file, line, name)? {
         let help = format!(in alloc;
             "`{shown}` is declared in line {below}: a name is known from the line behind its own, so move that up"
         )?;
         return Ok(Some(help));
     }
-    match similar_name(alloc, workspace, shown)? {
+    match similar_name(alloc, workspace, shown.as_str())? {
         Some(other) => {
-            let other = other.as_str();
             let help = format!(in alloc;
                 "a struct or trait with a similar name is known: `{other}`"
             )?;
@@ -263,20 +254,22 @@ pub(crate) fn above(
     }
 }
 
-/// The first token that a line uses, and does not declare itself, of which a test holds.
-fn first_used<'t, P: Fn(Used<'t>) -> bool>(
+/// The first token that a line uses, and does not declare itself, which is not known, or which a crate that is given does not see.
+fn first_used<'t>(
     alloc: Global,
     line: &'t [u8],
-    holds: P,
-) -> Result<Option<Used<'t>>, AllocError>
-    requires { P.IsAlwaysCallable holds }
-{
+    workspace: &Workspace,
+    seeing: Option<CrateId>,
+) -> Result<Option<Used<'t>>, AllocError> {
     let Some(read) = reading(alloc, line)? else {
         return Ok(None);
     };
     for place in &token_places(alloc, line)? {
         let used = used_at(line, *place);
-        if holds(used) && uses(&read, used.name) && !declares(&read, used.name) {
+        if is_amiss(workspace, seeing, used)
+            && uses(&read, used.name)
+            && !declares(&read, used.name)
+        {
             return Ok(Some(used));
         }
     }
@@ -285,8 +278,7 @@ fn first_used<'t, P: Fn(Used<'t>) -> bool>(
 
 /// What is said of a lifetime that is not known.
 fn unknown_lifetime(alloc: Global, used: Used<'_>) -> Result<Offence, AllocError> {
-    let shown = cut_text(alloc, used.shown, TYPE_LIMIT)?;
-    let shown = shown.as_str();
+    let shown = name_of(used.shown);
     Ok(Offence {
         place: used.place,
         label: format!(in alloc; "the lifetime `{shown}` is not declared in this line")?,
@@ -296,8 +288,7 @@ fn unknown_lifetime(alloc: Global, used: Used<'_>) -> Result<Offence, AllocError
 
 /// That a name is not known.
 fn unknown_label(alloc: Global, used: Used<'_>) -> Result<String, AllocError> {
-    let shown = cut_text(alloc, used.shown, TYPE_LIMIT)?;
-    let shown = shown.as_str();
+    let shown = name_of(used.shown);
     format!(in alloc; "`{shown}` is not known here")
 }
 
@@ -334,7 +325,7 @@ pub(crate) fn unknown(
     line: u32,
     workspace: &Workspace,
 ) -> Result<Option<Offence>, AllocError> {
-    let found = first_used(alloc, file.line(line), |used| is_unknown(workspace, used))?;
+    let found = first_used(alloc, file.line(line), workspace, None)?;
     let Some(used) = found else {
         return Ok(None);
     };
@@ -344,15 +335,6 @@ pub(crate) fn unknown(
         unknown_name(alloc, file, line, workspace, used)
     };
     Ok(Some(told?))
-}
-
-/// The name of a crate of a workspace.
-fn name_of(alloc: Global, workspace: &Workspace, id: CrateId) -> Result<String, AllocError> {
-    if (id.index as usize) < workspace.crates().len() {
-        cut_text(alloc, workspace.crate_name(id), TYPE_LIMIT)
-    } else {
-        Ok(String::new(alloc))
-    }
 }
 
 /// Whether crate `seeing` does not see crate `seen`.
@@ -370,10 +352,8 @@ fn hidden_help(
     if seen.index >= seeing.index {
         return Ok(None);
     }
-    let home = name_of(alloc, workspace, seen)?;
-    let home = home.as_str();
-    let own = name_of(alloc, workspace, seeing)?;
-    let own = own.as_str();
+    let home = name_in(workspace, seen);
+    let own = name_in(workspace, seeing);
     let help = format!(in alloc; "let crate `{own}` use it: `crate {own} uses {home}`")?;
     Ok(Some(help))
 }
@@ -391,6 +371,14 @@ fn hidden_owner(workspace: &Workspace, seeing: CrateId, used: Used<'_>) -> Optio
     }
 }
 
+/// Whether a token that a line uses is not known, if the line does not declare it, or is not seen by a crate that is given.
+fn is_amiss(workspace: &Workspace, seeing: Option<CrateId>, used: Used<'_>) -> bool {
+    match seeing {
+        None => is_unknown(workspace, used),
+        Some(seeing) => hidden_owner(workspace, seeing, used).is_some(),
+    }
+}
+
 /// Of which crate a struct or trait is.
 fn hidden_label(
     alloc: Global,
@@ -398,10 +386,8 @@ fn hidden_label(
     owner: CrateId,
     used: Used<'_>,
 ) -> Result<String, AllocError> {
-    let shown = cut_text(alloc, used.shown, TYPE_LIMIT)?;
-    let shown = shown.as_str();
-    let home = name_of(alloc, workspace, owner)?;
-    let home = home.as_str();
+    let shown = name_of(used.shown);
+    let home = name_in(workspace, owner);
     format!(in alloc; "`{shown}` is of crate `{home}`")
 }
 
@@ -430,9 +416,7 @@ pub(crate) fn hidden(
     workspace: &Workspace,
     seeing: CrateId,
 ) -> Result<Option<Offence>, AllocError> {
-    let found = first_used(alloc, file.line(line), |used| {
-        hidden_owner(workspace, seeing, used).is_some()
-    })?;
+    let found = first_used(alloc, file.line(line), workspace, Some(seeing))?;
     let Some(used) = found else {
         return Ok(None);
     };
@@ -549,16 +533,16 @@ pub(crate) fn seeing_crate(
     Ok(found)
 }
 
-/// Puts a help behind the others.
-pub(crate) fn push_help(
+/// Adds a help, if there is one.
+pub(crate) fn push_any_help(
     alloc: Global,
     help: Option<String>,
     children: &mut Vec<Subdiagnostic>,
 ) -> Result<(), AllocError> {
-    if let Some(message) = help {
-        children.push(Subdiagnostic::new(alloc, Level::Help, message))?;
+    match help {
+        Some(message) => push_help(alloc, message, children),
+        None => Ok(()),
     }
-    Ok(())
 }
 
 /// The mark at the token.

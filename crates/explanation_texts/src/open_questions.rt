@@ -1,10 +1,10 @@
 //! What is said of a question that was answered open.
 
-use crate::items::{Texts, note, trait_home, trait_name};
+use crate::items::{Texts, message_at, push_note, trait_home, trait_name};
 use crate::sources::source_name;
 use crate::spoken::{Spoken, conflict_text};
 use crate::story::Story;
-use diagnostics::{Diagnostic, LIST_LIMIT, Level, Span, SpanLabel, Subdiagnostic};
+use diagnostics::{Diagnostic, LIST_LIMIT, Level, Span, Subdiagnostic};
 use evaluation::{CandidateSource, Certainty};
 use goal_walk::{Answer, CandidateNode};
 use orphan_check::errors::Conflict;
@@ -18,13 +18,10 @@ fn unseen_text(
     conflict: Conflict,
 ) -> Result<String, AllocError> {
     let said = conflict_text(alloc, spoken, conflict)?;
-    let said = said.as_str();
     match conflict {
         Conflict::Upstream => {
-            let name = trait_name(alloc, texts, spoken.trait_id)?;
-            let name = name.as_str();
-            let home = trait_home(alloc, texts, spoken.trait_id)?;
-            let home = home.as_str();
+            let name = trait_name(texts, spoken.trait_id);
+            let home = trait_home(texts, spoken.trait_id);
             format!(in alloc; "{said} (`{name}` is of crate `{home}`)")
         }
         Conflict::Downstream => format!(in alloc; "{said} (any crate that uses this one)"),
@@ -44,7 +41,6 @@ fn way_text(
     holds: bool,
 ) -> Result<String, AllocError> {
     let name = source_name(alloc, texts, candidate.source)?;
-    let name = name.as_str();
     if holds && candidate.certainty == Some(Certainty::Yes) {
         format!(in alloc; "the {name} applies")
     } else {
@@ -67,12 +63,11 @@ fn push_ways(
         if is_left(candidate) {
             if count == LIST_LIMIT {
                 let message = String::from_str(alloc, "others may apply too")?;
-                children.push(note(alloc, message))?;
-                return Ok(());
+                return push_note(alloc, message, children);
             }
             count = count.saturating_add(1);
             let message = way_text(alloc, texts, candidate, story.answer(0) == Answer::Yes)?;
-            children.push(note(alloc, message))?;
+            push_note(alloc, message, children)?;
         }
     }
     Ok(())
@@ -88,12 +83,11 @@ pub fn left_open(
 ) -> Result<Diagnostic, AllocError> {
     let reference = story.reference(0);
     let message = format!(in alloc; "`{reference}` holds, or some crate could make it hold")?;
-    let mut told = Diagnostic::new(alloc, Level::Note, None, message);
-    told.spans
-        .push(SpanLabel::primary(span, String::new(alloc)))?;
+    let label = String::new(alloc);
+    let mut told = message_at(alloc, Level::Note, None, message, span, label)?;
     if let (Some(conflict), Some(spoken)) = (unseen, story.spoken(0)) {
         let said = unseen_text(alloc, texts, spoken, conflict)?;
-        told.children.push(note(alloc, said))?;
+        push_note(alloc, said, &mut told.children)?;
     }
     push_ways(alloc, texts, story, &mut told.children)?;
     Ok(told)

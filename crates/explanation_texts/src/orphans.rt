@@ -4,7 +4,7 @@ ghost use Rattle.std.specs.Prelude.{IfSome};
 ghost use Rattle.type_terms.specs.Terms.{Has, types};
 ghost use Rattle.orphan_check.specs.Held.{ErrorHeld, LeavesHeld, TypeHeld};
 
-use crate::items::{Texts, crate_name, help, impl_line, note, trait_home};
+use crate::items::{Texts, crate_name, impl_line, note, push_help, push_note, trait_home};
 use crate::words::type_text;
 use answer_lines::HeaderNames;
 use diagnostics::{Diagnostic, ErrCode, LIST_LIMIT, Level, SpanLabel, Subdiagnostic, on_line};
@@ -38,12 +38,8 @@ fn sort_of_types(cx: &Interner, ty: Ty) -> &'static str
     requires { Has cx.now.entries types ty.0 }
 {
     match cx.kind(ty) {
-        TyKind::Bool => "primitive types",
-        TyKind::Char => "primitive types",
-        TyKind::Int(_) => "primitive types",
-        TyKind::Uint(_) => "primitive types",
-        TyKind::Str => "primitive types",
-        TyKind::Never => "primitive types",
+        TyKind::Bool | TyKind::Char | TyKind::Int(_) | TyKind::Uint(_) => "primitive types",
+        TyKind::Str | TyKind::Never => "primitive types",
         TyKind::Adt(_, _) => "types defined outside of the crate",
         _ => "arbitrary types",
     }
@@ -56,8 +52,7 @@ fn home_text(alloc: Global, texts: Texts<'_>, cx: &Interner, ty: Ty) -> Result<S
     match cx.kind(ty) {
         TyKind::Adt(id, _) => match texts.workspace.structs().get(id.index as usize) {
             Some(entry) => {
-                let owner = crate_name(alloc, texts, entry.owner)?;
-                let owner = owner.as_str();
+                let owner = crate_name(texts, entry.owner);
                 format!(in alloc; "is of crate `{owner}`")
             }
             None => String::from_str(alloc, "is of another crate"),
@@ -76,9 +71,7 @@ fn met_note(
     requires { Has cx.now.entries types ty.0 }
 {
     let name = type_text(alloc, cx, &refused.names(), ty)?;
-    let name = name.as_str();
     let home = home_text(alloc, refused.texts, cx, ty)?;
-    let home = home.as_str();
     let message = format!(in alloc; "`{name}` {home}")?;
     Ok(note(alloc, message))
 }
@@ -95,8 +88,7 @@ fn push_met(
 {
     for (place, met) in types.iter().enumerate() {
         if place == LIST_LIMIT {
-            children.push(note(alloc, String::from_str(alloc, "..")?))?;
-            return Ok(());
+            return push_note(alloc, String::from_str(alloc, "..")?, children);
         }
         let told = met_note(alloc, refused, cx, met.0)?;
         children.push(told)?;
@@ -134,17 +126,15 @@ fn nonlocal(
         "only traits defined in the current crate can be implemented for {sort}"
     )?;
     let mut told = Diagnostic::new(alloc, Level::Error, Some(ErrCode::E0117), message);
-    let own = crate_name(alloc, refused.texts, refused.crate_id)?;
-    let own = own.as_str();
+    let own = crate_name(refused.texts, refused.crate_id);
     let label = format!(in alloc; "no type here is of crate `{own}`")?;
     mark_header(refused, label, &mut told)?;
     push_met(alloc, refused, cx, types, &mut told.children)?;
-    let home = trait_home(alloc, refused.texts, refused.entry.header.trait_id)?;
-    let home = home.as_str();
+    let home = trait_home(refused.texts, refused.entry.header.trait_id);
     let advice = format!(in alloc;
         "the trait is of crate `{home}`: write this impl there, or for a struct of crate `{own}`"
     )?;
-    told.children.push(help(alloc, advice))?;
+    push_help(alloc, advice, &mut told.children)?;
     Ok(told)
 }
 
@@ -166,7 +156,6 @@ fn uncovered_message(
         }
         Some(ty) => {
             let local = type_text(alloc, cx, &refused.names(), ty)?;
-            let local = local.as_str();
             format!(in alloc;
                 "type parameter `{param}` must be covered by another type when it appears before the first local type (`{local}`)"
             )
@@ -185,20 +174,19 @@ fn uncovered(
     requires local { IfSome error.now.local_ty (TypeHeld cx.now.entries) }
 {
     let param = type_text(alloc, cx, &refused.names(), error.uncovered)?;
-    let param = param.as_str();
-    let message = uncovered_message(alloc, refused, cx, param, error.local_ty)?;
+    let message = uncovered_message(alloc, refused, cx, param.as_str(), error.local_ty)?;
     let mut told = Diagnostic::new(alloc, Level::Error, Some(ErrCode::E0210), message);
-    let label = match error.local_ty {
-        None => format!(in alloc; "type parameter `{param}` stands in no local type")?,
-        Some(_) => format!(in alloc; "type parameter `{param}` comes before the first local type")?,
+    let how = match error.local_ty {
+        None => "stands in no local type",
+        Some(_) => "comes before the first local type",
     };
+    let label = format!(in alloc; "type parameter `{param}` {how}")?;
     mark_header(refused, label, &mut told)?;
-    let home = trait_home(alloc, refused.texts, refused.entry.header.trait_id)?;
-    let home = home.as_str();
+    let home = trait_home(refused.texts, refused.entry.header.trait_id);
     let said = format!(in alloc;
         "the trait is of crate `{home}`, so a crate may write an impl of it only where a struct of its own comes before any parameter that stands alone"
     )?;
-    told.children.push(note(alloc, said))?;
+    push_note(alloc, said, &mut told.children)?;
     Ok(told)
 }
 

@@ -1,6 +1,6 @@
 //! Why the candidates of a goal are refused.
 
-use crate::items::{Texts, note};
+use crate::items::{Texts, push_note};
 use crate::sources::source_name;
 use crate::story::{Story, refused_premise};
 use diagnostics::{LIST_LIMIT, Subdiagnostic};
@@ -17,7 +17,6 @@ fn refused_text(
     why: &str,
 ) -> Result<String, AllocError> {
     let name = source_name(alloc, texts, candidate.source)?;
-    let name = name.as_str();
     let Some(premise) = refused_premise(story, candidate) else {
         let how = if candidate.certainty.is_some() {
             "is not settled"
@@ -46,11 +45,10 @@ pub(crate) fn push_refused(
     for (index, candidate) in story.candidates(place).iter().enumerate() {
         if index == LIST_LIMIT {
             let message = String::from_str(alloc, "others fit too")?;
-            children.push(note(alloc, message))?;
-            return Ok(());
+            return push_note(alloc, message, children);
         }
         let message = refused_text(alloc, texts, story, candidate, why)?;
-        children.push(note(alloc, message))?;
+        push_note(alloc, message, children)?;
     }
     Ok(())
 }

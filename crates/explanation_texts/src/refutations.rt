@@ -1,17 +1,16 @@
 //! What is said of a question that was answered no.
 
-use crate::items::{Texts, has_rules, is_fundamental, note, trait_name};
+use crate::items::{Texts, has_rules, is_fundamental, message_at, push_note, trait_name};
 use crate::refused::push_refused;
 use crate::spoken::{Spoken, conflict_text};
 use crate::story::Story;
-use diagnostics::{Diagnostic, Level, Span, SpanLabel, Subdiagnostic};
+use diagnostics::{Diagnostic, Level, Span, Subdiagnostic};
 use orphan_check::errors::Conflict;
 use std::alloc::{AllocError, Global};
 
 /// That nothing fits.
 fn nothing_fits(alloc: Global, texts: Texts<'_>, spoken: &Spoken) -> Result<String, AllocError> {
-    let name = trait_name(alloc, texts, spoken.trait_id)?;
-    let name = name.as_str();
+    let name = trait_name(texts, spoken.trait_id);
     if has_rules(texts, spoken.trait_id) {
         format!(in alloc; "no impl and no built-in rule of `{name}` fits")
     } else {
@@ -21,9 +20,8 @@ fn nothing_fits(alloc: Global, texts: Texts<'_>, spoken: &Spoken) -> Result<Stri
 
 /// Why no crate that is not seen may add an impl.
 fn known_text(alloc: Global, texts: Texts<'_>, spoken: &Spoken) -> Result<String, AllocError> {
-    let name = trait_name(alloc, texts, spoken.trait_id)?;
-    let name = name.as_str();
-    let reference = spoken.reference.as_str();
+    let name = trait_name(texts, spoken.trait_id);
+    let reference = &spoken.reference;
     if is_fundamental(texts, spoken.trait_id) {
         format!(in alloc;
             "no other crate may add an impl: `{name}` is fundamental, and the orphan rule lets no other crate write one for `{reference}`"
@@ -42,10 +40,8 @@ fn unseen_text(
     spoken: &Spoken,
     conflict: Conflict,
 ) -> Result<String, AllocError> {
-    let name = trait_name(alloc, texts, spoken.trait_id)?;
-    let name = name.as_str();
+    let name = trait_name(texts, spoken.trait_id);
     let said = conflict_text(alloc, spoken, conflict)?;
-    let said = said.as_str();
     format!(in alloc;
         "{said}, but such an impl would need the supertraits of `{name}`, of which one is refused"
     )
@@ -62,14 +58,13 @@ fn push_whys(
 ) -> Result<(), AllocError> {
     if story.candidates(0).is_empty() && story.is_whole(0) {
         let said = nothing_fits(alloc, texts, spoken)?;
-        children.push(note(alloc, said))?;
+        push_note(alloc, said, children)?;
     }
     let said = match unseen {
         None => known_text(alloc, texts, spoken)?,
         Some(conflict) => unseen_text(alloc, texts, spoken, conflict)?,
     };
-    children.push(note(alloc, said))?;
-    Ok(())
+    push_note(alloc, said, children)
 }
 
 /// What is said of a question that was answered no, at a span, with which unseen crates may have an impl.
@@ -84,9 +79,8 @@ pub fn refuted(
     let message = format!(in alloc;
         "no crate that may be linked with this one can make `{reference}` hold"
     )?;
-    let mut told = Diagnostic::new(alloc, Level::Note, None, message);
-    told.spans
-        .push(SpanLabel::primary(span, String::new(alloc)))?;
+    let label = String::new(alloc);
+    let mut told = message_at(alloc, Level::Note, None, message, span, label)?;
     push_refused(
         alloc,
         texts,

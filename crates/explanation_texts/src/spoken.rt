@@ -189,9 +189,7 @@ pub fn speak(
     let subject = subject_text(alloc, cx, names, reference)?;
     let bound = bound_text(alloc, cx, names, reference)?;
     let unknown = unknown_text(alloc, cx, names, reference)?;
-    let left = subject.as_str();
-    let right = bound.as_str();
-    let whole = format!(in alloc; "{left}: {right}")?;
+    let whole = format!(in alloc; "{subject}: {bound}")?;
     Ok(Spoken {
         reference: whole,
         subject,
@@ -209,8 +207,8 @@ pub fn conflict_text(
     spoken: &Spoken,
     conflict: Conflict,
 ) -> Result<String, AllocError> {
-    let bound = spoken.bound.as_str();
-    let subject = spoken.subject.as_str();
+    let bound = &spoken.bound;
+    let subject = &spoken.subject;
     match conflict {
         Conflict::Upstream => {
             format!(in alloc;
