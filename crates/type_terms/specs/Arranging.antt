@@ -70,13 +70,13 @@ abbrev pub arranged_reference : Arrangement → Reference → Reference
 arranged_reference a r = record { trait = r.trait; args = arranged a r.args }
 
 abbrev pub arranged_struct : Arrangement → StructDecl → StructDecl
-arranged_struct a x = record { name = x.name; home = x.home; is_fundamental = x.is_fundamental; fields = map (arranged a) x.fields }
+arranged_struct a x = record x { fields = map (arranged a) x.fields }
 
 abbrev pub arranged_trait : Arrangement → TraitDecl → TraitDecl
-arranged_trait a x = record { name = x.name; home = x.home; is_fundamental = x.is_fundamental; is_auto = x.is_auto; bounds = map (arranged_reference a) x.bounds }
+arranged_trait a x = record x { bounds = map (arranged_reference a) x.bounds }
 
 abbrev pub arranged_impl : Arrangement → ImplDecl → ImplDecl
-arranged_impl a x = record { name = x.name; home = x.home; params = x.params; header = arranged_reference a x.header; clauses = map (arranged_reference a) x.clauses }
+arranged_impl a x = record x { header = arranged_reference a x.header; clauses = map (arranged_reference a) x.clauses }
 
 -- The world with the auto traits of each `dyn` in the other order.
 abbrev pub arranged_world : Arrangement → World → World

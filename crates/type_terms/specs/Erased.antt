@@ -17,15 +17,15 @@ erased_reference r = record { trait = r.trait; args = erase r.args }
 
 -- A struct without lifetimes. `struct S<'a>(&'a u8)` has the field `&'static u8`.
 abbrev pub erased_struct : StructDecl → StructDecl
-erased_struct x = record { name = x.name; home = x.home; is_fundamental = x.is_fundamental; fields = map erase x.fields }
+erased_struct x = record x { fields = map erase x.fields }
 
 -- A trait without lifetimes. `trait Bottom<'a>: Top<'a>` has the supertrait `Top<'static>`.
 abbrev pub erased_trait : TraitDecl → TraitDecl
-erased_trait x = record { name = x.name; home = x.home; is_fundamental = x.is_fundamental; is_auto = x.is_auto; bounds = map erased_reference x.bounds }
+erased_trait x = record x { bounds = map erased_reference x.bounds }
 
 -- An impl without lifetimes. Its parameters keep their numbers: in `impl<'a, T> Show for &'a T` T is parameter 1 before and after.
 abbrev pub erased_impl : ImplDecl → ImplDecl
-erased_impl x = record { name = x.name; home = x.home; params = x.params; header = erased_reference x.header; clauses = map erased_reference x.clauses }
+erased_impl x = record x { header = erased_reference x.header; clauses = map erased_reference x.clauses }
 
 -- The world that rules read, of the world of a text: `impl<'a, T> Show for &'a T` stands in it as `impl<T> Show for &'static T`,
 -- in which T is parameter 1 still.

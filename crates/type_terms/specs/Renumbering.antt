@@ -59,29 +59,17 @@ renumbered_crate ρ x = record { name = ρ.crates.to x.name; uses = map ρ.crate
 
 -- A struct with other numbers, in its fields too.
 abbrev pub renumbered_struct : Renumbering → StructDecl → StructDecl
-renumbered_struct ρ x = record {
-  name = ρ.structs.to x.name;
-  home = ρ.crates.to x.home;
-  is_fundamental = x.is_fundamental;
-  fields = map (renumbered ρ) x.fields;
-}
+renumbered_struct ρ x = record x { name = ρ.structs.to x.name; home = ρ.crates.to x.home; fields = map (renumbered ρ) x.fields }
 
 -- A trait with other numbers, in its supertraits too.
 abbrev pub renumbered_trait : Renumbering → TraitDecl → TraitDecl
-renumbered_trait ρ x = record {
-  name = ρ.traits.to x.name;
-  home = ρ.crates.to x.home;
-  is_fundamental = x.is_fundamental;
-  is_auto = x.is_auto;
-  bounds = map (renumbered_reference ρ) x.bounds;
-}
+renumbered_trait ρ x = record x { name = ρ.traits.to x.name; home = ρ.crates.to x.home; bounds = map (renumbered_reference ρ) x.bounds }
 
 -- An impl with other numbers, in its header and its where-clauses too. Its parameters keep theirs.
 abbrev pub renumbered_impl : Renumbering → ImplDecl → ImplDecl
-renumbered_impl ρ x = record {
+renumbered_impl ρ x = record x {
   name = ρ.impls.to x.name;
   home = ρ.crates.to x.home;
-  params = x.params;
   header = renumbered_reference ρ x.header;
   clauses = map (renumbered_reference ρ) x.clauses;
 }

@@ -67,7 +67,7 @@ pub record Added (W : World) (d : ℕ) (i : ImplDecl) : Type 0 where
 
 -- The same world with other impls.
 abbrev pub with_impls : World → List ImplDecl → World
-with_impls W is = record { crates = W.crates; structs = W.structs; traits = W.traits; impls = is }
+with_impls W is = record W { impls = is }
 
 -- Of the impls that c sees in W those of the list stood before, and each of the others has been added by a later version of its
 -- crate.

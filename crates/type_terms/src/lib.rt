@@ -32,7 +32,7 @@ use std::alloc::{AllocError, AllocFailed};
 /// It belongs to this project: in the original, building a term cannot fail.
 #[derive(Clone, Copy, Debug, PartialEq, Eq, thiserror::Error)]
 pub enum Fault {
-    /// A request for memory was refused.
+    /// A request for memory was refused, or more variables or parameters are needed than there are numbers for (`MAX_INDEX`).
     #[error("out of memory")]
     Memory,
     /// A table holds as many entries as its limit allows, and the term that was asked for is not among them.
