@@ -113,7 +113,7 @@ module _ (last : Option ImplId) where
   abbrev pub first : (HeldImpl → Bool) → List HeldImpl → Option ℕ
   first t is = next_above last (names_of (ids_of t is))
 
-  in-front : (t : HeldImpl → Bool) (b u : Bool) (i : HeldImpl) (is : List HeldImpl) → t i ≡ b → is_above last i.id.index ≡ u
+  pub in-front : (t : HeldImpl → Bool) (b u : Bool) (i : HeldImpl) (is : List HeldImpl) → t i ≡ b → is_above last i.id.index ≡ u
       → first t (i ∷ is) ≡ cond b (cond u (Some i.id.index) (first t is)) (first t is)
   in-front t b u i is e g =
       ap (λ c. next_above last (names_of (map (λ (j : HeldImpl). j.id) (cond c (i ∷ filter t is) (filter t is))))) e ∙ by b

@@ -76,7 +76,7 @@ ptr-tells Not Mut = refl
 ptr-tells Mut Not = refl
 ptr-tells Mut Mut = refl
 
-head-tells : (a b : SimplifiedType) → head.eq a b ≡ same_label (label_of a) (label_of b)
+pub head-tells : (a b : SimplifiedType) → head.eq a b ≡ same_label (label_of a) (label_of b)
 head-tells (SInt a) (SInt b) = int-tells a b
 head-tells (SInt a) b = refl
 head-tells (SUint a) (SUint b) = uint-tells a b

@@ -14,5 +14,10 @@ pub mod Stacks
 pub mod Extending
 pub mod Elaborating
 pub mod Above
+pub mod Meeting
+pub mod MeetingKinds
+pub mod Walking
 pub mod Matched
+pub mod Fixed
+pub mod MeetingLaws
 pub mod Sound

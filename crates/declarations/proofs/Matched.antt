@@ -1,4 +1,4 @@
--- The impls that can match a reference are, by heads and handles, those that do.
+-- The impls that can match a reference are, by heads, handles and the first levels, those that do.
 use Rattle.std.proofs.Common.{◌≡◌, ℕ, Bool, true, false, ◌&&◌, ◌||◌, not, List, [], ◌∷◌, Option, Some, None, refl, sym, ap, ◌∙◌}
 use Rattle.std.specs.Prelude.{◌==◌, map, filter}
 use Rattle.std.specs.Option.{option_map}
@@ -6,30 +6,29 @@ use Rattle.type_terms.specs.Label.{Label}
 use Rattle.type_terms.specs.Trees.{Trees, none, tree, nth, erase}
 use Rattle.type_terms.specs.Codes.{same}
 use Rattle.type_terms.proofs.Applies.{same-complete}
+use Rattle.type_terms.proofs.Made.{false-true}
 use Rattle.type_terms.proofs.Matching.{same-sound}
 use Rattle.type_terms.proofs.Members.{same-number, self-number}
-use Rattle.type_terms.specs.Terms.{Entry, Lawful, Has, term, trees_at, args_lists}
-use Rattle.type_terms.specs.Kept.{trees-is}
+use Rattle.type_terms.specs.Terms.{Entry, Lawful, Has, trees_at, args_lists}
+use Rattle.type_terms.specs.declared.TraitId.{TraitId}
 use Rattle.term_folds.specs.Signatures.{StartsWithType}
 use Rattle.term_folds.specs.declared.predicate.TraitRef.{TraitRef}
 use Rattle.declarations.specs.declared.simplify.SimplifiedType.{SimplifiedType}
-use Rattle.declarations.specs.Apart.{is_fixed}
+use Rattle.declarations.specs.declared.heads.ImplKey.TheVariants.{Open, Fixed}
+use Rattle.declarations.specs.Apart.{is_fixed, are_apart}
 use Rattle.declarations.specs.Heads.{head_of, label_of, same_self}
 use Rattle.declarations.specs.Held.{AreHeld, ReferenceHeld, ImplHeld}
-use Rattle.declarations.specs.Index.{ids_of, can_meet}
+use Rattle.declarations.specs.Index.{has_key, has_open_head, ids_of}
 use Rattle.declarations.specs.Items.{Items, HeldImpl, impl_in, reference_in}
-use Rattle.declarations.specs.Merges.{Each}
+use Rattle.declarations.specs.Merges.{Each, IsMerge}
 use Rattle.declarations.specs.Relevant.{is_relevant_to, is_match, matches_in, names_of}
 use Rattle.declarations.proofs.Keys.{same-self-itself}
+use Rattle.declarations.proofs.Meeting.{one-handle, not-apart-itself, fixed-apart}
+use Rattle.declarations.proofs.Merging.{merge-filtered}
 use Rattle.declarations.proofs.Relevance.{rel, wanted, relevant-one, one-more}
+use Rattle.declarations.proofs.Walking.{meets}
 
 -- ---- handles
-one-handle : (es : List Entry) → Lawful es → (k i j : ℕ) → Has es k i → Has es k j → trees_at es i ≡ trees_at es j → i ≡ j
-one-handle es law k i j h g e = law.distinct i j (term k h.0) h.1 (g.1 ∙ ap (λ t. Some (term k t)) alike)
-  where
-    alike : g.0 ≡ h.0
-    alike = sym (trees-is es k j g.0 g.1) ∙ sym e ∙ trees-is es k i h.0 h.1
-
 -- arguments are one exactly if their handles are
 same-handles : (es : List Entry) → Lawful es → (i j : ℕ) → Has es args_lists i → Has es args_lists j → (i == j) ≡ same (trees_at es j) (trees_at es i)
 same-handles es law i j h g = by (i == j) (same (trees_at es j) (trees_at es i)) refl refl
@@ -43,75 +42,55 @@ same-handles es law i j h g = by (i == j) (same (trees_at es j) (trees_at es i))
         let bad : true ≡ false = sym (ap (λ n. n == j) one ∙ self-number j) ∙ p in absurd cc
     by false false p q = refl
 
--- ---- tests
-wanted-either : (h k : Option Label) → wanted h k ≡ (same_self None k || same_self h k)
-wanted-either None k = by (same_self None k)
+-- two fixed lists are apart exactly if they are two
+fixed-are-apart : (x y : Trees) → is_fixed x ≡ true → is_fixed y ≡ true → are_apart x y ≡ not (same x y)
+fixed-are-apart x y f g = by (same x y) refl
   where
-    by : (b : Bool) → b ≡ (b || b)
-    by true = refl
-    by false = refl
-wanted-either (Some l) k = refl
+    by : (b : Bool) → same x y ≡ b → are_apart x y ≡ not b
+    by true e = sym (not-apart-itself x y (same-sound x y e))
+    by false e = sym (fixed-apart x y (ap (λ b. b && is_fixed y) f ∙ g) (λ q. false-true (sym e ∙ same-complete x y q)))
 
--- a: the trait's; n: blanket; m: of the head; f: fixed; e: the reference itself
-met : (a n m f e : Bool) → (e ≡ true → m ≡ true) → ((((a && n) && not f) || ((a && m) && not f)) || (f && (a && e))) ≡ (a && ((n || m) && not (f && not e)))
-met true true true true true g = refl
-met true true true true false g = refl
-met true true true false e g = refl
-met true true false true true g = refl
-met true true false true false g = refl
-met true true false false e g = refl
-met true false true true true g = refl
-met true false true true false g = refl
-met true false true false e g = refl
-met true false false true true g = let bad : false ≡ true = g refl in absurd cc
-met true false false true false g = refl
-met true false false false e g = refl
-met false n m true e g = refl
-met false n m false e g = refl
+-- ---- tests
+joined : (a w n : Bool) → ((a && w) && n) ≡ (a && (w && n))
+joined true w n = refl
+joined false w n = refl
 
-not-fixed : (a w f s : Bool) → (a && w) ≡ (a && (w && not (false && (f && not s))))
-not-fixed true true f s = refl
-not-fixed true false f s = refl
-not-fixed false w f s = refl
+-- of a fixed reference. a: the trait's; n: no head; m: of the head; f: fixed; e: the reference itself; x: apart
+met : (a n m f e x : Bool) → (e ≡ true → (n || m) ≡ true) → (f ≡ true → x ≡ not e)
+    → (((((a && n) && not f) || ((a && m) && not f)) && not x) || (f && (a && e))) ≡ (a && ((n || m) && not x))
+met true true true true true x g h = ap not (sym (h refl))
+met true true true true false x g h = ap not (sym (h refl))
+met true true false true true x g h = ap not (sym (h refl))
+met true true false true false x g h = ap not (sym (h refl))
+met true false true true true x g h = ap not (sym (h refl))
+met true false true true false x g h = ap not (sym (h refl))
+met true false false true true x g h = absurd (false-true (g refl))
+met true false false true false x g h = refl
+met true true true false e true g h = refl
+met true true true false e false g h = refl
+met true true false false e true g h = refl
+met true true false false e false g h = refl
+met true false true false e true g h = refl
+met true false true false e false g h = refl
+met true false false false e x g h = refl
+met false n m true e x g h = refl
+met false n m false e x g h = refl
 
 -- ---- one impl
 module _ (es : List Entry) (t : ℕ) (args : Trees) (starts : StartsWithType args) where
-  relevant-is : (A : Trees) (i : HeldImpl) → StartsWithType A → ImplHeld es i.def → i.self_head ≡ head_of (trees_at es i.def.header.args.0)
-      → is_relevant_to (erase A) (erase (trees_at es i.def.header.args.0)) ≡ wanted (head_of A) i.self_head
-  relevant-is none i s h e = absurd s
-  relevant-is (tree l c o) i s h e = relevant-one l c o (trees_at es i.def.header.args.0) h.begins ∙ ap (wanted (head_of (tree l c o))) (sym e)
-
-  -- where the reference is not fixed, heads alone tell
-  open-match : (i : HeldImpl) → is_fixed args ≡ false → ImplHeld es i.def → i.self_head ≡ head_of (trees_at es i.def.header.args.0)
-      → rel t (head_of args) i ≡ is_match t args (impl_in es i.id i.def)
-  open-match i f h e =
-      let H = trees_at es i.def.header.args.0 in
-      not-fixed (i.def.header.def_id.index == t) (wanted (head_of args) i.self_head) (is_fixed H) (same args H)
-      ∙ ap (λ w. (i.def.header.def_id.index == t) && (w && not (false && (is_fixed H && not (same args H))))) (sym (relevant-is args i starts h e))
-      ∙ ap (λ b. (i.def.header.def_id.index == t) && (is_relevant_to (erase args) (erase H) && not (b && (is_fixed H && not (same args H))))) (sym f)
-
-module _ (es : List Entry) (law : Lawful es) (r : TraitRef) (held : ReferenceHeld es r) (starts : StartsWithType (trees_at es r.args.0)) (s : Option SimplifiedType)
-    (head : option_map label_of s ≡ head_of (trees_at es r.args.0)) (closed : is_fixed (trees_at es r.args.0) ≡ true) where
-  abbrev asked : Trees
-  asked = trees_at es r.args.0
-
-  fixed-match : (i : HeldImpl) → ImplHeld es i.def → i.self_head ≡ head_of (trees_at es i.def.header.args.0) → i.is_fixed ≡ is_fixed (trees_at es i.def.header.args.0)
-      → can_meet r s i ≡ is_match r.def_id.index asked (impl_in es i.id i.def)
-  fixed-match i h e f =
-      let H = trees_at es i.def.header.args.0 in
-      let a = i.def.header.def_id.index == r.def_id.index in
-      let one = i.def.header.args.0 == r.args.0 in
-      let told = same-handles es law i.def.header.args.0 r.args.0 h.header held in
-      met a (same_self None i.self_head) (same_self (option_map label_of s) i.self_head) i.is_fixed one itself
-      ∙ ap (λ w. a && (w && not (i.is_fixed && not one))) (ap (λ k. same_self None i.self_head || same_self k i.self_head) head ∙ sym (wanted-either (head_of asked) i.self_head) ∙ sym (relevant-is es r.def_id.index asked starts asked i starts h e))
-      ∙ ap (λ b. a && (is_relevant_to (erase asked) (erase H) && not (b && not one))) f
-      ∙ ap (λ b. a && (is_relevant_to (erase asked) (erase H) && not (is_fixed H && not b))) told
-      ∙ ap (λ b. a && (is_relevant_to (erase asked) (erase H) && not (b && (is_fixed H && not (same asked H))))) (sym closed)
+  relevant-is : (i : HeldImpl) → ImplHeld es i.def → i.self_head ≡ head_of (trees_at es i.def.header.args.0)
+      → is_relevant_to (erase args) (erase (trees_at es i.def.header.args.0)) ≡ wanted (head_of args) i.self_head
+  relevant-is i h e = by args starts
     where
-      itself : (i.def.header.args.0 == r.args.0) ≡ true → same_self (option_map label_of s) i.self_head ≡ true
-      itself q =
-          ap (λ k. same_self k i.self_head) (head ∙ ap (λ n. head_of (trees_at es n)) (sym (same-number i.def.header.args.0 r.args.0 q)) ∙ sym e)
-          ∙ same-self-itself i.self_head
+      by : (A : Trees) → StartsWithType A → is_relevant_to (erase A) (erase (trees_at es i.def.header.args.0)) ≡ wanted (head_of A) i.self_head
+      by none s = absurd s
+      by (tree l c o) s = relevant-one l c o (trees_at es i.def.header.args.0) h.begins ∙ ap (wanted (head_of (tree l c o))) (sym e)
+
+  open-match : (i : HeldImpl) → ImplHeld es i.def → i.self_head ≡ head_of (trees_at es i.def.header.args.0)
+      → (rel t (head_of args) i && meets es args i) ≡ is_match t args (impl_in es i.id i.def)
+  open-match i h e =
+      joined (i.def.header.def_id.index == t) (wanted (head_of args) i.self_head) (meets es args i)
+      ∙ ap (λ w. (i.def.header.def_id.index == t) && (w && meets es args i)) (sym (relevant-is i h e))
 
 -- ---- all of them
 matched : (es : List Entry) (t : ℕ) (args : Trees) (p : HeldImpl → Bool) (is : List HeldImpl) → Each (λ (i : HeldImpl). p i ≡ is_match t args (impl_in es i.id i.def)) is
@@ -120,25 +99,104 @@ matched es t args p [] h = refl
 matched es t args p (i ∷ is) h =
     one-more (p i) (is_match t args (impl_in es i.id i.def)) i (impl_in es i.id i.def) (filter p is) (filter (is_match t args) (map (λ i. impl_in es i.id i.def) is)) refl h.0 (matched es t args p is h.1)
 
-each-open : (es : List Entry) (t : ℕ) (args : Trees) → StartsWithType args → is_fixed args ≡ false → (is : List HeldImpl) → Each (λ i. ImplHeld es i.def) is
-    → Each (λ (i : HeldImpl). i.self_head ≡ head_of (trees_at es i.def.header.args.0)) is → Each (λ (i : HeldImpl). rel t (head_of args) i ≡ is_match t args (impl_in es i.id i.def)) is
-each-open es t args s f [] h e = tt
-each-open es t args s f (i ∷ is) h e = (open-match es t args s i f h.0 e.0, each-open es t args s f is h.1 e.1)
+each-open : (es : List Entry) (t : ℕ) (args : Trees) → StartsWithType args → (is : List HeldImpl) → Each (λ i. ImplHeld es i.def) is
+    → Each (λ (i : HeldImpl). i.self_head ≡ head_of (trees_at es i.def.header.args.0)) is
+    → Each (λ (i : HeldImpl). (rel t (head_of args) i && meets es args i) ≡ is_match t args (impl_in es i.id i.def)) is
+each-open es t args s [] h e = tt
+each-open es t args s (i ∷ is) h e = (open-match es t args s i h.0 e.0, each-open es t args s is h.1 e.1)
 
-pub open-matching : (es : List Entry) (d : Items) (t : ℕ) (args : Trees) → StartsWithType args → is_fixed args ≡ false → AreHeld es d
-    → names_of (ids_of (rel t (head_of args)) d.impls) ≡ matches_in es d (record { trait = t; args = args })
-open-matching es d t args s f h = matched es t args (rel t (head_of args)) d.impls (each-open es t args s f d.impls h.impls h.heads)
+pub open-matching : (es : List Entry) (d : Items) (t : ℕ) (args : Trees) → StartsWithType args → AreHeld es d
+    → names_of (ids_of (λ i. rel t (head_of args) i && meets es args i) d.impls) ≡ matches_in es d (record { trait = t; args = args })
+open-matching es d t args s h = matched es t args (λ i. rel t (head_of args) i && meets es args i) d.impls (each-open es t args s d.impls h.impls h.heads)
+
+-- ---- of a fixed reference
+-- the header is not fixed, and has that head or none
+abbrev pub is_open_of : TraitId → Option SimplifiedType → HeldImpl → Bool
+is_open_of t s i = has_key (Open (record { trait_id = t; self_ty = None })) i || has_open_head t s i
+
+-- without a head there is none
+pub nothing-headed : (t : TraitId) (is : List HeldImpl) → [] ≡ ids_of (has_open_head t None) is
+nothing-headed t [] = refl
+nothing-headed t (i ∷ is) = nothing-headed t is
+
+-- the two lists of these
+pub open-lists : (t : TraitId) (s : Option SimplifiedType) (is : List HeldImpl)
+    → IsMerge (ids_of (has_key (Open (record { trait_id = t; self_ty = None }))) is) (ids_of (has_open_head t s) is) (ids_of (is_open_of t s) is)
+open-lists t s is =
+    merge-filtered (λ (i : HeldImpl). i.id) (has_key (Open (record { trait_id = t; self_ty = None }))) (has_open_head t s) (is_open_of t s) (λ i. refl) (other s) is
+  where
+    other : (s : Option SimplifiedType) (i : HeldImpl) → has_key (Open (record { trait_id = t; self_ty = None })) i ≡ true → has_open_head t s i ≡ false
+    other None i h = refl
+    other (Some x) i h = by (i.def.header.def_id.index == t.index) i.self_head (not i.is_fixed) h
+      where
+        by : (a : Bool) (k : Option Label) (f : Bool) → ((a && same_self None k) && f) ≡ true → ((a && same_self (Some (label_of x)) k) && f) ≡ false
+        by true None f h = refl
+        by true (Some k) f h = absurd (false-true h)
+        by false k f h = absurd (false-true h)
 
 module _ (es : List Entry) (law : Lawful es) (r : TraitRef) (held : ReferenceHeld es r) (starts : StartsWithType (trees_at es r.args.0)) (s : Option SimplifiedType)
     (head : option_map label_of s ≡ head_of (trees_at es r.args.0)) (closed : is_fixed (trees_at es r.args.0) ≡ true) where
+  abbrev asked : Trees
+  asked = trees_at es r.args.0
+
+  -- it is not apart and its header is open, or its header is the reference
+  abbrev pub can_meet : HeldImpl → Bool
+  can_meet i = (is_open_of r.def_id s i && meets es asked i) || has_key (Fixed r) i
+
+  abbrev headed : Option SimplifiedType → HeldImpl → Bool
+  headed None i = false
+  headed (Some x) i = same_self (Some (label_of x)) i.self_head
+
+  open-headed : (o : Option SimplifiedType) (i : HeldImpl) → has_open_head r.def_id o i ≡ (((i.def.header.def_id.index == r.def_id.index) && headed o i) && not i.is_fixed)
+  open-headed None i = by (i.def.header.def_id.index == r.def_id.index)
+    where
+      by : (a : Bool) → false ≡ ((a && false) && not i.is_fixed)
+      by true = refl
+      by false = refl
+  open-headed (Some x) i = refl
+
+  either-headed : (o : Option SimplifiedType) (i : HeldImpl) → (same_self None i.self_head || headed o i) ≡ wanted (option_map label_of o) i.self_head
+  either-headed None i = by (same_self None i.self_head)
+    where
+      by : (b : Bool) → (b || false) ≡ b
+      by true = refl
+      by false = refl
+  either-headed (Some x) i = refl
+
+  wanted-itself : (k : Option Label) → wanted k k ≡ true
+  wanted-itself None = refl
+  wanted-itself (Some l) = same-self-itself (Some l)
+
+  fixed-match : (i : HeldImpl) → ImplHeld es i.def → i.self_head ≡ head_of (trees_at es i.def.header.args.0) → i.is_fixed ≡ is_fixed (trees_at es i.def.header.args.0)
+      → can_meet i ≡ is_match r.def_id.index asked (impl_in es i.id i.def)
+  fixed-match i h e f =
+      let H = trees_at es i.def.header.args.0 in
+      let a = i.def.header.def_id.index == r.def_id.index in
+      let one = i.def.header.args.0 == r.args.0 in
+      let x = are_apart asked H in
+      ap (λ b. ((has_key (Open (record { trait_id = r.def_id; self_ty = None })) i || b) && meets es asked i) || has_key (Fixed r) i) (open-headed s i)
+      ∙ met a (same_self None i.self_head) (headed s i) i.is_fixed one x itself two
+      ∙ ap (λ w. a && (w && not x)) (either-headed s i ∙ ap (λ k. wanted k i.self_head) head ∙ sym (relevant-is es r.def_id.index asked starts i h e))
+    where
+      itself : (i.def.header.args.0 == r.args.0) ≡ true → (same_self None i.self_head || headed s i) ≡ true
+      itself q =
+          either-headed s i
+          ∙ ap (λ k. wanted k i.self_head) (head ∙ ap (λ n. head_of (trees_at es n)) (sym (same-number i.def.header.args.0 r.args.0 q)) ∙ sym e)
+          ∙ wanted-itself i.self_head
+
+      two : i.is_fixed ≡ true → are_apart asked (trees_at es i.def.header.args.0) ≡ not (i.def.header.args.0 == r.args.0)
+      two q =
+          fixed-are-apart asked (trees_at es i.def.header.args.0) closed (sym f ∙ q)
+          ∙ ap not (sym (same-handles es law i.def.header.args.0 r.args.0 h.header held))
+
   each-fixed : (is : List HeldImpl) → Each (λ i. ImplHeld es i.def) is → Each (λ (i : HeldImpl). i.self_head ≡ head_of (trees_at es i.def.header.args.0)) is
       → Each (λ (i : HeldImpl). i.is_fixed ≡ is_fixed (trees_at es i.def.header.args.0)) is
-      → Each (λ (i : HeldImpl). can_meet r s i ≡ is_match r.def_id.index (trees_at es r.args.0) (impl_in es i.id i.def)) is
+      → Each (λ (i : HeldImpl). can_meet i ≡ is_match r.def_id.index asked (impl_in es i.id i.def)) is
   each-fixed [] h e f = tt
-  each-fixed (i ∷ is) h e f = (fixed-match es law r held starts s head closed i h.0 e.0 f.0, each-fixed is h.1 e.1 f.1)
+  each-fixed (i ∷ is) h e f = (fixed-match i h.0 e.0 f.0, each-fixed is h.1 e.1 f.1)
 
-  pub fixed-matching : (d : Items) → AreHeld es d → names_of (ids_of (can_meet r s) d.impls) ≡ matches_in es d (reference_in es r)
-  fixed-matching d h = matched es r.def_id.index (trees_at es r.args.0) (can_meet r s) d.impls (each-fixed d.impls h.impls h.heads h.fixed)
+  pub fixed-matching : (d : Items) → AreHeld es d → names_of (ids_of can_meet d.impls) ≡ matches_in es d (reference_in es r)
+  fixed-matching d h = matched es r.def_id.index asked can_meet d.impls (each-fixed d.impls h.impls h.heads h.fixed)
 
 -- the head of the self type is that of the arguments
 pub head-of-self : (A : Trees) → StartsWithType A → head_of (nth A 0) ≡ head_of A

@@ -1,8 +1,9 @@
 -- Impls by their keys: the trait and the head of their self type, or their header.
-use Rattle.std.specs.Prelude.{Bool, false, ◌==◌, ◌&&◌, ◌||◌, not, List, [], ◌∷◌, map, filter, Option, None}
+use Rattle.std.specs.Prelude.{Bool, false, ◌==◌, ◌&&◌, not, List, [], ◌∷◌, map, filter, Option, None, Some}
 use Rattle.std.specs.Option.{option_map, option_map_or}
 use Rattle.std.specs.HashMap.{HashMap, get_by}
 use Rattle.type_terms.specs.declared.ImplId.{ImplId}
+use Rattle.type_terms.specs.declared.TraitId.{TraitId}
 use Rattle.term_folds.specs.declared.predicate.TraitRef.{TraitRef}
 use Rattle.declarations.specs.declared.heads.ImplHead.{ImplHead}
 use Rattle.declarations.specs.declared.heads.ImplIds.{ImplIds}
@@ -52,6 +53,7 @@ ids_of p is = map (λ i. i.id) (filter p is)
 abbrev pub head_with : TraitRef → Option SimplifiedType → ImplHead
 head_with r s = record { trait_id = r.def_id; self_ty = s }
 
--- A fixed reference whose self type has this head can match the impl: its header is the reference, or is not fixed.
-abbrev pub can_meet : TraitRef → Option SimplifiedType → HeldImpl → Bool
-can_meet r s i = (has_key (Open (head_with r None)) i || has_key (Open (head_with r s)) i) || has_key (Fixed r) i
+-- The impl is of this trait, its self type has this head, and its header is not fixed; without a head it is none.
+abbrev pub has_open_head : TraitId → Option SimplifiedType → HeldImpl → Bool
+has_open_head t None i = false
+has_open_head t (Some s) i = has_key (Open (record { trait_id = t; self_ty = Some s })) i

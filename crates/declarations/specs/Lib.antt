@@ -7,6 +7,8 @@ pub mod Unsizing
 pub mod Elaboration
 pub mod Held
 pub mod Relevant
+pub mod Tops
+pub mod Walks
 pub mod Applied
 pub mod Stacked
 pub mod Inside

@@ -34,7 +34,7 @@ relevant_in es d t S = map (λ i. i.name) (relevant_impls (declared es d) t (era
 abbrev pub is_match : ℕ → Trees → ImplDecl → Bool
 is_match t args i = (i.header.trait == t) && (is_relevant_to (erase args) (erase i.header.args) && not (are_apart args i.header.args))
 
--- The numbers of the impls that can match the reference, as heads tell, and whether both are fixed.
+-- The numbers of the impls that can match the reference, as heads tell and a look at the first levels of the arguments.
 abbrev pub matches_in : List Entry → Items → Reference → List ℕ
 matches_in es d r = map (λ i. i.name) (filter (is_match r.trait r.args) (written es d).impls)
 

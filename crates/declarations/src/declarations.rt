@@ -1,5 +1,5 @@
 //! The table of declarations.
-ghost use Rattle.std.specs.Prelude.{◌≡◌, ◌==◌, ◌||◌, List, [], ◌∷◌, ◌++◌, map, if◌then◌else◌, IfSome, IfErr, OnOk, OnErr};
+ghost use Rattle.std.specs.Prelude.{◌≡◌, ◌==◌, ◌||◌, List, [], ◌∷◌, ◌++◌, map, filter, true, if◌then◌else◌, IfSome, IfErr, OnOk, OnErr};
 ghost use Rattle.std.specs.Option.{option_map};
 ghost use Rattle.type_terms.specs.Terms.{Entry, Has, types, args_lists, trees_at};
 ghost use Rattle.type_terms.specs.declared.Fault.TheVariants.{Memory};
@@ -8,17 +8,19 @@ ghost use Rattle.type_terms.specs.Worlds.{structs_named, traits_named};
 ghost use Rattle.type_terms.specs.Walks.{trait_is};
 ghost use Rattle.term_folds.specs.Signatures.{StartsWithType};
 ghost use Rattle.declarations.specs.Apart.{is_fixed};
-ghost use Rattle.declarations.specs.Heads.{label_of};
-ghost use Rattle.declarations.specs.Index.{has_key, ids_of, can_meet};
+ghost use Rattle.declarations.specs.Heads.{label_of, head_of};
+ghost use Rattle.declarations.specs.Index.{has_key, has_open_head, ids_of};
 ghost use Rattle.declarations.specs.Items.{IsOnly, ids_with, ids_headed, reference_in, with_struct, with_trait, with_impl, struct_in, trait_in, impl_in, struct_at, trait_at, impl_at, written, declared, held_impl, IsAbove};
-ghost use Rattle.declarations.specs.Merges.{Rises};
+ghost use Rattle.declarations.specs.Merges.{Rises, IsMerge};
 ghost use Rattle.declarations.specs.Held.{AreHeld, ReferenceHeld, StructHeld, TraitHeld, ImplHeld};
 ghost use Rattle.declarations.specs.Unsizing.{TellUnsizing};
-ghost use Rattle.declarations.specs.Relevant.{impls_named, relevant_in, matches_in, names_of, next_above, CallsAtEach};
+ghost use Rattle.declarations.specs.Relevant.{impls_named, relevant_in, matches_in, is_above, next_above, CallsAtEach};
+ghost use Rattle.declarations.specs.Walks.{header_meets, first_that};
 
+use crate::apart::{are_apart, is_fixed};
 use crate::heads::{ImplHead, ImplIds, ImplKey, add_keys, impls_with_key};
 use crate::items::{AdtDef, ImplDef, TraitDef};
-use crate::merge::{first_above, for_each_merged, smaller};
+use crate::merge::{first_above, for_each_merged, ids_above, smaller, split_smaller};
 use crate::simplify::{SimplifiedType, simplify_type};
 use indexmap::IndexMap;
 use std::alloc::Global;
@@ -34,14 +36,6 @@ struct ImplEntry {
     def: ImplDef,
     self_ty: Option<SimplifiedType>,
     is_fixed: bool,
-}
-
-/// Whether nothing is open in the arguments, and no lifetime stands in them. Their flags tell, and no type is walked.
-fn is_fixed(cx: &Interner, args: GenericArgs) -> bool
-    requires { Has cx.now.entries args_lists args.0 }
-    ensures { result ≡ is_fixed (trees_at cx.now.entries args.0) }
-{
-    cx.flags(args).0 == 0
 }
 
 /// What an impl is found by beside its trait and head: its header if that is fixed, so that others with this trait and head are not
@@ -307,11 +301,13 @@ impl Declarations {
         )
     }
 
-    /// The first impl above `last` that can match a reference, as heads and handles tell: those at which `for_each_relevant_impl`
-    /// calls, but for those whose arguments are apart from the reference's. So `[u8; 1]` meets `impl Show for [u8; 1]` and
-    /// `impl<T> Show for [T; 2]`, and not `impl Show for [u8; 2]` (a part of what `DeepRejectCtxt` of the original tells).
+    /// The first impl above `last` that can match a reference, as heads and a look at the first levels tell: those at which
+    /// `for_each_relevant_impl` calls, but for those whose arguments are apart from the reference's (`are_apart`). So `[u8; 1]` meets
+    /// `impl Show for [u8; 1]` and `impl<T> Show for [T; 1]`, and neither `impl Show for [u8; 2]` nor `impl<T> Show for [T; 2]`; `V<S, ?x>`
+    /// meets `impl<U> Show for V<S, U>`, and not `impl<U> Show for V<R, U>` (the part of `DeepRejectCtxt` of the original that we have).
     ///
-    /// A fixed reference finds the fixed header that it matches by its handle, so that no other is looked at.
+    /// It goes once along the impls above `last` that have the trait and the head, or no head, up to the one that it finds. Of these a
+    /// fixed reference passes over those with a fixed header: the one that it matches is found by its handle.
     pub fn next_matching_impl(
         &self,
         cx: &Interner,
@@ -325,42 +321,103 @@ impl Declarations {
         ensures rises { Rises (map (λ i. i.id) self.now.impls) }
     {
         cx.lawful();
-        let self_ty = trait_ref.self_ty(cx);
-        if !is_fixed(cx, trait_ref.args) {
-            return self.next_relevant_impl(cx, trait_ref.def_id, self_ty, last);
+        let head = simplify_type(cx, trait_ref.self_ty(cx));
+        if is_fixed(cx, trait_ref.args) {
+            self.next_of_fixed(cx, trait_ref, head, last)
+        } else {
+            self.next_of_open(cx, trait_ref, head, last)
         }
-        self.next_of_fixed(trait_ref, simplify_type(cx, self_ty), last)
     }
 
-    /// The first impl above `last` whose header is this one, or is not fixed and has the trait and either that head or none.
-    fn next_of_fixed(
+    /// `next_matching_impl` for a reference in which something is open, or a lifetime stands.
+    fn next_of_open(
         &self,
+        cx: &Interner,
         trait_ref: TraitRef,
         self_ty: Option<SimplifiedType>,
         last: Option<ImplId>,
     ) -> Option<ImplId>
-        ensures is { option_map (λ i. i.index) result ≡ next_above last (names_of (ids_of (can_meet trait_ref self_ty) self.now.impls)) }
+        requires held { AreHeld cx.now.entries self.now }
+        requires reference { ReferenceHeld cx.now.entries trait_ref }
+        requires first { StartsWithType (trees_at cx.now.entries trait_ref.args.0) }
+        requires head { option_map label_of self_ty ≡ head_of (trees_at cx.now.entries trait_ref.args.0) }
+        ensures is { option_map (λ i. i.index) result ≡ next_above last (matches_in cx.now.entries self.now (reference_in cx.now.entries trait_ref)) }
         ensures rises { Rises (map (λ i. i.id) self.now.impls) }
     {
-        let trait_id = trait_ref.def_id;
-        let blanket = ImplKey::Open(ImplHead {
-            trait_id,
-            self_ty: None,
-        });
-        let same_head = ImplKey::Open(ImplHead { trait_id, self_ty });
-        let open = smaller(
-            self.next_with(blanket, last),
-            self.next_with(same_head, last),
-        );
-        smaller(open, self.next_with(ImplKey::Fixed(trait_ref), last))
+        let blanket = self.impls_with(trait_ref.def_id, None);
+        let same_head = self.with_head(trait_ref.def_id, self_ty);
+        self.next_meeting(cx, trait_ref.args, blanket, same_head, last)
     }
 
-    /// The first impl above `last` that has the key.
-    fn next_with(&self, key: ImplKey, last: Option<ImplId>) -> Option<ImplId>
-        ensures is { option_map (λ i. i.index) result ≡ next_above last (names_of (ids_of (has_key key) self.now.impls)) }
+    /// `next_matching_impl` for a fixed reference: an impl whose header is not fixed, or the one with its own header.
+    fn next_of_fixed(
+        &self,
+        cx: &Interner,
+        trait_ref: TraitRef,
+        self_ty: Option<SimplifiedType>,
+        last: Option<ImplId>,
+    ) -> Option<ImplId>
+        requires held { AreHeld cx.now.entries self.now }
+        requires reference { ReferenceHeld cx.now.entries trait_ref }
+        requires first { StartsWithType (trees_at cx.now.entries trait_ref.args.0) }
+        requires head { option_map label_of self_ty ≡ head_of (trees_at cx.now.entries trait_ref.args.0) }
+        requires fixed { is_fixed (trees_at cx.now.entries trait_ref.args.0) ≡ true }
+        ensures is { option_map (λ i. i.index) result ≡ next_above last (matches_in cx.now.entries self.now (reference_in cx.now.entries trait_ref)) }
         ensures rises { Rises (map (λ i. i.id) self.now.impls) }
     {
-        first_above(self.with_key(key), last)
+        cx.lawful();
+        let trait_id = trait_ref.def_id;
+        let open_blanket = self.with_key(ImplKey::Open(ImplHead {
+            trait_id,
+            self_ty: None,
+        }));
+        let open_same_head = self.open_with_head(trait_id, self_ty);
+        let own = self.with_key(ImplKey::Fixed(trait_ref));
+        let open = self.next_meeting(cx, trait_ref.args, open_blanket, open_same_head, last);
+        smaller(open, first_above(own, last))
+    }
+
+    /// The first impl above `last` of two lists whose header is not apart from these arguments. It goes once along them.
+    fn next_meeting(
+        &self,
+        cx: &Interner,
+        args: GenericArgs,
+        first: &[ImplId],
+        second: &[ImplId],
+        last: Option<ImplId>,
+    ) -> Option<ImplId>
+        requires held { AreHeld cx.now.entries self.now }
+        requires args { Has cx.now.entries args_lists args.0 }
+        requires first { Rises first.now }
+        requires second { Rises second.now }
+        ensures { (ids : List ImplId) → IsMerge first.now second.now ids → Rises ids
+            → result ≡ first_that (header_meets cx.now.entries self.now (trees_at cx.now.entries args.0)) (filter (λ i. is_above last i.index) ids) }
+    {
+        let mut first_rest = ids_above(first, last);
+        let mut second_rest = ids_above(second, last);
+        'impls: while let Some((id, first_left, second_left)) = split_smaller(
+            first_rest,
+            second_rest,
+        ) {
+            if self.header_meets(cx, args, id) {
+                return Some(id);
+            }
+            first_rest = first_left;
+            second_rest = second_left;
+        }
+        None
+    }
+
+    /// Whether the arguments of an impl's header are not apart from these.
+    fn header_meets(&self, cx: &Interner, args: GenericArgs, id: ImplId) -> bool
+        requires held { AreHeld cx.now.entries self.now }
+        requires args { Has cx.now.entries args_lists args.0 }
+        ensures { result ≡ header_meets cx.now.entries self.now (trees_at cx.now.entries args.0) id }
+    {
+        match self.impl_def(id) {
+            Some(def) => !are_apart(cx, args, def.header.args),
+            None => false,
+        }
     }
 
     /// The impls that have the key.
@@ -377,6 +434,16 @@ impl Declarations {
         ensures rises { Rises (map (λ i. i.id) self.now.impls) }
     {
         self.with_key(ImplKey::Headed(ImplHead { trait_id, self_ty }))
+    }
+
+    /// Those of the impls of a trait whose self type has that head that are not fixed; without a head none.
+    fn open_with_head(&self, trait_id: TraitId, self_ty: Option<SimplifiedType>) -> &[ImplId]
+        ensures { result.now ≡ ids_of (has_open_head trait_id self_ty) self.now.impls }
+    {
+        match self_ty {
+            Some(_) => self.with_key(ImplKey::Open(ImplHead { trait_id, self_ty })),
+            None => &[],
+        }
     }
 
     /// The impls of a trait whose self type has that head; without a head none.

@@ -2,6 +2,7 @@
 //! interner, and what makes them quick to search.
 #![tactic(auto)]
 
+pub mod apart;
 pub mod declarations;
 mod elaborate;
 mod heads;

@@ -51,7 +51,7 @@ pub(crate) fn smaller(first: Option<ImplId>, second: Option<ImplId>) -> Option<I
 }
 
 /// The smaller of the first of two lists, with what is left of both.
-fn split_smaller<'a>(
+pub(crate) fn split_smaller<'a>(
     first: &'a [ImplId],
     second: &'a [ImplId],
 ) -> Option<(ImplId, &'a [ImplId], &'a [ImplId])>

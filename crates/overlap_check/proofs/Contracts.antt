@@ -10,7 +10,7 @@ use Rattle.type_terms.specs.Answers.{CommonInstance, is_closed, is_bounded, is_p
 use Rattle.type_terms.specs.Renumbering.{Renumbering, View, HoldsView, renumbered, renumbered_reference, renumbered_impl}
 use Rattle.type_terms.specs.LinkedSet.{JoinedSet, LinkedSet, Cleared, IsPair}
 use Rattle.type_terms.proofs.HeldSets.{held-linked}
-use Rattle.type_terms.proofs.Members.{in-map, in-left, in-right}
+use Rattle.type_terms.proofs.Members.{in-map}
 use Rattle.type_terms.proofs.NoHolds.{every-member}
 use Rattle.type_terms.proofs.NoTwo.{no-common-instance}
 use Rattle.type_terms.proofs.Fitting.{not-true}
@@ -18,7 +18,7 @@ use Rattle.type_terms.proofs.ViewLaws.{no-two-of-accepted, proved-in-set, no-in-
 use Rattle.type_terms.proofs.RenumberedTrees.{inverse, impl-back, back, over-with-args, over-common, over-closed}
 use Rattle.overlap_check.specs.Verdicts.{placed, ClausesNeverMeet, IsCleared}
 use Rattle.overlap_check.specs.Questions.{FitKinds, filled_reference, SolutionBy, Solution, yes, unproved, maybe, IsRefuteAnswer, unrefuted}
-use Rattle.overlap_check.specs.SessionLaws.{HeadlineHolds, HeadlineOfHeldSets, ApartIsCleared, CoversLeft, CoversRight, CoversClause, RefusedClauseClears, IsPassed, PassedIsAccepted, RefusedIsReal, DecidedIsAnswered, BoundedIsRefuted}
+use Rattle.overlap_check.specs.SessionLaws.{HeadlineHolds, AnswersHoldEverywhere, HeadlineOfHeldSets, ApartIsCleared, CoversLeft, CoversRight, CoversClause, RefusedClauseClears, IsPassed, PassedIsAccepted, RefusedIsReal, DecidedIsAnswered, BoundedIsRefuted}
 use Rattle.type_terms.proofs.Members.{not-both}
 use Rattle.overlap_check.specs.Verdicts.{InEverySetWith}
 use Rattle.overlap_check.proofs.Possible.{bounded-possible}
@@ -147,6 +147,10 @@ every-left : {A : Type 0} (P : A → Type 0) (xs ys : List A) → Every P (xs ++
 every-left P [] ys h = tt
 every-left P (x ∷ xs) ys h = (h.0, every-left P xs ys h.1)
 
+every-right : {A : Type 0} (P : A → Type 0) (xs ys : List A) → Every P (xs ++ ys) → Every P ys
+every-right P [] ys h = h
+every-right P (x ∷ xs) ys h = every-right P xs ys h.1
+
 -- fewer answers
 fewer-joined : (W : World) (vs ws : List View) (rank : ℕ → ℕ) → JoinedSet W vs rank → Every (HoldsView W) ws → JoinedSet W ws rank
 fewer-joined W vs ws rank l e = record {
@@ -177,33 +181,32 @@ fewer-joined W vs ws rank l e = record {
   orphan_rule = l.orphan_rule;
 }
 
-fewer : (W : World) (vs ws : List View) (rank : ℕ → ℕ) → LinkedSet W vs rank → Every (HoldsView W) ws → LinkedSet W ws rank
-fewer W vs ws rank l e = record { joined = fewer-joined W vs ws rank l.joined e; supers_proved = l.supers_proved }
+-- the view by which an answer was given is held
+stands-in : (W : World) (vs : List View) (rank : ℕ → ℕ) → LinkedSet W vs rank → (v : View) → In v vs → HoldsView W v
+stands-in W vs rank l v h = every-member (HoldsView W) vs v l.joined.as_answered h
 
 pub headline : HeadlineHolds
-headline limit W vs qs rank l answered ok = record {
-  one_impl = no-two-of-accepted W vs rank of-accepted answered (λ v h i j p. clear v h i j (record { stands = p.stands; partner = p.partner; own = p.own; before = p.before }));
-  unrelated = no-common-instance W (vs ++ qs) rank l.joined;
+headline W vs rank l answered ok = record {
+  one_impl = no-two-of-accepted W vs rank l answered (λ v h i j p. clear v h i j (record { stands = p.stands; partner = p.partner; own = p.own; before = p.before }));
+  unrelated = no-common-instance W vs rank l.joined;
   cleared = clear;
-  no_holds = λ v h ks r a. a.0.1 W (vs ++ qs) rank l v.numbers (asked v h);
-  yes_holds = λ v h ks ts r a. proved-in-set W (vs ++ qs) rank l v (asked v h) (filled_reference ks ts r) a.1;
 }
   where
-    stand : (v : View) → In v (vs ++ qs) → HoldsView W v
-    stand v h = every-member (HoldsView W) (vs ++ qs) v l.joined.as_answered h
-
-    asked : (v : View) → In v qs → HoldsView W v
-    asked v h = stand v (in-right v vs qs h)
-
-    of-accepted : LinkedSet W vs rank
-    of-accepted = fewer W (vs ++ qs) vs rank l (every-left (HoldsView W) vs qs l.joined.as_answered)
-
     clear : (v : View) → In v vs → (i j : ImplDecl) → IsPair v.world v.asker i j → Cleared W (renumbered_impl v.numbers i) (renumbered_impl v.numbers j)
-    clear v h i j p = ((ok v h).cleared i j p).1 W (vs ++ qs) rank l v.numbers (stand v (in-left v vs qs h))
+    clear v h i j p = ((ok v h).cleared i j p).1 W vs rank l v.numbers (stands-in W vs rank l v h)
+
+pub answers-hold : AnswersHoldEverywhere
+answers-hold limit W vs rank l = record {
+  no_holds = λ v h ks r a. a.0.1 W vs rank l v.numbers (stands-in W vs rank l v h);
+  yes_holds = λ v h ks ts r a. proved-in-set W vs rank l v (stands-in W vs rank l v h) (filled_reference ks ts r) a.1;
+}
 
 -- the supertraits of headers stand in a set of crates that were held, whatever else was asked in it
 pub held-headline : HeadlineOfHeldSets
-held-headline limit W vs qs rank l answered ok = headline limit W vs qs rank (record { joined = l; supers_proved = of-held.supers_proved }) answered (λ v h. (ok v h).0)
+held-headline limit W vs qs rank l answered ok = (headline W vs rank of-held answered (λ v h. (ok v h).0), answers-hold limit W qs rank of-asked)
   where
     of-held : LinkedSet W vs rank
     of-held = held-linked W vs rank (fewer-joined W (vs ++ qs) vs rank l (every-left (HoldsView W) vs qs l.as_answered)) answered (λ v h. (ok v h).1)
+
+    of-asked : LinkedSet W qs rank
+    of-asked = record { joined = fewer-joined W (vs ++ qs) qs rank l (every-right (HoldsView W) vs qs l.as_answered); supers_proved = of-held.supers_proved }

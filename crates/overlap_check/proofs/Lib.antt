@@ -24,5 +24,4 @@ pub mod Erasing
 pub mod Judged
 pub mod Walked
 pub mod PairLists
-pub mod HeadEquality
 pub mod Tops

@@ -13,7 +13,7 @@ use Rattle.type_terms.specs.LinkedSet.{IsOfAnAnsweredCrate, LinkedSet}
 use Rattle.type_terms.specs.Worked.{beside_core, trait_of, base, first, second, u8, to, struct, impl_of, show_world, applied, text_of_a_user, set_of_two_users}
 use Rattle.type_terms.proofs.Members.{in-nothing, in-append, in-cases, in-filter, filter-in, self-number}
 use Rattle.type_terms.proofs.TwoTexts.{two-texts}
-use Rattle.overlap_check.specs.Verdicts.{IsAccepted, IsVerdict, accepted}
+use Rattle.overlap_check.specs.Verdicts.{IsAccepted}
 use Rattle.overlap_check.specs.Worked.{TwoTextsAccepted, ValuesOfBothKinds, ParametersStandForThemselves}
 use Rattle.overlap_check.proofs.Contracts.{apart-cleared, headline}
 use Rattle.overlap_check.proofs.Computing.{keeps-by, no-pair}
@@ -60,7 +60,7 @@ module _ (ρ σ : Renumbering) (e : ρ.structs.to 10 ≡ 10) (f : σ.structs.to 
   views = record { numbers = ρ; asker = 2; world = text_of_a_user } ∷ record { numbers = σ; asker = 2; world = text_of_a_user } ∷ []
 
   two-of : LinkedSet set_of_two_users views (λ n. n) → (r : Reference) → IsTrue (is_closed r.args) → (n k : ℕ) → HasProofByImpl set_of_two_users [] r n → HasProofByImpl set_of_two_users [] r k → n ≡ k
-  two-of l = (headline 8 set_of_two_users views [] (λ n. n) l answered ok).one_impl
+  two-of l = (headline set_of_two_users views (λ n. n) l answered ok).one_impl
     where
       own : (i : ImplDecl) → (a-impl ≡ i) ⊎ In i (b-impl ∷ []) → IsOfAnAnsweredCrate views i
       own i (inl q) = inr (at ρ, (0, refl), (asker-of ρ 10 (struct 10 first []) e l.joined.as_answered.0 refl ∙ ap (λ (x : ImplDecl). x.home) q))
@@ -77,17 +77,17 @@ module _ (ρ σ : Renumbering) (e : ρ.structs.to 10 ≡ 10) (f : σ.structs.to 
       answered : (i : ImplDecl) → In i set_of_two_users.impls → IsOfAnAnsweredCrate views i
       answered i h = either i (in-append i core_world.impls (a-impl ∷ b-impl ∷ []) h)
 
-      accepted-at : (v : View) → v.world ≡ text_of_a_user → v.asker ≡ 2 → IsVerdict 8 v.world v.asker accepted
+      accepted-at : (v : View) → v.world ≡ text_of_a_user → v.asker ≡ 2 → IsAccepted v.world v.asker
       accepted-at v p q = subst (λ c. IsAccepted v.world c) (sym q) (subst (λ V. IsAccepted V 2) (sym p) user-accepted)
 
-      ok : (v : View) → In v views → IsVerdict 8 v.world v.asker accepted
+      ok : (v : View) → In v views → IsAccepted v.world v.asker
       ok v h = by (in-cases v (at ρ) (at σ ∷ []) h)
         where
-          rest : (record { numbers = σ; asker = 2; world = text_of_a_user } ≡ v) ⊎ In v [] → IsVerdict 8 v.world v.asker accepted
+          rest : (record { numbers = σ; asker = 2; world = text_of_a_user } ≡ v) ⊎ In v [] → IsAccepted v.world v.asker
           rest (inl p) = accepted-at v (sym (ap (λ (x : View). x.world) p)) (sym (ap (λ (x : View). x.asker) p))
           rest (inr p) = absurd (in-nothing v p)
 
-          by : (record { numbers = ρ; asker = 2; world = text_of_a_user } ≡ v) ⊎ In v (record { numbers = σ; asker = 2; world = text_of_a_user } ∷ []) → IsVerdict 8 v.world v.asker accepted
+          by : (record { numbers = ρ; asker = 2; world = text_of_a_user } ≡ v) ⊎ In v (record { numbers = σ; asker = 2; world = text_of_a_user } ∷ []) → IsAccepted v.world v.asker
           by (inl p) = accepted-at v (sym (ap (λ (x : View). x.world) p)) (sym (ap (λ (x : View). x.asker) p))
           by (inr p) = rest (in-cases v (at σ) [] p)
 

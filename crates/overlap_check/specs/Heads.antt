@@ -1,10 +1,6 @@
--- Headers that a look at the tops of their arguments tells apart.
-use Rattle.std.specs.Prelude.{◌≡◌, ℕ, zero}
+-- Headers that never meet.
+use Rattle.std.specs.Prelude.{◌≡◌, zero}
 use Rattle.type_terms.specs.Trees.{Trees, erase, instantiate, Fits}
-
--- The flags of what is open, of lifetimes but `'static`, and of binders that count theirs.
-abbrev pub open_flags : ℕ
-open_flags = 8191
 
 -- Without lifetimes they are never equal, whatever stands for the parameters in each: `V<T>` and `&T` are so, and `u8` and `bool`.
 abbrev pub NeverMeet : Trees → Trees → Type 0

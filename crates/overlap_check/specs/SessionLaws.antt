@@ -14,37 +14,43 @@ use Rattle.overlap_check.specs.Verdicts.{IsVerdict, accepted, IsCleared, KeepsOr
 use Rattle.overlap_check.specs.Questions.{FitKinds, filled_reference, Solution, SolutionBy, ProveAnswer, yes, unproved, IsProveAnswer, no, unrefuted, IsRefuteAnswer, IsRefuted}
 
 -- The headline
--- What holds of a linked set whose crates were accepted, each in a text of its own or in one with others, and in which others were
--- asked.
-pub record Headline (limit : ℕ) (W : World) (accepted_views asked_views : List View) : Type 0 where
+-- What holds of a linked set whose crates were accepted, each in a text of its own or in one with others.
+pub record Headline (W : World) (accepted_views : List View) : Type 0 where
   -- no closed reference has proofs by two impls
   pub one_impl : (r : Reference) → IsTrue (is_closed r.args) → (n k : ℕ) → HasProofByImpl W [] r n → HasProofByImpl W [] r k → n ≡ k
   -- two impls of crates that don't see each other have no common instance
   pub unrelated : (i j : ImplDecl) → In i W.impls → In j W.impls → sees W i.home j.home ≡ false → sees W j.home i.home ≡ false → CommonInstance i j → ⊥
   -- each pair that an accepted crate brought together is no conflict here
   pub cleared : (v : View) → In v accepted_views → (i j : ImplDecl) → IsPair v.world v.asker i j → Cleared W (renumbered_impl v.numbers i) (renumbered_impl v.numbers j)
+
+-- It is said of a set in which others were asked too: a linked set with more views is one with fewer.
+abbrev pub HeadlineHolds : Type 0
+HeadlineHolds =
+    (W : World) (accepted_views : List View) (rank : ℕ → ℕ) → LinkedSet W accepted_views rank
+    → ((i : ImplDecl) → In i W.impls → IsOfAnAnsweredCrate accepted_views i)
+    → ((v : View) → In v accepted_views → IsAccepted v.world v.asker)
+    → Headline W accepted_views
+
+-- What answers say of a linked set with the views by which they were given, whether its crates were accepted or not.
+pub record AnswersHold (limit : ℕ) (W : World) (asked_views : List View) : Type 0 where
   -- a question that was answered `no` has no solution here
   pub no_holds : (v : View) → In v asked_views → (ks : List Sort) (r : Reference) → IsRefuteAnswer limit v.world v.asker ks r no → Solution W ks (renumbered_reference v.numbers r) → ⊥
   -- one without where-clauses that was answered `yes` has a proof here
   pub yes_holds : (v : View) → In v asked_views → (ks : List Sort) (ts : List Trees) (r : Reference) → IsProveAnswer limit v.world ks [] r (yes ts)
       → HasProof W [] (renumbered_reference v.numbers (filled_reference ks ts r))
 
-abbrev pub HeadlineHolds : Type 0
-HeadlineHolds =
-    (limit : ℕ) (W : World) (accepted_views asked_views : List View) (rank : ℕ → ℕ) → LinkedSet W (accepted_views ++ asked_views) rank
-    → ((i : ImplDecl) → In i W.impls → IsOfAnAnsweredCrate accepted_views i)
-    → ((v : View) → In v accepted_views → IsVerdict limit v.world v.asker accepted)
-    → Headline limit W accepted_views asked_views
+abbrev pub AnswersHoldEverywhere : Type 0
+AnswersHoldEverywhere = (limit : ℕ) (W : World) (asked_views : List View) (rank : ℕ → ℕ) → LinkedSet W asked_views rank → AnswersHold limit W asked_views
 
--- The same of a set whose crates were held too: then nothing is assumed of the supertraits of headers.
+-- Both of a set whose crates were held too, and in which others were asked. Then nothing is assumed of the supertraits of headers.
 abbrev pub HeadlineOfHeldSets : Type 0
 HeadlineOfHeldSets =
     (limit : ℕ) (W : World) (accepted_views asked_views : List View) (rank : ℕ → ℕ) → JoinedSet W (accepted_views ++ asked_views) rank
     → ((i : ImplDecl) → In i W.impls → IsOfAnAnsweredCrate accepted_views i)
     → ((v : View) → In v accepted_views → IsVerdict limit v.world v.asker accepted × IsHeld v.world v.asker)
-    → Headline limit W accepted_views asked_views
+    → Headline W accepted_views × AnswersHold limit W asked_views
 
--- The same of texts that each list the auto traits of a `dyn` in an order of its own: what was answered is said of W in W's order.
+-- Both of texts that each list the auto traits of a `dyn` in an order of its own: what was answered is said of W in W's order.
 pub record HeadlineInOrder (limit : ℕ) (W : World) (accepted_texts asked_texts : List Listed) : Type 0 where
   pub one_impl : (r : Reference) → IsTrue (is_closed r.args) → (n k : ℕ) → HasProofByImpl W [] r n → HasProofByImpl W [] r k → n ≡ k
   pub unrelated : (i j : ImplDecl) → In i W.impls → In j W.impls → sees W i.home j.home ≡ false → sees W j.home i.home ≡ false → CommonInstance i j → ⊥

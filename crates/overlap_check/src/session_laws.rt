@@ -1,19 +1,25 @@
 //! What a session promises of its answers, and what follows from it.
 
-ghost use Rattle.overlap_check.specs.SessionLaws.{RefusedIsReal, ApartIsCleared, BoundedIsRefuted, DecidedIsAnswered, HeadlineHolds, HeadlineInAnyOrder, HeadlineOfHeldSets, PassedIsAccepted, RefusedClauseClears};
+ghost use Rattle.overlap_check.specs.SessionLaws.{RefusedIsReal, AnswersHoldEverywhere, ApartIsCleared, BoundedIsRefuted, DecidedIsAnswered, HeadlineHolds, HeadlineInAnyOrder, HeadlineOfHeldSets, PassedIsAccepted, RefusedClauseClears};
 ghost use Rattle.overlap_check.specs.Worked.{ALaterPairIsRefused, ClearedByAClause, FlagsOfLeaves, ForeignLeaf, LifetimesAlone, NotAcceptedUnlinked, ParametersStandForThemselves, ProvedAloneAndRefuted, RefusedForSomeDay, RefutedForAllValues, TwoTextsAccepted, VariableUncoveredBeforeLocal, ValuesOfBothKinds};
 
-/// In a linked set of accepted crates, of one text or of several, no closed reference has proofs by two impls; what was answered there holds.
+/// In a linked set of accepted crates, of one text or of several, no closed reference has proofs by two impls.
 pub fn accepted_sets_have_one_impl()
     ensures { HeadlineHolds }
 {}
 
-/// So it is of a set whose crates were held too, and then nothing is assumed of the supertraits of headers.
+/// In every linked set with the crates that were asked, what was answered `no` has no solution, and what was answered `yes` without
+/// where-clauses has a proof.
+pub fn answers_hold_in_linked_sets()
+    ensures { AnswersHoldEverywhere }
+{}
+
+/// Both hold of a set whose crates were accepted and held, and then nothing is assumed of the supertraits of headers.
 pub fn held_sets_have_one_impl()
     ensures { HeadlineOfHeldSets }
 {}
 
-/// So it is of texts that each list the auto traits of a `dyn` in an order of its own.
+/// Both hold of texts that each list the auto traits of a `dyn` in an order of its own.
 pub fn accepted_texts_in_any_order()
     ensures { HeadlineInAnyOrder }
 {}

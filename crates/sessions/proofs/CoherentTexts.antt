@@ -1,6 +1,5 @@
 -- A text whose crates are all accepted is coherent, where the supertraits of headers are proved.
-use Rattle.std.proofs.Common.{◌≡◌, ◌<◌, ◌⊎◌, inl, inr, ℕ, zero, suc, List, [], ◌∷◌, ◌++◌, map, length, pred, None, Some, refl, sym, ap, subst, arith}
-use Rattle.std.proofs.lemmas.List.{map-append}
+use Rattle.std.proofs.Common.{◌≡◌, ◌<◌, ◌⊎◌, inl, inr, ℕ, zero, suc, List, [], ◌∷◌, map, length, pred, None, Some, refl, sym, ap, subst, arith}
 use Rattle.std.proofs.lemmas.Option.{same_Some}
 use Rattle.type_terms.specs.Label.{Sort}
 use Rattle.type_terms.specs.Trees.{Trees}
@@ -13,7 +12,7 @@ use Rattle.type_terms.proofs.Members.{in-map, here}
 use Rattle.type_terms.proofs.SameNumbers.{reference-same}
 use Rattle.type_terms.proofs.HeldSets.{held-linked}
 use Rattle.overlap_check.specs.Verdicts.{IsAccepted}
-use Rattle.overlap_check.specs.SessionLaws.{Headline, HeadlineHolds}
+use Rattle.overlap_check.specs.SessionLaws.{HeadlineHolds, AnswersHold, AnswersHoldEverywhere}
 use Rattle.overlap_check.specs.Questions.{filled_reference, SolutionBy, Solution, yes, IsProveAnswer, no, IsRefuteAnswer}
 use Rattle.text_definitions.specs.Declarations.{Declarations}
 use Rattle.sessions.specs.JoinedTexts.{text_world}
@@ -91,21 +90,19 @@ module _ (d : Declarations) (a : AllKept d) (accepted : CratesAreAccepted d) whe
   pub held-supertraits : CratesAreHeld d → HeadersHaveSupertraits W
   held-supertraits held = (held-linked W own (λ n. n) (set cs) answered (of-own (λ v. IsHeld v.world v.asker) held)).supers_proved
 
-  module _ (headline : HeadlineHolds) (supers : HeadersHaveSupertraits W) where
-    with-asked : (xs : List ℕ) → LinkedSet W (map (view_at W) xs) (λ n. n)
-    with-asked xs = record { joined = set xs; supers_proved = supers }
+  module _ (headline : HeadlineHolds) (answers : AnswersHoldEverywhere) (supers : HeadersHaveSupertraits W) where
+    linked : (xs : List ℕ) → LinkedSet W (map (view_at W) xs) (λ n. n)
+    linked xs = record { joined = set xs; supers_proved = supers }
 
-    head : (limit : ℕ) (asked : List ℕ) → Headline limit W own (map (view_at W) asked)
-    head limit asked =
-        headline limit W own (map (view_at W) asked) (λ n. n) (subst (λ vs. LinkedSet W vs (λ n. n)) (map-append (view_at W) cs asked) (with-asked (cs ++ asked))) answered
-        (of-own (λ v. IsAccepted v.world v.asker) accepted)
+    asked : (limit c : ℕ) → AnswersHold limit W (view_at W c ∷ [])
+    asked limit c = answers limit W (view_at W c ∷ []) (λ n. n) (linked (c ∷ []))
 
     no-holds : (limit c : ℕ) (ks : List Sort) (r : Reference) → IsRefuteAnswer limit (view_in d c) c ks r no → Solution W ks r → ⊥
-    no-holds limit c ks r h s = (head limit (c ∷ [])).no_holds (view_at W c) (here (view_at W c) []) ks r h (subst (Solution W ks) (sym (reference-same r)) s)
+    no-holds limit c ks r h s = (asked limit c).no_holds (view_at W c) (here (view_at W c) []) ks r h (subst (Solution W ks) (sym (reference-same r)) s)
 
     yes-holds : (limit c : ℕ) (ks : List Sort) (ts : List Trees) (r : Reference) → IsProveAnswer limit (view_in d c) ks [] r (yes ts) → HasProof W [] (filled_reference ks ts r)
     yes-holds limit c ks ts r h =
-        subst (HasProof W []) (reference-same (filled_reference ks ts r)) ((head limit (c ∷ [])).yes_holds (view_at W c) (here (view_at W c) []) ks ts r h)
+        subst (HasProof W []) (reference-same (filled_reference ks ts r)) ((asked limit c).yes_holds (view_at W c) (here (view_at W c) []) ks ts r h)
 
     -- a solution by what a crate sees is one of the text
     solved-there : (limit e : ℕ) (ks : List Sort) (r : Reference) → SolutionBy (HasProof (view_in d e) []) ks r → Solution W ks r
@@ -118,16 +115,16 @@ module _ (d : Declarations) (a : AllKept d) (accepted : CratesAreAccepted d) whe
 
     pub coherent : (limit : ℕ) → TextIsCoherent limit d
     coherent limit = record {
-      one_impl = (head limit []).one_impl;
+      one_impl = (headline W own (λ n. n) (linked cs) answered (of-own (λ v. IsAccepted v.world v.asker) accepted)).one_impl;
       no_holds = no-holds limit;
       yes_holds = yes-holds limit;
       no_or_yes = λ c e ks ts r h y a. no-holds limit c ks r h (solved-there limit e ks r (y.2 a));
     }
 
-pub accepted-texts-are-coherent : HeadlineHolds → AcceptedTextsAreCoherent
-accepted-texts-are-coherent headline d (bytes, t) accepted supers limit = coherent d (texts-are-kept bytes d t) accepted headline supers limit
+pub accepted-texts-are-coherent : HeadlineHolds → AnswersHoldEverywhere → AcceptedTextsAreCoherent
+accepted-texts-are-coherent headline answers d (bytes, t) accepted supers limit = coherent d (texts-are-kept bytes d t) accepted headline answers supers limit
 
-pub held-texts-are-coherent : HeadlineHolds → HeldTextsAreCoherent
-held-texts-are-coherent headline d (bytes, t) accepted held limit =
+pub held-texts-are-coherent : HeadlineHolds → AnswersHoldEverywhere → HeldTextsAreCoherent
+held-texts-are-coherent headline answers d (bytes, t) accepted held limit =
     let a = texts-are-kept bytes d t in
-    coherent d a accepted headline (held-supertraits d a accepted held) limit
+    coherent d a accepted headline answers (held-supertraits d a accepted held) limit

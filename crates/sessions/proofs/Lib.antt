@@ -73,11 +73,10 @@ pub mod OpaqueFound
 pub mod HeaderChecks
 pub mod SupertraitAnswers
 mod ErasedHeads
-pub mod ImplGroups
+pub mod TraitLists
 pub mod ByTrait
-pub mod ClosedPartners
+pub mod Matching
 pub mod Partners
-pub mod Relevant
 mod DeclaredTrees
 mod CoveredClauses
 mod RisingBounds

@@ -11,14 +11,12 @@ use Rattle.sessions.specs.Checking.{HasPartner}
 use Rattle.sessions.specs.Promises.{view_in}
 use Rattle.sessions.specs.Subjects.{Subject, StaysOn}
 use Rattle.sessions.specs.declared.by_trait.ImplsByTrait.{ImplsByTrait}
-use Rattle.sessions.proofs.ByTrait.{lists-later}
 use Rattle.sessions.proofs.CheckedSubjects.{Passed}
 use Rattle.sessions.proofs.Lists.{in-list}
 
 pub lists-still : (a b : Subject) → StaysOn a b → (m : ImplsByTrait) → ListsSeen a m → ListsSeen b m
 lists-still a b f m h =
-    subst (λ d. ListsImpls b.terms (view_in d b.of_crate) m) (sym f.declarations)
-    (subst (λ c. ListsImpls b.terms (view_in a.declarations c) m) (sym f.of_crate) (lists-later a.terms b.terms f.terms (view_in a.declarations a.of_crate) m h))
+    subst (λ d. ListsImpls (view_in d b.of_crate) b.of_crate m) (sym f.declarations) (subst (λ c. ListsImpls (view_in a.declarations c) c m) (sym f.of_crate) h)
 
 -- a number is in a list or not
 in-or-not : (k : ℕ) (ns : List ℕ) → In k ns ⊎ (In k ns → ⊥)

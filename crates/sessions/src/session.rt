@@ -7,7 +7,7 @@ ghost use Rattle.type_terms.specs.declared.TheConstants.{MAX_INDEX};
 ghost use Rattle.type_terms.specs.Laws.{HeldSetsAreLinked, InEveryLinkedSet};
 ghost use Rattle.declarations.specs.Merges.{Each};
 ghost use Rattle.orphan_check.specs.Held.{ErrorHeld};
-ghost use Rattle.overlap_check.specs.SessionLaws.{HeadlineHolds, HeadlineOfHeldSets};
+ghost use Rattle.overlap_check.specs.SessionLaws.{AnswersHoldEverywhere, HeadlineHolds, HeadlineOfHeldSets};
 ghost use Rattle.proof_checker.specs.Steps.{StepHeld};
 ghost use Rattle.view_lowering.specs.MostTerms.{most_terms};
 ghost use Rattle.workspace.specs.Numbered.{IsNumbered};
@@ -42,7 +42,9 @@ use crate::text_laws::held_texts_are_coherent;
 use crate::view::lower_view;
 use candidate_assembly::solver::Solver;
 use orphan_check::errors::OrphanCheckErr;
-use overlap_check::{accepted_sets_have_one_impl, held_sets_have_one_impl};
+use overlap_check::{
+    accepted_sets_have_one_impl, answers_hold_in_linked_sets, held_sets_have_one_impl,
+};
 use proof_checker::steps::Step;
 use search_graph::{GlobalCache, SearchGraph};
 use solver_context::{SolverCx, SolverGraph};
@@ -346,6 +348,9 @@ impl<'w> Session<'w> {
         ensures linked { HeldSetsAreLinked }
         ensures one_impl { HeadlineOfHeldSets }
         ensures coherent { HeldTextsAreCoherent }
+
+        // In each linked set with a crate that was asked, what got `no` has no solution, and what got `yes` without where-clauses has a proof.
+        ensures everywhere { AnswersHoldEverywhere }
         ensures answer { IfOk result (λ a. IsSupersAnswer self.old.depth self.old.declarations self.old.of_crate (supers_of a)) }
         ensures stays { StaysOn self.old self.new }
 
@@ -355,6 +360,7 @@ impl<'w> Session<'w> {
         held_sets_are_linked();
         held_sets_have_one_impl();
         held_texts_are_coherent();
+        answers_hold_in_linked_sets();
         let end = self.impl_end();
         for number in 0..end {
             let id = ImplId { index: number };

@@ -1,0 +1,314 @@
+//! What keeps the arguments of an impl's header apart from those of a reference, so that the impl can be passed over.
+ghost use Rattle.std.specs.Prelude.{◌≡◌, ◌≢◌, ℕ, suc, ◌&&◌, ◌||◌, false};
+ghost use Rattle.type_terms.specs.Terms.{Has, types, consts, args_lists, trees_at};
+ghost use Rattle.type_terms.specs.Kinds.{ArgHeld, ArgsHeld, TysHeld, arg_trees, args_trees, tys_trees};
+ghost use Rattle.term_folds.specs.Arguments.{arg_sort};
+ghost use Rattle.declarations.specs.Apart.{is_fixed, are_apart, may_meet};
+ghost use Rattle.declarations.specs.Heads.{head_of};
+ghost use Rattle.declarations.specs.Tops.{top_is_open, is_some_head, PartsHeld, left_parts, right_parts, TopsHeld, tell};
+
+use crate::simplify::simplify_type;
+use type_terms::interner::Interner;
+use type_terms::kinds::{Const, ConstKind, GenericArgKind, GenericArgs, Ty, TyKind, Tys};
+use type_terms::region::RegionKind;
+
+/// How many levels of two lists are compared.
+const LEVELS: u32 = 4;
+
+/// The parts of two types with one head: those of the left one, and then those of the right one.
+#[derive(Clone, Copy)]
+enum Parts {
+    /// What `&T`, `*const T` and `[T]` are made of, beside lifetimes.
+    Inner(Ty, Ty),
+    /// The elements and the lengths of `[T; N]`.
+    Array(Ty, Const, Ty, Const),
+    /// The arguments of a struct.
+    Args(GenericArgs, GenericArgs),
+    /// The items of a tuple.
+    Items(Tys, Tys),
+}
+
+/// What the outermost nodes of two types tell of whether they can become one.
+#[derive(Clone, Copy)]
+enum Tops {
+    /// They can, whatever stands below.
+    MayMeet,
+    /// They can not.
+    Differ,
+    /// They can where their parts can.
+    Parts(Parts),
+}
+
+/// Whether nothing is open in the arguments, and no lifetime stands in them. Their flags tell, and no type is walked.
+pub(crate) fn is_fixed(cx: &Interner, args: GenericArgs) -> bool
+    requires { Has cx.now.entries args_lists args.0 }
+    ensures { result ≡ is_fixed (trees_at cx.now.entries args.0) }
+{
+    cx.flags(args).0 == 0
+}
+
+/// Whether both lists are fixed.
+fn are_fixed(cx: &Interner, left: GenericArgs, right: GenericArgs) -> bool
+    requires left { Has cx.now.entries args_lists left.0 }
+    requires right { Has cx.now.entries args_lists right.0 }
+    ensures { result ≡ (is_fixed (trees_at cx.now.entries left.0) && is_fixed (trees_at cx.now.entries right.0)) }
+{
+    is_fixed(cx, left) && is_fixed(cx, right)
+}
+
+/// Whether an argument is a parameter, a variable, a placeholder or bound.
+fn is_open(cx: &Interner, arg: GenericArgKind) -> bool
+    requires { ArgHeld cx.now.entries arg }
+    ensures { result ≡ top_is_open (arg_trees cx.now.entries arg) }
+{
+    cx.lawful();
+    match arg {
+        GenericArgKind::Lifetime(region) => match region.kind {
+            RegionKind::ReStatic => false,
+            _ => true,
+        },
+        GenericArgKind::Ty(ty) => match simplify_type(cx, ty) {
+            Some(_) => false,
+            None => true,
+        },
+        GenericArgKind::Const(value) => match cx.const_kind(value) {
+            ConstKind::Value(_) => false,
+            _ => true,
+        },
+    }
+}
+
+/// Whether two arguments of two sorts can become one: only where one of them is open.
+fn unlike_may_meet(cx: &Interner, left: GenericArgKind, right: GenericArgKind) -> bool
+    requires left { ArgHeld cx.now.entries left }
+    requires right { ArgHeld cx.now.entries right }
+    requires sorts { arg_sort left ≢ arg_sort right }
+    ensures { (n : ℕ) → result ≡ may_meet (suc n) (arg_trees cx.now.entries left) (arg_trees cx.now.entries right) }
+{
+    cx.lawful();
+    is_open(cx, left) || is_open(cx, right)
+}
+
+/// Whether two constants can become one: not if they are two numbers.
+fn consts_may_meet(cx: &Interner, left: Const, right: Const) -> bool
+    requires left { Has cx.now.entries consts left.0 }
+    requires right { Has cx.now.entries consts right.0 }
+    ensures { (n : ℕ) → result ≡ may_meet (suc n) (trees_at cx.now.entries left.0) (trees_at cx.now.entries right.0) }
+{
+    let right_kind = cx.const_kind(right);
+    match cx.const_kind(left) {
+        ConstKind::Value(first) => match right_kind {
+            ConstKind::Value(second) => first == second,
+            _ => true,
+        },
+        _ => true,
+    }
+}
+
+/// The parts of two types with one head. Those of a `dyn` type and of a `fn` pointer are not looked at.
+fn parts_of(cx: &Interner, left: Ty, right: Ty) -> Tops
+    requires left { Has cx.now.entries types left.0 }
+    requires right { Has cx.now.entries types right.0 }
+    requires heads { head_of (trees_at cx.now.entries left.0) ≡ head_of (trees_at cx.now.entries right.0) }
+    requires head { is_some_head (head_of (trees_at cx.now.entries left.0)) }
+    ensures held { TopsHeld cx.now.entries result }
+    ensures tell { tell cx.now.entries result (trees_at cx.now.entries left.0) (trees_at cx.now.entries right.0) }
+{
+    cx.lawful();
+    match cx.kind(left) {
+        TyKind::Adt(_, first) => match cx.kind(right) {
+            TyKind::Adt(_, second) => Tops::Parts(Parts::Args(first, second)),
+            _ => unreachable!(),
+        },
+        TyKind::Ref(_, first, _) => match cx.kind(right) {
+            TyKind::Ref(_, second, _) => Tops::Parts(Parts::Inner(first, second)),
+            _ => unreachable!(),
+        },
+        TyKind::RawPtr(first, _) => match cx.kind(right) {
+            TyKind::RawPtr(second, _) => Tops::Parts(Parts::Inner(first, second)),
+            _ => unreachable!(),
+        },
+        TyKind::Slice(first) => match cx.kind(right) {
+            TyKind::Slice(second) => Tops::Parts(Parts::Inner(first, second)),
+            _ => unreachable!(),
+        },
+        TyKind::Array(first, length) => match cx.kind(right) {
+            TyKind::Array(second, other_length) => {
+                Tops::Parts(Parts::Array(first, length, second, other_length))
+            }
+            _ => unreachable!(),
+        },
+        TyKind::Tuple(first) => match cx.kind(right) {
+            TyKind::Tuple(second) => Tops::Parts(Parts::Items(first, second)),
+            _ => unreachable!(),
+        },
+        _ => Tops::MayMeet,
+    }
+}
+
+/// What the outermost nodes of two types tell.
+fn compare_tops(cx: &Interner, left: Ty, right: Ty) -> Tops
+    requires left { Has cx.now.entries types left.0 }
+    requires right { Has cx.now.entries types right.0 }
+    ensures held { TopsHeld cx.now.entries result }
+    ensures tell { tell cx.now.entries result (trees_at cx.now.entries left.0) (trees_at cx.now.entries right.0) }
+{
+    cx.lawful();
+    if left == right {
+        return Tops::MayMeet;
+    }
+    match simplify_type(cx, left) {
+        Some(first) => match simplify_type(cx, right) {
+            Some(second) => {
+                if first == second {
+                    parts_of(cx, left, right)
+                } else {
+                    Tops::Differ
+                }
+            }
+            None => Tops::MayMeet,
+        },
+        None => Tops::MayMeet,
+    }
+}
+
+/// Whether two types can become one, as their outermost nodes and so many levels below these tell.
+#[cycle(meeting)]
+fn types_may_meet(cx: &Interner, left: Ty, right: Ty, levels_below: u32) -> bool
+    requires left { Has cx.now.entries types left.0 }
+    requires right { Has cx.now.entries types right.0 }
+    ensures { result ≡ may_meet (suc levels_below) (trees_at cx.now.entries left.0) (trees_at cx.now.entries right.0) }
+{
+    match compare_tops(cx, left, right) {
+        Tops::MayMeet => true,
+        Tops::Differ => false,
+        Tops::Parts(parts) => {
+            if levels_below == 0 {
+                true
+            } else {
+                parts_may_meet(cx, parts, levels_below - 1)
+            }
+        }
+    }
+}
+
+/// Whether the parts of two types can become one.
+#[cycle(meeting)]
+fn parts_may_meet(cx: &Interner, parts: Parts, levels_below: u32) -> bool
+    requires { PartsHeld cx.now.entries parts }
+    ensures { result ≡ may_meet (suc levels_below) (left_parts cx.now.entries parts) (right_parts cx.now.entries parts) }
+{
+    cx.lawful();
+    match parts {
+        Parts::Inner(left, right) => types_may_meet(cx, left, right, levels_below),
+        Parts::Array(left, length, right, other_length) => {
+            if consts_may_meet(cx, length, other_length) {
+                types_may_meet(cx, left, right, levels_below)
+            } else {
+                false
+            }
+        }
+        Parts::Args(left, right) => args_may_meet(cx, cx.args(left), cx.args(right), levels_below),
+        Parts::Items(left, right) => tys_may_meet(cx, cx.tys(left), cx.tys(right), levels_below),
+    }
+}
+
+/// Whether each argument can become the one in its place, and none is left over.
+#[cycle(meeting)]
+fn args_may_meet(
+    cx: &Interner,
+    left: &[GenericArgKind],
+    right: &[GenericArgKind],
+    levels_below: u32,
+) -> bool
+    requires left { ArgsHeld cx.now.entries left.now }
+    requires right { ArgsHeld cx.now.entries right.now }
+    ensures { result ≡ may_meet (suc levels_below) (args_trees cx.now.entries left.now) (args_trees cx.now.entries right.now) }
+{
+    cx.lawful();
+    let mut left_rest = left;
+    let mut right_rest = right;
+    'pairs: while let Some((first, left_others)) = left_rest.split_first() {
+        let Some((second, right_others)) = right_rest.split_first() else {
+            return false;
+        };
+        if !arg_may_meet(cx, *first, *second, levels_below) {
+            return false;
+        }
+        left_rest = left_others;
+        right_rest = right_others;
+    }
+    right_rest.is_empty()
+}
+
+/// Whether two arguments can become one.
+#[cycle(meeting)]
+fn arg_may_meet(
+    cx: &Interner,
+    left: GenericArgKind,
+    right: GenericArgKind,
+    levels_below: u32,
+) -> bool
+    requires left { ArgHeld cx.now.entries left }
+    requires right { ArgHeld cx.now.entries right }
+    ensures { result ≡ may_meet (suc levels_below) (arg_trees cx.now.entries left) (arg_trees cx.now.entries right) }
+{
+    match left {
+        GenericArgKind::Lifetime(_) => match right {
+            GenericArgKind::Lifetime(_) => true,
+            _ => unlike_may_meet(cx, left, right),
+        },
+        GenericArgKind::Ty(first) => match right {
+            GenericArgKind::Ty(second) => types_may_meet(cx, first, second, levels_below),
+            _ => unlike_may_meet(cx, left, right),
+        },
+        GenericArgKind::Const(first) => match right {
+            GenericArgKind::Const(second) => consts_may_meet(cx, first, second),
+            _ => unlike_may_meet(cx, left, right),
+        },
+    }
+}
+
+/// Whether each type can become the one in its place, and none is left over.
+#[cycle(meeting)]
+fn tys_may_meet(cx: &Interner, left: &[Ty], right: &[Ty], levels_below: u32) -> bool
+    requires left { TysHeld cx.now.entries left.now }
+    requires right { TysHeld cx.now.entries right.now }
+    ensures { result ≡ may_meet (suc levels_below) (tys_trees cx.now.entries left.now) (tys_trees cx.now.entries right.now) }
+{
+    cx.lawful();
+    let mut left_items = left;
+    let mut right_items = right;
+    'items: while let Some((first, left_others)) = left_items.split_first() {
+        let Some((second, right_others)) = right_items.split_first() else {
+            return false;
+        };
+        if !types_may_meet(cx, *first, *second, levels_below) {
+            return false;
+        }
+        left_items = left_others;
+        right_items = right_others;
+    }
+    right_items.is_empty()
+}
+
+/// Whether no impl has both a reference with the one list as an instance and the other as its header's: both are fixed and two, or
+/// what stands on their first levels keeps them apart. `V<[T]>` and `V<&u8>` are apart so, and `u8, T` and `u16, ?x`, whatever is put
+/// in for T and `?x`; of `V<T, T>` and `V<u8, u16>` it is not told, as each place is compared by itself.
+///
+/// It takes no memory, and it looks at four levels (`DeepRejectCtxt` of the original, which looks deeper, into the bounds of a `dyn`
+/// type and the types of a `fn` pointer too, and tells placeholders and parameters of the question apart).
+pub fn are_apart(cx: &Interner, left: GenericArgs, right: GenericArgs) -> bool
+    requires left { Has cx.now.entries args_lists left.0 }
+    requires right { Has cx.now.entries args_lists right.0 }
+    ensures { result ≡ are_apart (trees_at cx.now.entries left.0) (trees_at cx.now.entries right.0) }
+{
+    cx.lawful();
+    if left == right {
+        return false;
+    }
+    if are_fixed(cx, left, right) {
+        return true;
+    }
+    !args_may_meet(cx, cx.args(left), cx.args(right), LEVELS - 1)
+}
