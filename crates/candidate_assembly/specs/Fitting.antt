@@ -20,7 +20,7 @@ use Rattle.built_in_candidates.specs.Constituents.{StructIsApplied}
 use Rattle.built_in_candidates.specs.Objects.{ObjectIsApplied}
 use Rattle.built_in_candidates.specs.Unsizing.{CanUnsize}
 use Rattle.candidate_assembly.specs.Sections.{sources_tell}
-use Rattle.candidate_assembly.specs.Solving.{Solving}
+use Rattle.candidate_assembly.specs.Solving.{Solving, DeclaredSorts}
 
 -- Two lists of sorts are one.
 abbrev pub same_sorts : List Sort → List Sort → Bool
@@ -70,9 +70,17 @@ predicate_fits d t = false
 abbrev pub fits_declared : Items → CanonicalForm → Bool
 fits_declared d f = predicate_fits d f.goal.predicate
 
+-- The sorts of the parameters of what is declared.
+abbrev pub sorts_declared : Items → DeclaredSorts
+sorts_declared d = record {
+  structs = map (λ x. map sort_of_param x.1.params.items) d.structs;
+  traits = map (λ x. map sort_of_param x.1.params.items) d.traits;
+  impls = map (λ i. map sort_of_param i.def.params.items) d.impls;
+}
+
 -- What declarations mean for the solver.
 abbrev pub solving_of : List Entry → Items → Solving
-solving_of es d = record { view = written es d; crate = d.local; fits = fits_declared d }
+solving_of es d = record { view = written es d; crate = d.local; fits = fits_declared d; sorts = sorts_declared d }
 
 -- ---- what is known of a goal that fits
 -- All that the candidates ask of a goal: its names are declared, it has its trait's arguments, its first argument is a type, and what

@@ -16,7 +16,7 @@ use Rattle.assembly_laws.specs.Asking.{with_plain_head}
 use Rattle.assembly_laws.specs.Candidates.{kinds_of_params}
 use Rattle.assembly_laws.specs.DeclaredWell.{is_declared_well}
 use Rattle.built_in_candidates.proofs.Later.{fields-later}
-use Rattle.candidate_assembly.specs.Fitting.{solving_of, fits_declared}
+use Rattle.candidate_assembly.specs.Fitting.{solving_of, fits_declared, sorts_declared}
 use Rattle.candidate_assembly.specs.Headers.{CanBeCandidate, HaveCandidates}
 use Rattle.candidate_assembly.specs.Ready.{AreReadyDeclarations}
 use Rattle.candidate_assembly.specs.Solving.{Solving}
@@ -58,4 +58,5 @@ ready-kept d old new k r = record {
 }
 
 pub solving-kept : (d : Items) (old new : List Entry) → Keeps old new → AreReadyDeclarations old d → solving_of new d ≡ solving_of old d
-solving-kept d old new k r = ap (λ (V : World). let s : Solving = record { view = V; crate = d.local; fits = fits_declared d } in s) (all-written old new k d r.held)
+solving-kept d old new k r =
+    ap (λ (V : World). let s : Solving = record { view = V; crate = d.local; fits = fits_declared d; sorts = sorts_declared d } in s) (all-written old new k d r.held)

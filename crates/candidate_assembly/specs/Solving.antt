@@ -1,5 +1,6 @@
 -- What the solver means: the declarations of a crate's view, for goals whose terms fit them.
-use Rattle.std.specs.Prelude.{ℕ, Bool, ◌&&◌}
+use Rattle.std.specs.Prelude.{ℕ, Bool, ◌&&◌, List}
+use Rattle.type_terms.specs.Label.{Sort}
 use Rattle.type_terms.specs.Worlds.{World}
 use Rattle.infer_table.specs.Canonical.{CanonicalForm}
 use Rattle.infer_table.specs.declared.certainty.TypingMode.{TypingMode}
@@ -13,12 +14,19 @@ use Rattle.assembly_laws.specs.DeclaredWell.{is_declared_well}
 use Rattle.assembly_laws.specs.Lifetimes.{form_gives_lifetimes}
 use Rattle.assembly_laws.specs.Solver.{solver_handled}
 
+-- The sorts of the parameters of each struct, trait and impl, in their order; of a trait Self first.
+pub record DeclaredSorts : Type 0 where
+  pub structs : List (List Sort)
+  pub traits : List (List Sort)
+  pub impls : List (List Sort)
+
 -- The declarations that a crate sees, the crate, and which goals fit them: the arguments of their traits and structs are as many, and of
--- the sorts, that are declared. A view tells neither.
+-- the sorts, that are declared; and the sorts of all parameters. A view tells none of these.
 pub record Solving : Type 0 where
   pub view : World
   pub crate : ℕ
   pub fits : CanonicalForm → Bool
+  pub sorts : DeclaredSorts
 
 -- What is meant for a goal: of a view that is not declared well, or a goal that does not fit it, nothing is decided. A goal that fits gives
 -- its structs lifetimes where their fields name them.

@@ -117,6 +117,7 @@ fn keep_questions(
     requires places { ArePlacesWhere (length workspace.now.questions) (IsAskedIn workspace.now session.old.of_crate) places.now }
     requires kept { KeepsQuestions session.old.depth workspace.now session.old.of_crate lines.old.items }
     ensures kept { OnOk result (KeepsQuestions session.old.depth workspace.now (session.old.of_crate + 1) lines.new.items) }
+    ensures stays { StaysOn session.old session.new }
     ensures full { IfErr result (IsFullAtLimit session.new) }
     ensures unread { IfErr result (λ fault. fault ≢ RunFault.Read) }
     ensures unwritten { IfErr result (λ fault. fault ≢ RunFault.Write) }
@@ -143,6 +144,7 @@ pub fn keep_answers(
     requires group { IsGroup (length workspace.now.checks) (length workspace.now.questions) workspace.now session.old.of_crate group.now }
     requires kept { KeepsLines session.old.depth workspace.now session.old.of_crate lines.old }
     ensures kept { OnOk result (KeepsLines session.old.depth workspace.now (session.old.of_crate + 1) lines.new) }
+    ensures stays { StaysOn session.old session.new }
     ensures full { IfErr result (IsFullAtLimit session.new) }
     ensures unread { IfErr result (λ fault. fault ≢ RunFault.Read) }
     ensures unwritten { IfErr result (λ fault. fault ≢ RunFault.Write) }

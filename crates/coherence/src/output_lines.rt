@@ -5,11 +5,11 @@ ghost use Rattle.name_resolution.specs.FaultNumbers.{fault_number};
 ghost use Rattle.text_definitions.specs.Output.{fault, output_text};
 ghost use Rattle.text_definitions.specs.Text.{TextGives};
 ghost use Rattle.workspace.specs.Numbered.{IsNumbered, IsFew};
-ghost use Rattle.sessions.specs.Subjects.{IsOfText};
+ghost use Rattle.sessions.specs.Subjects.{IsOfText, StaysOn};
 ghost use Rattle.coherence.specs.Faults.{IsFullAtLimit};
 ghost use Rattle.coherence.specs.Groups.{IsGroup};
 ghost use Rattle.coherence.specs.LineByLine.{CountsLine, HasNoMore, IsAfterFault, IsAfterLine, IsLineAt, IsVerdictLine, line_count, status_of};
-ghost use Rattle.coherence.specs.LineSources.{HasRoom, HoldsLines, IsGivenInOrder, IsGivenOfFault, IsNoneGiven, KeepsAnswers, lines_given, text_of};
+ghost use Rattle.coherence.specs.LineSources.{HasRoom, HoldsLines, IsGivenInOrder, IsGivenOfFault, IsNoneGiven, IsOfSomeCrate, KeepsAnswers, lines_given, text_of};
 ghost use Rattle.coherence.specs.KeptLines.{KeepsLines};
 ghost use Rattle.coherence.specs.declared.output_lines.LineCounts.{LineCounts};
 
@@ -18,11 +18,11 @@ use crate::kept::{KeptLines, keep_answers, next_line, no_lines};
 use crate::lines::verdict_line;
 use crate::status::{RunFault, Status};
 use answer_lines::{Answer, print_line};
-use sessions::{Limits, Session};
+use sessions::{Limits, SeenView, Session};
 use std::alloc::{AllocError, Global};
 use std::marker::Model;
 use text_reader::{TextError, TextFault, parse};
-use type_terms::CrateId;
+use type_terms::{CrateId, Fault};
 use workspace::{ENTRY_LIMIT, Workspace};
 
 /// The crate at a place of the text.
@@ -60,6 +60,7 @@ fn judge_by(
     requires kept { KeepsLines session.old.depth workspace.now id.index lines.old }
     ensures line { IfOk result (λ text. IsVerdictLine session.old.depth workspace.now id.index text.items) }
     ensures kept { OnOk result (KeepsLines session.old.depth workspace.now (id.index + 1) lines.new) }
+    ensures stays { OnOk result (StaysOn session.old session.new) }
     ensures full { IfErr result (IsFullAtLimit session.new) }
     ensures unread { IfErr result (λ fault. fault ≢ RunFault.Read) }
     ensures unwritten { IfErr result (λ fault. fault ≢ RunFault.Write) }
@@ -70,7 +71,30 @@ fn judge_by(
     Ok(line)
 }
 
-/// The line of a crate; keeps the lines of its checks and questions: by one session, which sees the crate's view.
+/// A session on a crate, behind the view of an earlier one where there is one.
+fn session_on<'w>(
+    alloc: Global,
+    workspace: &'w Workspace,
+    id: CrateId,
+    limits: Limits,
+    view: Option<SeenView>,
+) -> Result<Session<'w>, Fault>
+    requires parsed { IsOfText workspace.now }
+    requires declared { id.index < length workspace.now.crates }
+    requires view { IfSome view (IsOfSomeCrate workspace.now limits.handles) }
+    ensures declarations { IfOk result (λ session. session.declarations ≡ workspace.now) }
+    ensures of_crate { IfOk result (λ session. session.of_crate ≡ id.index) }
+    ensures depth { IfOk result (λ session. session.depth ≡ limits.depth) }
+    ensures handles { IfOk result (λ session. session.handles ≡ limits.handles) }
+{
+    match view {
+        None => Session::new(alloc, workspace, id, limits),
+        Some(view) => Session::behind(alloc, workspace, id, limits, view),
+    }
+}
+
+/// The line of a crate; keeps the lines of its checks and questions: by one session, which sees the crate's view. The session is made
+/// behind the view that is kept, and leaves its own.
 fn judge_crate(
     alloc: Global,
     workspace: &Workspace,
@@ -78,6 +102,7 @@ fn judge_crate(
     limits: Limits,
     group: &Group,
     lines: &mut KeptLines,
+    view: &mut Option<SeenView>,
 ) -> Result<Vec<u8>, RunFault>
     requires parsed { IsOfText workspace.now }
     requires numbered { IsNumbered workspace.now }
@@ -85,13 +110,17 @@ fn judge_crate(
     requires declared { id.index < length workspace.now.crates }
     requires group { IsGroup (length workspace.now.checks) (length workspace.now.questions) workspace.now id.index group.now }
     requires kept { KeepsLines limits.depth workspace.now id.index lines.old }
+    requires view { IfSome view.old (IsOfSomeCrate workspace.now limits.handles) }
     ensures line { IfOk result (λ text. IsVerdictLine limits.depth workspace.now id.index text.items) }
     ensures kept { OnOk result (KeepsLines limits.depth workspace.now (id.index + 1) lines.new) }
+    ensures view { OnOk result (IfSome view.new (IsOfSomeCrate workspace.now limits.handles)) }
     ensures unread { IfErr result (λ fault. fault ≢ RunFault.Read) }
     ensures unwritten { IfErr result (λ fault. fault ≢ RunFault.Write) }
 {
-    let mut session = Session::new(alloc, workspace, id, limits)?;
-    judge_by(alloc, &mut session, workspace, id, group, lines)
+    let mut session = session_on(alloc, workspace, id, limits, view.take())?;
+    let line = judge_by(alloc, &mut session, workspace, id, group, lines)?;
+    *view = Some(session.into_view());
+    Ok(line)
 }
 
 /// Keeps the lines of what is checked of `core`, and of questions that ask in it. It has no line of its own.
@@ -118,12 +147,14 @@ fn answer_core(
     keep_answers(alloc, &mut session, workspace, group, lines)
 }
 
-/// What a text without a fault declares and asks, and what of it is of each crate; and the lines that are kept until all crates are judged.
+/// What a text without a fault declares and asks, and what of it is of each crate; the lines that are kept until all crates are judged; and
+/// what the session of the crate that was judged last has lowered.
 #[derive(Drop)]
 struct TextAnswers {
     workspace: Workspace,
     groups: Vec<Group>,
     kept: KeptLines,
+    view: Option<SeenView>,
 }
 
 /// What the lines of a text are made of.
@@ -149,7 +180,7 @@ fn text_answers(
     limits: Limits,
 ) -> Result<TextAnswers, RunFault>
     requires { IsOfText workspace }
-    ensures keeps { IfOk result (λ answers. KeepsAnswers limits.depth 0 answers) }
+    ensures keeps { IfOk result (λ answers. KeepsAnswers limits.depth limits.handles 0 answers) }
     ensures same { IfOk result (λ answers. answers.workspace ≡ workspace) }
     ensures unread { IfErr result (λ fault. fault ≢ RunFault.Read) }
     ensures unwritten { IfErr result (λ fault. fault ≢ RunFault.Write) }
@@ -162,6 +193,7 @@ fn text_answers(
         workspace,
         groups,
         kept,
+        view: None,
     })
 }
 
@@ -172,10 +204,10 @@ fn crate_line(
     answers: &mut TextAnswers,
     place: usize,
 ) -> Result<Vec<u8>, RunFault>
-    requires keeps { KeepsAnswers limits.depth place answers.old }
+    requires keeps { KeepsAnswers limits.depth limits.handles place answers.old }
     requires there { place < length answers.old.workspace.crates - 1 }
     ensures line { IfOk result (λ text. IsVerdictLine limits.depth answers.old.workspace (place + 1) text.items) }
-    ensures keeps { OnOk result (KeepsAnswers limits.depth (place + 1) answers.new) }
+    ensures keeps { OnOk result (KeepsAnswers limits.depth limits.handles (place + 1) answers.new) }
     ensures same { answers.new.workspace ≡ answers.old.workspace }
     ensures unread { IfErr result (λ fault. fault ≢ RunFault.Read) }
     ensures unwritten { IfErr result (λ fault. fault ≢ RunFault.Write) }
@@ -188,6 +220,7 @@ fn crate_line(
         limits,
         &answers.groups[place + 1],
         &mut answers.kept,
+        &mut answers.view,
     )
 }
 
@@ -249,11 +282,11 @@ fn next_of_answers(
     given: &mut LineCounts,
 ) -> Result<Option<Vec<u8>>, RunFault>
     requires order { IsGivenInOrder answers.old.workspace given.old }
-    requires keeps { KeepsAnswers limits.depth given.old.crates answers.old }
+    requires keeps { KeepsAnswers limits.depth limits.handles given.old.crates answers.old }
     ensures line { IfOk result (λ next. IfSome next (λ line. IsLineAt limits.depth (Ok answers.old.workspace) (lines_given given.old) line.items)) }
     ensures counts { CountsLine (line_count (Ok answers.old.workspace)) (lines_given given.old) (lines_given given.new) result }
     ensures order { IsGivenInOrder answers.old.workspace given.new }
-    ensures keeps { OnOk result (KeepsAnswers limits.depth given.new.crates answers.new) }
+    ensures keeps { OnOk result (KeepsAnswers limits.depth limits.handles given.new.crates answers.new) }
     ensures same { answers.new.workspace ≡ answers.old.workspace }
     ensures unread { IfErr result (λ fault. fault ≢ RunFault.Read) }
     ensures unwritten { IfErr result (λ fault. fault ≢ RunFault.Write) }
@@ -274,11 +307,11 @@ fn next_of(
     source: &mut LineSource,
     given: &mut LineCounts,
 ) -> Result<Option<Vec<u8>>, RunFault>
-    requires { HoldsLines limits.depth false given.old source.old }
+    requires { HoldsLines limits.depth limits.handles false given.old source.old }
     ensures line { IfOk result (λ next. IfSome next (λ line. IsLineAt limits.depth (text_of source.old) (lines_given given.old) line.items)) }
     ensures counts { CountsLine (line_count (text_of source.old)) (lines_given given.old) (lines_given given.new) result }
-    ensures holds { OnOk result (HoldsLines limits.depth false given.new source.new) }
-    ensures failed { OnErr result (HoldsLines limits.depth true given.new source.new) }
+    ensures holds { OnOk result (HoldsLines limits.depth limits.handles false given.new source.new) }
+    ensures failed { OnErr result (HoldsLines limits.depth limits.handles true given.new source.new) }
     ensures same { text_of source.new ≡ text_of source.old }
     ensures unread { IfErr result (λ fault. fault ≢ RunFault.Read) }
     ensures unwritten { IfErr result (λ fault. fault ≢ RunFault.Write) }
@@ -292,7 +325,7 @@ fn next_of(
 /// The source of the lines of a text: it is read whole.
 fn line_source(alloc: Global, text: &[u8], limits: Limits) -> Result<LineSource, RunFault>
     ensures text { IfOk result (λ source. TextGives text.now (text_of source)) }
-    ensures holds { (given : LineCounts) → IsNoneGiven given → IfOk result (HoldsLines limits.depth false given) }
+    ensures holds { (given : LineCounts) → IsNoneGiven given → IfOk result (HoldsLines limits.depth limits.handles false given) }
     ensures unread { IfErr result (λ fault. fault ≢ RunFault.Read) }
     ensures unwritten { IfErr result (λ fault. fault ≢ RunFault.Write) }
 {
@@ -326,7 +359,7 @@ impl Model for OutputLines {
 
     ghost view = { λ s. record { text = text_of s.source; depth = s.limits.depth; given = lines_given s.given; has_failed = s.has_failed } };
 
-    ghost invariant = { λ s. HoldsLines s.limits.depth s.has_failed s.given s.source };
+    ghost invariant = { λ s. HoldsLines s.limits.depth s.limits.handles s.has_failed s.given s.source };
 }
 
 impl OutputLines {

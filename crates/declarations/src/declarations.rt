@@ -120,6 +120,14 @@ impl Declarations {
         Ok(())
     }
 
+    /// The same declarations, asked in another crate.
+    pub fn ask_in(&mut self, local: CrateId)
+        ensures asked { self.new ≡ record self.old { local = local.index } }
+        ensures held { (es : List Entry) → AreHeld es self.old → AreHeld es self.new }
+    {
+        self.local = local;
+    }
+
     /// Adds a struct, whose number is new. After an error, which is `Memory`, nothing has changed.
     pub fn add_struct(&mut self, id: AdtId, def: AdtDef) -> Result<(), Fault>
         requires { structs_named (declared [] self.old) id.index ≡ [] }

@@ -42,6 +42,7 @@ pub mod Refusals
 pub mod SelfTypes
 pub mod Alone
 pub mod Keeping
+mod SeenViews
 pub mod Readying
 mod PairTerms
 pub mod PairGoals

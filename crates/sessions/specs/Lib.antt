@@ -14,6 +14,7 @@ pub mod Subjects
 pub mod Shortages
 pub mod Resting
 pub mod Sessions
+pub mod SeenViews
 pub mod Frames
 pub mod FrameBounds
 pub mod Readying

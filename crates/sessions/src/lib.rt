@@ -8,6 +8,7 @@
 //! A [`Session`] lowers the view of its crate once, and keeps one interner, one store of goals and answers, one search graph and one
 //! cache for all its calls. What a call finds stays in the cache, justified, and never changes what a later call answers wherever its
 //! contract makes a promise.
+//! What it leaves is a [`SeenView`], with which the session of another crate may begin.
 #![tactic(auto)]
 
 mod answers;
@@ -27,6 +28,7 @@ mod proved_questions;
 mod proving;
 mod question_laws;
 mod refuted;
+mod seen_view;
 mod session;
 pub mod settling;
 mod shown;
@@ -55,6 +57,7 @@ pub use question_laws::{
     questions_are_formed, references_are_goals, refusals_are_exact, sorts_tell_fits,
     texts_are_formed,
 };
+pub use seen_view::SeenView;
 pub use session::Session;
 pub use supertrait_laws::impls_apply;
 pub use supertraits::{SupertraitGoals, own_goals_in};

@@ -1,6 +1,6 @@
 //! Sessions.
 
-ghost use Rattle.std.specs.Prelude.{◌≡◌, ◌<◌, ◌≤◌, ◌+◌, ℕ, true, length, IfOk, IfErr, IfSome, Ok, Err};
+ghost use Rattle.std.specs.Prelude.{◌≡◌, ◌<◌, ◌≤◌, ◌+◌, ℕ, true, length, IfOk, IfErr, IfSome, IsOk, Ok, Err};
 ghost use Rattle.type_terms.specs.Failures.{SomeKindIsFull};
 ghost use Rattle.type_terms.specs.Kinds.{ArgsHeld};
 ghost use Rattle.type_terms.specs.declared.TheConstants.{MAX_INDEX};
@@ -19,6 +19,7 @@ ghost use Rattle.sessions.specs.FrameBounds.{ProvesInFrames, RefutesInFrames};
 ghost use Rattle.sessions.specs.Given.{AnswerValuesHeld, VerdictHeld, answer_in, later_of, refutation_of, supers_of, verdict_in};
 ghost use Rattle.sessions.specs.Promises.{IsProved, IsRefutation, IsVerdictOf};
 ghost use Rattle.sessions.specs.Releases.{AddedImplsBreakNoUser, IsSectionOf, IsLaterAnswer, IsSupersAnswer};
+ghost use Rattle.sessions.specs.SeenViews.{IsViewOf};
 ghost use Rattle.sessions.specs.Shown.{AreProofOfQuestion};
 ghost use Rattle.sessions.specs.Shortages.{SessionFullAtLimit};
 ghost use Rattle.sessions.specs.Supertraits.{IsCheckedAt};
@@ -35,12 +36,13 @@ use crate::limits::Limits;
 use crate::proved_questions::yes_is_proved;
 use crate::proving::prove_question;
 use crate::refuted::refute_question;
+use crate::seen_view::SeenView;
 use crate::shown::is_proof_of_question;
 use crate::supertrait_laws::impls_apply;
 use crate::supertraits::{HeaderAnswer, header_answer_at};
 use crate::text_laws::held_texts_are_coherent;
-use crate::view::lower_view;
 use candidate_assembly::solver::Solver;
+use declarations::declarations::Declarations;
 use orphan_check::errors::OrphanCheckErr;
 use overlap_check::{
     accepted_sets_have_one_impl, answers_hold_in_linked_sets, held_sets_have_one_impl,
@@ -50,6 +52,7 @@ use search_graph::{GlobalCache, SearchGraph};
 use solver_context::{SolverCx, SolverGraph};
 use std::alloc::{AllocError, Global};
 use std::marker::Model;
+use std::mem;
 use type_terms::interner::Interner;
 use type_terms::kinds::{GenericArgKind, Ty};
 use type_terms::laws::held_sets_are_linked;
@@ -60,9 +63,9 @@ use workspace::Workspace;
 /// A crate of a text, to be asked about.
 ///
 /// A session sees the view of its crate alone: the crate and all that it uses, directly or through others, `core` included. It lowers
-/// the view when it is made. It can be asked again after any call, one that ended with a fault too: the terms, goals and answers that
-/// a call has made stay, and what the cache holds is justified. A fault is `Memory` where memory is refused, and where more variables or
-/// parameters are needed than there are numbers for (`MAX_INDEX`).
+/// the view when it is made, or what is new of it where it begins with what another session left. It can be asked again after any call,
+/// one that ended with a fault too: the terms, goals and answers that a call has made stay, and what the cache holds is justified. A fault
+/// is `Memory` where memory is refused, and where more variables or parameters are needed than there are numbers for (`MAX_INDEX`).
 ///
 /// Its parts are public for what asks more of its search: whoever uses them leaves them as they are between two calls.
 pub struct Session<'w> {
@@ -72,6 +75,8 @@ pub struct Session<'w> {
     pub cx: SolverCx<Solver>,
     pub graph: SearchGraph<SolverGraph<Solver>>,
     pub cache: GlobalCache<SolverGraph<Solver>>,
+    /// How many frames earlier sessions over the interner have started.
+    pub frames_before: u64,
 }
 
 // Written, so that what owns one drops it by one call at each way out, and not field by field.
@@ -84,6 +89,7 @@ impl Drop for Session<'_> {
             cx: _,
             graph: _,
             cache: _,
+            frames_before: _,
         } = self;
     }
 }
@@ -134,10 +140,61 @@ impl<'w> Session<'w> {
         ensures frames { IfOk result (λ session. session.frames ≡ 0) }
         ensures full { result ≡ Err Fault.Full → limits.handles ≤ most_terms workspace.now crate_id.index }
     {
-        let mut interner = Interner::new(alloc, limits.handles);
-        let declarations = lower_view(alloc, &mut interner, workspace, crate_id)?;
+        let view = SeenView::new(alloc, workspace, crate_id, limits.handles)?;
+        Session::on_view(alloc, workspace, limits, view)
+    }
+
+    /// A session on a crate of a text behind the session of another crate, by what that one left (`into_view`).
+    ///
+    /// Where what the crate sees begins with what the other one sees, only what is new is lowered; else, and where searches over the
+    /// view's interner have started many frames, the view is let go and all is lowered, as `new` does. The session answers as one that
+    /// `new` makes: each of its calls promises the same.
+    ///
+    /// The fault is `Memory` where memory is refused, and `Full` as for `new`, but that the terms which the view holds already count too:
+    /// so a table may be full sooner than in a new session, here and at a later call.
+    pub fn behind(
+        alloc: Global,
+        workspace: &'w Workspace,
+        crate_id: CrateId,
+        limits: Limits,
+        view: SeenView,
+    ) -> Result<Self, Fault>
+        requires parsed { IsOfText workspace.now }
+        requires declared { crate_id.index < length workspace.now.crates }
+
+        // It was left by a session on the same text, with the same limit of handles.
+        requires view { IsViewOf workspace.now view.crate_id.index limits.handles view }
+        ensures declarations { IfOk result (λ session. session.declarations ≡ workspace.now) }
+        ensures of_crate { IfOk result (λ session. session.of_crate ≡ crate_id.index) }
+        ensures depth { IfOk result (λ session. session.depth ≡ limits.depth) }
+        ensures handles { IfOk result (λ session. session.handles ≡ limits.handles) }
+        ensures frames { IfOk result (λ session. session.frames ≡ 0) }
+        ensures full { result ≡ Err Fault.Full → limits.handles ≤ length view.interner.entries + most_terms workspace.now crate_id.index }
+    {
+        let seen = view.handed_on(alloc, workspace, crate_id, limits.handles)?;
+        Session::on_view(alloc, workspace, limits, seen)
+    }
+
+    /// A session on the crate that sees the view. It takes no memory yet.
+    fn on_view(
+        alloc: Global,
+        workspace: &'w Workspace,
+        limits: Limits,
+        view: SeenView,
+    ) -> Result<Self, Fault>
+        requires parsed { IsOfText workspace.now }
+        requires view { IsViewOf workspace.now view.crate_id.index limits.handles view }
+        ensures made { IsOk result }
+        ensures declarations { IfOk result (λ session. session.declarations ≡ workspace.now) }
+        ensures of_crate { IfOk result (λ session. session.of_crate ≡ view.crate_id.index) }
+        ensures depth { IfOk result (λ session. session.depth ≡ limits.depth) }
+        ensures handles { IfOk result (λ session. session.handles ≡ limits.handles) }
+        ensures frames { IfOk result (λ session. session.frames ≡ 0) }
+    {
         let graph = SearchGraph::new(alloc, limits.depth as usize)?;
         let cache = GlobalCache::new(alloc)?;
+        let crate_id = view.crate_id;
+        let (interner, declarations, frames_before) = view.into_parts();
         let solver = Solver::new(declarations);
         let cx = SolverCx::new(alloc, interner, solver, limits.handles);
         Ok(Session {
@@ -147,7 +204,34 @@ impl<'w> Session<'w> {
             cx,
             graph,
             cache,
+            frames_before,
         })
+    }
+
+    /// What the session leaves for the session of another crate of the text: the view of its crate, with the terms that its calls made.
+    /// Goals, answers and what is cached are dropped.
+    pub fn into_view(self) -> SeenView
+        ensures view { IsViewOf self.entry.declarations self.entry.of_crate self.entry.handles result }
+    {
+        let Session {
+            workspace: _,
+            crate_id,
+            limits: _,
+            mut cx,
+            graph,
+            cache: _,
+            frames_before,
+        } = self;
+        let no_terms = Interner::new(cx.alloc, 0);
+        let nothing = Solver::new(Declarations::new(cx.alloc, crate_id));
+        let interner = mem::replace(&mut cx.interner, no_terms);
+        let solver = mem::replace(&mut cx.handler, nothing);
+        SeenView {
+            crate_id,
+            interner,
+            declarations: solver.declarations,
+            frames: frames_before.saturating_add(graph.frames()),
+        }
     }
 
     /// The verdict on the crate: whether each impl that it writes keeps the orphan rule, and whether it brings two impls together that

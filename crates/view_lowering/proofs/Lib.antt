@@ -1,7 +1,9 @@
 mod Going
+mod Rows
 mod References
 mod Structs
 mod Views
+mod BehindViews
 mod Unknowns
 pub mod Begins
 mod Plainly

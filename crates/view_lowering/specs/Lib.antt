@@ -7,3 +7,4 @@ pub mod Ready
 pub mod QuestionVariables
 pub mod Later
 pub mod MostTerms
+pub mod Behind

@@ -17,4 +17,4 @@ pub use text_laws::{
     bounds_are_applied, fields_speak_of_parameters, impls_speak_of_parameters,
     refutations_have_variables_alone, texts_are_declared_well,
 };
-pub use view::lower;
+pub use view::{begins_with, lower, lower_behind};

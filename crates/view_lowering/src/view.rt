@@ -1,10 +1,13 @@
-//! The whole view of a crate.
-ghost use Rattle.std.specs.Prelude.{◌≡◌, ◌+◌, ◌<◌, ◌≤◌, [], length, map, sum_by, OnOk, IfOk, IfErr};
+//! The whole view of a crate, lowered anew or behind that of an earlier crate.
+ghost use Rattle.std.specs.Prelude.{◌≡◌, ◌+◌, ◌<◌, ◌≤◌, ◌++◌, true, Some, length, map, sum_by, OnOk, IfOk, IfErr, IfSome, IfNone};
+ghost use Rattle.type_terms.specs.Worlds.{sees};
 ghost use Rattle.type_terms.specs.declared.Fault.TheVariants.{Memory};
+ghost use Rattle.text_definitions.specs.Declarations.{world_of};
 ghost use Rattle.term_folds.specs.Growth.{Grew, FullAtLimit};
 ghost use Rattle.declarations.specs.Held.{AreHeld};
 ghost use Rattle.declarations.specs.Items.{written, declared, struct_in, trait_in, impl_in};
-ghost use Rattle.view_lowering.specs.MostTerms.{struct_terms_seen, trait_terms_seen, impl_terms_seen, most_terms};
+ghost use Rattle.view_lowering.specs.Behind.{BeginsWith, Continues, IsNextRow, IsOutOfTurn, AreBefore, is_new, new_structs, new_traits, new_impls, new_struct_sorts, new_trait_sorts, new_impl_sorts, new_struct_terms, new_trait_terms, new_impl_terms, most_new_terms};
+ghost use Rattle.view_lowering.specs.MostTerms.{most_terms};
 ghost use Rattle.view_lowering.specs.Plain.{plainly_seen_from};
 ghost use Rattle.view_lowering.specs.Seen.{BeginDeclared, rules_seen_from, struct_sorts, trait_sorts, impl_sorts, struct_sorts_seen, trait_sorts_seen, impl_sorts_seen};
 
@@ -46,29 +49,50 @@ fn reserve_seen(
     decls.reserve(structs, traits, impls)
 }
 
-/// Adds the structs that the crate sees.
+/// Whether the crate sees what an owner declares, and the earlier crate, if there is one, does not.
+fn is_new(
+    workspace: &Workspace,
+    crate_id: CrateId,
+    earlier: Option<CrateId>,
+    owner: CrateId,
+) -> bool
+    requires there { crate_id.index < length workspace.now.crates }
+    requires earlier { IfSome earlier (λ e. e.index < length workspace.now.crates) }
+    ensures { result ≡ is_new workspace.now crate_id.index earlier owner.index }
+{
+    let is_seen = workspace.sees(crate_id, owner);
+    match earlier {
+        None => is_seen,
+        Some(earlier) => is_seen && !workspace.sees(earlier, owner),
+    }
+}
+
+/// Adds the structs that the crate sees, and the earlier crate, if there is one, does not.
 fn lower_structs(
     alloc: Global,
     cx: &mut Interner,
     workspace: &Workspace,
     crate_id: CrateId,
+    earlier: Option<CrateId>,
     decls: &mut Declarations,
 ) -> Result<(), Fault>
     requires there { crate_id.index < length workspace.now.crates }
-    requires none { decls.old.structs ≡ [] }
+    requires earlier { IfSome earlier (λ e. e.index < length workspace.now.crates) }
+    requires before { AreBefore (λ s. is_new workspace.now crate_id.index earlier s.item.home) workspace.now.structs (λ x. x.0.index) decls.old.structs }
     requires held { AreHeld cx.old.entries decls.old }
-    ensures structs { OnOk result (map (struct_in cx.new.entries) decls.new.structs ≡ (plainly_seen_from workspace.now crate_id.index).structs) }
-    ensures sorts { OnOk result (map struct_sorts decls.new.structs ≡ struct_sorts_seen workspace.now crate_id.index) }
+    ensures structs { OnOk result (map (struct_in cx.new.entries) decls.new.structs
+        ≡ map (struct_in cx.old.entries) decls.old.structs ++ new_structs workspace.now crate_id.index earlier) }
+    ensures sorts { OnOk result (map struct_sorts decls.new.structs ≡ map struct_sorts decls.old.structs ++ new_struct_sorts workspace.now crate_id.index earlier) }
     ensures others { OnOk result (decls.new ≡ record decls.old { structs = decls.new.structs }) }
     ensures held { OnOk result (AreHeld cx.new.entries decls.new) }
     ensures grew { Grew cx.old cx.new }
-    ensures few { length cx.new.entries ≤ length cx.old.entries + sum_by (struct_terms_seen workspace.now crate_id.index) workspace.now.structs }
+    ensures few { length cx.new.entries ≤ length cx.old.entries + sum_by (new_struct_terms workspace.now crate_id.index earlier) workspace.now.structs }
     ensures full { IfErr result (FullAtLimit cx.new) }
 {
     let _ = workspace.crates();
     let entries = workspace.structs();
     for entry in entries {
-        if workspace.sees(crate_id, entry.owner) {
+        if is_new(workspace, crate_id, earlier, entry.owner) {
             let def = lower_struct(alloc, cx, entry)?;
             decls.add_struct(entry.id, def)?;
         }
@@ -76,29 +100,32 @@ fn lower_structs(
     Ok(())
 }
 
-/// Adds the traits that the crate sees.
+/// Adds the traits that the crate sees, and the earlier crate, if there is one, does not.
 fn lower_traits(
     alloc: Global,
     cx: &mut Interner,
     workspace: &Workspace,
     crate_id: CrateId,
+    earlier: Option<CrateId>,
     decls: &mut Declarations,
 ) -> Result<(), Fault>
     requires there { crate_id.index < length workspace.now.crates }
-    requires none { decls.old.traits ≡ [] }
+    requires earlier { IfSome earlier (λ e. e.index < length workspace.now.crates) }
+    requires before { AreBefore (λ t. is_new workspace.now crate_id.index earlier t.item.home) workspace.now.traits (λ x. x.0.index) decls.old.traits }
     requires held { AreHeld cx.old.entries decls.old }
-    ensures traits { OnOk result (map (trait_in cx.new.entries) decls.new.traits ≡ (plainly_seen_from workspace.now crate_id.index).traits) }
-    ensures sorts { OnOk result (map trait_sorts decls.new.traits ≡ trait_sorts_seen workspace.now crate_id.index) }
+    ensures traits { OnOk result (map (trait_in cx.new.entries) decls.new.traits
+        ≡ map (trait_in cx.old.entries) decls.old.traits ++ new_traits workspace.now crate_id.index earlier) }
+    ensures sorts { OnOk result (map trait_sorts decls.new.traits ≡ map trait_sorts decls.old.traits ++ new_trait_sorts workspace.now crate_id.index earlier) }
     ensures others { OnOk result (decls.new ≡ record decls.old { traits = decls.new.traits }) }
     ensures held { OnOk result (AreHeld cx.new.entries decls.new) }
     ensures grew { Grew cx.old cx.new }
-    ensures few { length cx.new.entries ≤ length cx.old.entries + sum_by (trait_terms_seen workspace.now crate_id.index) workspace.now.traits }
+    ensures few { length cx.new.entries ≤ length cx.old.entries + sum_by (new_trait_terms workspace.now crate_id.index earlier) workspace.now.traits }
     ensures full { IfErr result (FullAtLimit cx.new) }
 {
     let _ = workspace.crates();
     let entries = workspace.traits();
     for entry in entries {
-        if workspace.sees(crate_id, entry.owner) {
+        if is_new(workspace, crate_id, earlier, entry.owner) {
             let def = lower_trait(alloc, cx, entry)?;
             decls.add_trait(entry.id, def)?;
         }
@@ -106,30 +133,33 @@ fn lower_traits(
     Ok(())
 }
 
-/// Adds the impls that the crate sees.
+/// Adds the impls that the crate sees, and the earlier crate, if there is one, does not.
 fn lower_impls(
     alloc: Global,
     cx: &mut Interner,
     workspace: &Workspace,
     crate_id: CrateId,
+    earlier: Option<CrateId>,
     decls: &mut Declarations,
 ) -> Result<(), Fault>
     requires there { crate_id.index < length workspace.now.crates }
+    requires earlier { IfSome earlier (λ e. e.index < length workspace.now.crates) }
     requires begin { BeginDeclared workspace.now }
-    requires none { decls.old.impls ≡ [] }
+    requires before { AreBefore (λ i. is_new workspace.now crate_id.index earlier i.item.home) workspace.now.impls (λ x. x.id.index) decls.old.impls }
     requires held { AreHeld cx.old.entries decls.old }
-    ensures impls { OnOk result (map (λ i. impl_in cx.new.entries i.id i.def) decls.new.impls ≡ (plainly_seen_from workspace.now crate_id.index).impls) }
-    ensures sorts { OnOk result (map impl_sorts decls.new.impls ≡ impl_sorts_seen workspace.now crate_id.index) }
+    ensures impls { OnOk result (map (λ i. impl_in cx.new.entries i.id i.def) decls.new.impls
+        ≡ map (λ i. impl_in cx.old.entries i.id i.def) decls.old.impls ++ new_impls workspace.now crate_id.index earlier) }
+    ensures sorts { OnOk result (map impl_sorts decls.new.impls ≡ map impl_sorts decls.old.impls ++ new_impl_sorts workspace.now crate_id.index earlier) }
     ensures others { OnOk result (decls.new ≡ record decls.old { impls = decls.new.impls }) }
     ensures held { OnOk result (AreHeld cx.new.entries decls.new) }
     ensures grew { Grew cx.old cx.new }
-    ensures few { length cx.new.entries ≤ length cx.old.entries + sum_by (impl_terms_seen workspace.now crate_id.index) workspace.now.impls }
+    ensures few { length cx.new.entries ≤ length cx.old.entries + sum_by (new_impl_terms workspace.now crate_id.index earlier) workspace.now.impls }
     ensures full { IfErr result (FullAtLimit cx.new) }
 {
     let _ = workspace.crates();
     let entries = workspace.impls();
     for entry in entries {
-        if workspace.sees(crate_id, entry.owner) {
+        if is_new(workspace, crate_id, earlier, entry.owner) {
             let def = lower_impl(alloc, cx, entry)?;
             decls.add_impl(cx, entry.id, def)?;
         }
@@ -164,8 +194,155 @@ pub fn lower(
 {
     let mut decls = Declarations::new(alloc, crate_id);
     reserve_seen(workspace, crate_id, &mut decls)?;
-    lower_structs(alloc, cx, workspace, crate_id, &mut decls)?;
-    lower_traits(alloc, cx, workspace, crate_id, &mut decls)?;
-    lower_impls(alloc, cx, workspace, crate_id, &mut decls)?;
+    lower_structs(alloc, cx, workspace, crate_id, None, &mut decls)?;
+    lower_traits(alloc, cx, workspace, crate_id, None, &mut decls)?;
+    lower_impls(alloc, cx, workspace, crate_id, None, &mut decls)?;
     Ok(decls)
+}
+
+/// Whether there was a new row, one that the crate sees and the earlier crate does not, once a further row is gone over. `None` where
+/// what the crate sees does not begin with what the earlier one sees: that alone sees the row, or both see it, behind a new one.
+fn next_row(
+    workspace: &Workspace,
+    earlier: CrateId,
+    crate_id: CrateId,
+    owner: CrateId,
+    was_new: bool,
+) -> Option<bool>
+    requires earlier { earlier.index < length workspace.now.crates }
+    requires there { crate_id.index < length workspace.now.crates }
+    ensures next { IfSome result (IsNextRow (sees (world_of workspace.now) crate_id.index owner.index)
+        (sees (world_of workspace.now) earlier.index owner.index) was_new) }
+    ensures out_of_turn { IfNone result (IsOutOfTurn (sees (world_of workspace.now) crate_id.index owner.index)
+        (sees (world_of workspace.now) earlier.index owner.index) was_new) }
+{
+    let is_seen = workspace.sees(crate_id, owner);
+    if !workspace.sees(earlier, owner) {
+        return Some(was_new || is_seen);
+    }
+    if was_new || !is_seen {
+        return None;
+    }
+    Some(false)
+}
+
+fn structs_begin_with(workspace: &Workspace, earlier: CrateId, crate_id: CrateId) -> bool
+    requires earlier { earlier.index < length workspace.now.crates }
+    requires there { crate_id.index < length workspace.now.crates }
+    ensures begins { result ≡ true → Continues (λ s. sees (world_of workspace.now) crate_id.index s.item.home)
+        (λ s. sees (world_of workspace.now) earlier.index s.item.home) workspace.now.structs }
+    ensures exact { Continues (λ s. sees (world_of workspace.now) crate_id.index s.item.home)
+        (λ s. sees (world_of workspace.now) earlier.index s.item.home) workspace.now.structs → result ≡ true }
+{
+    let mut was_new = false;
+    let entries = workspace.structs();
+    for entry in entries {
+        let Some(next) = next_row(workspace, earlier, crate_id, entry.owner, was_new) else {
+            return false;
+        };
+        was_new = next;
+    }
+    true
+}
+
+fn traits_begin_with(workspace: &Workspace, earlier: CrateId, crate_id: CrateId) -> bool
+    requires earlier { earlier.index < length workspace.now.crates }
+    requires there { crate_id.index < length workspace.now.crates }
+    ensures begins { result ≡ true → Continues (λ t. sees (world_of workspace.now) crate_id.index t.item.home)
+        (λ t. sees (world_of workspace.now) earlier.index t.item.home) workspace.now.traits }
+    ensures exact { Continues (λ t. sees (world_of workspace.now) crate_id.index t.item.home)
+        (λ t. sees (world_of workspace.now) earlier.index t.item.home) workspace.now.traits → result ≡ true }
+{
+    let mut was_new = false;
+    let entries = workspace.traits();
+    for entry in entries {
+        let Some(next) = next_row(workspace, earlier, crate_id, entry.owner, was_new) else {
+            return false;
+        };
+        was_new = next;
+    }
+    true
+}
+
+fn impls_begin_with(workspace: &Workspace, earlier: CrateId, crate_id: CrateId) -> bool
+    requires earlier { earlier.index < length workspace.now.crates }
+    requires there { crate_id.index < length workspace.now.crates }
+    ensures begins { result ≡ true → Continues (λ i. sees (world_of workspace.now) crate_id.index i.item.home)
+        (λ i. sees (world_of workspace.now) earlier.index i.item.home) workspace.now.impls }
+    ensures exact { Continues (λ i. sees (world_of workspace.now) crate_id.index i.item.home)
+        (λ i. sees (world_of workspace.now) earlier.index i.item.home) workspace.now.impls → result ≡ true }
+{
+    let mut was_new = false;
+    let entries = workspace.impls();
+    for entry in entries {
+        let Some(next) = next_row(workspace, earlier, crate_id, entry.owner, was_new) else {
+            return false;
+        };
+        was_new = next;
+    }
+    true
+}
+
+/// Whether what the crate sees of the text's structs, traits and impls begins with what the earlier crate sees: so it can be lowered
+/// behind that, by `lower_behind`.
+///
+/// So it is where a crate uses the earlier one, and each crate that it sees besides comes later in the text. The rows of the text
+/// are gone over once, in constant time for each. Where the answer is false, `lower` lowers the view anew.
+pub fn begins_with(workspace: &Workspace, earlier: CrateId, crate_id: CrateId) -> bool
+    requires earlier { earlier.index < length workspace.now.crates }
+    requires there { crate_id.index < length workspace.now.crates }
+    ensures begins { result ≡ true → BeginsWith workspace.now crate_id.index earlier.index }
+    ensures exact { BeginsWith workspace.now crate_id.index earlier.index → result ≡ true }
+{
+    if !structs_begin_with(workspace, earlier, crate_id) {
+        return false;
+    }
+    if !traits_begin_with(workspace, earlier, crate_id) {
+        return false;
+    }
+    impls_begin_with(workspace, earlier, crate_id)
+}
+
+/// Makes what an earlier crate sees, as it was lowered into this interner, what this crate sees, which begins with that
+/// (`begins_with`): only what is new is lowered, behind the rest.
+///
+/// So crates that each use the one before lower each row once, and not once for each crate. The interner may hold other terms by
+/// now: what was declared is read over its entries as before. The error is `Memory`, or `Full` where a table of the interner is full;
+/// of the declarations nothing is said then, and the interner may hold more terms than before.
+pub fn lower_behind(
+    alloc: Global,
+    cx: &mut Interner,
+    workspace: &Workspace,
+    earlier: CrateId,
+    crate_id: CrateId,
+    decls: &mut Declarations,
+) -> Result<(), Fault>
+    requires earlier { earlier.index < length workspace.now.crates }
+    requires there { crate_id.index < length workspace.now.crates }
+    requires begin { BeginDeclared workspace.now }
+    requires begins { BeginsWith workspace.now crate_id.index earlier.index }
+    requires written { written cx.old.entries decls.old ≡ plainly_seen_from workspace.now earlier.index }
+    requires struct_sorts { map struct_sorts decls.old.structs ≡ struct_sorts_seen workspace.now earlier.index }
+    requires trait_sorts { map trait_sorts decls.old.traits ≡ trait_sorts_seen workspace.now earlier.index }
+    requires impl_sorts { map impl_sorts decls.old.impls ≡ impl_sorts_seen workspace.now earlier.index }
+    requires held { AreHeld cx.old.entries decls.old }
+    ensures written { OnOk result (written cx.new.entries decls.new ≡ plainly_seen_from workspace.now crate_id.index) }
+    ensures rules { OnOk result (declared cx.new.entries decls.new ≡ rules_seen_from workspace.now crate_id.index) }
+    ensures struct_sorts { OnOk result (map struct_sorts decls.new.structs ≡ struct_sorts_seen workspace.now crate_id.index) }
+    ensures trait_sorts { OnOk result (map trait_sorts decls.new.traits ≡ trait_sorts_seen workspace.now crate_id.index) }
+    ensures impl_sorts { OnOk result (map impl_sorts decls.new.impls ≡ impl_sorts_seen workspace.now crate_id.index) }
+    ensures local { OnOk result (decls.new.local ≡ crate_id.index) }
+    ensures held { OnOk result (AreHeld cx.new.entries decls.new) }
+    ensures grew { Grew cx.old cx.new }
+
+    // So many terms are made at most, after a fault too.
+    ensures few { length cx.new.entries ≤ length cx.old.entries + most_new_terms workspace.now crate_id.index (Some earlier) }
+    ensures full { IfErr result (FullAtLimit cx.new) }
+{
+    let _ = workspace.crates();
+    decls.ask_in(crate_id);
+    lower_structs(alloc, cx, workspace, crate_id, Some(earlier), decls)?;
+    lower_traits(alloc, cx, workspace, crate_id, Some(earlier), decls)?;
+    lower_impls(alloc, cx, workspace, crate_id, Some(earlier), decls)?;
+    Ok(())
 }

@@ -2,6 +2,7 @@ use Rattle.std.proofs.Common.{◌+◌, length, subst, sym}
 use Rattle.std.proofs.lemmas.Result.{on_ok_weaker}
 use Rattle.coherence.specs.Groups.{IsCheckedIn, IsAskedIn, ArePlacesWhere}
 use Rattle.coherence.specs.KeptLines.{KeepsQuestions}
+use Rattle.coherence.proofs.KeptLines.{stays-on}
 use Rattle.coherence.proofs.kept.keep_answers.Goals as goal
 
 pub keep_checks-requires-clause-places : goal.keep_checks-requires-clause-places
@@ -32,3 +33,6 @@ returns-clause-kept c =
           (subst (λ n. KeepsQuestions n d (c.keep_checks.new.session.of_crate + 1) after) s.depth k);
     })
     c.keep_questions.ensures.kept
+
+pub returns-clause-stays : goal.returns-clause-stays
+returns-clause-stays c = stays-on _ _ _ c.in_ok-keep_checks.ensures.stays c.keep_questions.ensures.stays

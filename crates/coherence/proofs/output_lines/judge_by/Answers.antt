@@ -3,6 +3,7 @@ use Rattle.std.proofs.lemmas.Result.{err_from_is_err_and}
 use Rattle.sessions.specs.Given.{verdict_in}
 use Rattle.coherence.proofs.Answered.{verdict-of}
 use Rattle.coherence.proofs.FullTables.{handed-on}
+use Rattle.coherence.proofs.KeptLines.{stays-on}
 use Rattle.coherence.proofs.Named.{names}
 use Rattle.coherence.proofs.output_lines.judge_by.Goals as goal
 
@@ -30,3 +31,6 @@ returns-in_err-keep_answers-clause-full c =
 
 pub returns-in_err-verdict-clause-full : goal.returns-in_err-verdict-clause-full
 returns-in_err-verdict-clause-full c = handed-on c.check_crate.new.self c.from_residual.result c.in_err-verdict.field-0.0 c.from_residual.ensures.1 c.in_err-verdict.ensures.full
+
+pub returns-clause-stays : goal.returns-clause-stays
+returns-clause-stays c = stays-on _ _ _ c.in_ok-verdict.ensures.stays c.in_ok-keep_answers.ensures.stays

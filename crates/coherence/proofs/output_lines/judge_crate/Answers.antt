@@ -1,18 +1,28 @@
-use Rattle.std.proofs.Common.{◌+◌, subst, OnOk, IfOk}
+use Rattle.std.proofs.Common.{◌∙◌, ◌+◌, subst, sym}
+use Rattle.std.proofs.lemmas.Result.{err_from_is_err_and}
 use Rattle.coherence.specs.KeptLines.{KeepsLines}
 use Rattle.coherence.specs.LineByLine.{IsVerdictLine}
+use Rattle.coherence.proofs.SourceLines.{of-some-crate}
 use Rattle.coherence.proofs.output_lines.judge_crate.Goals as goal
 
+pub returns-in_err-line-clause-unread : goal.returns-in_err-line-clause-unread
+returns-in_err-line-clause-unread c =
+    let p = err_from_is_err_and c.from_residual-in_err-line.result c.from_residual-in_err-line.ensures.1 in
+    rw p.1 (λ e. c.in_err-line.ensures.unread (sym p.2 ∙ e))
+
+pub returns-in_err-line-clause-unwritten : goal.returns-in_err-line-clause-unwritten
+returns-in_err-line-clause-unwritten c =
+    let p = err_from_is_err_and c.from_residual-in_err-line.result c.from_residual-in_err-line.ensures.1 in
+    rw p.1 (λ e. c.in_err-line.ensures.unwritten (sym p.2 ∙ e))
+
 pub returns-clause-line : goal.returns-clause-line
-returns-clause-line c =
-    subst (λ n. IfOk c.judge_by.result (λ text. IsVerdictLine n c.args.workspace.now c.args.id.index text.items)) c.in_ok-session.ensures.depth c.judge_by.ensures.line
+returns-clause-line c = subst (λ n. IsVerdictLine n c.args.workspace.now c.args.id.index c.in_ok-line.line.items) c.in_ok-session.ensures.depth c.in_ok-line.ensures.line
 
 pub returns-clause-kept : goal.returns-clause-kept
-returns-clause-kept c =
-    subst (λ n. OnOk c.judge_by.result (KeepsLines n c.args.workspace.now (c.args.id.index + 1) c.judge_by.new.lines)) c.in_ok-session.ensures.depth c.judge_by.ensures.kept
+returns-clause-kept c = subst (λ n. KeepsLines n c.args.workspace.now (c.args.id.index + 1) c.judge_by.new.lines) c.in_ok-session.ensures.depth c.in_ok-line.ensures.kept
 
-pub returns-clause-unread : goal.returns-clause-unread
-returns-clause-unread c = c.judge_by.ensures.unread
-
-pub returns-clause-unwritten : goal.returns-clause-unwritten
-returns-clause-unwritten c = c.judge_by.ensures.unwritten
+pub returns-clause-view : goal.returns-clause-view
+returns-clause-view c =
+    let stays = c.in_ok-line.ensures.stays in
+    let on = c.in_ok-session.ensures in
+    of-some-crate c.judge_by.new.session c.args.workspace.now c.args.limits.handles c.into_view.result (stays.declarations ∙ on.declarations) (stays.handles ∙ on.handles) c.into_view.ensures.view

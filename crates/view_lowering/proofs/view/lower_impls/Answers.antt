@@ -7,8 +7,8 @@ use Rattle.declarations.specs.Items.{held_impl}
 use Rattle.declarations.specs.Merges.{Each}
 use Rattle.declarations.proofs.Growth.{all-held}
 use Rattle.workspace.specs.Views.{impl_of}
-use Rattle.view_lowering.proofs.Views.{ImplsAdded, impls-passed, impls-all, impls-few, impls-fewer, impls-taken}
-use Rattle.view_lowering.proofs.view.lower_impls.Goals.{then-sees+in_ok-def+in_ok-add_impl, else-sees}
+use Rattle.view_lowering.proofs.Views.{ImplsAdded, impls-first, impls-passed, impls-all, impls-few, impls-fewer, impls-sorted, impls-taken}
+use Rattle.view_lowering.proofs.view.lower_impls.Goals.{then-is_new+in_ok-def+in_ok-add_impl, else-is_new}
 use Rattle.view_lowering.proofs.view.lower_impls.Goals as goal
 
 pub lower_impl-requires-clause-header : goal.lower_impl-requires-clause-header
@@ -35,12 +35,16 @@ add_impl-requires-clause-above c =
     let x = c.entry-item.result in
     let there = slice_get_read c.impls-entries.result.now _ i x refl c.loop-entry-test.true c.entry-item.is in
     let at = sym (ap (λ l. slice_get l i) (c.impls-entries.ensures.items)) ∙ slice_get-map impl_of c.impls-entries.result.now i ∙ ap (option_map impl_of) there in
-    subst (λ j. Each (λ h. h.id.index < j) c.loop-entry.decls.impls) (sym (c.crates.ensures.numbered.impls i (impl_of x) at).0) c.loop-entry.invariant.gone.below
+    subst (λ j. Each (λ h. h.id.index < j) c.loop-entry.decls.impls) (sym (c.crates.ensures.numbered.impls i (impl_of x) at).0) (c.loop-entry.invariant.gone.below i (impl_of x) (omega arith) at (sym c.is_new.ensures ∙ c.if-is_new.true))
+
+pub loop-entry-init : goal.loop-entry-init
+loop-entry-init c = impls-first c.args.workspace.now c.args.crate_id.index c.args.earlier c.args.cx.now.entries c.args.cx.now.limit c.args.decls.now c.requires.before c.requires.held
 
 pub loop-entry-preserved : goal.loop-entry-preserved
 loop-entry-preserved c =
     let d = c.args.workspace.now in
     let n = c.args.crate_id.index in
+    let e = c.args.earlier in
     let old = c.args.cx.now in
     let i = c.loop-entry.entry-index in
     let x = c.entry-item.result in
@@ -49,27 +53,27 @@ loop-entry-preserved c =
     let inv = c.loop-entry.invariant in
     let there = slice_get_read c.impls-entries.result.now _ i x refl c.loop-entry-test.true c.entry-item.is in
     let at = sym (ap (λ l. slice_get l i) (c.impls-entries.ensures.items)) ∙ slice_get-map impl_of c.impls-entries.result.now i ∙ ap (option_map impl_of) there in
-    elim c.if-sees.branch [
-      | then-sees+in_ok-def+in_ok-add_impl w ↦
+    elim c.if-is_new.branch [
+      | then-is_new+in_ok-def+in_ok-add_impl w ↦
           let new = w.lower_impl.new.cx in
           let next = w.add_impl.new.self in
           let k = w.lower_impl.ensures.grew.keeps in
           let held = w.in_ok-add_impl.ensures.held (all-held es.entries new.entries k now inv.held) in
-          subst (λ y. ImplsAdded d n old.entries old.limit c.args.decls.now (i + 1) y.entries y.limit c.if-sees.decls) (sym w.cx-is)
-          (subst (λ ds. ImplsAdded d n old.entries old.limit c.args.decls.now (i + 1) new.entries new.limit ds) (sym w.decls-is)
-          (impls-taken d n old.entries old.limit c.args.decls.now i es.entries es.limit now (impl_of x) new.entries new.limit (held_impl new.entries x.id w.in_ok-def.def) next at (sym c.sees.ensures ∙ w.if-sees.true)
+          subst (λ y. ImplsAdded d n e old.entries old.limit c.args.decls.now (i + 1) y.entries y.limit c.if-is_new.decls) (sym w.cx-is)
+          (subst (λ ds. ImplsAdded d n e old.entries old.limit c.args.decls.now (i + 1) new.entries new.limit ds) (sym w.decls-is)
+          (impls-taken d n e old.entries old.limit c.args.decls.now i es.entries es.limit now (impl_of x) new.entries new.limit (held_impl new.entries x.id w.in_ok-def.def) next at (sym c.is_new.ensures ∙ w.if-is_new.true)
           (c.crates.ensures.numbered.impls i (impl_of x) at).0 k w.lower_impl.ensures.grew.limit w.in_ok-def.ensures.is w.in_ok-def.ensures.sorts w.in_ok-add_impl.ensures.added held w.lower_impl.ensures.few inv))
-      | else-sees w ↦
-          subst (λ y. ImplsAdded d n old.entries old.limit c.args.decls.now (i + 1) y.entries y.limit c.if-sees.decls) (sym w.cx-is)
-          (subst (λ ds. ImplsAdded d n old.entries old.limit c.args.decls.now (i + 1) es.entries es.limit ds) (sym w.decls-is)
-          (impls-passed d n old.entries old.limit c.args.decls.now i es.entries es.limit now (impl_of x) at (sym c.sees.ensures ∙ w.if-sees.false) inv))
+      | else-is_new w ↦
+          subst (λ y. ImplsAdded d n e old.entries old.limit c.args.decls.now (i + 1) y.entries y.limit c.if-is_new.decls) (sym w.cx-is)
+          (subst (λ ds. ImplsAdded d n e old.entries old.limit c.args.decls.now (i + 1) es.entries es.limit ds) (sym w.decls-is)
+          (impls-passed d n e old.entries old.limit c.args.decls.now i es.entries es.limit now (impl_of x) at (sym c.is_new.ensures ∙ w.if-is_new.false) inv))
     ]
 
 pub returns-clause-impls : goal.returns-clause-impls
 returns-clause-impls c =
     let l = c.loop-entry in
     let rows = c.impls-entries.result.now in
-    impls-all c.args.workspace.now c.args.crate_id.index c.args.cx.now.entries c.args.cx.now.limit c.args.decls.now l.entry-index l.cx.entries l.cx.limit l.decls
+    impls-all c.args.workspace.now c.args.crate_id.index c.args.earlier c.args.cx.now.entries c.args.cx.now.limit c.args.decls.now l.entry-index l.cx.entries l.cx.limit l.decls
     (sym (ap length c.impls-entries.ensures.items) ∙ length-map rows impl_of ∙ at-end (length rows) l.entry-index c.loop-entry-test.false l.auto.entry-index-end) l.invariant
   where
     at-end : (n i : ℕ) → n ≤ i → i ≤ n → n ≡ i
@@ -84,7 +88,7 @@ returns-in_err-def-clause-few c =
     let es = c.loop-entry.cx in
     let there = slice_get_read c.impls-entries.result.now _ i x refl c.loop-entry-test.true c.entry-item.is in
     let at = sym (ap (λ l. slice_get l i) (c.impls-entries.ensures.items)) ∙ slice_get-map impl_of c.impls-entries.result.now i ∙ ap (option_map impl_of) there in
-    impls-fewer d c.args.crate_id.index old.entries old.limit c.args.decls.now i es.entries es.limit c.loop-entry.decls (impl_of x) c.lower_impl.new.cx.entries at (sym c.sees.ensures ∙ c.if-sees.true) c.lower_impl.ensures.few c.loop-entry.invariant
+    impls-fewer d c.args.crate_id.index c.args.earlier old.entries old.limit c.args.decls.now i es.entries es.limit c.loop-entry.decls (impl_of x) c.lower_impl.new.cx.entries at (sym c.is_new.ensures ∙ c.if-is_new.true) c.lower_impl.ensures.few c.loop-entry.invariant
 
 pub returns-in_err-add_impl-clause-few : goal.returns-in_err-add_impl-clause-few
 returns-in_err-add_impl-clause-few c =
@@ -95,7 +99,17 @@ returns-in_err-add_impl-clause-few c =
     let es = c.loop-entry.cx in
     let there = slice_get_read c.impls-entries.result.now _ i x refl c.loop-entry-test.true c.entry-item.is in
     let at = sym (ap (λ l. slice_get l i) (c.impls-entries.ensures.items)) ∙ slice_get-map impl_of c.impls-entries.result.now i ∙ ap (option_map impl_of) there in
-    impls-fewer d c.args.crate_id.index old.entries old.limit c.args.decls.now i es.entries es.limit c.loop-entry.decls (impl_of x) c.lower_impl.new.cx.entries at (sym c.sees.ensures ∙ c.if-sees.true) c.lower_impl.ensures.few c.loop-entry.invariant
+    impls-fewer d c.args.crate_id.index c.args.earlier old.entries old.limit c.args.decls.now i es.entries es.limit c.loop-entry.decls (impl_of x) c.lower_impl.new.cx.entries at (sym c.is_new.ensures ∙ c.if-is_new.true) c.lower_impl.ensures.few c.loop-entry.invariant
 
 pub returns-clause-few : goal.returns-clause-few
-returns-clause-few c = impls-few c.args.workspace.now c.args.crate_id.index c.args.cx.now.entries c.args.cx.now.limit c.args.decls.now c.loop-entry.entry-index c.loop-entry.cx.entries c.loop-entry.cx.limit c.loop-entry.decls c.loop-entry.invariant
+returns-clause-few c = impls-few c.args.workspace.now c.args.crate_id.index c.args.earlier c.args.cx.now.entries c.args.cx.now.limit c.args.decls.now c.loop-entry.entry-index c.loop-entry.cx.entries c.loop-entry.cx.limit c.loop-entry.decls c.loop-entry.invariant
+
+pub returns-clause-sorts : goal.returns-clause-sorts
+returns-clause-sorts c =
+    let l = c.loop-entry in
+    let rows = c.impls-entries.result.now in
+    impls-sorted c.args.workspace.now c.args.crate_id.index c.args.earlier c.args.cx.now.entries c.args.cx.now.limit c.args.decls.now l.entry-index l.cx.entries l.cx.limit l.decls
+    (sym (ap length c.impls-entries.ensures.items) ∙ length-map rows impl_of ∙ at-end (length rows) l.entry-index c.loop-entry-test.false l.auto.entry-index-end) l.invariant
+  where
+    at-end : (n i : ℕ) → n ≤ i → i ≤ n → n ≡ i
+    at-end n i h g = omega (arith, h, g)

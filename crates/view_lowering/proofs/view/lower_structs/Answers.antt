@@ -5,8 +5,8 @@ use Rattle.std.specs.Prelude.{slice_get}
 use Rattle.std.specs.Option.{option_map}
 use Rattle.declarations.proofs.Growth.{all-held}
 use Rattle.workspace.specs.Views.{struct_of}
-use Rattle.view_lowering.proofs.Views.{StructsAdded, structs-passed, structs-all, structs-few, structs-fewer, structs-taken, structs-absent}
-use Rattle.view_lowering.proofs.view.lower_structs.Goals.{then-sees+in_ok-def+in_ok-add_struct, else-sees}
+use Rattle.view_lowering.proofs.Views.{StructsAdded, structs-first, structs-passed, structs-all, structs-few, structs-fewer, structs-sorted, structs-taken, structs-absent}
+use Rattle.view_lowering.proofs.view.lower_structs.Goals.{then-is_new+in_ok-def+in_ok-add_struct, else-is_new}
 use Rattle.view_lowering.proofs.view.lower_structs.Goals as goal
 
 pub lower_struct-requires : goal.lower_struct-requires
@@ -20,13 +20,17 @@ add_struct-requires c =
     let x = c.entry-item.result in
     let there = slice_get_read c.structs-entries.result.now _ i x refl c.loop-entry-test.true c.entry-item.is in
     let at = sym (ap (λ l. slice_get l i) (c.structs-entries.ensures.items)) ∙ slice_get-map struct_of c.structs-entries.result.now i ∙ ap (option_map struct_of) there in
-    structs-absent c.args.workspace.now c.args.crate_id.index c.args.cx.now.entries c.args.cx.now.limit c.args.decls.now i c.loop-entry.cx.entries c.loop-entry.cx.limit c.loop-entry.decls x.id.index
+    structs-absent c.args.workspace.now c.args.crate_id.index c.args.earlier c.args.cx.now.entries c.args.cx.now.limit c.args.decls.now i c.loop-entry.cx.entries c.loop-entry.cx.limit c.loop-entry.decls (struct_of x) x.id.index at (sym c.is_new.ensures ∙ c.if-is_new.true)
     (c.crates.ensures.numbered.structs i (struct_of x) at).0 c.loop-entry.invariant
+
+pub loop-entry-init : goal.loop-entry-init
+loop-entry-init c = structs-first c.args.workspace.now c.args.crate_id.index c.args.earlier c.args.cx.now.entries c.args.cx.now.limit c.args.decls.now c.requires.before c.requires.held
 
 pub loop-entry-preserved : goal.loop-entry-preserved
 loop-entry-preserved c =
     let d = c.args.workspace.now in
     let n = c.args.crate_id.index in
+    let e = c.args.earlier in
     let old = c.args.cx.now in
     let i = c.loop-entry.entry-index in
     let x = c.entry-item.result in
@@ -35,27 +39,27 @@ loop-entry-preserved c =
     let inv = c.loop-entry.invariant in
     let there = slice_get_read c.structs-entries.result.now _ i x refl c.loop-entry-test.true c.entry-item.is in
     let at = sym (ap (λ l. slice_get l i) (c.structs-entries.ensures.items)) ∙ slice_get-map struct_of c.structs-entries.result.now i ∙ ap (option_map struct_of) there in
-    elim c.if-sees.branch [
-      | then-sees+in_ok-def+in_ok-add_struct w ↦
+    elim c.if-is_new.branch [
+      | then-is_new+in_ok-def+in_ok-add_struct w ↦
           let new = w.lower_struct.new.cx in
           let next = w.add_struct.new.self in
           let k = w.lower_struct.ensures.grew.keeps in
           let held = w.in_ok-add_struct.ensures.held new.entries (all-held es.entries new.entries k now inv.held) w.in_ok-def.ensures.held in
-          subst (λ y. StructsAdded d n old.entries old.limit c.args.decls.now (i + 1) y.entries y.limit c.if-sees.decls) (sym w.cx-is)
-          (subst (λ ds. StructsAdded d n old.entries old.limit c.args.decls.now (i + 1) new.entries new.limit ds) (sym w.decls-is)
-          (structs-taken d n old.entries old.limit c.args.decls.now i es.entries es.limit now (struct_of x) new.entries new.limit x.id w.in_ok-def.def next at (sym c.sees.ensures ∙ w.if-sees.true) (c.crates.ensures.numbered.structs i (struct_of x) at).0 k
+          subst (λ y. StructsAdded d n e old.entries old.limit c.args.decls.now (i + 1) y.entries y.limit c.if-is_new.decls) (sym w.cx-is)
+          (subst (λ ds. StructsAdded d n e old.entries old.limit c.args.decls.now (i + 1) new.entries new.limit ds) (sym w.decls-is)
+          (structs-taken d n e old.entries old.limit c.args.decls.now i es.entries es.limit now (struct_of x) new.entries new.limit x.id w.in_ok-def.def next at (sym c.is_new.ensures ∙ w.if-is_new.true) (c.crates.ensures.numbered.structs i (struct_of x) at).0 k
           w.lower_struct.ensures.grew.limit w.in_ok-def.ensures.is w.in_ok-def.ensures.sorts w.in_ok-add_struct.ensures.added held w.lower_struct.ensures.few inv))
-      | else-sees w ↦
-          subst (λ y. StructsAdded d n old.entries old.limit c.args.decls.now (i + 1) y.entries y.limit c.if-sees.decls) (sym w.cx-is)
-          (subst (λ ds. StructsAdded d n old.entries old.limit c.args.decls.now (i + 1) es.entries es.limit ds) (sym w.decls-is)
-          (structs-passed d n old.entries old.limit c.args.decls.now i es.entries es.limit now (struct_of x) at (sym c.sees.ensures ∙ w.if-sees.false) inv))
+      | else-is_new w ↦
+          subst (λ y. StructsAdded d n e old.entries old.limit c.args.decls.now (i + 1) y.entries y.limit c.if-is_new.decls) (sym w.cx-is)
+          (subst (λ ds. StructsAdded d n e old.entries old.limit c.args.decls.now (i + 1) es.entries es.limit ds) (sym w.decls-is)
+          (structs-passed d n e old.entries old.limit c.args.decls.now i es.entries es.limit now (struct_of x) at (sym c.is_new.ensures ∙ w.if-is_new.false) inv))
     ]
 
 pub returns-clause-structs : goal.returns-clause-structs
 returns-clause-structs c =
     let l = c.loop-entry in
     let rows = c.structs-entries.result.now in
-    structs-all c.args.workspace.now c.args.crate_id.index c.args.cx.now.entries c.args.cx.now.limit c.args.decls.now l.entry-index l.cx.entries l.cx.limit l.decls
+    structs-all c.args.workspace.now c.args.crate_id.index c.args.earlier c.args.cx.now.entries c.args.cx.now.limit c.args.decls.now l.entry-index l.cx.entries l.cx.limit l.decls
     (sym (ap length c.structs-entries.ensures.items) ∙ length-map rows struct_of ∙ at-end (length rows) l.entry-index c.loop-entry-test.false l.auto.entry-index-end) l.invariant
   where
     at-end : (n i : ℕ) → n ≤ i → i ≤ n → n ≡ i
@@ -70,7 +74,7 @@ returns-in_err-def-clause-few c =
     let es = c.loop-entry.cx in
     let there = slice_get_read c.structs-entries.result.now _ i x refl c.loop-entry-test.true c.entry-item.is in
     let at = sym (ap (λ l. slice_get l i) (c.structs-entries.ensures.items)) ∙ slice_get-map struct_of c.structs-entries.result.now i ∙ ap (option_map struct_of) there in
-    structs-fewer d c.args.crate_id.index old.entries old.limit c.args.decls.now i es.entries es.limit c.loop-entry.decls (struct_of x) c.lower_struct.new.cx.entries at (sym c.sees.ensures ∙ c.if-sees.true) c.lower_struct.ensures.few c.loop-entry.invariant
+    structs-fewer d c.args.crate_id.index c.args.earlier old.entries old.limit c.args.decls.now i es.entries es.limit c.loop-entry.decls (struct_of x) c.lower_struct.new.cx.entries at (sym c.is_new.ensures ∙ c.if-is_new.true) c.lower_struct.ensures.few c.loop-entry.invariant
 
 pub returns-in_err-add_struct-clause-few : goal.returns-in_err-add_struct-clause-few
 returns-in_err-add_struct-clause-few c =
@@ -81,7 +85,17 @@ returns-in_err-add_struct-clause-few c =
     let es = c.loop-entry.cx in
     let there = slice_get_read c.structs-entries.result.now _ i x refl c.loop-entry-test.true c.entry-item.is in
     let at = sym (ap (λ l. slice_get l i) (c.structs-entries.ensures.items)) ∙ slice_get-map struct_of c.structs-entries.result.now i ∙ ap (option_map struct_of) there in
-    structs-fewer d c.args.crate_id.index old.entries old.limit c.args.decls.now i es.entries es.limit c.loop-entry.decls (struct_of x) c.lower_struct.new.cx.entries at (sym c.sees.ensures ∙ c.if-sees.true) c.lower_struct.ensures.few c.loop-entry.invariant
+    structs-fewer d c.args.crate_id.index c.args.earlier old.entries old.limit c.args.decls.now i es.entries es.limit c.loop-entry.decls (struct_of x) c.lower_struct.new.cx.entries at (sym c.is_new.ensures ∙ c.if-is_new.true) c.lower_struct.ensures.few c.loop-entry.invariant
 
 pub returns-clause-few : goal.returns-clause-few
-returns-clause-few c = structs-few c.args.workspace.now c.args.crate_id.index c.args.cx.now.entries c.args.cx.now.limit c.args.decls.now c.loop-entry.entry-index c.loop-entry.cx.entries c.loop-entry.cx.limit c.loop-entry.decls c.loop-entry.invariant
+returns-clause-few c = structs-few c.args.workspace.now c.args.crate_id.index c.args.earlier c.args.cx.now.entries c.args.cx.now.limit c.args.decls.now c.loop-entry.entry-index c.loop-entry.cx.entries c.loop-entry.cx.limit c.loop-entry.decls c.loop-entry.invariant
+
+pub returns-clause-sorts : goal.returns-clause-sorts
+returns-clause-sorts c =
+    let l = c.loop-entry in
+    let rows = c.structs-entries.result.now in
+    structs-sorted c.args.workspace.now c.args.crate_id.index c.args.earlier c.args.cx.now.entries c.args.cx.now.limit c.args.decls.now l.entry-index l.cx.entries l.cx.limit l.decls
+    (sym (ap length c.structs-entries.ensures.items) ∙ length-map rows struct_of ∙ at-end (length rows) l.entry-index c.loop-entry-test.false l.auto.entry-index-end) l.invariant
+  where
+    at-end : (n i : ℕ) → n ≤ i → i ≤ n → n ≡ i
+    at-end n i h g = omega (arith, h, g)

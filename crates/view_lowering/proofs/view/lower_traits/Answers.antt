@@ -5,8 +5,8 @@ use Rattle.std.specs.Prelude.{slice_get}
 use Rattle.std.specs.Option.{option_map}
 use Rattle.declarations.proofs.Growth.{all-held}
 use Rattle.workspace.specs.Views.{trait_of}
-use Rattle.view_lowering.proofs.Views.{TraitsAdded, traits-passed, traits-all, traits-few, traits-fewer, traits-taken, traits-absent}
-use Rattle.view_lowering.proofs.view.lower_traits.Goals.{then-sees+in_ok-def+in_ok-add_trait, else-sees}
+use Rattle.view_lowering.proofs.Views.{TraitsAdded, traits-first, traits-passed, traits-all, traits-few, traits-fewer, traits-sorted, traits-taken, traits-absent}
+use Rattle.view_lowering.proofs.view.lower_traits.Goals.{then-is_new+in_ok-def+in_ok-add_trait, else-is_new}
 use Rattle.view_lowering.proofs.view.lower_traits.Goals as goal
 
 pub lower_trait-requires : goal.lower_trait-requires
@@ -20,13 +20,17 @@ add_trait-requires c =
     let x = c.entry-item.result in
     let there = slice_get_read c.traits-entries.result.now _ i x refl c.loop-entry-test.true c.entry-item.is in
     let at = sym (ap (λ l. slice_get l i) (c.traits-entries.ensures.items)) ∙ slice_get-map trait_of c.traits-entries.result.now i ∙ ap (option_map trait_of) there in
-    traits-absent c.args.workspace.now c.args.crate_id.index c.args.cx.now.entries c.args.cx.now.limit c.args.decls.now i c.loop-entry.cx.entries c.loop-entry.cx.limit c.loop-entry.decls x.id.index
+    traits-absent c.args.workspace.now c.args.crate_id.index c.args.earlier c.args.cx.now.entries c.args.cx.now.limit c.args.decls.now i c.loop-entry.cx.entries c.loop-entry.cx.limit c.loop-entry.decls (trait_of x) x.id.index at (sym c.is_new.ensures ∙ c.if-is_new.true)
     (c.crates.ensures.numbered.traits i (trait_of x) at).0 c.loop-entry.invariant
+
+pub loop-entry-init : goal.loop-entry-init
+loop-entry-init c = traits-first c.args.workspace.now c.args.crate_id.index c.args.earlier c.args.cx.now.entries c.args.cx.now.limit c.args.decls.now c.requires.before c.requires.held
 
 pub loop-entry-preserved : goal.loop-entry-preserved
 loop-entry-preserved c =
     let d = c.args.workspace.now in
     let n = c.args.crate_id.index in
+    let e = c.args.earlier in
     let old = c.args.cx.now in
     let i = c.loop-entry.entry-index in
     let x = c.entry-item.result in
@@ -35,27 +39,27 @@ loop-entry-preserved c =
     let inv = c.loop-entry.invariant in
     let there = slice_get_read c.traits-entries.result.now _ i x refl c.loop-entry-test.true c.entry-item.is in
     let at = sym (ap (λ l. slice_get l i) (c.traits-entries.ensures.items)) ∙ slice_get-map trait_of c.traits-entries.result.now i ∙ ap (option_map trait_of) there in
-    elim c.if-sees.branch [
-      | then-sees+in_ok-def+in_ok-add_trait w ↦
+    elim c.if-is_new.branch [
+      | then-is_new+in_ok-def+in_ok-add_trait w ↦
           let new = w.lower_trait.new.cx in
           let next = w.add_trait.new.self in
           let k = w.lower_trait.ensures.grew.keeps in
           let held = w.in_ok-add_trait.ensures.held new.entries (all-held es.entries new.entries k now inv.held) w.in_ok-def.ensures.held in
-          subst (λ y. TraitsAdded d n old.entries old.limit c.args.decls.now (i + 1) y.entries y.limit c.if-sees.decls) (sym w.cx-is)
-          (subst (λ ds. TraitsAdded d n old.entries old.limit c.args.decls.now (i + 1) new.entries new.limit ds) (sym w.decls-is)
-          (traits-taken d n old.entries old.limit c.args.decls.now i es.entries es.limit now (trait_of x) new.entries new.limit x.id w.in_ok-def.def next at (sym c.sees.ensures ∙ w.if-sees.true) (c.crates.ensures.numbered.traits i (trait_of x) at).0 k
+          subst (λ y. TraitsAdded d n e old.entries old.limit c.args.decls.now (i + 1) y.entries y.limit c.if-is_new.decls) (sym w.cx-is)
+          (subst (λ ds. TraitsAdded d n e old.entries old.limit c.args.decls.now (i + 1) new.entries new.limit ds) (sym w.decls-is)
+          (traits-taken d n e old.entries old.limit c.args.decls.now i es.entries es.limit now (trait_of x) new.entries new.limit x.id w.in_ok-def.def next at (sym c.is_new.ensures ∙ w.if-is_new.true) (c.crates.ensures.numbered.traits i (trait_of x) at).0 k
           w.lower_trait.ensures.grew.limit w.in_ok-def.ensures.is w.in_ok-def.ensures.sorts w.in_ok-add_trait.ensures.added held w.lower_trait.ensures.few inv))
-      | else-sees w ↦
-          subst (λ y. TraitsAdded d n old.entries old.limit c.args.decls.now (i + 1) y.entries y.limit c.if-sees.decls) (sym w.cx-is)
-          (subst (λ ds. TraitsAdded d n old.entries old.limit c.args.decls.now (i + 1) es.entries es.limit ds) (sym w.decls-is)
-          (traits-passed d n old.entries old.limit c.args.decls.now i es.entries es.limit now (trait_of x) at (sym c.sees.ensures ∙ w.if-sees.false) inv))
+      | else-is_new w ↦
+          subst (λ y. TraitsAdded d n e old.entries old.limit c.args.decls.now (i + 1) y.entries y.limit c.if-is_new.decls) (sym w.cx-is)
+          (subst (λ ds. TraitsAdded d n e old.entries old.limit c.args.decls.now (i + 1) es.entries es.limit ds) (sym w.decls-is)
+          (traits-passed d n e old.entries old.limit c.args.decls.now i es.entries es.limit now (trait_of x) at (sym c.is_new.ensures ∙ w.if-is_new.false) inv))
     ]
 
 pub returns-clause-traits : goal.returns-clause-traits
 returns-clause-traits c =
     let l = c.loop-entry in
     let rows = c.traits-entries.result.now in
-    traits-all c.args.workspace.now c.args.crate_id.index c.args.cx.now.entries c.args.cx.now.limit c.args.decls.now l.entry-index l.cx.entries l.cx.limit l.decls
+    traits-all c.args.workspace.now c.args.crate_id.index c.args.earlier c.args.cx.now.entries c.args.cx.now.limit c.args.decls.now l.entry-index l.cx.entries l.cx.limit l.decls
     (sym (ap length c.traits-entries.ensures.items) ∙ length-map rows trait_of ∙ at-end (length rows) l.entry-index c.loop-entry-test.false l.auto.entry-index-end) l.invariant
   where
     at-end : (n i : ℕ) → n ≤ i → i ≤ n → n ≡ i
@@ -70,7 +74,7 @@ returns-in_err-def-clause-few c =
     let es = c.loop-entry.cx in
     let there = slice_get_read c.traits-entries.result.now _ i x refl c.loop-entry-test.true c.entry-item.is in
     let at = sym (ap (λ l. slice_get l i) (c.traits-entries.ensures.items)) ∙ slice_get-map trait_of c.traits-entries.result.now i ∙ ap (option_map trait_of) there in
-    traits-fewer d c.args.crate_id.index old.entries old.limit c.args.decls.now i es.entries es.limit c.loop-entry.decls (trait_of x) c.lower_trait.new.cx.entries at (sym c.sees.ensures ∙ c.if-sees.true) c.lower_trait.ensures.few c.loop-entry.invariant
+    traits-fewer d c.args.crate_id.index c.args.earlier old.entries old.limit c.args.decls.now i es.entries es.limit c.loop-entry.decls (trait_of x) c.lower_trait.new.cx.entries at (sym c.is_new.ensures ∙ c.if-is_new.true) c.lower_trait.ensures.few c.loop-entry.invariant
 
 pub returns-in_err-add_trait-clause-few : goal.returns-in_err-add_trait-clause-few
 returns-in_err-add_trait-clause-few c =
@@ -81,7 +85,17 @@ returns-in_err-add_trait-clause-few c =
     let es = c.loop-entry.cx in
     let there = slice_get_read c.traits-entries.result.now _ i x refl c.loop-entry-test.true c.entry-item.is in
     let at = sym (ap (λ l. slice_get l i) (c.traits-entries.ensures.items)) ∙ slice_get-map trait_of c.traits-entries.result.now i ∙ ap (option_map trait_of) there in
-    traits-fewer d c.args.crate_id.index old.entries old.limit c.args.decls.now i es.entries es.limit c.loop-entry.decls (trait_of x) c.lower_trait.new.cx.entries at (sym c.sees.ensures ∙ c.if-sees.true) c.lower_trait.ensures.few c.loop-entry.invariant
+    traits-fewer d c.args.crate_id.index c.args.earlier old.entries old.limit c.args.decls.now i es.entries es.limit c.loop-entry.decls (trait_of x) c.lower_trait.new.cx.entries at (sym c.is_new.ensures ∙ c.if-is_new.true) c.lower_trait.ensures.few c.loop-entry.invariant
 
 pub returns-clause-few : goal.returns-clause-few
-returns-clause-few c = traits-few c.args.workspace.now c.args.crate_id.index c.args.cx.now.entries c.args.cx.now.limit c.args.decls.now c.loop-entry.entry-index c.loop-entry.cx.entries c.loop-entry.cx.limit c.loop-entry.decls c.loop-entry.invariant
+returns-clause-few c = traits-few c.args.workspace.now c.args.crate_id.index c.args.earlier c.args.cx.now.entries c.args.cx.now.limit c.args.decls.now c.loop-entry.entry-index c.loop-entry.cx.entries c.loop-entry.cx.limit c.loop-entry.decls c.loop-entry.invariant
+
+pub returns-clause-sorts : goal.returns-clause-sorts
+returns-clause-sorts c =
+    let l = c.loop-entry in
+    let rows = c.traits-entries.result.now in
+    traits-sorted c.args.workspace.now c.args.crate_id.index c.args.earlier c.args.cx.now.entries c.args.cx.now.limit c.args.decls.now l.entry-index l.cx.entries l.cx.limit l.decls
+    (sym (ap length c.traits-entries.ensures.items) ∙ length-map rows trait_of ∙ at-end (length rows) l.entry-index c.loop-entry-test.false l.auto.entry-index-end) l.invariant
+  where
+    at-end : (n i : ℕ) → n ≤ i → i ≤ n → n ≡ i
+    at-end n i h g = omega (arith, h, g)

@@ -4,6 +4,7 @@ use Rattle.type_terms.specs.Worlds.{World}
 use Rattle.declarations.specs.Items.{IsAbove}
 use Rattle.workspace.specs.Numbered.{IsNumbered}
 use Rattle.sessions.specs.ByTrait.{ListsImpls, ListsSeen}
+use Rattle.sessions.specs.Promises.{view_in}
 use Rattle.sessions.specs.Subjects.{Subject}
 use Rattle.sessions.proofs.ImplNumbers.{numbers-below}
 use Rattle.sessions.proofs.session.Session.impls_by_trait.Goals as goal
@@ -22,4 +23,5 @@ pub returns : goal.returns
 returns c =
     let i = c.self.inside in
     subst (λ (s : Subject). IfOk c.of_declarations.result (ListsSeen s)) c.self.view_is
-    (subst (λ (V : World). IfOk c.of_declarations.result (ListsImpls i.cx.interner.entries V)) c.self.invariant.session.view.rules c.of_declarations.ensures)
+    (subst (λ n. IfOk c.of_declarations.result (ListsImpls (view_in i.workspace.now i.crate_id.index) n)) c.self.invariant.session.view.local
+    (subst (λ (V : World). IfOk c.of_declarations.result (ListsImpls V i.cx.handler.declarations.local)) c.self.invariant.session.view.rules c.of_declarations.ensures))

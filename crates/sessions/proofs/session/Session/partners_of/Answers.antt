@@ -2,6 +2,7 @@ use Rattle.std.proofs.Common.{refl, sym, subst}
 use Rattle.std.specs.Prelude.{IfOk}
 use Rattle.type_terms.specs.Worlds.{World}
 use Rattle.sessions.specs.ByTrait.{ListsImpls, ListsSeen, HavePartnersSeen}
+use Rattle.sessions.specs.Promises.{view_in}
 use Rattle.sessions.specs.Subjects.{Subject}
 use Rattle.sessions.proofs.PairChecks.{pair-here}
 use Rattle.sessions.proofs.Posing.{over-ok}
@@ -12,7 +13,10 @@ partners_of-requires-clause-held c = c.self.invariant.session.rest.ready.handler
 
 pub partners_of-requires-clause-listed : goal.partners_of-requires-clause-listed
 partners_of-requires-clause-listed c =
-    subst (λ (V : World). ListsImpls c.self.inside.cx.interner.entries V c.args.impls.now) (sym c.self.invariant.session.view.rules) (subst (λ (s : Subject). ListsSeen s c.args.impls.now) (sym c.self.view_is) c.requires)
+    let i = c.self.inside in
+    let m = c.args.impls.now in
+    subst (λ (V : World). ListsImpls V i.cx.handler.declarations.local m) (sym c.self.invariant.session.view.rules)
+    (subst (λ n. ListsImpls (view_in i.workspace.now i.crate_id.index) n m) (sym c.self.invariant.session.view.local) (subst (λ (s : Subject). ListsSeen s m) (sym c.self.view_is) c.requires))
 
 pub returns : goal.returns
 returns c =

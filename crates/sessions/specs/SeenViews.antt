@@ -1,0 +1,19 @@
+-- What a session leaves behind.
+use Rattle.std.specs.Prelude.{◌≡◌, ◌<◌, ℕ, length}
+use Rattle.declarations.specs.Items.{declared}
+use Rattle.text_definitions.specs.Declarations.{Declarations}
+use Rattle.view_lowering.specs.Ready.{AreSeen}
+use Rattle.view_lowering.specs.Seen.{rules_seen_from}
+use Rattle.candidate_assembly.specs.Ready.{AreReadyDeclarations}
+use Rattle.sessions.specs.declared.seen_view.SeenView.{SeenView}
+
+-- What crate c sees of the text: as it is written, with the sorts of its parameters, and as rules are read from it. It is ready for the
+-- solver, over the terms of an interner with this limit.
+pub record IsViewOf (d : Declarations) (c handles : ℕ) (view : SeenView) : Type 0 where
+  pub crate : view.crate_id.index ≡ c
+  pub seen : AreSeen view.interner.entries view.declarations d c
+  pub rules : declared view.interner.entries view.declarations ≡ rules_seen_from d c
+  pub local : view.declarations.local ≡ c
+  pub ready : AreReadyDeclarations view.interner.entries view.declarations
+  pub limit : view.interner.limit ≡ handles
+  pub declared : c < length d.crates

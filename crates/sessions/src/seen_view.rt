@@ -1,0 +1,151 @@
+//! What a session leaves behind, for the session of a crate that sees more of the text.
+
+ghost use Rattle.std.specs.Prelude.{◌≡◌, ◌<◌, ◌≤◌, ◌+◌, length, IfOk, Err};
+ghost use Rattle.type_terms.specs.declared.interner.TheConstants.{MAX_HANDLES};
+ghost use Rattle.view_lowering.specs.Behind.{BeginsWith};
+ghost use Rattle.view_lowering.specs.MostTerms.{most_terms};
+ghost use Rattle.sessions.specs.SeenViews.{IsViewOf};
+ghost use Rattle.sessions.specs.Subjects.{IsOfText};
+
+use crate::view::{declarations_are_ready, lower_view};
+use declarations::declarations::Declarations;
+use std::alloc::Global;
+use type_terms::interner::Interner;
+use type_terms::{CrateId, Fault};
+use view_lowering::laws::impls_begin_declared;
+use view_lowering::{begins_with, lower_behind};
+use workspace::Workspace;
+
+/// A view is handed on while searches over its interner have started at most one frame for so many terms of a kind that it may hold.
+/// A frame makes some terms of its own, so what is handed on takes a small part of the room that the next session has.
+const TERMS_FOR_A_FRAME: u32 = 64;
+
+/// What a crate of a text sees, lowered: what a session of the crate leaves behind (`Session::into_view`).
+///
+/// The session of a crate that sees all of it and more may begin with it, and lowers only what is new (`Session::behind`). With the view's
+/// own terms stay those that the session's questions made.
+pub struct SeenView {
+    /// The crate that sees it.
+    pub crate_id: CrateId,
+    pub(crate) interner: Interner,
+    pub(crate) declarations: Declarations,
+
+    // How many frames searches over the interner have started.
+    pub(crate) frames: u64,
+}
+
+// Written, so that what owns one drops it by one call at each way out, and not field by field.
+impl Drop for SeenView {
+    fn drop(self) {
+        let SeenView {
+            crate_id: _,
+            interner: _,
+            declarations: _,
+            frames: _,
+        } = self;
+    }
+}
+
+impl SeenView {
+    /// What a crate sees, lowered into a new interner. Errors are those of `lower`.
+    pub(crate) fn new(
+        alloc: Global,
+        workspace: &Workspace,
+        crate_id: CrateId,
+        handles: u32,
+    ) -> Result<SeenView, Fault>
+        requires text { IsOfText workspace.now }
+        requires declared { crate_id.index < length workspace.now.crates }
+        requires few { handles ≤ MAX_HANDLES }
+        ensures view { IfOk result (IsViewOf workspace.now crate_id.index handles) }
+        ensures of_crate { IfOk result (λ view. view.crate_id ≡ crate_id) }
+        ensures full { result ≡ Err Fault.Full → handles ≤ most_terms workspace.now crate_id.index }
+    {
+        let mut interner = Interner::new(alloc, handles);
+        let declarations = lower_view(alloc, &mut interner, workspace, crate_id)?;
+        Ok(SeenView {
+            crate_id,
+            interner,
+            declarations,
+            frames: 0,
+        })
+    }
+
+    /// What a crate sees that begins with what is seen here: what is new is lowered behind it. Errors are those of `lower`.
+    fn grown(
+        self,
+        alloc: Global,
+        workspace: &Workspace,
+        crate_id: CrateId,
+        handles: u32,
+    ) -> Result<SeenView, Fault>
+        requires text { IsOfText workspace.now }
+        requires declared { crate_id.index < length workspace.now.crates }
+        requires view { IsViewOf workspace.now self.crate_id.index handles self }
+        requires begins { BeginsWith workspace.now crate_id.index self.crate_id.index }
+        ensures view { IfOk result (IsViewOf workspace.now crate_id.index handles) }
+        ensures of_crate { IfOk result (λ view. view.crate_id ≡ crate_id) }
+        ensures full { result ≡ Err Fault.Full → handles ≤ length self.interner.entries + most_terms workspace.now crate_id.index }
+    {
+        impls_begin_declared();
+        declarations_are_ready();
+        let SeenView {
+            crate_id: earlier,
+            mut interner,
+            mut declarations,
+            frames,
+        } = self;
+        lower_behind(
+            alloc,
+            &mut interner,
+            workspace,
+            earlier,
+            crate_id,
+            &mut declarations,
+        )?;
+        Ok(SeenView {
+            crate_id,
+            interner,
+            declarations,
+            frames,
+        })
+    }
+
+    /// What another crate sees: grown where that begins with what is seen here and few frames were started, else lowered into a new
+    /// interner. Errors are those of `lower`.
+    pub(crate) fn handed_on(
+        self,
+        alloc: Global,
+        workspace: &Workspace,
+        crate_id: CrateId,
+        handles: u32,
+    ) -> Result<SeenView, Fault>
+        requires text { IsOfText workspace.now }
+        requires declared { crate_id.index < length workspace.now.crates }
+        requires few { handles ≤ MAX_HANDLES }
+        requires view { IsViewOf workspace.now self.crate_id.index handles self }
+        ensures view { IfOk result (IsViewOf workspace.now crate_id.index handles) }
+        ensures of_crate { IfOk result (λ view. view.crate_id ≡ crate_id) }
+        ensures full { result ≡ Err Fault.Full → handles ≤ length self.interner.entries + most_terms workspace.now crate_id.index }
+    {
+        let few = self.frames <= u64::from(handles / TERMS_FOR_A_FRAME);
+        if few && begins_with(workspace, self.crate_id, crate_id) {
+            return self.grown(alloc, workspace, crate_id, handles);
+        }
+        drop(self);
+        SeenView::new(alloc, workspace, crate_id, handles)
+    }
+
+    /// Its interner, its declarations, and how many frames searches over the interner have started.
+    pub(crate) fn into_parts(self) -> (Interner, Declarations, u64)
+        ensures { result ≡ (self.interner, self.declarations, self.frames) }
+    {
+        let SeenView {
+            crate_id: _,
+            interner,
+            declarations,
+            frames,
+        } = self;
+        (interner, declarations, frames)
+    }
+}
