@@ -32,9 +32,10 @@ impl Spending {
         self.answering = self.answering.saturating_add(to.saturating_sub(from));
     }
 
-    /// Adds what an explanation took, and the goals that it walked.
+    /// Adds what an explanation took, and the goals that it walked: to tell one takes as long as two frames.
     pub(crate) fn add_explanation(&mut self, from: u64, to: u64, goals: usize) {
-        let frames = to.saturating_sub(from).saturating_add(goals as u64);
+        let telling = (goals as u64).saturating_mul(2);
+        let frames = to.saturating_sub(from).saturating_add(telling);
         self.explaining = self.explaining.saturating_add(frames);
     }
 
