@@ -1,5 +1,5 @@
 -- Crates, checks and questions by their places.
-use Rattle.std.proofs.Common.{◌≡◌, ℕ, ◌+◌, ◌-◌, ◌<◌, Bool, true, false, List, map, length, get_or, Option, Some, None, refl, sym, ap, ◌∙◌, subst, arith}
+use Rattle.std.proofs.Common.{◌≡◌, ℕ, ◌+◌, ◌-◌, ◌<◌, Bool, List, map, length, get_or, Option, Some, None, refl, sym, ap, ◌∙◌, subst, arith}
 use Rattle.std.specs.List.{slice_get}
 use Rattle.std.specs.Option.{option_map}
 use Rattle.std.proofs.lemmas.List.{length-map}
@@ -11,7 +11,7 @@ use Rattle.workspace.specs.Numbered.{IsNumbered}
 use Rattle.workspace.specs.Views.{numbers_of, asked_of, asker_of, is_refute, check_of}
 use Rattle.workspace.specs.declared.declared.Asked.{Asked}
 use Rattle.workspace.specs.declared.declared.Check.{Check}
-use Rattle.sessions.specs.Subjects.{Asks, AsksProof, AsksRefutation}
+use Rattle.sessions.specs.Subjects.{Asks}
 
 pub mapped-some : {A B : Type 0} (f : A → B) (o : Option A) (y : B) → option_map f o ≡ Some y → (x : A) × (o ≡ Some x) × (f x ≡ y)
 mapped-some f None y e = absurd cc

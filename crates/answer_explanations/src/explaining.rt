@@ -1,6 +1,7 @@
 //! Each line of an answer, explained.
 
-ghost use Rattle.std.specs.Prelude.{◌≡◌, ◌<◌, length};
+ghost use Rattle.std.specs.Prelude.{◌≡◌, ◌<◌, length, IfSome, OnOk};
+ghost use Rattle.sessions.specs.SeenViews.{IsLeftView};
 ghost use Rattle.sessions.specs.Subjects.{IsOfText, StaysOn};
 ghost use Rattle.workspace.specs.Numbered.{IsFew};
 
@@ -14,7 +15,7 @@ use crate::spending::Spending;
 use diagnostics::{Diagnostic, SourceFile};
 use explanation_texts::{Texts, fault_diagnostic, item_lines, orphan};
 use session_walks::impl_header;
-use sessions::{Limits, Session, Verdict};
+use sessions::{Limits, SeenView, Session, Verdict};
 use std::alloc::{AllocError, Global};
 use text_reader::{TextError, parse};
 use type_terms::{CrateId, Fault, ImplId};
@@ -119,6 +120,7 @@ fn explain_questions(
     requires on { session.old.declarations ≡ texts.workspace.now }
     requires of_crate { session.old.of_crate ≡ id.index }
     requires few { IsFew texts.workspace.now ENTRY_LIMIT }
+    ensures { StaysOn session.old session.new }
 {
     let before = first_question(texts.workspace);
     for place in 0..question_count(texts.workspace) {
@@ -151,6 +153,7 @@ fn explain_below(
     requires on { session.old.declarations ≡ texts.workspace.now }
     requires of_crate { session.old.of_crate ≡ id.index }
     requires few { IsFew texts.workspace.now ENTRY_LIMIT }
+    ensures { StaysOn session.old session.new }
 {
     if !is_asked(texts.workspace, id) {
         return Ok(());
@@ -160,7 +163,29 @@ fn explain_below(
     explain_questions(alloc, texts, session, id, depth, &seen, spending, found)
 }
 
-/// Explains the lines of a crate, by one session, which sees the crate's view. `core` has no line of its own.
+/// Explains the lines of the session's crate. `core` has no line of its own.
+fn explain_lines(
+    alloc: Global,
+    texts: Texts<'_>,
+    session: &mut Session<'_>,
+    id: CrateId,
+    depth: u32,
+    spending: &mut Spending,
+    found: &mut Vec<Option<Diagnostic>>,
+) -> Result<(), Fault>
+    requires on { session.old.declarations ≡ texts.workspace.now }
+    requires of_crate { session.old.of_crate ≡ id.index }
+    requires few { IsFew texts.workspace.now ENTRY_LIMIT }
+    ensures { StaysOn session.old session.new }
+{
+    if let Some(line) = (id.index as usize).checked_sub(1) {
+        let told = explain_verdict(alloc, texts, session, id)?;
+        put(found, line, told);
+    }
+    explain_below(alloc, texts, session, id, depth, spending, found)
+}
+
+/// Explains the lines of a crate, by one session, which sees the crate's view: it is made behind the view that is kept, and leaves its own.
 fn explain_crate(
     alloc: Global,
     texts: Texts<'_>,
@@ -168,17 +193,16 @@ fn explain_crate(
     limits: Limits,
     spending: &mut Spending,
     found: &mut Vec<Option<Diagnostic>>,
+    view: &mut Option<SeenView>,
 ) -> Result<(), Fault>
     requires parsed { IsOfText texts.workspace.now }
     requires few { IsFew texts.workspace.now ENTRY_LIMIT }
     requires declared { id.index < length texts.workspace.now.crates }
+    requires view { IfSome view.old (IsLeftView texts.workspace.now limits.handles) }
+    ensures { OnOk result (IfSome view.new (IsLeftView texts.entry.workspace.now limits.handles)) }
 {
-    let mut session = Session::new(alloc, texts.workspace, id, limits)?;
-    if let Some(line) = (id.index as usize).checked_sub(1) {
-        let told = explain_verdict(alloc, texts, &mut session, id)?;
-        put(found, line, told);
-    }
-    explain_below(
+    let mut session = Session::on_crate(alloc, texts.workspace, id, limits, view.take())?;
+    explain_lines(
         alloc,
         texts,
         &mut session,
@@ -186,7 +210,9 @@ fn explain_crate(
         limits.depth,
         spending,
         found,
-    )
+    )?;
+    *view = Some(session.into_view());
+    Ok(())
 }
 
 /// Explains the lines of all crates.
@@ -200,10 +226,11 @@ fn explain_crates(
     requires few { IsFew texts.workspace.now ENTRY_LIMIT }
 {
     let mut spending = Spending::new();
+    let mut view = None;
     for place in 0..crate_count(texts.workspace) {
         let id = crate_at(texts.workspace, place);
         if place > 0 || is_asked(texts.workspace, id) {
-            explain_crate(alloc, texts, id, limits, &mut spending, found)?;
+            explain_crate(alloc, texts, id, limits, &mut spending, found, &mut view)?;
         }
     }
     Ok(())

@@ -4,12 +4,9 @@ use Rattle.std.specs.Prelude.{IfSome}
 use Rattle.text_definitions.specs.Declarations.{Declarations}
 use Rattle.text_definitions.specs.Output.{fault, output_text}
 use Rattle.workspace.specs.Numbered.{IsNumbered}
-use Rattle.sessions.specs.SeenViews.{IsViewOf}
-use Rattle.sessions.specs.Subjects.{Subject}
-use Rattle.sessions.specs.declared.seen_view.SeenView.{SeenView}
 use Rattle.coherence.specs.KeptLines.{HasKeptLineAt, IsCheckLineOf, IsLineOf, KeepsLines}
 use Rattle.coherence.specs.LineByLine.{CountsLine, IsLineAt, IsVerdictLine, of_crate, of_check, of_question}
-use Rattle.coherence.specs.LineSources.{IsGivenInOrder, IsOfSomeCrate, lines_given}
+use Rattle.coherence.specs.LineSources.{IsGivenInOrder, lines_given}
 use Rattle.coherence.specs.declared.kept.KeptLines.{KeptLines}
 use Rattle.coherence.specs.declared.output_lines.LineCounts.{LineCounts}
 use Rattle.coherence.proofs.KeptLines.{kept-check, kept-line}
@@ -59,9 +56,3 @@ none-left count old new (Some x) e c = absurd cc
 pub some-weaker : {A : Type 0} (items : A → List ℕ) (P Q : List ℕ → Type 0) (next : Option A) → ((text : List ℕ) → P text → Q text) → IfSome next (λ x. P (items x)) → IfSome next (λ x. Q (items x))
 some-weaker items P Q None f h = tt
 some-weaker items P Q (Some x) f h = f (items x) h
-
--- what a session of the text leaves
-pub of-some-crate : (s : Subject) (d : Declarations) (handles : ℕ) (v : SeenView) → s.declarations ≡ d → s.handles ≡ handles → IsViewOf s.declarations s.of_crate s.handles v → IsOfSomeCrate d handles v
-of-some-crate s d handles v text room h =
-    subst (λ (x : Declarations). IsViewOf x v.crate_id.index handles v) text
-    (subst (λ n. IsViewOf s.declarations v.crate_id.index n v) room (subst (λ c. IsViewOf s.declarations c s.handles v) (sym h.crate) h))

@@ -3,9 +3,8 @@ use Rattle.std.specs.Prelude.{◌≡◌, ℕ, ◌+◌, ◌-◌, ◌≤◌, ◌<�
 use Rattle.name_resolution.specs.FaultNumbers.{fault_number}
 use Rattle.text_definitions.specs.Declarations.{Declarations}
 use Rattle.workspace.specs.Numbered.{IsNumbered, IsFew}
-use Rattle.sessions.specs.SeenViews.{IsViewOf}
+use Rattle.sessions.specs.SeenViews.{IsLeftView}
 use Rattle.sessions.specs.Subjects.{IsOfText}
-use Rattle.sessions.specs.declared.seen_view.SeenView.{SeenView}
 use Rattle.coherence.specs.Groups.{AreGroups}
 use Rattle.coherence.specs.KeptLines.{KeepsLines}
 use Rattle.coherence.specs.declared.kept.KeptLines.{KeptLines}
@@ -45,10 +44,6 @@ pub record HasRoom (d : Declarations) (lines : KeptLines) : Type 0 where
   pub checks : length lines.checks.items ≡ length d.checks
   pub questions : length lines.questions.items ≡ length d.questions
 
--- what the session of its crate has lowered, which had room for so many handles
-abbrev pub IsOfSomeCrate : Declarations → ℕ → SeenView → Type 0
-IsOfSomeCrate d handles v = IsViewOf d v.crate_id.index handles v
-
 -- n crates have their lines, and what is asked of them, and of `core`, is answered; what is lowered, if anything is, is a crate's view
 pub record KeepsAnswers (limit handles n : ℕ) (a : TextAnswers) : Type 0 where
   pub parsed : IsOfText a.workspace
@@ -56,7 +51,7 @@ pub record KeepsAnswers (limit handles n : ℕ) (a : TextAnswers) : Type 0 where
   pub few : IsFew a.workspace 1048640
   pub groups : AreGroups (length a.workspace.checks) (length a.workspace.questions) a.workspace a.groups.items
   pub kept : KeepsLines limit a.workspace (n + 1) a.kept
-  pub view : IfSome a.view (IsOfSomeCrate a.workspace handles)
+  pub view : IfSome a.view (IsLeftView a.workspace handles)
 
 -- So the lines that are left are made: where one could not be, only what was given is known.
 abbrev pub HoldsLines : (limit handles : ℕ) → Bool → LineCounts → LineSource → Type 0

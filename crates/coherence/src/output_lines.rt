@@ -5,11 +5,12 @@ ghost use Rattle.name_resolution.specs.FaultNumbers.{fault_number};
 ghost use Rattle.text_definitions.specs.Output.{fault, output_text};
 ghost use Rattle.text_definitions.specs.Text.{TextGives};
 ghost use Rattle.workspace.specs.Numbered.{IsNumbered, IsFew};
+ghost use Rattle.sessions.specs.SeenViews.{IsLeftView};
 ghost use Rattle.sessions.specs.Subjects.{IsOfText, StaysOn};
 ghost use Rattle.coherence.specs.Faults.{IsFullAtLimit};
 ghost use Rattle.coherence.specs.Groups.{IsGroup};
 ghost use Rattle.coherence.specs.LineByLine.{CountsLine, HasNoMore, IsAfterFault, IsAfterLine, IsLineAt, IsVerdictLine, line_count, status_of};
-ghost use Rattle.coherence.specs.LineSources.{HasRoom, HoldsLines, IsGivenInOrder, IsGivenOfFault, IsNoneGiven, IsOfSomeCrate, KeepsAnswers, lines_given, text_of};
+ghost use Rattle.coherence.specs.LineSources.{HasRoom, HoldsLines, IsGivenInOrder, IsGivenOfFault, IsNoneGiven, KeepsAnswers, lines_given, text_of};
 ghost use Rattle.coherence.specs.KeptLines.{KeepsLines};
 ghost use Rattle.coherence.specs.declared.output_lines.LineCounts.{LineCounts};
 
@@ -71,28 +72,6 @@ fn judge_by(
     Ok(line)
 }
 
-/// A session on a crate, behind the view of an earlier one where there is one.
-fn session_on<'w>(
-    alloc: Global,
-    workspace: &'w Workspace,
-    id: CrateId,
-    limits: Limits,
-    view: Option<SeenView>,
-) -> Result<Session<'w>, Fault>
-    requires parsed { IsOfText workspace.now }
-    requires declared { id.index < length workspace.now.crates }
-    requires view { IfSome view (IsOfSomeCrate workspace.now limits.handles) }
-    ensures declarations { IfOk result (λ session. session.declarations ≡ workspace.now) }
-    ensures of_crate { IfOk result (λ session. session.of_crate ≡ id.index) }
-    ensures depth { IfOk result (λ session. session.depth ≡ limits.depth) }
-    ensures handles { IfOk result (λ session. session.handles ≡ limits.handles) }
-{
-    match view {
-        None => Session::new(alloc, workspace, id, limits),
-        Some(view) => Session::behind(alloc, workspace, id, limits, view),
-    }
-}
-
 /// The line of a crate; keeps the lines of its checks and questions: by one session, which sees the crate's view. The session is made
 /// behind the view that is kept, and leaves its own.
 fn judge_crate(
@@ -110,14 +89,14 @@ fn judge_crate(
     requires declared { id.index < length workspace.now.crates }
     requires group { IsGroup (length workspace.now.checks) (length workspace.now.questions) workspace.now id.index group.now }
     requires kept { KeepsLines limits.depth workspace.now id.index lines.old }
-    requires view { IfSome view.old (IsOfSomeCrate workspace.now limits.handles) }
+    requires view { IfSome view.old (IsLeftView workspace.now limits.handles) }
     ensures line { IfOk result (λ text. IsVerdictLine limits.depth workspace.now id.index text.items) }
     ensures kept { OnOk result (KeepsLines limits.depth workspace.now (id.index + 1) lines.new) }
-    ensures view { OnOk result (IfSome view.new (IsOfSomeCrate workspace.now limits.handles)) }
+    ensures view { OnOk result (IfSome view.new (IsLeftView workspace.now limits.handles)) }
     ensures unread { IfErr result (λ fault. fault ≢ RunFault.Read) }
     ensures unwritten { IfErr result (λ fault. fault ≢ RunFault.Write) }
 {
-    let mut session = session_on(alloc, workspace, id, limits, view.take())?;
+    let mut session = Session::on_crate(alloc, workspace, id, limits, view.take())?;
     let line = judge_by(alloc, &mut session, workspace, id, group, lines)?;
     *view = Some(session.into_view());
     Ok(line)

@@ -17,3 +17,7 @@ pub record IsViewOf (d : Declarations) (c handles : ℕ) (view : SeenView) : Typ
   pub ready : AreReadyDeclarations view.interner.entries view.declarations
   pub limit : view.interner.limit ≡ handles
   pub declared : c < length d.crates
+
+-- It is what a session has left whose interner has room for so many handles: what its crate sees.
+abbrev pub IsLeftView : Declarations → ℕ → SeenView → Type 0
+IsLeftView d handles view = IsViewOf d view.crate_id.index handles view

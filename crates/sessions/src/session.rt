@@ -19,7 +19,7 @@ ghost use Rattle.sessions.specs.FrameBounds.{ProvesInFrames, RefutesInFrames};
 ghost use Rattle.sessions.specs.Given.{AnswerValuesHeld, VerdictHeld, answer_in, later_of, refutation_of, supers_of, verdict_in};
 ghost use Rattle.sessions.specs.Promises.{IsProved, IsRefutation, IsVerdictOf};
 ghost use Rattle.sessions.specs.Releases.{AddedImplsBreakNoUser, IsSectionOf, IsLaterAnswer, IsSupersAnswer};
-ghost use Rattle.sessions.specs.SeenViews.{IsViewOf};
+ghost use Rattle.sessions.specs.SeenViews.{IsLeftView, IsViewOf};
 ghost use Rattle.sessions.specs.Shown.{AreProofOfQuestion};
 ghost use Rattle.sessions.specs.Shortages.{SessionFullAtLimit};
 ghost use Rattle.sessions.specs.Supertraits.{IsCheckedAt};
@@ -173,6 +173,30 @@ impl<'w> Session<'w> {
     {
         let seen = view.handed_on(alloc, workspace, crate_id, limits.handles)?;
         Session::on_view(alloc, workspace, limits, seen)
+    }
+
+    /// A session on a crate of a text: behind that of another crate, where that one's view is at hand (`behind`), and else a new one
+    /// (`new`). Faults are those of either.
+    pub fn on_crate(
+        alloc: Global,
+        workspace: &'w Workspace,
+        crate_id: CrateId,
+        limits: Limits,
+        left: Option<SeenView>,
+    ) -> Result<Self, Fault>
+        requires parsed { IsOfText workspace.now }
+        requires declared { crate_id.index < length workspace.now.crates }
+        requires left { IfSome left (IsLeftView workspace.now limits.handles) }
+        ensures declarations { IfOk result (λ session. session.declarations ≡ workspace.now) }
+        ensures of_crate { IfOk result (λ session. session.of_crate ≡ crate_id.index) }
+        ensures depth { IfOk result (λ session. session.depth ≡ limits.depth) }
+        ensures handles { IfOk result (λ session. session.handles ≡ limits.handles) }
+        ensures frames { IfOk result (λ session. session.frames ≡ 0) }
+    {
+        match left {
+            None => Session::new(alloc, workspace, crate_id, limits),
+            Some(view) => Session::behind(alloc, workspace, crate_id, limits, view),
+        }
     }
 
     /// A session on the crate that sees the view. It takes no memory yet.

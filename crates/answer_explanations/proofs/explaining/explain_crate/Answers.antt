@@ -1,16 +1,9 @@
-use Rattle.answer_explanations.proofs.explaining.explain_crate.Goals.{in-Some+in_ok-told, in_default}
+use Rattle.std.proofs.Common.{◌∙◌}
+use Rattle.sessions.proofs.LeftViews.{left-view}
 use Rattle.answer_explanations.proofs.explaining.explain_crate.Goals as goal
 
-pub explain_below-requires-clause-of_crate : goal.explain_below-requires-clause-of_crate
-explain_below-requires-clause-of_crate c =
-    elim c.match-checked_sub.branch [
-      | in-Some+in_ok-told w ↦
-          let is = w.session-is in
-          let stays = w.explain_verdict.ensures.of_crate in
-          let began = c.in_ok-session.ensures.of_crate in
-          cc
-      | in_default w ↦
-          let is = w.session-is in
-          let began = c.in_ok-session.ensures.of_crate in
-          cc
-    ]
+pub returns : goal.returns
+returns c =
+    let stays = c.in_ok-explain_lines.ensures in
+    let on = c.in_ok-session.ensures in
+    left-view c.explain_lines.new.session c.args.texts.workspace.now c.args.limits.handles c.into_view.result (stays.declarations ∙ on.declarations) (stays.handles ∙ on.handles) c.into_view.ensures.view

@@ -2,7 +2,7 @@ use Rattle.std.proofs.Common.{◌∙◌, ◌+◌, subst, sym}
 use Rattle.std.proofs.lemmas.Result.{err_from_is_err_and}
 use Rattle.coherence.specs.KeptLines.{KeepsLines}
 use Rattle.coherence.specs.LineByLine.{IsVerdictLine}
-use Rattle.coherence.proofs.SourceLines.{of-some-crate}
+use Rattle.sessions.proofs.LeftViews.{left-view}
 use Rattle.coherence.proofs.output_lines.judge_crate.Goals as goal
 
 pub returns-in_err-line-clause-unread : goal.returns-in_err-line-clause-unread
@@ -25,4 +25,4 @@ pub returns-clause-view : goal.returns-clause-view
 returns-clause-view c =
     let stays = c.in_ok-line.ensures.stays in
     let on = c.in_ok-session.ensures in
-    of-some-crate c.judge_by.new.session c.args.workspace.now c.args.limits.handles c.into_view.result (stays.declarations ∙ on.declarations) (stays.handles ∙ on.handles) c.into_view.ensures.view
+    left-view c.judge_by.new.session c.args.workspace.now c.args.limits.handles c.into_view.result (stays.declarations ∙ on.declarations) (stays.handles ∙ on.handles) c.into_view.ensures.view
