@@ -3,7 +3,7 @@
 ghost use Rattle.std.specs.Prelude.{◌≡◌, ◌≤◌, ◌<◌, ◌++◌, length, map, take, codes, string_bytes, IfOk};
 ghost use Rattle.diagnostics.specs.Shown.{shown};
 
-use crate::row::push_shown;
+use crate::writer::TextWriter;
 use std::alloc::{AllocError, Global};
 
 /// How many bytes of a type are shown.
@@ -18,28 +18,28 @@ pub fn cut_text(alloc: Global, text: &[u8], limit: usize) -> Result<String, Allo
     ensures whole { IfOk result (λ t. length text.now ≤ limit → string_bytes t ≡ map shown text.now) }
     ensures cut { IfOk result (λ t. limit < length text.now → string_bytes t ≡ map shown (take limit text.now) ++ codes "..") }
 {
-    let mut out = String::new(alloc);
+    let mut out = TextWriter::new(alloc);
     if text.len() <= limit {
-        push_shown(&mut out, text)?;
+        out.push_shown(text);
     } else {
-        push_shown(&mut out, &text[..limit])?;
-        out.push_str("..")?;
+        out.push_shown(&text[..limit]);
+        out.push_str("..");
     }
-    Ok(out)
+    out.finish()
 }
 
 /// A list as it is shown: its first items with `, ` between each two, and `, ..` behind them where it has more than `LIST_LIMIT`.
 pub fn cut_list(alloc: Global, items: &[String]) -> Result<String, AllocError> {
-    let mut out = String::new(alloc);
+    let mut out = TextWriter::new(alloc);
     for (index, item) in items.iter().enumerate() {
         if index > 0 {
-            out.push_str(", ")?;
+            out.push_str(", ");
         }
         if index == LIST_LIMIT {
-            out.push_str("..")?;
+            out.push_str("..");
             break;
         }
-        out.push_str(item.as_str())?;
+        out.push_str(item.as_str());
     }
-    Ok(out)
+    out.finish()
 }

@@ -4,11 +4,12 @@ ghost use Rattle.std.specs.Prelude.{◌≡◌, ◌≤◌, ◌<◌, ◌+◌, ◌-
 ghost use Rattle.diagnostics.specs.Places.{IsPartOf};
 
 use crate::diagnostic::{Level, SpanLabel};
-use crate::row::{COLUMNS, Ink, Row, push_in, push_spaces};
+use crate::row::{COLUMNS, Ink, Row, push_in};
 use crate::source::SourceFile;
 use crate::span::{Place, place_in};
 use crate::window::window;
-use std::alloc::{AllocError, Global};
+use crate::writer::TextWriter;
+use std::fmt::InlineText;
 
 /// What all excerpts of a diagnostic have in common: colours, and the columns of their line numbers.
 #[derive(Clone, Copy)]
@@ -18,11 +19,24 @@ pub(crate) struct Frame {
     ghost short: { digits ≤ 10 },
 }
 
-/// A label whose text stands below its mark.
+/// A label whose text stands below its mark: the column of that, and which of the labels it is.
 #[derive(Clone, Copy)]
 struct Hanging {
     column: usize,
     index: usize,
+}
+
+/// What all of these stand before.
+const BEHIND_ALL: Hanging = Hanging {
+    column: usize::MAX,
+    index: usize::MAX,
+};
+
+impl Hanging {
+    /// Whether its bar stands beside the text of another: that one is further right, or at the same column and a later label.
+    fn is_before(self, other: Hanging) -> bool {
+        self.column < other.column || self.column == other.column && self.index < other.index
+    }
 }
 
 impl Frame {
@@ -48,13 +62,8 @@ impl Frame {
     }
 
     /// Appends a row with the bar alone.
-    pub(crate) fn push_bar(self, out: &mut String) -> Result<(), AllocError> {
-        self.bar().push_to(out, self.has_colors)
-    }
-
-    /// Appends a row.
-    fn push_row(self, out: &mut String, row: &Row) -> Result<(), AllocError> {
-        row.push_to(out, self.has_colors)
+    pub(crate) fn push_bar(self, out: &mut TextWriter) {
+        self.bar().push_to(out, self.has_colors);
     }
 }
 
@@ -75,7 +84,7 @@ fn next_line(labels: &[SpanLabel], last: u32) -> Option<u32>
     let mut found: Option<u32> = None;
     for label in labels {
         let line = label.span.line;
-        if line > last && found.is_none_or(|least| line < least) {
+        if line > last && line <= found.unwrap_or(u32::MAX) {
             found = Some(line);
         }
     }
@@ -95,32 +104,23 @@ struct LineView<'d> {
     view: Place,
 }
 
-/// What holds both places.
-fn join(first: Place, second: Place) -> Place
-    ensures start { result.start ≡ min first.start second.start }
-    ensures end { result.end ≡ max first.end second.end }
-{
-    Place {
-        start: first.start.min(second.start),
-        end: first.end.max(second.end),
-    }
-}
-
 /// From the first to the last of what is marked in a line of so many bytes.
 fn marked_place(labels: &[SpanLabel], line: u32, length: usize) -> Place
     ensures { IsPartOf length result }
 {
-    let mut found: Option<Place> = None;
+    let mut start = length;
+    let mut end = 0;
     for label in labels {
         if label.span.line == line {
             let place = place_in(&label.span, length);
-            found = match found {
-                None => Some(place),
-                Some(others) => Some(join(others, place)),
-            };
+            start = start.min(place.start);
+            end = end.max(place.end);
         }
     }
-    found.unwrap_or(Place { start: 0, end: 0 })
+    Place {
+        start: start.min(end),
+        end,
+    }
 }
 
 /// The first of what is marked in a line of so many bytes, a primary one if there is one.
@@ -159,8 +159,6 @@ fn text_row(frame: Frame, number: &[u8], text: &[u8], view: Place) -> Row
     let mut row = frame.bar();
     let left = frame.left();
     row.write(0, number, Ink::Frame);
-    row.mark(frame.digits, frame.digits + 1, b' ', Ink::Plain);
-    row.mark(frame.digits + 1, frame.digits + 2, b'|', Ink::Frame);
     row.write(left, &text[view.start..view.end], Ink::Plain);
     if view.start > 0 {
         row.mark(left, left + 2, b'.', Ink::Plain);
@@ -238,42 +236,50 @@ impl LineView<'_> {
         row
     }
 
-    /// The labels whose texts stand below their marks, by their columns.
-    fn hanging_labels(
-        self,
-        alloc: Global,
-        inline: Option<usize>,
-    ) -> Result<Vec<Hanging>, AllocError> {
-        let mut hanging = Vec::new(alloc);
-        for (index, label) in self.labels.iter().enumerate() {
-            if label.span.line == self.line && !label.label.is_empty() && inline != Some(index) {
-                let column = self.columns_of(label).start;
-                hanging.push(Hanging { column, index })?;
-            }
+    /// Where a label's text stands below its mark.
+    fn hanging(self, inline: Option<usize>, index: usize, label: &SpanLabel) -> Option<Hanging> {
+        if label.span.line != self.line || label.label.is_empty() || inline == Some(index) {
+            return None;
         }
-        hanging.sort_by_key(|label| label.column)?;
-        Ok(hanging)
+        Some(Hanging {
+            column: self.columns_of(label).start,
+            index,
+        })
     }
 
-    /// A row of bars under marks.
-    fn bar_row(self, hanging: &[Hanging]) -> Row {
+    /// The last of the labels whose texts stand below their marks, of those before one.
+    fn last_hanging(self, inline: Option<usize>, limit: Hanging) -> Option<Hanging> {
+        let mut found: Option<Hanging> = None;
+        for (index, label) in self.labels.iter().enumerate() {
+            if let Some(next) = self.hanging(inline, index, label)
+                && next.is_before(limit)
+            {
+                found = match found {
+                    Some(last) if next.is_before(last) => found,
+                    _ => Some(next),
+                };
+            }
+        }
+        found
+    }
+
+    /// A row of bars under the marks of labels whose texts stand below them, of those before one.
+    fn bar_row(self, inline: Option<usize>, limit: Hanging) -> Row {
         let mut row = self.frame.bar();
-        for bar in hanging {
-            if let Some(label) = self.labels.get(bar.index) {
-                row.mark(
-                    bar.column,
-                    bar.column.saturating_add(1),
-                    b'|',
-                    self.ink_of(label),
-                );
+        for (index, label) in self.labels.iter().enumerate() {
+            if let Some(bar) = self.hanging(inline, index, label)
+                && bar.is_before(limit)
+            {
+                let end = bar.column.saturating_add(1);
+                row.mark(bar.column, end, b'|', self.ink_of(label));
             }
         }
         row
     }
 
-    /// The row of a label's text, with the bars of labels that follow.
-    fn hanging_row(self, before: &[Hanging], last: Hanging) -> Row {
-        let mut row = self.bar_row(before);
+    /// The row of a label's text, with the bars of labels that stand before it.
+    fn hanging_row(self, inline: Option<usize>, last: Hanging) -> Row {
+        let mut row = self.bar_row(inline, last);
         if let Some(label) = self.labels.get(last.index) {
             let room = COLUMNS.saturating_sub(label.label.len());
             let start = last.column.min(room).max(self.frame.left());
@@ -282,42 +288,44 @@ impl LineView<'_> {
         row
     }
 
-    /// Appends the rows of labels whose texts stand below their marks.
-    fn push_hanging(self, out: &mut String, hanging: &[Hanging]) -> Result<(), AllocError> {
-        if hanging.is_empty() {
-            return Ok(());
+    /// Appends the rows of labels whose texts stand below their marks, the last one first; above them a row with the bars of all.
+    fn push_hanging(self, out: &mut TextWriter, inline: Option<usize>) {
+        let mut above = BEHIND_ALL;
+        for index in 0..self.labels.len() {
+            let Some(last) = self.last_hanging(inline, above) else {
+                break;
+            };
+            if index == 0 {
+                self.bar_row(inline, above)
+                    .push_to(out, self.frame.has_colors);
+            }
+            self.hanging_row(inline, last)
+                .push_to(out, self.frame.has_colors);
+            above = last;
         }
-        self.frame.push_row(out, &self.bar_row(hanging))?;
-        for count in (0..hanging.len()).rev() {
-            let row = self.hanging_row(&hanging[..count], hanging[count]);
-            self.frame.push_row(out, &row)?;
-        }
-        Ok(())
     }
 
     /// Appends the rows under the text of a line.
-    fn push_marks(self, alloc: Global, out: &mut String) -> Result<(), AllocError> {
+    fn push_marks(self, out: &mut TextWriter) {
         let inline = self.inline_label();
-        self.frame.push_row(out, &self.mark_row(inline))?;
-        let hanging = self.hanging_labels(alloc, inline)?;
-        self.push_hanging(out, &hanging)
+        self.mark_row(inline).push_to(out, self.frame.has_colors);
+        self.push_hanging(out, inline);
     }
 }
 
 /// Appends a line with what is said of it.
 fn push_line(
-    alloc: Global,
-    out: &mut String,
+    out: &mut TextWriter,
     frame: Frame,
     text: &[u8],
     level: Level,
     labels: &[SpanLabel],
     line: u32,
-) -> Result<(), AllocError> {
+) {
     let view = view_of(labels, line, text.len(), frame.width());
-    let number = format!(in alloc; "{line}")?;
-    let row = text_row(frame, number.as_bytes(), text, view);
-    frame.push_row(out, &row)?;
+    let number = InlineText::<10>::of(line);
+    let row = text_row(frame, number.as_str().as_bytes(), text, view);
+    row.push_to(out, frame.has_colors);
     let shown = LineView {
         frame,
         labels,
@@ -326,50 +334,42 @@ fn push_line(
         length: text.len(),
         view,
     };
-    shown.push_marks(alloc, out)
+    shown.push_marks(out);
 }
 
 /// Appends where a text is spoken of: ` --> NAME:LINE:COLUMN`.
-fn push_place(
-    alloc: Global,
-    out: &mut String,
-    frame: Frame,
-    name: &str,
-    main: &SpanLabel,
-) -> Result<(), AllocError> {
-    let line = main.span.line;
-    let column = main.span.start.saturating_add(1);
-    push_spaces(out, frame.digits)?;
-    push_in(out, frame.has_colors, Ink::Frame, "--> ")?;
-    let place = format!(in alloc; "{name}:{line}:{column}\n")?;
-    out.push_str(place.as_str())
+fn push_place(out: &mut TextWriter, frame: Frame, name: &str, main: &SpanLabel) {
+    out.push_spaces(frame.digits);
+    push_in(out, frame.has_colors, Ink::Frame, "--> ");
+    out.push_str(name);
+    out.push_number(":", main.span.line as usize);
+    out.push_number(":", main.span.start.saturating_add(1));
+    out.push_str("\n");
 }
 
 /// Appends the lines that labels are of, each once, with marks; nothing where there is no label.
 pub(crate) fn push_excerpt(
-    alloc: Global,
-    out: &mut String,
+    out: &mut TextWriter,
     frame: Frame,
     file: &SourceFile<'_>,
     level: Level,
     labels: &[SpanLabel],
-) -> Result<(), AllocError> {
+) {
     let Some(main) = main_label(labels) else {
-        return Ok(());
+        return;
     };
-    push_place(alloc, out, frame, file.name(), main)?;
-    frame.push_bar(out)?;
+    push_place(out, frame, file.name(), main);
+    frame.push_bar(out);
     let mut last = 0;
     for _ in labels {
         let Some(line) = next_line(labels, last) else {
             break;
         };
         if last != 0 && line - last > 1 {
-            push_in(out, frame.has_colors, Ink::Frame, "...")?;
-            out.push_str("\n")?;
+            push_in(out, frame.has_colors, Ink::Frame, "...");
+            out.push_str("\n");
         }
-        push_line(alloc, out, frame, file.line(line), level, labels, line)?;
+        push_line(out, frame, file.line(line), level, labels, line);
         last = line;
     }
-    Ok(())
 }

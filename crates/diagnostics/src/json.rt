@@ -6,10 +6,10 @@ ghost use Rattle.diagnostics.specs.Places.{IsPartOf};
 use crate::diagnostic::{Diagnostic, ErrCode, Level, ProofRow, SpanLabel, Subdiagnostic};
 use crate::proof_tree::{goal_columns, push_proof_row};
 use crate::rendering::render;
-use crate::row::push_shown;
 use crate::source::SourceFile;
 use crate::span::{Place, place_in};
 use crate::window::{place_in_window, window};
+use crate::writer::TextWriter;
 use serde_json::{Map, Value, put};
 use std::alloc::{AllocError, Global};
 
@@ -70,8 +70,9 @@ fn put_line(
     requires { IsPartOf (length line.now) place }
 {
     let view = window(line.len(), LINE_BYTES, place);
-    let mut text = String::new(alloc);
-    push_shown(&mut text, &line[view.start..view.end])?;
+    let mut text = TextWriter::new(alloc);
+    text.push_shown(&line[view.start..view.end]);
+    let text = text.finish()?;
     put(object, alloc, "text", Value::String(text))?;
     let marked = place_in_window(view, place);
     put_numbers(
@@ -222,27 +223,23 @@ fn child_value(
     Ok(Value::Object(object))
 }
 
-/// A proof as one note, a row a line, each whole.
-fn proof_value(alloc: Global, rows: &[ProofRow]) -> Result<Value, AllocError> {
-    let mut message = String::from_str(alloc, "proof:")?;
+/// A proof as one text, a row a line, each whole.
+fn proof_text(alloc: Global, rows: &[ProofRow]) -> Result<String, AllocError> {
+    let mut text = TextWriter::new(alloc);
+    text.push_str("proof:");
     let columns = goal_columns(rows);
     for (index, row) in rows.iter().enumerate() {
-        message.push_str("\n")?;
-        push_proof_row(
-            alloc,
-            &mut message,
-            row,
-            &rows[index + 1..],
-            columns,
-            usize::MAX,
-        )?;
+        text.push_str("\n");
+        push_proof_row(&mut text, row, &rows[index + 1..], columns, usize::MAX);
     }
-    child_value(
-        alloc,
-        Level::Note,
-        message.as_str(),
-        Value::Array(Vec::new(alloc)),
-    )
+    text.finish()
+}
+
+/// The same as one note.
+fn proof_value(alloc: Global, rows: &[ProofRow]) -> Result<Value, AllocError> {
+    let message = proof_text(alloc, rows)?;
+    let spans = Value::Array(Vec::new(alloc));
+    child_value(alloc, Level::Note, message.as_str(), spans)
 }
 
 fn subdiagnostic_value(

@@ -19,6 +19,7 @@ mod source;
 mod span;
 mod tokens;
 mod window;
+mod writer;
 
 pub use cut::{LIST_LIMIT, TYPE_LIMIT, cut_list, cut_text};
 pub use diagnostic::{Diagnostic, ErrCode, Level, ProofRow, SpanLabel, Subdiagnostic};

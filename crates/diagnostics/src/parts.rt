@@ -21,17 +21,12 @@ pub struct LineParts {
     pub clauses: Vec<Place>,
 }
 
-/// Whether a token opens a list.
-fn is_open(token: &[u8]) -> bool {
-    matches!(token.first(), Some(b'<' | b'(' | b'['))
+/// Whether a token is a word.
+fn is_token(line: &[u8], place: Place, word: &[u8]) -> bool {
+    text_of(line, place) == word
 }
 
-/// Whether a token closes a list.
-fn is_close(token: &[u8]) -> bool {
-    matches!(token.first(), Some(b'>' | b')' | b']'))
-}
-
-/// The token behind the list that a token opens, or behind the last one.
+/// The token behind a token, and behind the list if it opens one; or behind the last one.
 fn behind_list(line: &[u8], tokens: &[Place], from: usize) -> usize
     requires { from < length tokens.now }
     ensures behind { from < result }
@@ -39,11 +34,10 @@ fn behind_list(line: &[u8], tokens: &[Place], from: usize) -> usize
 {
     let mut depth = 0usize;
     for at in from..tokens.len() {
-        let token = text_of(line, tokens[at]);
-        if is_open(token) {
-            depth = depth.saturating_add(1);
-        } else if is_close(token) {
-            depth = depth.saturating_sub(1);
+        match text_of(line, tokens[at]).first() {
+            Some(b'<' | b'(' | b'[') => depth = depth.saturating_add(1),
+            Some(b'>' | b')' | b']') => depth = depth.saturating_sub(1),
+            _ => {}
         }
         if depth == 0 {
             return at + 1;
@@ -60,29 +54,24 @@ fn find_outside(line: &[u8], tokens: &[Place], from: usize, word: &[u8]) -> usiz
 {
     let mut at = from;
     while at < tokens.len() {
-        let token = text_of(line, tokens[at]);
-        if token == word {
+        if is_token(line, tokens[at], word) {
             return at;
         }
-        at = if is_open(token) {
-            behind_list(line, tokens, at)
-        } else {
-            at + 1
-        };
+        at = behind_list(line, tokens, at);
     }
     at
 }
 
-/// The place of the tokens from one to before another; none where there are none.
-fn between(tokens: &[Place], from: usize, to: usize) -> Option<Place> {
-    if from >= to || to > tokens.len() {
-        return None;
-    }
+/// The place of the tokens from one to before another.
+fn between(tokens: &[Place], from: usize, to: usize) -> Place
+    requires some { from < to }
+    requires there { to ≤ length tokens.now }
+{
     let end = tokens[to - 1].end;
-    Some(Place {
+    Place {
         start: tokens[from].start.min(end),
         end,
-    })
+    }
 }
 
 /// The places of what stands between commas, from a token on.
@@ -96,87 +85,72 @@ fn list_places(
     let mut at = from;
     while at < tokens.len() {
         let comma = find_outside(line, tokens, at, b",");
-        if let Some(place) = between(tokens, at, comma) {
-            places.push(place)?;
+        if at < comma {
+            places.push(between(tokens, at, comma))?;
         }
         at = comma.saturating_add(1);
     }
     Ok(places)
 }
 
-/// The token behind the parameters of a line, which stand at a token if there are any.
+/// The token behind the parameters of a line, which stand at a token if there are any; behind the last one where there are fewer tokens.
 fn behind_params(line: &[u8], tokens: &[Place], from: usize) -> usize
-    requires { from ≤ length tokens.now }
     ensures { result ≤ length tokens.now }
 {
-    match tokens.get(from) {
-        Some(place) if text_of(line, *place).first() == Some(&b'<') => {
-            behind_list(line, tokens, from)
-        }
-        _ => from,
+    if from < tokens.len() && is_token(line, tokens[from], b"<") {
+        behind_list(line, tokens, from)
+    } else {
+        from.min(tokens.len())
     }
 }
 
-/// The parts of a line from a token on, of which one stands before a word and one behind it.
+/// The parts of a line from a token on, of which one stands before a word and one behind it: the trait and then the type, or the other way.
 fn parts_from(
     alloc: Global,
     line: &[u8],
     tokens: &[Place],
     from: usize,
     word: &[u8],
+    is_type_first: bool,
 ) -> Result<Option<LineParts>, AllocError>
     requires { from ≤ length tokens.now }
 {
     let end = find_outside(line, tokens, from, b"where");
     let split = find_outside(line, tokens, from, word);
-    let Some(header) = between(tokens, from, end) else {
+    let behind = split.saturating_add(1);
+    if split == from || end <= behind {
         return Ok(None);
-    };
-    let Some(first) = between(tokens, from, split) else {
-        return Ok(None);
-    };
-    let Some(second) = between(tokens, split.saturating_add(1), end) else {
-        return Ok(None);
-    };
+    }
     let clauses = list_places(alloc, line, tokens, end.saturating_add(1))?;
+    let first = between(tokens, from, split);
+    let second = between(tokens, behind, end);
     Ok(Some(LineParts {
-        header,
-        bound: first,
-        subject: second,
+        header: between(tokens, from, end),
+        bound: if is_type_first { second } else { first },
+        subject: if is_type_first { first } else { second },
         clauses,
     }))
 }
 
+/// The parts of a line behind so many tokens and the parameters.
+fn parts_behind(
+    alloc: Global,
+    line: &[u8],
+    skipped: usize,
+    word: &[u8],
+    is_type_first: bool,
+) -> Result<Option<LineParts>, AllocError> {
+    let tokens = token_places(alloc, line)?;
+    let from = behind_params(line, &tokens, skipped);
+    parts_from(alloc, line, &tokens, from, word, is_type_first)
+}
+
 /// The parts of an impl's line; none where the line is no such line.
 pub fn parts_of_impl(alloc: Global, line: &[u8]) -> Result<Option<LineParts>, AllocError> {
-    let tokens = token_places(alloc, line)?;
-    if tokens.len() < 1 {
-        return Ok(None);
-    }
-    let from = behind_params(line, &tokens, 1);
-    parts_from(alloc, line, &tokens, from, b"for")
+    parts_behind(alloc, line, 1, b"for", false)
 }
 
 /// The parts of a question's line; none where the line is no such line.
 pub fn parts_of_question(alloc: Global, line: &[u8]) -> Result<Option<LineParts>, AllocError> {
-    let tokens = token_places(alloc, line)?;
-    if tokens.len() < 3 {
-        return Ok(None);
-    }
-    let from = behind_params(line, &tokens, 3);
-    let found = parts_from(alloc, line, &tokens, from, b":")?;
-    match found {
-        None => Ok(None),
-        Some(parts) => Ok(Some(swapped(parts))),
-    }
-}
-
-/// A question says the type first.
-fn swapped(parts: LineParts) -> LineParts {
-    LineParts {
-        header: parts.header,
-        bound: parts.subject,
-        subject: parts.bound,
-        clauses: parts.clauses,
-    }
+    parts_behind(alloc, line, 3, b":", true)
 }

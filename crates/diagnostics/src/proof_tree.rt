@@ -3,7 +3,7 @@
 ghost use Rattle.std.specs.Prelude.{◌≤◌, ◌+◌, string_len};
 
 use crate::diagnostic::ProofRow;
-use crate::row::{push_cut, push_spaces};
+use crate::writer::TextWriter;
 use std::alloc::{AllocError, Global};
 
 /// How many columns of a row are for the goal, so that the reasons of most stand below each other.
@@ -43,23 +43,17 @@ pub(crate) fn goal_columns(rows: &[ProofRow]) -> usize
 
 /// Appends what stands before the goal of a row: the lines that lead to it and to those below. Of a row that is deeper than so many levels
 /// the first ones are left out.
-fn push_branches(
-    out: &mut String,
-    depth: usize,
-    below: &[ProofRow],
-    levels: usize,
-) -> Result<(), AllocError> {
+fn push_branches(out: &mut TextWriter, depth: usize, below: &[ProofRow], levels: usize) {
     let hidden = depth.saturating_sub(levels);
     if hidden > 0 {
-        out.push_str(".. ")?;
+        out.push_str(".. ");
     }
     for level in hidden.saturating_add(1)..depth {
-        out.push_str(if goes_on(below, level) { "|  " } else { "   " })?;
+        out.push_str(if goes_on(below, level) { "|  " } else { "   " });
     }
     if depth > 0 {
-        out.push_str(if goes_on(below, depth) { "|- " } else { "`- " })?;
+        out.push_str(if goes_on(below, depth) { "|- " } else { "`- " });
     }
-    Ok(())
 }
 
 /// A goal behind what stands before it, which takes about half of the row at most.
@@ -69,26 +63,26 @@ fn goal_text(
     below: &[ProofRow],
     room: usize,
 ) -> Result<String, AllocError> {
-    let mut text = String::new(alloc);
-    push_branches(&mut text, row.depth, below, room / 6)?;
-    text.push_str(row.goal.as_str())?;
-    Ok(text)
+    let mut text = TextWriter::new(alloc);
+    push_branches(&mut text, row.depth, below, room / 6);
+    text.push_str(row.goal.as_str());
+    text.finish()
 }
 
 /// Appends a goal, and spaces up to so many columns, as far as there is room.
-fn push_goal(out: &mut String, goal: &str, columns: usize, room: usize) -> Result<(), AllocError>
-    ensures { string_len out.new ≤ string_len out.old + room }
+fn push_goal(out: &mut TextWriter, goal: &str, columns: usize, room: usize)
+    ensures { string_len out.new.text ≤ string_len out.old.text + room }
 {
-    push_cut(out, goal, room)?;
-    push_spaces(out, columns.min(room).saturating_sub(goal.len()))
+    out.push_cut(goal, room);
+    out.push_spaces(columns.min(room).saturating_sub(goal.len()));
 }
 
 /// Appends a reason behind a goal, as far as there is room.
-fn push_reason(out: &mut String, reason: &str, room: usize) -> Result<(), AllocError>
-    ensures { string_len out.new ≤ string_len out.old + room }
+fn push_reason(out: &mut TextWriter, reason: &str, room: usize)
+    ensures { string_len out.new.text ≤ string_len out.old.text + room }
 {
-    push_spaces(out, GAP.min(room))?;
-    push_cut(out, reason, room.saturating_sub(GAP))
+    out.push_spaces(GAP.min(room));
+    out.push_cut(reason, room.saturating_sub(GAP));
 }
 
 /// How many columns are for a reason behind a goal of so many: all it takes if the goal has room beside it, and else half of a row.
@@ -99,23 +93,32 @@ fn reason_columns(reason: usize, goal: usize, room: usize) -> usize
     reason.saturating_add(GAP).min(most)
 }
 
+/// Appends a goal and its reason. Where they have no room beside each other, each has half of the row at least, and is cut.
+fn push_beside(out: &mut TextWriter, goal: &str, reason: &str, columns: usize, room: usize)
+    ensures { string_len out.new.text ≤ string_len out.old.text + room }
+{
+    if reason.is_empty() {
+        out.push_cut(goal, room);
+    } else {
+        let behind = reason_columns(reason.len(), goal.len(), room);
+        push_goal(out, goal, columns, room - behind);
+        push_reason(out, reason, behind);
+    }
+}
+
 /// Appends a row of a proof without its end, above the rows that are given: the goal, which takes so many columns where there is room, and
 /// its reason. Where they have no room beside each other, each has half of the row at least, and is cut.
 pub(crate) fn push_proof_row(
-    alloc: Global,
-    out: &mut String,
+    out: &mut TextWriter,
     row: &ProofRow,
     below: &[ProofRow],
     columns: usize,
     room: usize,
-) -> Result<(), AllocError>
-    ensures { string_len out.new ≤ string_len out.old + room }
+)
+    ensures { string_len out.new.text ≤ string_len out.old.text + room }
 {
-    let goal = goal_text(alloc, row, below, room)?;
-    if row.reason.is_empty() {
-        return push_cut(out, goal.as_str(), room);
+    match goal_text(out.alloc, row, below, room) {
+        Ok(goal) => push_beside(out, goal.as_str(), row.reason.as_str(), columns, room),
+        Err(_) => out.refuse(),
     }
-    let behind = reason_columns(row.reason.len(), goal.len(), room);
-    push_goal(out, goal.as_str(), columns, room - behind)?;
-    push_reason(out, row.reason.as_str(), behind)
 }

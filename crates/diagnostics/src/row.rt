@@ -1,10 +1,9 @@
 //! Rows of an excerpt: columns with a byte each, in colours.
 
-ghost use Rattle.std.specs.Prelude.{◌≡◌, ◌≤◌, ◌<◌, ◌+◌, ◌++◌, length, map, min, false, OnOk, string_bytes, string_len};
-ghost use Rattle.diagnostics.specs.Shown.{shown};
+ghost use Rattle.std.specs.Prelude.{◌≡◌, ◌≤◌, ◌+◌, length, false, string_len};
 
 use crate::diagnostic::Level;
-use std::alloc::AllocError;
+use crate::writer::TextWriter;
 
 /// How text is shown, after rustc's `Style`.
 #[derive(Clone, Copy, PartialEq, Eq)]
@@ -35,75 +34,31 @@ impl Ink {
     }
 }
 
+/// Appends what begins a text in a colour, where there are colours.
+pub(crate) fn push_ink(out: &mut TextWriter, has_colors: bool, ink: Ink)
+    ensures { has_colors ≡ false → string_len out.new.text ≤ string_len out.old.text }
+{
+    if has_colors {
+        out.push_str(ink.codes());
+    }
+}
+
+/// Appends what ends such a text.
+pub(crate) fn push_reset(out: &mut TextWriter, has_colors: bool)
+    ensures { has_colors ≡ false → string_len out.new.text ≤ string_len out.old.text }
+{
+    if has_colors {
+        out.push_str(RESET);
+    }
+}
+
 /// Appends a text, in a colour where there are colours.
-pub(crate) fn push_in(
-    out: &mut String,
-    has_colors: bool,
-    ink: Ink,
-    text: &str,
-) -> Result<(), AllocError>
-    ensures { has_colors ≡ false → string_len out.new ≤ string_len out.old + length text.now }
+pub(crate) fn push_in(out: &mut TextWriter, has_colors: bool, ink: Ink, text: &str)
+    ensures { has_colors ≡ false → string_len out.new.text ≤ string_len out.old.text + length text.now }
 {
-    if !has_colors {
-        return out.push_str(text);
-    }
-    out.push_str(ink.codes())?;
-    out.push_str(text)?;
-    out.push_str(RESET)
-}
-
-/// A byte as it is shown: a printable one of ASCII as it is, a tab as a space, any other as `?`.
-pub(crate) fn shown(byte: u8) -> u8
-    ensures value { result ≡ shown byte }
-    ensures printable { 32 ≤ result }
-    ensures ascii { result < 127 }
-{
-    match byte {
-        b' '..=b'~' => byte,
-        b'\t' => b' ',
-        _ => b'?',
-    }
-}
-
-/// Appends a byte so many times, as it is shown.
-fn push_times(out: &mut String, byte: u8, count: usize) -> Result<(), AllocError>
-    ensures { string_len out.new ≤ string_len out.old + count }
-{
-    for _time in 0..count {
-        out.push(char::from(shown(byte)))?;
-    }
-    Ok(())
-}
-
-/// Appends so many spaces.
-pub(crate) fn push_spaces(out: &mut String, count: usize) -> Result<(), AllocError>
-    ensures { string_len out.new ≤ string_len out.old + count }
-{
-    push_times(out, b' ', count)
-}
-
-/// Appends the bytes of a text, each as it is shown.
-pub(crate) fn push_shown(out: &mut String, text: &[u8]) -> Result<(), AllocError>
-    ensures bytes { OnOk result (string_bytes out.new ≡ string_bytes out.old ++ map shown text.now) }
-    ensures len { string_len out.new ≤ string_len out.old + length text.now }
-{
-    for byte in text {
-        out.push(char::from(shown(*byte)))?;
-    }
-    Ok(())
-}
-
-/// Appends a text; of one that has more bytes than there are columns, as many as leave two columns for `..`, each as it is shown.
-pub(crate) fn push_cut(out: &mut String, text: &str, columns: usize) -> Result<(), AllocError>
-    ensures fits { string_len out.new ≤ string_len out.old + min (length text.now) columns }
-    ensures whole { length text.now ≤ columns → OnOk result (string_bytes out.new ≡ string_bytes out.old ++ text.now) }
-{
-    if text.len() <= columns {
-        return out.push_str(text);
-    }
-    let kept = columns.saturating_sub(2);
-    push_shown(out, &text.as_bytes()[..kept])?;
-    push_times(out, b'.', columns - kept)
+    push_ink(out, has_colors, ink);
+    out.push_str(text);
+    push_reset(out, has_colors);
 }
 
 /// A byte in its colour.
@@ -176,23 +131,19 @@ impl Row {
     /// Appends the row without the spaces at its end, and the end of the line.
     ///
     /// So a line of an excerpt has at most 100 columns.
-    pub(crate) fn push_to(&self, out: &mut String, has_colors: bool) -> Result<(), AllocError>
-        ensures { has_colors ≡ false → string_len out.new ≤ string_len out.old + COLUMNS + 1 }
+    pub(crate) fn push_to(&self, out: &mut TextWriter, has_colors: bool)
+        ensures { has_colors ≡ false → string_len out.new.text ≤ string_len out.old.text + COLUMNS + 1 }
     {
         let mut ink = Ink::Plain;
         for column in &self.columns[..self.used()] {
             if has_colors && column.ink != ink {
-                if ink != Ink::Plain {
-                    out.push_str(RESET)?;
-                }
-                out.push_str(column.ink.codes())?;
+                push_reset(out, ink != Ink::Plain);
+                out.push_str(column.ink.codes());
                 ink = column.ink;
             }
-            out.push(char::from(shown(column.byte)))?;
+            out.push_byte(column.byte);
         }
-        if ink != Ink::Plain {
-            out.push_str(RESET)?;
-        }
-        out.push_str("\n")
+        push_reset(out, ink != Ink::Plain);
+        out.push_str("\n");
     }
 }

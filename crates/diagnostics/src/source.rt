@@ -45,11 +45,12 @@ impl<'t> SourceFile<'t> {
     }
 
     fn place_of(&self, number: u32) -> Place {
-        let none = Place { start: 0, end: 0 };
-        match number.checked_sub(1) {
-            None => none,
-            Some(index) => self.lines.get(index as usize).copied().unwrap_or(none),
-        }
+        // No line has the number 0, and none the index that this wraps to.
+        let index = (number as usize).wrapping_sub(1);
+        self.lines
+            .get(index)
+            .copied()
+            .unwrap_or(Place { start: 0, end: 0 })
     }
 }
 

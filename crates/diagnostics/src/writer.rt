@@ -1,0 +1,133 @@
+//! Texts that are being written.
+
+ghost use Rattle.std.specs.Prelude.{◌≡◌, ◌≤◌, ◌<◌, ◌+◌, ◌++◌, ◌∷◌, [], length, map, min, false, string_bytes, string_len, IfOk};
+ghost use Rattle.diagnostics.specs.Shown.{shown};
+
+use std::alloc::{AllocError, Global};
+use std::fmt::InlineText;
+
+/// A byte as it is shown: a printable one of ASCII as it is, a tab as a space, any other as `?`.
+fn shown(byte: u8) -> u8
+    ensures value { result ≡ shown byte }
+    ensures printable { 32 ≤ result }
+    ensures ascii { result < 127 }
+{
+    match byte {
+        b' '..=b'~' => byte,
+        b'\t' => b' ',
+        _ => b'?',
+    }
+}
+
+/// A text that is being written. When a request for memory is refused it is kept in mind, and nothing is appended from then on: so who
+/// writes goes on, and asks once, at the end.
+#[derive(Drop)]
+pub(crate) struct TextWriter {
+    pub alloc: Global,
+    pub text: String,
+    pub is_refused: bool,
+}
+
+impl TextWriter {
+    pub(crate) fn new(alloc: Global) -> TextWriter
+        ensures { string_bytes result.text ≡ [] }
+    {
+        TextWriter {
+            alloc,
+            text: String::new(alloc),
+            is_refused: false,
+        }
+    }
+
+    /// The text, if no request was refused.
+    pub(crate) fn finish(self) -> Result<String, AllocError>
+        ensures whole { IfOk result (λ t. t ≡ self.text) }
+        ensures granted { IfOk result (λ t. self.is_refused ≡ false) }
+    {
+        let TextWriter {
+            alloc: _,
+            text,
+            is_refused,
+        } = self;
+        if is_refused {
+            Err(AllocError)
+        } else {
+            Ok(text)
+        }
+    }
+
+    /// Keeps in mind that a request was refused.
+    pub(crate) fn refuse(&mut self)
+        ensures { self.new.text ≡ self.old.text }
+    {
+        self.is_refused = true;
+    }
+
+    /// Appends a text.
+    pub(crate) fn push_str(&mut self, text: &str)
+        ensures bytes { self.new.is_refused ≡ false → string_bytes self.new.text ≡ string_bytes self.old.text ++ text.now }
+        ensures stays { self.new.is_refused ≡ false → self.old.is_refused ≡ false }
+        ensures len { string_len self.new.text ≤ string_len self.old.text + length text.now }
+    {
+        if !self.is_refused {
+            self.is_refused = self.text.push_str(text).is_err();
+        }
+    }
+
+    /// Appends what stands before a number, and the number.
+    pub(crate) fn push_number(&mut self, before: &str, number: usize) {
+        self.push_str(before);
+        self.push_str(InlineText::<20>::of(number).as_str());
+    }
+
+    /// Appends a byte as it is shown.
+    pub(crate) fn push_byte(&mut self, byte: u8)
+        ensures bytes { self.new.is_refused ≡ false → string_bytes self.new.text ≡ string_bytes self.old.text ++ shown byte ∷ [] }
+        ensures stays { self.new.is_refused ≡ false → self.old.is_refused ≡ false }
+        ensures len { string_len self.new.text ≤ string_len self.old.text + 1 }
+    {
+        if !self.is_refused {
+            self.is_refused = self.text.push(char::from(shown(byte))).is_err();
+        }
+    }
+
+    /// Appends the bytes of a text, each as it is shown.
+    pub(crate) fn push_shown(&mut self, text: &[u8])
+        ensures bytes { self.new.is_refused ≡ false → string_bytes self.new.text ≡ string_bytes self.old.text ++ map shown text.now }
+        ensures len { string_len self.new.text ≤ string_len self.old.text + length text.now }
+    {
+        for byte in text {
+            self.push_byte(*byte);
+        }
+    }
+
+    /// Appends a byte so many times, as it is shown.
+    fn push_times(&mut self, byte: u8, count: usize)
+        ensures { string_len self.new.text ≤ string_len self.old.text + count }
+    {
+        for _time in 0..count {
+            self.push_byte(byte);
+        }
+    }
+
+    /// Appends so many spaces.
+    pub(crate) fn push_spaces(&mut self, count: usize)
+        ensures { string_len self.new.text ≤ string_len self.old.text + count }
+    {
+        self.push_times(b' ', count);
+    }
+
+    /// Appends a text; of one that has more bytes than there are columns, as many as leave two columns for `..`, each as it is shown.
+    pub(crate) fn push_cut(&mut self, text: &str, columns: usize)
+        ensures fits { string_len self.new.text ≤ string_len self.old.text + min (length text.now) columns }
+        ensures whole { length text.now ≤ columns → self.new.is_refused ≡ false → string_bytes self.new.text ≡ string_bytes self.old.text ++ text.now }
+    {
+        if text.len() <= columns {
+            self.push_str(text);
+        } else {
+            let kept = columns.saturating_sub(2);
+            self.push_shown(&text.as_bytes()[..kept]);
+            self.push_times(b'.', columns - kept);
+        }
+    }
+}
