@@ -76,6 +76,26 @@ fn mark_added(
     Ok(())
 }
 
+/// Marks the header of the impl of a section with a number, and adds what the cause means.
+fn tell_cause(
+    alloc: Global,
+    texts: Texts<'_>,
+    name: Name<'_>,
+    section: u32,
+    number: u32,
+    cause: BreakingCause,
+    told: &mut Diagnostic,
+) -> Result<(), AllocError> {
+    let added = added_trait(texts, section, number);
+    let label = label_of(alloc, texts, name, cause, added)?;
+    mark_added(texts, section, number, label, told)?;
+    let Some(said) = meaning(cause) else {
+        return Ok(());
+    };
+    let message = String::from_str(alloc, said)?;
+    push_note(alloc, message, &mut told.children)
+}
+
 /// What is said of the impl of a section with a number, from 1, that a later version of a crate may not add.
 pub(crate) fn breaking(
     alloc: Global,
@@ -88,12 +108,6 @@ pub(crate) fn breaking(
     let name = crate_name(texts, crate_id);
     let message = format!(in alloc; "a later version of crate `{name}` may not add this impl")?;
     let mut told = Diagnostic::new(alloc, Level::Error, None, message);
-    let added = added_trait(texts, section, number);
-    let label = label_of(alloc, texts, name, cause, added)?;
-    mark_added(texts, section, number, label, &mut told)?;
-    if let Some(said) = meaning(cause) {
-        let message = String::from_str(alloc, said)?;
-        push_note(alloc, message, &mut told.children)?;
-    }
+    tell_cause(alloc, texts, name, section, number, cause, &mut told)?;
     Ok(told)
 }

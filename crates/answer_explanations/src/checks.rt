@@ -14,28 +14,8 @@ use std::alloc::Global;
 use type_terms::{CrateId, Fault, ImplId};
 use workspace::Check;
 
-/// Why the impl of a section with a number may not be added.
-fn explain_added(
-    alloc: Global,
-    texts: Texts<'_>,
-    session: &mut Session<'_>,
-    section: u32,
-    number: u32,
-    changed: CrateId,
-) -> Result<Option<Diagnostic>, Fault>
-    requires { IsSectionOf session.old.declarations session.old.of_crate section }
-    ensures { StaysOn session.old session.new }
-{
-    match explain_breaking(session, section, number)? {
-        None => Ok(None),
-        Some(cause) => {
-            let told = breaking(alloc, texts, changed, section, number, cause)?;
-            Ok(Some(told))
-        }
-    }
-}
-
-/// Why a later version of a crate is answered as it is; nothing where it is compatible.
+/// Why a later version of a crate is answered as it is: why the first impl that breaks users may not be added, and nothing where it is
+/// compatible.
 fn explain_later(
     alloc: Global,
     texts: Texts<'_>,
@@ -46,12 +26,14 @@ fn explain_later(
     requires { IsSectionOf session.old.declarations session.old.of_crate section }
     ensures { StaysOn session.old session.new }
 {
-    match session.check_later(section)? {
-        LaterAnswer::Compatible => Ok(None),
-        LaterAnswer::Breaking(number) => {
-            explain_added(alloc, texts, session, section, number, changed)
-        }
-    }
+    let LaterAnswer::Breaking(number) = session.check_later(section)? else {
+        return Ok(None);
+    };
+    let Some(cause) = explain_breaking(session, section, number)? else {
+        return Ok(None);
+    };
+    let told = breaking(alloc, texts, changed, section, number, cause)?;
+    Ok(Some(told))
 }
 
 /// Why what is checked of the session's crate is answered as it is.

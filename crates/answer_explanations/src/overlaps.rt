@@ -221,6 +221,20 @@ fn mark_headers(
     Ok(())
 }
 
+/// Adds what is said of the where-clauses.
+fn push_clause_notes(
+    alloc: Global,
+    texts: Texts<'_>,
+    found: &Conflicting<'_>,
+    children: &mut Vec<Subdiagnostic>,
+) -> Result<(), AllocError> {
+    for clause in &found.clauses {
+        let said = clause_note(alloc, texts, &found.story, *clause)?;
+        children.push(said)?;
+    }
+    Ok(())
+}
+
 /// What is said of the overlap.
 fn diagnose(
     alloc: Global,
@@ -234,26 +248,8 @@ fn diagnose(
     )?;
     let mut told = Diagnostic::new(alloc, Level::Error, Some(ErrCode::E0119), message);
     mark_headers(alloc, texts, found, &mut told)?;
-    for clause in &found.clauses {
-        let said = clause_note(alloc, texts, &found.story, *clause)?;
-        told.children.push(said)?;
-    }
+    push_clause_notes(alloc, texts, found, &mut told.children)?;
     Ok(told)
-}
-
-/// What is said of a pair that was walked.
-fn explain_pair(
-    alloc: Global,
-    texts: Texts<'_>,
-    session: &Session<'_>,
-    later: ImplId,
-    earlier: ImplId,
-    pair: &PairWalk,
-) -> Result<Diagnostic, Fault>
-    requires { PairWalkHeld session.now.terms pair.now }
-{
-    let found = tell_pair(alloc, texts, session, later, earlier, pair)?;
-    Ok(diagnose(alloc, texts, &found)?)
 }
 
 /// What is said of two impls that overlap.
@@ -269,6 +265,7 @@ pub(crate) fn overlap(
     let Some(pair) = explain_overlap(session, later, earlier)? else {
         return Ok(None);
     };
-    let told = explain_pair(alloc, texts, session, later, earlier, &pair)?;
+    let found = tell_pair(alloc, texts, session, later, earlier, &pair)?;
+    let told = diagnose(alloc, texts, &found)?;
     Ok(Some(told))
 }

@@ -9,6 +9,7 @@ use explanation_texts::{
 };
 use session_walks::{ProofWalk, Step, Way};
 use std::alloc::{AllocError, Global};
+use type_terms::ImplId;
 use type_terms::interner::Interner;
 
 /// How many rows a proof has at most.
@@ -89,19 +90,30 @@ struct Course {
     left: Vec<Row>,
 }
 
-/// What is said of a step, and whether its premises follow.
-#[derive(Drop)]
-struct Reason {
-    said: String,
-    goes_on: bool,
+/// By what a step holds.
+#[derive(Clone, Copy)]
+enum Reason {
+    /// No more is shown of it.
+    NotShown,
+    /// It is the goal above.
+    Assumed,
+    ShownAbove,
+    Clause,
+    Supertrait,
+    BuiltIn,
+    Impl(ImplId),
+    /// The rule by which the search has it, of the goal at this place of the walk: the checker takes it for granted.
+    Searched(usize),
 }
 
-/// A reason behind which no premises follow.
-fn ends(alloc: Global, said: &str) -> Result<Reason, AllocError> {
-    Ok(Reason {
-        said: String::from_str(alloc, said)?,
-        goes_on: false,
-    })
+impl Reason {
+    /// Whether the premises of the step follow.
+    fn goes_on(self) -> bool {
+        matches!(
+            self,
+            Reason::BuiltIn | Reason::Impl(_) | Reason::Searched(_)
+        )
+    }
 }
 
 impl ToldProof<'_> {
@@ -113,73 +125,73 @@ impl ToldProof<'_> {
         }
     }
 
-    /// What is said of a step that the checker takes for granted: the rule by which the search has it, or that its proof is not shown.
-    fn assumed_by(
-        &self,
-        alloc: Global,
-        texts: Texts<'_>,
-        step: usize,
-    ) -> Result<Reason, AllocError> {
-        let Some(shown) = self.proof.shown.get(step) else {
-            return ends(alloc, NOT_SHOWN);
-        };
-        let Some(candidate) = self.story.candidates(shown.place).first() else {
-            return ends(alloc, NOT_SHOWN);
-        };
-        let name = source_name(alloc, texts, candidate.source)?;
-        let said = format!(in alloc; "{name}, not checked")?;
-        Ok(Reason {
-            said,
-            goes_on: true,
-        })
+    /// By what a step holds that the checker takes for granted: a rule of the search, or it is not shown.
+    fn assumed_by(&self, step: usize) -> Reason {
+        match self.proof.shown.get(step) {
+            Some(shown) if !self.story.candidates(shown.place).is_empty() => {
+                Reason::Searched(shown.place)
+            }
+            _ => Reason::NotShown,
+        }
     }
 
     /// By what a step holds.
-    fn reason_by(
-        &self,
-        alloc: Global,
-        texts: Texts<'_>,
-        step: usize,
-    ) -> Result<Reason, AllocError> {
+    fn reason_by(&self, step: usize) -> Reason {
         let Some(entry) = self.proof.steps.get(step) else {
-            return ends(alloc, NOT_SHOWN);
+            return Reason::NotShown;
         };
         match entry.way {
-            Way::Impl(id, _) => {
-                let said = impl_name(alloc, texts, id)?;
-                Ok(Reason {
-                    said,
-                    goes_on: true,
-                })
-            }
-            Way::BuiltIn => Ok(Reason {
-                said: String::from_str(alloc, "built-in rule")?,
-                goes_on: true,
-            }),
-            Way::Clause(_) => ends(alloc, "where-clause"),
-            Way::Supertrait(_) => ends(alloc, "supertrait of a where-clause"),
-            Way::Assumed => self.assumed_by(alloc, texts, step),
+            Way::Impl(id, _) => Reason::Impl(id),
+            Way::BuiltIn => Reason::BuiltIn,
+            Way::Clause(_) => Reason::Clause,
+            Way::Supertrait(_) => Reason::Supertrait,
+            Way::Assumed => self.assumed_by(step),
         }
     }
 
     /// By what a step holds, and whether its premises are shown here.
-    fn reason_of(
+    fn reason_of(&self, row: Row, course: &Course) -> Reason {
+        if row.is_assumed {
+            Reason::Assumed
+        } else if course.shown.contains(&row.step) {
+            Reason::ShownAbove
+        } else {
+            self.reason_by(row.step)
+        }
+    }
+
+    /// What is said of a rule by which the search has a goal.
+    fn searched_text(
         &self,
         alloc: Global,
         texts: Texts<'_>,
-        row: Row,
-        course: &Course,
-    ) -> Result<Reason, AllocError> {
-        if row.is_assumed {
-            ends(
-                alloc,
-                "assumed: it is the goal above, and its trait is coinductive",
-            )
-        } else if course.shown.contains(&row.step) {
-            ends(alloc, "shown above")
-        } else {
-            self.reason_by(alloc, texts, row.step)
-        }
+        place: usize,
+    ) -> Result<String, AllocError> {
+        let Some(candidate) = self.story.candidates(place).first() else {
+            return String::from_str(alloc, NOT_SHOWN);
+        };
+        let name = source_name(alloc, texts, candidate.source)?;
+        format!(in alloc; "{name}, not checked")
+    }
+
+    /// What is said of a reason.
+    fn reason_text(
+        &self,
+        alloc: Global,
+        texts: Texts<'_>,
+        reason: Reason,
+    ) -> Result<String, AllocError> {
+        let said = match reason {
+            Reason::Impl(id) => return impl_name(alloc, texts, id),
+            Reason::Searched(place) => return self.searched_text(alloc, texts, place),
+            Reason::NotShown => NOT_SHOWN,
+            Reason::Assumed => "assumed: it is the goal above, and its trait is coinductive",
+            Reason::ShownAbove => "shown above",
+            Reason::Clause => "where-clause",
+            Reason::Supertrait => "supertrait of a where-clause",
+            Reason::BuiltIn => "built-in rule",
+        };
+        String::from_str(alloc, said)
     }
 
     /// Notes that the premises of a step are to be shown, the first one next.
@@ -206,32 +218,30 @@ impl ToldProof<'_> {
         course: &mut Course,
         rows: &mut Vec<ProofRow>,
     ) -> Result<(), AllocError> {
-        let reason = self.reason_of(alloc, texts, row, course)?;
-        let goes_on = reason.goes_on;
-        push_told(alloc, self.goal(row.step), row.depth, reason, rows)?;
+        let reason = self.reason_of(row, course);
+        let said = self.reason_text(alloc, texts, reason)?;
+        push_told(alloc, self.goal(row.step), row.depth, said, rows)?;
         course.shown.push(row.step)?;
-        if goes_on {
+        if reason.goes_on() {
             self.push_premises(row, &mut course.left)?;
         }
         Ok(())
     }
 
-    /// The rows of the proof, as many as are shown, and whether these are all.
-    fn rows(
+    /// Adds the rows that are left, as many as are shown.
+    fn push_left(
         &self,
         alloc: Global,
         texts: Texts<'_>,
-        last: usize,
-    ) -> Result<(Vec<ProofRow>, bool), AllocError> {
-        let mut rows = Vec::new(alloc);
-        let mut course = begin(alloc, last)?;
+        course: &mut Course,
+        rows: &mut Vec<ProofRow>,
+    ) -> Result<(), AllocError> {
         for _row in 0..ROW_LIMIT {
-            let Some(row) = course.left.pop() else {
-                return Ok((rows, true));
-            };
-            self.push_row(alloc, texts, row, &mut course, &mut rows)?;
+            if let Some(row) = course.left.pop() {
+                self.push_row(alloc, texts, row, course, rows)?;
+            }
         }
-        Ok((rows, course.left.is_empty()))
+        Ok(())
     }
 
     /// Adds the rows of the proof to a diagnostic.
@@ -242,13 +252,13 @@ impl ToldProof<'_> {
         last: usize,
         told: &mut Diagnostic,
     ) -> Result<(), AllocError> {
-        let (rows, is_whole) = self.rows(alloc, texts, last)?;
-        told.proof = rows;
-        if !is_whole {
-            let said = String::from_str(alloc, "the rest of the proof is not shown")?;
-            push_note(alloc, said, &mut told.children)?;
+        let mut course = begin(alloc, last)?;
+        self.push_left(alloc, texts, &mut course, &mut told.proof)?;
+        if course.left.is_empty() {
+            return Ok(());
         }
-        Ok(())
+        let said = String::from_str(alloc, "the rest of the proof is not shown")?;
+        push_note(alloc, said, &mut told.children)
     }
 
     /// The last step of the proof, if the proof was checked.
@@ -257,6 +267,22 @@ impl ToldProof<'_> {
             self.proof.steps.len().checked_sub(1)
         } else {
             None
+        }
+    }
+
+    /// Adds the proof to a diagnostic, or that it is not shown.
+    fn push_proof(
+        &self,
+        alloc: Global,
+        texts: Texts<'_>,
+        told: &mut Diagnostic,
+    ) -> Result<(), AllocError> {
+        match self.last_step() {
+            Some(last) => self.push_rows(alloc, texts, last, told),
+            None => {
+                let said = String::from_str(alloc, NOT_SHOWN)?;
+                push_told(alloc, self.story.reference(0), 0, said, &mut told.proof)
+            }
         }
     }
 }
@@ -280,14 +306,14 @@ fn push_told(
     alloc: Global,
     goal: &str,
     depth: usize,
-    reason: Reason,
+    reason: String,
     rows: &mut Vec<ProofRow>,
 ) -> Result<(), AllocError> {
     let goal = String::from_str(alloc, goal)?;
     rows.push(ProofRow {
         depth,
         goal,
-        reason: reason.said,
+        reason,
     })?;
     Ok(())
 }
@@ -303,12 +329,6 @@ pub(crate) fn proved(
     let message = format!(in alloc; "`{reference}` holds")?;
     let label = String::new(alloc);
     let mut told = message_at(alloc, Level::Note, None, message, span, label)?;
-    match proof.last_step() {
-        Some(last) => proof.push_rows(alloc, texts, last, &mut told)?,
-        None => {
-            let said = ends(alloc, NOT_SHOWN)?;
-            push_told(alloc, reference, 0, said, &mut told.proof)?;
-        }
-    }
+    proof.push_proof(alloc, texts, &mut told)?;
     Ok(told)
 }

@@ -1,9 +1,8 @@
 //! Why a question is answered as it is.
 
-ghost use Rattle.std.specs.Prelude.{◌≡◌, IfOk};
+ghost use Rattle.std.specs.Prelude.{◌≡◌};
 ghost use Rattle.answer_explanations.specs.Asked.{IsAskedOf};
 ghost use Rattle.session_walks.specs.Walked.{ProofWalkHeld, WalkHeld};
-ghost use Rattle.sessions.specs.Given.{AnswerValuesHeld};
 ghost use Rattle.sessions.specs.Subjects.{AsksProof, AsksRefutation, StaysOn};
 ghost use Rattle.text_definitions.specs.Declarations.{Question};
 ghost use Rattle.type_terms.specs.Kinds.{ArgsHeld};
@@ -14,10 +13,11 @@ use answer_lines::ShownNames;
 use diagnostics::{Diagnostic, Span};
 use explanation_texts::{Asking, Texts, left_open, refuted, tell, unproved, unsettled};
 use session_walks::{
-    GoalWalk, ProofWalk, explain_proof, explain_question, explain_refutation, unseen_at,
+    Conflict, GoalWalk, ProofWalk, explain_proof, explain_question, explain_refutation, unseen_at,
 };
 use sessions::{ProveAnswer, RefuteAnswer, Session};
 use std::alloc::{AllocError, Global};
+use type_terms::interner::Interner;
 use type_terms::kinds::GenericArgKind;
 use type_terms::{Fault, ImplId};
 use workspace::{Asked, Param};
@@ -81,12 +81,12 @@ impl<'s> Questioned<'s> {
 fn tell_proved(
     alloc: Global,
     question: Questioned<'_>,
-    session: &Session<'_>,
+    cx: &Interner,
     proof: &ProofWalk,
 ) -> Result<Diagnostic, AllocError>
-    requires { ProofWalkHeld session.now.terms proof.now }
+    requires { ProofWalkHeld cx.now.entries proof.now }
 {
-    let told = tell_proof(alloc, session.interner(), &question.names(), proof)?;
+    let told = tell_proof(alloc, cx, &question.names(), proof)?;
     let span = question.span();
     proved(alloc, question.texts, &told, span)
 }
@@ -107,20 +107,20 @@ fn explain_yes(
     let before = session.frames();
     let proof = explain_proof(session, number, values)?;
     spending.add_explanation(before, session.frames(), proof.walk.nodes.len());
-    Ok(tell_proved(alloc, question, session, &proof)?)
+    Ok(tell_proved(alloc, question, session.interner(), &proof)?)
 }
 
 /// What is said of a question that was not proved.
 fn tell_not_proved(
     alloc: Global,
     question: Questioned<'_>,
-    session: &Session<'_>,
+    cx: &Interner,
     walk: &GoalWalk,
     answer: NotProved,
 ) -> Result<Diagnostic, AllocError>
-    requires { WalkHeld session.now.terms walk.now }
+    requires { WalkHeld cx.now.entries walk.now }
 {
-    let story = tell(alloc, session.interner(), &question.names(), walk)?;
+    let story = tell(alloc, cx, &question.names(), walk)?;
     let span = question.span();
     match answer {
         NotProved::Unproved => {
@@ -149,23 +149,7 @@ fn explain_not_proved(
     let before = session.frames();
     let walk = explain_question(session, number)?;
     spending.add_explanation(before, session.frames(), walk.nodes.len());
-    Ok(tell_not_proved(alloc, question, session, &walk, answer)?)
-}
-
-/// The answer to a `prove` question.
-fn prove(
-    session: &mut Session<'_>,
-    number: u32,
-    spending: &mut Spending,
-) -> Result<ProveAnswer, Fault>
-    requires { (q : Question) × AsksProof session.old.declarations session.old.of_crate number q }
-    ensures held { IfOk result (AnswerValuesHeld session.new.terms) }
-    ensures stays { StaysOn session.old session.new }
-{
-    let before = session.frames();
-    let answer = session.prove(number);
-    spending.add_answer(before, session.frames());
-    answer
+    Ok(tell_not_proved(alloc, question, session.interner(), &walk, answer)?)
 }
 
 /// Why a `prove` question is answered as it is.
@@ -179,7 +163,10 @@ fn explain_proving(
     requires { (q : Question) × AsksProof session.old.declarations session.old.of_crate number q }
     ensures { StaysOn session.old session.new }
 {
-    match prove(session, number, spending)? {
+    let before = session.frames();
+    let answer = session.prove(number);
+    spending.add_answer(before, session.frames());
+    match answer? {
         ProveAnswer::Yes(values) => {
             explain_yes(alloc, question, session, number, &values, spending)
         }
@@ -203,35 +190,19 @@ fn explain_proving(
 fn tell_refutation(
     alloc: Global,
     question: Questioned<'_>,
-    session: &Session<'_>,
+    cx: &Interner,
     walk: &GoalWalk,
     answer: RefuteAnswer,
-) -> Result<Diagnostic, Fault>
-    requires { WalkHeld session.now.terms walk.now }
+    unseen: Option<Conflict>,
+) -> Result<Diagnostic, AllocError>
+    requires { WalkHeld cx.now.entries walk.now }
 {
-    let unseen = unseen_at(session, walk, 0)?;
-    let story = tell(alloc, session.interner(), &question.names(), walk)?;
+    let story = tell(alloc, cx, &question.names(), walk)?;
     let span = question.span();
-    let told = match answer {
-        RefuteAnswer::No => refuted(alloc, question.texts, &story, span, unseen)?,
-        RefuteAnswer::Open => left_open(alloc, question.texts, &story, span, unseen)?,
-    };
-    Ok(told)
-}
-
-/// The answer to a `refute` question.
-fn refute(
-    session: &mut Session<'_>,
-    number: u32,
-    spending: &mut Spending,
-) -> Result<RefuteAnswer, Fault>
-    requires { (q : Question) × AsksRefutation session.old.declarations session.old.of_crate number q }
-    ensures { StaysOn session.old session.new }
-{
-    let before = session.frames();
-    let answer = session.refute(number);
-    spending.add_answer(before, session.frames());
-    answer
+    match answer {
+        RefuteAnswer::No => refuted(alloc, question.texts, &story, span, unseen),
+        RefuteAnswer::Open => left_open(alloc, question.texts, &story, span, unseen),
+    }
 }
 
 /// Why a `refute` question is answered as it is.
@@ -245,29 +216,15 @@ fn explain_refuting(
     requires { (q : Question) × AsksRefutation session.old.declarations session.old.of_crate number q }
     ensures { StaysOn session.old session.new }
 {
-    let answer = refute(session, number, spending)?;
     let before = session.frames();
+    let answer = session.refute(number);
+    let between = session.frames();
+    spending.add_answer(before, between);
+    let answer = answer?;
     let walk = explain_refutation(session, number)?;
-    spending.add_explanation(before, session.frames(), walk.nodes.len());
-    tell_refutation(alloc, question, session, &walk, answer)
-}
-
-/// Why a question of the session's crate is answered as it is.
-fn explain_now(
-    alloc: Global,
-    question: Questioned<'_>,
-    session: &mut Session<'_>,
-    number: u32,
-    asked: Asked,
-    spending: &mut Spending,
-) -> Result<Diagnostic, Fault>
-    requires { IsAskedOf session.old.declarations session.old.of_crate number asked }
-    ensures { StaysOn session.old session.new }
-{
-    match asked {
-        Asked::Prove(_) => explain_proving(alloc, question, session, number, spending),
-        Asked::Refute(_) => explain_refuting(alloc, question, session, number, spending),
-    }
+    spending.add_explanation(between, session.frames(), walk.nodes.len());
+    let unseen = unseen_at(session, &walk, 0)?;
+    Ok(tell_refutation(alloc, question, session.interner(), &walk, answer, unseen)?)
 }
 
 /// Why a question of the session's crate is answered as it is, unless explanations took as long as they may. Questions count from 1.
@@ -284,13 +241,16 @@ pub(crate) fn explain_asked(
 {
     match spending.next() {
         Next::Silent => Ok(None),
-        Next::Told => {
-            let told = too_long(alloc)?;
-            Ok(Some(told))
-        }
-        Next::Explained => {
-            let told = explain_now(alloc, question, session, number, asked, spending)?;
-            Ok(Some(told))
-        }
+        Next::Told => Ok(Some(too_long(alloc)?)),
+        Next::Explained => match asked {
+            Asked::Prove(_) => {
+                let told = explain_proving(alloc, question, session, number, spending)?;
+                Ok(Some(told))
+            }
+            Asked::Refute(_) => {
+                let told = explain_refuting(alloc, question, session, number, spending)?;
+                Ok(Some(told))
+            }
+        },
     }
 }

@@ -14,12 +14,12 @@ mod printed;
 mod words;
 
 use crate::input::read_text;
-use crate::printed::{Lack, Shown, Told, write_answers, write_note};
+use crate::printed::{Lack, Shown, Told, write_told};
 use crate::words::{ColorConfig, Options, read_words};
 use answer_explanations::{Fault, explain};
 use coherence::{Limits, RunFault, Status, run};
 use diagnostics::{Diagnostic, SourceFile};
-use std::alloc::Global;
+use std::alloc::{AllocError, Global};
 use std::fs::File;
 use std::io::IsTerminal;
 use std::process::ExitCode;
@@ -49,25 +49,33 @@ struct Ending {
     is_refused: bool,
 }
 
+/// The words that are left, kept.
+fn keep_words(alloc: Global, args: env::Args) -> Result<Vec<String>, AllocError> {
+    let mut words = Vec::new(alloc);
+    for word in args {
+        words.push(word)?;
+    }
+    Ok(words)
+}
+
 /// The words behind the program's name.
 fn command_words(rt: &HostRuntime) -> Result<Vec<String>, Failure> {
-    let mut words = Vec::new(rt.alloc());
     match env::args(rt) {
         Err(e) => {
             if e.kind() == io::ErrorKind::OutOfMemory {
-                return Err(Failure::Run(RunFault::Memory));
+                Err(Failure::Run(RunFault::Memory))
+            } else {
+                Err(Failure::Words)
             }
-            return Err(Failure::Words);
         }
-        Ok(args) => {
-            for word in args.skip(1) {
-                if words.push(word).is_err() {
-                    return Err(Failure::Run(RunFault::Memory));
-                }
+        Ok(mut args) => {
+            let _program = args.next();
+            match keep_words(rt.alloc(), args) {
+                Ok(words) => Ok(words),
+                Err(_) => Err(Failure::Run(RunFault::Memory)),
             }
         }
     }
-    Ok(words)
 }
 
 /// The text of the file, or of standard input.
@@ -84,12 +92,12 @@ fn text_asked(rt: &HostRuntime, file: Option<&str>) -> Result<Vec<u8>, RunFault>
     }
 }
 
-/// Whether there are colours.
-fn has_colors(rt: &HostRuntime, options: Options<'_>) -> bool {
+/// Whether there are colours where answers are written so.
+fn has_colors<W: IsTerminal>(options: Options<'_>, writer: &W) -> bool {
     match options.color {
         ColorConfig::Always => true,
         ColorConfig::Never => false,
-        ColorConfig::Auto => rt.stdout().is_terminal(),
+        ColorConfig::Auto => writer.is_terminal(),
     }
 }
 
@@ -117,15 +125,6 @@ fn explanations_of(
     (found, lack)
 }
 
-/// What was missing: memory for what was to be said of a line, or else what ended the explaining.
-fn first_lack(told: Told, lack: Option<Lack>) -> Option<Lack> {
-    if told.is_cut {
-        Some(Lack::Memory)
-    } else {
-        lack
-    }
-}
-
 /// Writes the lines of the answer, each with what is said of it.
 fn tell(
     rt: &HostRuntime,
@@ -134,54 +133,73 @@ fn tell(
     text: &[u8],
     lines: &[u8],
 ) -> Result<Told, io::Error> {
+    let mut writer = rt.stdout();
     let shown = Shown {
         is_json: options.is_json,
-        has_colors: !options.is_json && has_colors(rt, options),
+        has_colors: !options.is_json && has_colors(options, &writer),
     };
     let alloc = rt.alloc();
     let name = options.name.or(options.file).unwrap_or("<stdin>");
     let file = SourceFile::new(alloc, name, text).ok();
     let (found, lack) = explanations_of(alloc, file.as_ref(), text, limits);
-    let mut writer = rt.stdout();
-    let told = write_answers(alloc, &mut writer, shown, file.as_ref(), lines, &found)?;
-    if let Some(lack) = first_lack(told, lack) {
-        write_note(&mut writer, shown, lack)?;
-    }
-    Ok(told)
+    write_told(
+        alloc,
+        &mut writer,
+        shown,
+        file.as_ref(),
+        lines,
+        &found,
+        lack,
+    )
 }
 
-/// Answers a text: first all lines are there, and then each is explained as it is written.
-fn answer_text(rt: &HostRuntime, options: Options<'_>, text: &[u8]) -> Result<Ending, Failure> {
-    let Some(limits) = Limits::new(options.depth, HANDLES) else {
-        return Err(Failure::Words);
-    };
-    let mut reader = text;
-    let mut lines = Vec::new(rt.alloc());
-    let ran = run(rt.alloc(), &mut reader, &mut lines, limits);
-    let Ok(told) = tell(rt, options, limits, text, &lines) else {
-        return Err(Failure::Run(RunFault::Write));
-    };
+/// How the answers are, by how the run ended and what was printed.
+fn ending_of(ran: Result<Status, RunFault>, is_check: bool, told: Told) -> Result<Ending, Failure> {
     match ran {
         Err(fault) => Err(Failure::Run(fault)),
         Ok(status) => Ok(Ending {
             status,
-            is_refused: options.is_check && !told.are_best,
+            is_refused: is_check && !told.are_best,
         }),
+    }
+}
+
+/// Answers a text: first all lines are there, and then each is explained as it is written.
+fn answer_text(
+    rt: &HostRuntime,
+    options: Options<'_>,
+    limits: Limits,
+    text: &[u8],
+) -> Result<Ending, Failure> {
+    let mut reader = text;
+    let mut lines = Vec::new(rt.alloc());
+    let ran = run(rt.alloc(), &mut reader, &mut lines, limits);
+    match tell(rt, options, limits, text, &lines) {
+        Err(_) => Err(Failure::Run(RunFault::Write)),
+        Ok(told) => ending_of(ran, options.is_check, told),
+    }
+}
+
+/// Answers the text that is asked for.
+fn answer_asked(rt: &HostRuntime, options: Options<'_>) -> Result<Ending, Failure> {
+    match text_asked(rt, options.file) {
+        Err(fault) => {
+            let _printed = eprintln!(rt; "celtisdarts_explain: {fault}");
+            Err(Failure::Run(fault))
+        }
+        Ok(text) => match Limits::new(options.depth, HANDLES) {
+            None => Err(Failure::Words),
+            Some(limits) => answer_text(rt, options, limits, &text),
+        },
     }
 }
 
 /// Answers the text that the words name.
 fn answer(rt: &HostRuntime) -> Result<Ending, Failure> {
     let words = command_words(rt)?;
-    let Some(options) = read_words(&words) else {
-        return Err(Failure::Words);
-    };
-    match text_asked(rt, options.file) {
-        Err(fault) => {
-            let _printed = eprintln!(rt; "celtisdarts_explain: {fault}");
-            Err(Failure::Run(fault))
-        }
-        Ok(text) => answer_text(rt, options, &text),
+    match read_words(&words) {
+        None => Err(Failure::Words),
+        Some(options) => answer_asked(rt, options),
     }
 }
 

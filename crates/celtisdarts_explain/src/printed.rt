@@ -40,17 +40,38 @@ fn explanation(
     }
 }
 
+/// Writes parts, one behind the other.
+fn write_parts<W: Write>(writer: &mut W, parts: &[&[u8]]) -> io::Result<()> {
+    for part in parts {
+        writer.write_all(*part)?;
+    }
+    Ok(())
+}
+
 /// Writes a line alone, with its end.
 ///
 /// As JSON too this takes no memory: what lines are made of, names, numbers and signs, stands for itself there.
 fn write_bare<W: Write>(writer: &mut W, shown: Shown, line: &[u8]) -> io::Result<()> {
     if shown.is_json {
-        writer.write_all(b"{\"$message_type\":\"answer\",\"answer\":\"")?;
-        writer.write_all(line)?;
-        writer.write_all(b"\"}\n")
+        write_parts(
+            writer,
+            &[
+                b"{\"$message_type\":\"answer\",\"answer\":\"",
+                line,
+                b"\"}\n",
+            ],
+        )
     } else {
-        writer.write_all(line)?;
-        writer.write_all(b"\n")
+        write_parts(writer, &[line, b"\n"])
+    }
+}
+
+/// Writes what is said of a line: as text below it, as JSON with the line in it.
+fn write_text<W: Write>(writer: &mut W, shown: Shown, line: &[u8], text: &[u8]) -> io::Result<()> {
+    if shown.is_json {
+        write_parts(writer, &[text, b"\n"])
+    } else {
+        write_parts(writer, &[line, b"\n", text, b"\n"])
     }
 }
 
@@ -69,11 +90,27 @@ fn write_explained<W: Write>(
             Ok(true)
         }
         Ok(text) => {
-            if !shown.is_json {
-                write_bare(writer, shown, line)?;
-            }
-            writer.write_all(text.as_bytes())?;
-            writer.write_all(b"\n")?;
+            write_text(writer, shown, line, text.as_bytes())?;
+            Ok(false)
+        }
+    }
+}
+
+/// Writes a line with what was found for it, if there is something; the answer is whether that was cut.
+fn write_line<W: Write>(
+    alloc: Global,
+    writer: &mut W,
+    shown: Shown,
+    file: Option<&SourceFile<'_>>,
+    line: &[u8],
+    diagnostic: Option<&Diagnostic>,
+) -> io::Result<bool> {
+    match (file, diagnostic) {
+        (Some(file), Some(diagnostic)) => {
+            write_explained(alloc, writer, shown, file, line, diagnostic)
+        }
+        _ => {
+            write_bare(writer, shown, line)?;
             Ok(false)
         }
     }
@@ -85,7 +122,7 @@ fn found_at(found: &[Option<Diagnostic>], place: usize) -> Option<&Diagnostic> {
 }
 
 /// Writes the lines of the answer, each with what was found for it. Where the text's lines could not be kept, they stand alone.
-pub fn write_answers<W: Write>(
+fn write_answers<W: Write>(
     alloc: Global,
     writer: &mut W,
     shown: Shown,
@@ -100,19 +137,36 @@ pub fn write_answers<W: Write>(
     let mut place = 0usize;
     let mut rest = lines;
     while let Some((line, behind)) = split_line(rest) {
-        match (file, found_at(found, place)) {
-            (Some(file), Some(diagnostic)) => {
-                if write_explained(alloc, writer, shown, file, line, diagnostic)? {
-                    told.is_cut = true;
-                }
-            }
-            _ => write_bare(writer, shown, line)?,
-        }
-        if !is_best(line) {
-            told.are_best = false;
-        }
+        let is_cut = write_line(alloc, writer, shown, file, line, found_at(found, place))?;
+        told = Told {
+            are_best: told.are_best && is_best(line),
+            is_cut: told.is_cut || is_cut,
+        };
         place = place.saturating_add(1);
         rest = behind;
+    }
+    Ok(told)
+}
+
+/// Writes the lines of the answer, each with what was found for it, and then what was missing if that is not all: memory for what was to
+/// be said of a line, or else what ended the explaining.
+pub fn write_told<W: Write>(
+    alloc: Global,
+    writer: &mut W,
+    shown: Shown,
+    file: Option<&SourceFile<'_>>,
+    lines: &[u8],
+    found: &[Option<Diagnostic>],
+    lack: Option<Lack>,
+) -> io::Result<Told> {
+    let told = write_answers(alloc, writer, shown, file, lines, found)?;
+    let lack = if told.is_cut {
+        Some(Lack::Memory)
+    } else {
+        lack
+    };
+    if let Some(lack) = lack {
+        write_note(writer, shown, lack)?;
     }
     Ok(told)
 }
@@ -126,29 +180,24 @@ pub enum Lack {
     Full,
 }
 
-impl Lack {
-    /// What is printed of it.
-    fn message(self) -> &'static str {
-        match self {
-            Lack::Memory => "no explanation: out of memory",
-            Lack::Full => "no explanation: a table is full",
-        }
-    }
-}
-
 /// Writes that not all is explained. This takes no memory.
-pub fn write_note<W: Write>(writer: &mut W, shown: Shown, lack: Lack) -> io::Result<()> {
-    let message = lack.message().as_bytes();
-    if !shown.is_json {
-        writer.write_all(b"note: ")?;
-        writer.write_all(message)?;
-        return writer.write_all(b"\n");
+fn write_note<W: Write>(writer: &mut W, shown: Shown, lack: Lack) -> io::Result<()> {
+    let message: &[u8] = match lack {
+        Lack::Memory => b"no explanation: out of memory",
+        Lack::Full => b"no explanation: a table is full",
+    };
+    if shown.is_json {
+        write_parts(
+            writer,
+            &[
+                b"{\"$message_type\":\"diagnostic\",\"answer\":\"\",\"children\":[],\"code\":null,\"level\":\"note\",\"message\":\"",
+                message,
+                b"\",\"rendered\":\"note: ",
+                message,
+                b"\\n\",\"spans\":[]}\n",
+            ],
+        )
+    } else {
+        write_parts(writer, &[b"note: ", message, b"\n"])
     }
-    writer.write_all(
-        b"{\"$message_type\":\"diagnostic\",\"answer\":\"\",\"children\":[],\"code\":null,\"level\":\"note\",\"message\":\"",
-    )?;
-    writer.write_all(message)?;
-    writer.write_all(b"\",\"rendered\":\"note: ")?;
-    writer.write_all(message)?;
-    writer.write_all(b"\\n\",\"spans\":[]}\n")
 }

@@ -64,13 +64,24 @@ impl<'w> Reading<'w> {
     /// Reads a word that stands by itself; false where it is no good one.
     fn take_word(&mut self, word: &'w str) -> bool {
         match word {
-            "--json" => self.is_json = true,
-            "--check" => self.is_check = true,
-            "--color" => self.awaits = Awaits::Color,
-            "--file" => self.awaits = Awaits::Name,
-            _ => return self.take_operand(word),
+            "--json" => {
+                self.is_json = true;
+                true
+            }
+            "--check" => {
+                self.is_check = true;
+                true
+            }
+            "--color" => {
+                self.awaits = Awaits::Color;
+                true
+            }
+            "--file" => {
+                self.awaits = Awaits::Name;
+                true
+            }
+            _ => self.take_operand(word),
         }
-        true
     }
 
     /// Reads the depth limit, or behind it the file.
@@ -84,7 +95,7 @@ impl<'w> Reading<'w> {
                 }
             };
         }
-        if self.file.is_some() || word.is_empty() || word.as_bytes().first() == Some(&b'-') {
+        if self.file.is_some() || word.is_empty() || word.as_bytes().starts_with(b"-") {
             return false;
         }
         self.file = Some(word);

@@ -2,9 +2,12 @@
 
 ghost use Rattle.std.specs.Prelude.{◌≡◌, ◌<◌, ◌≤◌, ◌⊎◌, IfSome};
 
-use crate::items::{Texts, header_marks, impl_line, message_at, note, push_help, push_note};
+use crate::items::{Texts, impl_line, push_header_marks};
 use crate::links::{last_of, push_links, push_supertrait};
-use crate::sources::source_name;
+use crate::sentences::{
+    Piece, Sentence, plain, tell_at, tell_help, tell_note, told_note, with_one, with_three,
+};
+use crate::sources::source_piece;
 use crate::story::{Story, unsure_premise};
 use diagnostics::{Diagnostic, ErrCode, LIST_LIMIT, Level, Span, Subdiagnostic};
 use evaluation::{CandidateSource, MaybeCause};
@@ -100,19 +103,18 @@ fn doubtful_premise(story: &Story<'_>, place: usize) -> Option<usize> {
     }
 }
 
-/// The goals from place 0 down, each one for which the one above is not settled, to the first that is not settled by itself: with more
-/// than one way left, an unknown, or as deep as goals are looked at.
-fn doubtful_path(alloc: Global, story: &Story<'_>) -> Result<Vec<usize>, AllocError> {
-    let mut path = Vec::new(alloc);
+/// Follows the goals from place 0 down, each one for which the one above is not settled, to the first that is not settled by itself: with
+/// more than one way left, an unknown, or as deep as goals are looked at.
+fn follow_doubts(story: &Story<'_>, path: &mut Vec<usize>) -> Result<(), AllocError> {
     let mut at = 0usize;
     for _goal in 0..story.len() {
         path.push(at)?;
         match doubtful_premise(story, at) {
             Some(premise) => at = premise,
-            None => return Ok(path),
+            None => return Ok(()),
         }
     }
-    Ok(path)
+    Ok(())
 }
 
 /// Why the goal at place 0 is not settled, where its path of goals ends here.
@@ -132,74 +134,63 @@ fn doubt_of(story: &Story<'_>, leaf: usize) -> Doubt {
     }
 }
 
-/// The code and the message.
-fn message_of(
-    alloc: Global,
-    story: &Story<'_>,
-    doubt: Doubt,
-    leaf: usize,
-) -> Result<(ErrCode, String), AllocError> {
-    let reference = story.reference(leaf);
-    let first = story.reference(0);
+/// The code.
+fn code_of(doubt: Doubt) -> ErrCode {
     match doubt {
-        Doubt::Depth | Doubt::Limits => {
-            let message = format!(in alloc; "overflow evaluating the requirement `{first}`")?;
-            Ok((ErrCode::E0275, message))
-        }
-        Doubt::Cycle => {
-            let message = format!(in alloc; "overflow evaluating the requirement `{reference}`")?;
-            Ok((ErrCode::E0275, message))
-        }
-        Doubt::Ways | Doubt::Open | Doubt::Other => {
-            let message = format!(in alloc;
-                "type annotations needed: cannot satisfy `{reference}`"
-            )?;
-            Ok((ErrCode::E0283, message))
-        }
+        Doubt::Depth | Doubt::Limits | Doubt::Cycle => ErrCode::E0275,
+        Doubt::Ways | Doubt::Open | Doubt::Other => ErrCode::E0283,
     }
+}
+
+/// The message.
+fn message_of<'s>(story: &'s Story<'_>, doubt: Doubt, leaf: usize) -> Sentence<'s> {
+    let (template, place) = match doubt {
+        Doubt::Depth | Doubt::Limits => ("overflow evaluating the requirement `{}`", 0),
+        Doubt::Cycle => ("overflow evaluating the requirement `{}`", leaf),
+        Doubt::Ways | Doubt::Open | Doubt::Other => (
+            "type annotations needed: cannot satisfy `{}`",
+            leaf,
+        ),
+    };
+    with_one(template, Piece::Text(story.reference(place)))
 }
 
 /// What is said at the question.
-fn said_at(
-    alloc: Global,
-    story: &Story<'_>,
-    doubt: Doubt,
-    leaf: usize,
-    depth: u32,
-) -> Result<String, AllocError> {
-    let reference = story.reference(leaf);
-    let unknown = story.unknown(leaf);
+fn said_at<'s>(story: &'s Story<'_>, doubt: Doubt, leaf: usize, depth: u32) -> Sentence<'s> {
+    let reference = Piece::Text(story.reference(leaf));
     match doubt {
-        Doubt::Depth => format!(in alloc; "not settled within the depth limit {depth}"),
-        Doubt::Limits => String::from_str(alloc, "not settled within the limits of the search"),
-        Doubt::Cycle => {
-            format!(in alloc;
-                "`{reference}` needs itself: such a cycle proves nothing and refuses nothing"
-            )
-        }
-        Doubt::Ways => String::from_str(alloc, "more than one way is left"),
-        Doubt::Open => format!(in alloc; "it is not known what `{unknown}` is"),
-        Doubt::Other => format!(in alloc; "whether `{reference}` holds is not settled"),
+        Doubt::Depth => with_one(
+            "not settled within the depth limit {}",
+            Piece::Number(depth as usize),
+        ),
+        Doubt::Limits => plain("not settled within the limits of the search"),
+        Doubt::Cycle => with_one(
+            "`{}` needs itself: such a cycle proves nothing and refuses nothing",
+            reference,
+        ),
+        Doubt::Ways => plain("more than one way is left"),
+        Doubt::Open => with_one(
+            "it is not known what `{}` is",
+            Piece::Text(story.unknown(leaf)),
+        ),
+        Doubt::Other => with_one("whether `{}` holds is not settled", reference),
     }
 }
 
-/// Adds a way that is left: a candidate that may apply.
-fn push_way(
+/// A way that is left: a candidate that may apply.
+fn way_note(
     alloc: Global,
     texts: Texts<'_>,
     source: CandidateSource,
-    children: &mut Vec<Subdiagnostic>,
-) -> Result<(), AllocError> {
-    let name = source_name(alloc, texts, source)?;
-    let message = format!(in alloc; "the {name} may apply")?;
-    let mut told = note(alloc, message);
+) -> Result<Subdiagnostic, AllocError> {
+    let name = source_piece(texts, source);
+    let mut told = told_note(alloc, with_one("the {} may apply", name))?;
     if let CandidateSource::Impl(id) = source {
         if let Some(found) = impl_line(texts, id) {
-            told.spans = header_marks(alloc, found)?;
+            push_header_marks(alloc, found, &mut told.spans)?;
         }
     }
-    children.push(told)?;
-    Ok(())
+    Ok(told)
 }
 
 /// Adds the ways that are left of the goal at a place.
@@ -212,10 +203,10 @@ fn push_ways(
 ) -> Result<(), AllocError> {
     for (index, candidate) in story.candidates(place).iter().enumerate() {
         if index == LIST_LIMIT {
-            let message = String::from_str(alloc, "others may apply too")?;
-            return push_note(alloc, message, children);
+            return tell_note(alloc, plain("others may apply too"), children);
         }
-        push_way(alloc, texts, candidate.source, children)?;
+        let told = way_note(alloc, texts, candidate.source)?;
+        children.push(told)?;
     }
     Ok(())
 }
@@ -237,14 +228,19 @@ fn deeper(depth: u32) -> Option<u32>
 fn push_deeper(
     alloc: Global,
     depth: u32,
-    advice: &str,
+    advice: &'static str,
     children: &mut Vec<Subdiagnostic>,
 ) -> Result<(), AllocError> {
-    if let Some(other) = deeper(depth) {
-        let message = format!(in alloc; "{advice}: `{other}` in place of `{depth}`")?;
-        push_help(alloc, message, children)?;
-    }
-    Ok(())
+    let Some(other) = deeper(depth) else {
+        return Ok(());
+    };
+    let sentence = with_three(
+        "{}: `{}` in place of `{}`",
+        Piece::Text(advice),
+        Piece::Number(other as usize),
+        Piece::Number(depth as usize),
+    );
+    tell_help(alloc, sentence, children)
 }
 
 /// Adds what follows from why the goal is not settled.
@@ -270,6 +266,51 @@ fn push_doubt(
     }
 }
 
+/// Adds why the goal is not settled, and what follows from that.
+fn push_doubts(
+    alloc: Global,
+    texts: Texts<'_>,
+    story: &Story<'_>,
+    path: &[usize],
+    depth: u32,
+    supertrait: Option<u32>,
+    children: &mut Vec<Subdiagnostic>,
+) -> Result<(), AllocError> {
+    let leaf = last_of(path);
+    push_links(alloc, texts, story, path, children)?;
+    push_supertrait(alloc, story, supertrait, children)?;
+    push_doubt(
+        alloc,
+        texts,
+        story,
+        doubt_of(story, leaf),
+        leaf,
+        depth,
+        children,
+    )
+}
+
+/// That a goal is not settled, at a span, where its path of goals ends here.
+fn unsettled_at(
+    alloc: Global,
+    story: &Story<'_>,
+    leaf: usize,
+    span: Span,
+    depth: u32,
+) -> Result<Diagnostic, AllocError> {
+    let doubt = doubt_of(story, leaf);
+    let message = message_of(story, doubt, leaf);
+    let label = said_at(story, doubt, leaf, depth);
+    tell_at(
+        alloc,
+        Level::Error,
+        Some(code_of(doubt)),
+        message,
+        span,
+        label,
+    )
+}
+
 /// What is said of a goal that is not settled, at a span: of a question, or of the supertrait of a header with a number.
 pub fn unsettled(
     alloc: Global,
@@ -279,14 +320,17 @@ pub fn unsettled(
     depth: u32,
     supertrait: Option<u32>,
 ) -> Result<Diagnostic, AllocError> {
-    let path = doubtful_path(alloc, story)?;
-    let leaf = last_of(&path);
-    let doubt = doubt_of(story, leaf);
-    let (code, message) = message_of(alloc, story, doubt, leaf)?;
-    let said = said_at(alloc, story, doubt, leaf, depth)?;
-    let mut told = message_at(alloc, Level::Error, Some(code), message, span, said)?;
-    push_links(alloc, texts, story, &path, &mut told.children)?;
-    push_supertrait(alloc, story, supertrait, &mut told.children)?;
-    push_doubt(alloc, texts, story, doubt, leaf, depth, &mut told.children)?;
+    let mut path = Vec::new(alloc);
+    follow_doubts(story, &mut path)?;
+    let mut told = unsettled_at(alloc, story, last_of(&path), span, depth)?;
+    push_doubts(
+        alloc,
+        texts,
+        story,
+        &path,
+        depth,
+        supertrait,
+        &mut told.children,
+    )?;
     Ok(told)
 }

@@ -1,12 +1,17 @@
 //! What is said of a goal of which no proof was found: the deepest goal that failed, and who asked for it.
 
-use crate::items::{
-    Texts, has_rules, impl_line, message_at, push_help, push_note, trait_name, written,
-};
+use crate::items::{Texts, has_rules, impl_line, trait_name, written};
+use crate::lines::ImplLine;
 use crate::links::{last_of, push_links, push_supertrait};
 use crate::refused::push_refused;
+use crate::sentences::{
+    Piece, Sentence, plain, push_sentence, sentence_text, tell_at, tell_help, tell_note, with_one,
+    with_two,
+};
+use crate::spoken::Spoken;
 use crate::story::{Story, refused_premise};
-use diagnostics::{Diagnostic, ErrCode, LIST_LIMIT, Level, Span, Subdiagnostic, cut_list};
+use diagnostics::{Diagnostic, ErrCode, LIST_LIMIT, Level, Span, Subdiagnostic};
+use goal_walk::Standing;
 use std::alloc::{AllocError, Global};
 use type_terms::{ImplId, TraitId};
 
@@ -19,21 +24,22 @@ pub struct Asking<'s> {
     pub supertrait: Option<u32>,
 }
 
-/// The goals from place 0 to the first that fails for a reason of its own: not since the one goal of its one candidate is refused.
-fn failing_path(alloc: Global, story: &Story<'_>) -> Result<Vec<usize>, AllocError> {
-    let mut path = Vec::new(alloc);
+/// The goal that a goal fails for: the one that its one candidate asks for, if that is refused.
+fn failing_premise(story: &Story<'_>, place: usize) -> Option<usize> {
+    refused_premise(story, story.only_candidate(place)?)
+}
+
+/// Follows the goals from place 0 to the first that fails for a reason of its own: not since the one goal of its one candidate is refused.
+fn follow_failures(story: &Story<'_>, path: &mut Vec<usize>) -> Result<(), AllocError> {
     let mut at = 0usize;
     for _goal in 0..story.len() {
         path.push(at)?;
-        let Some(candidate) = story.only_candidate(at) else {
-            return Ok(path);
-        };
-        let Some(premise) = refused_premise(story, candidate) else {
-            return Ok(path);
-        };
-        at = premise;
+        match failing_premise(story, at) {
+            Some(premise) => at = premise,
+            None => return Ok(()),
+        }
     }
-    Ok(path)
+    Ok(())
 }
 
 /// Whether an impl is of a trait.
@@ -52,47 +58,72 @@ fn has_params(texts: Texts<'_>, id: TraitId) -> bool {
     }
 }
 
-/// An impl as it is written, with its line: its type, and where the trait has parameters its whole header. None of an impl of `core`.
-fn written_impl(
-    alloc: Global,
-    texts: Texts<'_>,
-    id: ImplId,
-    has_params: bool,
-) -> Result<Option<String>, AllocError> {
-    let Some(found) = impl_line(texts, id) else {
-        return Ok(None);
-    };
-    let line = found.line;
+/// The line of an impl of a trait. None of an impl of `core`, or of another trait.
+fn line_of_impl<'w>(texts: Texts<'w>, id: ImplId, of_trait: TraitId) -> Option<&'w ImplLine> {
+    if is_of_trait(texts, id, of_trait) {
+        impl_line(texts, id)
+    } else {
+        None
+    }
+}
+
+/// An impl as it is written, with its line: its type, and where the trait has parameters its whole header.
+fn written_impl<'w>(texts: Texts<'w>, found: &ImplLine, has_params: bool) -> Sentence<'w> {
     let place = if has_params {
         found.parts.header
     } else {
         found.parts.subject
     };
-    let header = written(alloc, texts, line, place)?;
-    let said = format!(in alloc; "`{header}` (line {line})")?;
-    Ok(Some(said))
+    let header = Piece::Name(written(texts, found.line, place));
+    with_two("`{}` (line {})", header, Piece::Number(found.line as usize))
 }
 
-/// The impls of a trait among these, with their lines, as far as a list of them is shown.
-fn written_impls(
-    alloc: Global,
+/// Whether one of these impls is of a trait, and stands in the text.
+fn is_written(texts: Texts<'_>, id: TraitId, seen: &[ImplId]) -> bool {
+    for other in seen {
+        if line_of_impl(texts, *other, id).is_some() {
+            return true;
+        }
+    }
+    false
+}
+
+/// Appends the impls of a trait among these, with their lines, as far as a list of them is shown.
+fn push_impls(
     texts: Texts<'_>,
     id: TraitId,
     seen: &[ImplId],
-) -> Result<Vec<String>, AllocError> {
-    let mut found = Vec::new(alloc);
+    out: &mut String,
+) -> Result<(), AllocError> {
     let has_params = has_params(texts, id);
+    let mut count = 0usize;
     for other in seen {
-        if found.len() > LIST_LIMIT {
-            return Ok(found);
-        }
-        if is_of_trait(texts, *other, id) {
-            if let Some(said) = written_impl(alloc, texts, *other, has_params)? {
-                found.push(said)?;
-            }
+        if let Some(found) = line_of_impl(texts, *other, id) {
+            push_listed(texts, found, has_params, count, out)?;
+            count = count.saturating_add(1);
         }
     }
-    Ok(found)
+    Ok(())
+}
+
+/// Appends an impl to a list of so many: nothing where more than is shown stand before it.
+fn push_listed(
+    texts: Texts<'_>,
+    found: &ImplLine,
+    has_params: bool,
+    count: usize,
+    out: &mut String,
+) -> Result<(), AllocError> {
+    if count > LIST_LIMIT {
+        return Ok(());
+    }
+    if count == LIST_LIMIT {
+        return out.push_str(", ..");
+    }
+    if count > 0 {
+        out.push_str(", ")?;
+    }
+    push_sentence(out, written_impl(texts, found, has_params))
 }
 
 /// Whether one of these impls is of a trait.
@@ -106,13 +137,13 @@ fn is_implemented(texts: Texts<'_>, id: TraitId, seen: &[ImplId]) -> bool {
 }
 
 /// That a trait has no impl.
-fn without_impls(alloc: Global, texts: Texts<'_>, id: TraitId) -> Result<String, AllocError> {
-    let name = trait_name(texts, id);
-    if has_rules(texts, id) {
-        format!(in alloc; "`{name}` has built-in rules alone here")
+fn without_impls(texts: Texts<'_>, id: TraitId) -> Sentence<'_> {
+    let template = if has_rules(texts, id) {
+        "`{}` has built-in rules alone here"
     } else {
-        format!(in alloc; "no crate that is seen has an impl of `{name}`")
-    }
+        "no crate that is seen has an impl of `{}`"
+    };
+    with_one(template, Piece::Name(trait_name(texts, id)))
 }
 
 /// How a trait is implemented.
@@ -120,12 +151,14 @@ fn with_impls(
     alloc: Global,
     texts: Texts<'_>,
     id: TraitId,
-    impls: &[String],
+    seen: &[ImplId],
 ) -> Result<String, AllocError> {
-    let name = trait_name(texts, id);
     let how = if has_params(texts, id) { "as" } else { "for" };
-    let list = cut_list(alloc, impls)?;
-    format!(in alloc; "`{name}` is implemented {how} {list}")
+    let name = Piece::Name(trait_name(texts, id));
+    let begun = with_two("`{}` is implemented {} ", name, Piece::Text(how));
+    let mut out = sentence_text(alloc, begun)?;
+    push_impls(texts, id, seen, &mut out)?;
+    Ok(out)
 }
 
 /// Adds how a trait is implemented, by the impls that the crate sees. Those of `core` are not told.
@@ -136,45 +169,46 @@ fn push_implemented(
     seen: &[ImplId],
     children: &mut Vec<Subdiagnostic>,
 ) -> Result<(), AllocError> {
-    let impls = written_impls(alloc, texts, id, seen)?;
-    if !impls.is_empty() {
-        let message = with_impls(alloc, texts, id, &impls)?;
-        push_help(alloc, message, children)?;
-    } else if !is_implemented(texts, id, seen) {
-        let message = without_impls(alloc, texts, id)?;
-        push_help(alloc, message, children)?;
+    if is_written(texts, id, seen) {
+        let message = with_impls(alloc, texts, id, seen)?;
+        children.push(Subdiagnostic::new(alloc, Level::Help, message))?;
+        Ok(())
+    } else if is_implemented(texts, id, seen) {
+        Ok(())
+    } else {
+        tell_help(alloc, without_impls(texts, id), children)
     }
-    Ok(())
-}
-
-/// What is said at the place that asks.
-fn said_at(alloc: Global, story: &Story<'_>, leaf: usize) -> Result<String, AllocError> {
-    let subject = story.subject(leaf);
-    let bound = story.bound(leaf);
-    format!(in alloc; "no proof was found that `{subject}` implements `{bound}`")
 }
 
 /// Adds the advice to ask under a where-clause, where a parameter fails.
 fn push_where(
     alloc: Global,
-    story: &Story<'_>,
-    leaf: usize,
+    spoken: &Spoken,
     is_impl: bool,
     children: &mut Vec<Subdiagnostic>,
 ) -> Result<(), AllocError> {
-    let Some(spoken) = story.spoken(leaf) else {
+    if !spoken.is_param {
         return Ok(());
-    };
-    if spoken.is_param {
-        let reference = &spoken.reference;
-        let message = if is_impl {
-            format!(in alloc; "consider a where-clause of the impl: `where {reference}`")?
-        } else {
-            format!(in alloc; "consider asking under a where-clause: `where {reference}`")?
-        };
-        push_help(alloc, message, children)?;
     }
-    Ok(())
+    let template = if is_impl {
+        "consider a where-clause of the impl: `where {}`"
+    } else {
+        "consider asking under a where-clause: `where {}`"
+    };
+    let reference = Piece::Text(spoken.reference.as_str());
+    tell_help(alloc, with_one(template, reference), children)
+}
+
+/// What is said of the goal that failed by its place among the others: that the goals that it asks are not shown, or that it needs itself.
+fn standing_said<'s>(story: &'s Story<'_>, leaf: usize) -> Option<Sentence<'s>> {
+    match story.standing(leaf) {
+        Standing::Cut => Some(plain("the goals that this one asks are not shown")),
+        Standing::Cycle(_) => Some(with_one(
+            "`{}` needs itself: such a cycle proves nothing",
+            Piece::Text(story.reference(leaf)),
+        )),
+        Standing::Opened | Standing::Same(_) => None,
+    }
 }
 
 /// Adds what is said of the goal that failed: that the goals that it asks are not shown, or why its candidates are refused.
@@ -185,14 +219,8 @@ fn push_leaf(
     leaf: usize,
     children: &mut Vec<Subdiagnostic>,
 ) -> Result<(), AllocError> {
-    if story.is_cut(leaf) {
-        let message = String::from_str(alloc, "the goals that this one asks are not shown")?;
-        push_note(alloc, message, children)?;
-    }
-    if story.is_cycle(leaf) {
-        let reference = story.reference(leaf);
-        let message = format!(in alloc; "`{reference}` needs itself: such a cycle proves nothing")?;
-        push_note(alloc, message, children)?;
+    if let Some(said) = standing_said(story, leaf) {
+        tell_note(alloc, said, children)?;
     }
     push_refused(alloc, texts, story, leaf, "which was not proved", children)
 }
@@ -206,11 +234,53 @@ fn push_helps(
     asking: Asking<'_>,
     children: &mut Vec<Subdiagnostic>,
 ) -> Result<(), AllocError> {
-    push_where(alloc, story, leaf, asking.supertrait.is_some(), children)?;
-    match story.spoken(leaf) {
-        Some(spoken) => push_implemented(alloc, texts, spoken.trait_id, asking.seen, children),
-        None => Ok(()),
-    }
+    let Some(spoken) = story.spoken(leaf) else {
+        return Ok(());
+    };
+    push_where(alloc, spoken, asking.supertrait.is_some(), children)?;
+    push_implemented(alloc, texts, spoken.trait_id, asking.seen, children)
+}
+
+/// Adds why the goal failed, and what may help.
+fn push_failures(
+    alloc: Global,
+    texts: Texts<'_>,
+    story: &Story<'_>,
+    path: &[usize],
+    asking: Asking<'_>,
+    children: &mut Vec<Subdiagnostic>,
+) -> Result<(), AllocError> {
+    let leaf = last_of(path);
+    push_links(alloc, texts, story, path, children)?;
+    push_supertrait(alloc, story, asking.supertrait, children)?;
+    push_leaf(alloc, texts, story, leaf, children)?;
+    push_helps(alloc, texts, story, leaf, asking, children)
+}
+
+/// That no proof was found of a goal, at a span.
+fn unproved_at(
+    alloc: Global,
+    story: &Story<'_>,
+    leaf: usize,
+    span: Span,
+) -> Result<Diagnostic, AllocError> {
+    let reference = Piece::Text(story.reference(leaf));
+    let subject = Piece::Text(story.subject(leaf));
+    let bound = Piece::Text(story.bound(leaf));
+    let message = with_one("the trait bound `{}` was not proved", reference);
+    let label = with_two(
+        "no proof was found that `{}` implements `{}`",
+        subject,
+        bound,
+    );
+    tell_at(
+        alloc,
+        Level::Error,
+        Some(ErrCode::E0277),
+        message,
+        span,
+        label,
+    )
 }
 
 /// What is said of a goal of which no proof was found, at a span.
@@ -221,16 +291,9 @@ pub fn unproved(
     span: Span,
     asking: Asking<'_>,
 ) -> Result<Diagnostic, AllocError> {
-    let path = failing_path(alloc, story)?;
-    let leaf = last_of(&path);
-    let reference = story.reference(leaf);
-    let message = format!(in alloc; "the trait bound `{reference}` was not proved")?;
-    let said = said_at(alloc, story, leaf)?;
-    let code = Some(ErrCode::E0277);
-    let mut told = message_at(alloc, Level::Error, code, message, span, said)?;
-    push_links(alloc, texts, story, &path, &mut told.children)?;
-    push_supertrait(alloc, story, asking.supertrait, &mut told.children)?;
-    push_leaf(alloc, texts, story, leaf, &mut told.children)?;
-    push_helps(alloc, texts, story, leaf, asking, &mut told.children)?;
+    let mut path = Vec::new(alloc);
+    follow_failures(story, &mut path)?;
+    let mut told = unproved_at(alloc, story, last_of(&path), span)?;
+    push_failures(alloc, texts, story, &path, asking, &mut told.children)?;
     Ok(told)
 }

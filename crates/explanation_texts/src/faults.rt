@@ -1,12 +1,11 @@
 //! What is said of a text with a fault.
 
-use crate::items::push_help;
 use crate::lines::whole_line;
 use crate::offending::{
-    Offence, above, hidden, mark, misplaced, other_byte, other_space, push_any_help, reads_above,
-    seeing_crate, taken, unknown,
+    Offence, above, hidden, misplaced, other_byte, other_space, reads_above, taken, unknown,
 };
-use diagnostics::{Diagnostic, ErrCode, Level, SourceFile};
+use crate::sentences::{plain, push_primary, tell, tell_help};
+use diagnostics::{Diagnostic, ErrCode, Level, SourceFile, Subdiagnostic, on_line};
 use name_resolution::FaultKind;
 use std::alloc::{AllocError, Global};
 use text_reader::TextFault;
@@ -61,42 +60,97 @@ fn advice(kind: FaultKind) -> Option<&'static str> {
 }
 
 /// The token that a fault is about, by the lines above.
-fn offence_above(
+fn offence_above<'t>(
     alloc: Global,
-    file: &SourceFile<'_>,
+    file: &SourceFile<'t>,
     fault: TextFault,
-    workspace: &Workspace,
-) -> Result<Option<Offence>, AllocError> {
+    workspace: &'t Workspace,
+) -> Result<Option<Offence<'t>>, AllocError> {
     match fault.kind {
-        FaultKind::Taken => taken(alloc, file, fault.line, workspace),
+        FaultKind::Taken => taken(alloc, file.line(fault.line), workspace),
         FaultKind::Unknown => unknown(alloc, file, fault.line, workspace),
-        FaultKind::Hidden => match seeing_crate(alloc, file, fault.line, workspace)? {
-            Some(seeing) => hidden(alloc, file, fault.line, workspace, seeing),
-            None => Ok(None),
-        },
+        FaultKind::Hidden => hidden(alloc, file, fault.line, workspace),
         _ => Ok(None),
     }
 }
 
-/// The token that a fault is about, if it is found.
-fn offence(
+/// The token that a fault is about, by its line alone or by what the lines above are.
+fn offence<'t>(
+    alloc: Global,
+    file: &SourceFile<'t>,
+    fault: TextFault,
+) -> Result<Option<Offence<'t>>, AllocError> {
+    match fault.kind {
+        FaultKind::OtherByte => Ok(other_byte(file.line(fault.line))),
+        FaultKind::Syntax => Ok(other_space(file.line(fault.line))),
+        FaultKind::Misplaced => Ok(Some(misplaced(alloc, file, fault.line)?)),
+        _ => Ok(None),
+    }
+}
+
+/// Adds what is said of the token that a fault is about; a mark at the whole line where it is not found.
+fn push_offence(
+    alloc: Global,
+    file: &SourceFile<'_>,
+    line: u32,
+    found: Option<Offence<'_>>,
+    told: &mut Diagnostic,
+) -> Result<(), AllocError> {
+    let offence = found.unwrap_or(Offence {
+        place: whole_line(file.line(line)),
+        label: plain(""),
+        help: None,
+    });
+    push_primary(
+        alloc,
+        on_line(line, offence.place),
+        offence.label,
+        &mut told.spans,
+    )?;
+    match offence.help {
+        Some(help) => tell_help(alloc, help, &mut told.children),
+        None => Ok(()),
+    }
+}
+
+/// Adds what is said of the token that a fault is about, by the lines above.
+fn push_offence_above(
+    alloc: Global,
+    file: &SourceFile<'_>,
+    fault: TextFault,
+    workspace: &Workspace,
+    told: &mut Diagnostic,
+) -> Result<(), AllocError> {
+    let found = offence_above(alloc, file, fault, workspace)?;
+    push_offence(alloc, file, fault.line, found, told)
+}
+
+/// Adds where the fault is, and what is said there.
+fn push_place(
     alloc: Global,
     text: &[u8],
     file: &SourceFile<'_>,
     fault: TextFault,
-) -> Result<Option<Offence>, AllocError> {
-    let line = file.line(fault.line);
+    told: &mut Diagnostic,
+) -> Result<(), AllocError> {
     if reads_above(fault.kind) {
-        return match above(alloc, text, file, fault.line) {
-            Some(workspace) => offence_above(alloc, file, fault, &workspace),
-            None => Ok(None),
-        };
+        if let Some(workspace) = above(alloc, text, file, fault.line) {
+            return push_offence_above(alloc, file, fault, &workspace, told);
+        }
     }
-    match fault.kind {
-        FaultKind::OtherByte => other_byte(alloc, line),
-        FaultKind::Syntax => other_space(alloc, line),
-        FaultKind::Misplaced => misplaced(alloc, file, fault.line),
-        _ => Ok(None),
+    let found = offence(alloc, file, fault)?;
+    push_offence(alloc, file, fault.line, found, told)
+}
+
+/// Adds what to do about a fault of a kind.
+fn push_advice(
+    alloc: Global,
+    kind: FaultKind,
+    children: &mut Vec<Subdiagnostic>,
+) -> Result<(), AllocError> {
+    match advice(kind) {
+        Some(advice) => tell_help(alloc, plain(advice), children),
+        None => Ok(()),
     }
 }
 
@@ -107,23 +161,13 @@ pub fn fault_diagnostic(
     file: &SourceFile<'_>,
     fault: TextFault,
 ) -> Result<Diagnostic, AllocError> {
-    let said = String::from_str(alloc, message(fault.kind))?;
-    let mut told = Diagnostic::new(alloc, Level::Error, code(fault.kind), said);
-    match offence(alloc, text, file, fault)? {
-        Some(found) => {
-            let Offence { place, label, help } = found;
-            told.spans.push(mark(fault.line, place, label))?;
-            push_any_help(alloc, help, &mut told.children)?;
-        }
-        None => {
-            let place = whole_line(file.line(fault.line));
-            told.spans
-                .push(mark(fault.line, place, String::new(alloc)))?;
-        }
-    }
-    if let Some(advice) = advice(fault.kind) {
-        let help = String::from_str(alloc, advice)?;
-        push_help(alloc, help, &mut told.children)?;
-    }
+    let mut told = tell(
+        alloc,
+        Level::Error,
+        code(fault.kind),
+        plain(message(fault.kind)),
+    )?;
+    push_place(alloc, text, file, fault, &mut told)?;
+    push_advice(alloc, fault.kind, &mut told.children)?;
     Ok(told)
 }

@@ -1,9 +1,10 @@
 //! What items are called, and where they stand.
 
 use crate::lines::{ImplLine, ItemLines};
+use crate::sentences::{Piece, piece_text, plain, push_primary};
 use diagnostics::{
     Diagnostic, ErrCode, Level, Place, SourceFile, Span, SpanLabel, Subdiagnostic, TYPE_LIMIT,
-    cut_text, on_line, text_of,
+    on_line, text_of,
 };
 use std::alloc::{AllocError, Global};
 use std::fmt;
@@ -28,28 +29,24 @@ pub fn impl_line<'w>(texts: Texts<'w>, id: ImplId) -> Option<&'w ImplLine> {
 }
 
 /// A part of a line as it is written.
-pub(crate) fn written(
-    alloc: Global,
-    texts: Texts<'_>,
-    line: u32,
-    place: Place,
-) -> Result<String, AllocError> {
-    cut_text(alloc, text_of(texts.file.line(line), place), TYPE_LIMIT)
+pub(crate) fn written<'w>(texts: Texts<'w>, line: u32, place: Place) -> Name<'w> {
+    name_of(text_of(texts.file.line(line), place))
+}
+
+/// What an impl is called: its line, or its number in `core`.
+pub(crate) fn impl_piece(texts: Texts<'_>, id: ImplId) -> Piece<'static> {
+    if let Some(found) = impl_line(texts, id) {
+        return Piece::ImplAtLine(found.line);
+    }
+    match texts.workspace.impls().get(id.index as usize) {
+        Some(entry) => Piece::ImplOfCore(entry.number_in_crate),
+        None => Piece::Text("impl"),
+    }
 }
 
 /// What an impl is called: its line, or its number in `core`.
 pub fn impl_name(alloc: Global, texts: Texts<'_>, id: ImplId) -> Result<String, AllocError> {
-    if let Some(found) = impl_line(texts, id) {
-        let line = found.line;
-        return format!(in alloc; "impl at line {line}");
-    }
-    match texts.workspace.impls().get(id.index as usize) {
-        Some(entry) => {
-            let number = entry.number_in_crate;
-            format!(in alloc; "impl {number} of `core`")
-        }
-        None => String::from_str(alloc, "impl"),
-    }
+    piece_text(alloc, impl_piece(texts, id))
 }
 
 /// A name as it is shown: as `cut_text` shows it, but by no request for memory.
@@ -60,10 +57,10 @@ pub struct Name<'w> {
 
 /// A byte of a name as it is shown.
 fn shown_char(byte: u8) -> char {
-    if byte.is_ascii_graphic() {
-        char::from(byte)
-    } else {
-        '?'
+    match byte {
+        b'\t' => ' ',
+        b' '..=b'~' => char::from(byte),
+        _ => '?',
     }
 }
 
@@ -146,16 +143,6 @@ pub fn push_note(
     Ok(())
 }
 
-/// Adds a help without a place.
-pub(crate) fn push_help(
-    alloc: Global,
-    message: String,
-    children: &mut Vec<Subdiagnostic>,
-) -> Result<(), AllocError> {
-    children.push(Subdiagnostic::new(alloc, Level::Help, message))?;
-    Ok(())
-}
-
 /// A message that is about a span, with what is said there.
 pub fn message_at(
     alloc: Global,
@@ -170,15 +157,14 @@ pub fn message_at(
     Ok(told)
 }
 
-/// A mark that says nothing beside it.
-fn bare_mark(alloc: Global, line: u32, place: Place) -> SpanLabel {
-    SpanLabel::primary(on_line(line, place), String::new(alloc))
-}
-
-/// Marks at the trait and the type of an impl.
-pub(crate) fn header_marks(alloc: Global, found: &ImplLine) -> Result<Vec<SpanLabel>, AllocError> {
-    let mut marks = Vec::new(alloc);
-    marks.push(bare_mark(alloc, found.line, found.parts.bound))?;
-    marks.push(bare_mark(alloc, found.line, found.parts.subject))?;
-    Ok(marks)
+/// Adds marks at the trait and the type of an impl, which say nothing beside them.
+pub(crate) fn push_header_marks(
+    alloc: Global,
+    found: &ImplLine,
+    spans: &mut Vec<SpanLabel>,
+) -> Result<(), AllocError> {
+    let bound = on_line(found.line, found.parts.bound);
+    let subject = on_line(found.line, found.parts.subject);
+    push_primary(alloc, bound, plain(""), spans)?;
+    push_primary(alloc, subject, plain(""), spans)
 }

@@ -16,6 +16,7 @@ mod open_questions;
 mod orphans;
 mod refused;
 mod refutations;
+mod sentences;
 mod similar;
 mod sources;
 mod spoken;

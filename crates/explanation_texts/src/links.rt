@@ -1,7 +1,10 @@
 //! For what the goals of a path are required.
 
-use crate::items::{Texts, header_marks, impl_line, note, push_note};
-use crate::sources::source_name;
+use crate::items::{Texts, impl_line, push_header_marks};
+use crate::sentences::{
+    Piece, Sentence, plain, push_secondary, tell_note, told_note, with_one, with_three, with_two,
+};
+use crate::sources::source_piece;
 use crate::story::Story;
 use diagnostics::{SpanLabel, Subdiagnostic, on_line};
 use evaluation::CandidateSource;
@@ -23,27 +26,22 @@ struct Link {
     asked: usize,
 }
 
-/// The links of a path, from the inside out.
-fn links_of(alloc: Global, path: &[usize]) -> Result<Vec<Link>, AllocError> {
-    let mut links = Vec::new(alloc);
-    for (place, asker) in path.iter().enumerate() {
-        if let Some(asked) = path.get(place.saturating_add(1)) {
-            links.push(Link {
-                asker: *asker,
-                asked: *asked,
-            })?;
-        }
-    }
-    links.reverse();
-    Ok(links)
+/// The link of a path with a number, from the inside out: the link to the last goal has number 0.
+fn link_at(path: &[usize], number: usize) -> Option<Link> {
+    let asked = path.len().checked_sub(number.saturating_add(1))?;
+    let asker = asked.checked_sub(1)?;
+    Some(Link {
+        asker: *path.get(asker)?,
+        asked: *path.get(asked)?,
+    })
 }
 
-/// The candidate of the asker that asks, and which of its goals it is, from 1.
+/// The candidate of the asker that asks, and which of its goals it is, from 0.
 fn asking<'s>(story: &'s Story<'_>, link: Link) -> Option<(&'s CandidateNode, usize)> {
     for candidate in story.candidates(link.asker) {
         for (place, premise) in candidate.premises.iter().enumerate() {
             if *premise == link.asked {
-                return Some((candidate, place.saturating_add(1)));
+                return Some((candidate, place));
             }
         }
     }
@@ -59,43 +57,45 @@ fn bound_label(story: &Story<'_>, link: Link) -> &'static str {
     }
 }
 
-/// Puts marks at the header of an impl, and at one of its clauses, by its number from 1.
-fn mark_impl(
+/// Adds marks at the header of an impl, and at one of its clauses, by its number from 0.
+fn push_marks(
     alloc: Global,
     texts: Texts<'_>,
     id: ImplId,
     clause: usize,
-    said: &str,
-    told: &mut Subdiagnostic,
+    label: &'static str,
+    spans: &mut Vec<SpanLabel>,
 ) -> Result<(), AllocError> {
     let Some(found) = impl_line(texts, id) else {
         return Ok(());
     };
-    told.spans = header_marks(alloc, found)?;
-    let place = clause
-        .checked_sub(1)
-        .and_then(|place| found.parts.clauses.get(place));
-    if let Some(place) = place {
-        let label = String::from_str(alloc, said)?;
-        told.spans
-            .push(SpanLabel::secondary(on_line(found.line, *place), label))?;
+    push_header_marks(alloc, found, spans)?;
+    match found.parts.clauses.get(clause) {
+        Some(place) => push_secondary(alloc, on_line(found.line, *place), plain(label), spans),
+        None => Ok(()),
     }
-    Ok(())
 }
 
-/// By what it is required, as in `, by a built-in rule`; empty where that is an impl, or not known.
-fn by_text(
-    alloc: Global,
+/// What the asked goal of a link is required for, by this candidate: by what is said where that is no impl.
+fn required_for<'s>(
     texts: Texts<'_>,
-    source: Option<CandidateSource>,
-) -> Result<String, AllocError> {
-    match source {
-        None => Ok(String::new(alloc)),
-        Some(CandidateSource::Impl(_)) => Ok(String::new(alloc)),
-        Some(other) => {
-            let name = source_name(alloc, texts, other)?;
-            format!(in alloc; ", by a {name}")
+    story: &'s Story<'_>,
+    link: Link,
+    candidate: Option<&CandidateNode>,
+) -> Sentence<'s> {
+    let subject = Piece::Text(story.subject(link.asker));
+    let bound = Piece::Text(story.bound(link.asker));
+    match candidate {
+        Some(candidate) if !matches!(candidate.source, CandidateSource::Impl(_)) => {
+            let template = "required for `{}` to implement `{}`, by a {}";
+            with_three(
+                template,
+                subject,
+                bound,
+                source_piece(texts, candidate.source),
+            )
         }
+        _ => with_two("required for `{}` to implement `{}`", subject, bound),
     }
 }
 
@@ -107,16 +107,13 @@ fn link_note(
     link: Link,
     is_marked: bool,
 ) -> Result<Subdiagnostic, AllocError> {
-    let subject = story.subject(link.asker);
-    let bound = story.bound(link.asker);
     let asks = asking(story, link);
-    let by = by_text(alloc, texts, asks.map(|found| found.0.source))?;
-    let message = format!(in alloc; "required for `{subject}` to implement `{bound}`{by}")?;
-    let mut told = note(alloc, message);
-    if let Some((candidate, clause)) = asks {
-        if let (true, CandidateSource::Impl(id)) = (is_marked, candidate.source) {
-            let said = bound_label(story, link);
-            mark_impl(alloc, texts, id, clause, said, &mut told)?;
+    let candidate = asks.map(|(candidate, _clause)| candidate);
+    let mut told = told_note(alloc, required_for(texts, story, link, candidate))?;
+    if let (true, Some((candidate, clause))) = (is_marked, asks) {
+        if let CandidateSource::Impl(id) = candidate.source {
+            let label = bound_label(story, link);
+            push_marks(alloc, texts, id, clause, label, &mut told.spans)?;
         }
     }
     Ok(told)
@@ -128,12 +125,12 @@ fn push_hidden(
     hidden: usize,
     children: &mut Vec<Subdiagnostic>,
 ) -> Result<(), AllocError> {
-    if hidden > 0 {
-        let plural = if hidden == 1 { "" } else { "s" };
-        let message = format!(in alloc; "{hidden} redundant requirement{plural} hidden")?;
-        push_note(alloc, message, children)?;
-    }
-    Ok(())
+    let template = match hidden {
+        0 => return Ok(()),
+        1 => "{} redundant requirement hidden",
+        _ => "{} redundant requirements hidden",
+    };
+    tell_note(alloc, with_one(template, Piece::Number(hidden)), children)
 }
 
 /// The impl that asks.
@@ -146,9 +143,9 @@ fn asking_impl(story: &Story<'_>, link: Link) -> Option<ImplId> {
 }
 
 /// Whether an impl asks in a link too.
-fn is_asked_by(story: &Story<'_>, link: Option<&Link>, id: Option<ImplId>) -> bool {
+fn is_asked_by(story: &Story<'_>, link: Option<Link>, id: Option<ImplId>) -> bool {
     match link {
-        Some(link) => id.is_some() && asking_impl(story, *link) == id,
+        Some(link) => id.is_some() && asking_impl(story, link) == id,
         None => false,
     }
 }
@@ -160,13 +157,30 @@ pub(crate) fn push_supertrait(
     supertrait: Option<u32>,
     children: &mut Vec<Subdiagnostic>,
 ) -> Result<(), AllocError> {
-    if let Some(number) = supertrait {
-        let reference = story.reference(0);
-        let message = format!(in alloc;
-            "`{reference}` is supertrait {number} of the header: an impl of a trait needs its supertraits to hold"
-        )?;
-        push_note(alloc, message, children)?;
-    }
+    let Some(number) = supertrait else {
+        return Ok(());
+    };
+    let sentence = with_two(
+        "`{}` is supertrait {} of the header: an impl of a trait needs its supertraits to hold",
+        Piece::Text(story.reference(0)),
+        Piece::Number(number as usize),
+    );
+    tell_note(alloc, sentence, children)
+}
+
+/// Adds what the asked goal of a link is required for, behind how many links before it are not told.
+fn push_link(
+    alloc: Global,
+    texts: Texts<'_>,
+    story: &Story<'_>,
+    link: Link,
+    is_marked: bool,
+    hidden: usize,
+    children: &mut Vec<Subdiagnostic>,
+) -> Result<(), AllocError> {
+    push_hidden(alloc, hidden, children)?;
+    let told = link_note(alloc, texts, story, link, is_marked)?;
+    children.push(told)?;
     Ok(())
 }
 
@@ -178,20 +192,19 @@ pub(crate) fn push_links(
     path: &[usize],
     children: &mut Vec<Subdiagnostic>,
 ) -> Result<(), AllocError> {
-    let links = links_of(alloc, path)?;
     let mut hidden = 0usize;
     let mut last: Option<ImplId> = None;
-    for (place, link) in links.iter().enumerate() {
-        let used = asking_impl(story, *link);
+    for number in 0..path.len() {
+        let Some(link) = link_at(path, number) else {
+            return Ok(());
+        };
+        let used = asking_impl(story, link);
         let is_same = used.is_some() && used == last;
-        let goes_on = is_asked_by(story, links.get(place.saturating_add(1)), used);
-        if is_same && goes_on {
+        if is_same && is_asked_by(story, link_at(path, number.saturating_add(1)), used) {
             hidden = hidden.saturating_add(1);
         } else {
-            push_hidden(alloc, hidden, children)?;
+            push_link(alloc, texts, story, link, !is_same, hidden, children)?;
             hidden = 0;
-            let told = link_note(alloc, texts, story, *link, !is_same)?;
-            children.push(told)?;
         }
         last = used;
     }

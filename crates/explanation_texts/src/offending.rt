@@ -1,12 +1,10 @@
 //! The token that a fault is about.
 
-use crate::items::{name_in, name_of, push_help};
+use crate::items::{name_in, name_of};
 use crate::lines::whole_line;
+use crate::sentences::{Piece, Sentence, plain, with_one, with_three, with_two};
 use crate::similar::similar_name;
-use diagnostics::{
-    Place, SourceFile, SpanLabel, Subdiagnostic, TYPE_LIMIT, cut_text, on_line, text_of,
-    token_places,
-};
+use diagnostics::{Place, SourceFile, text_of, token_places};
 use line_reader::{Cell, Length, LineRead, Param, Statement};
 use name_resolution::FaultKind;
 use std::alloc::{AllocError, Global};
@@ -15,15 +13,15 @@ use type_terms::CrateId;
 use workspace::{Known, Workspace};
 
 /// What is said of the token that a fault is about, and what follows.
-#[derive(Drop)]
-pub(crate) struct Offence {
+#[derive(Clone, Copy)]
+pub(crate) struct Offence<'t> {
     pub place: Place,
-    pub label: String,
-    pub help: Option<String>,
+    pub label: Sentence<'t>,
+    pub help: Option<Sentence<'t>>,
 }
 
 /// What a line says, where the grammar has it.
-pub(crate) fn reading(alloc: Global, line: &[u8]) -> Result<Option<LineRead<'_>>, AllocError> {
+fn reading(alloc: Global, line: &[u8]) -> Result<Option<LineRead<'_>>, AllocError> {
     match line_form(alloc, line)? {
         LineForm::Read(read) => Ok(Some(read)),
         LineForm::OtherByte | LineForm::Blank | LineForm::Unwritten => Ok(None),
@@ -49,27 +47,23 @@ fn first_byte<P: Fn(u8) -> bool>(line: &[u8], holds: P) -> Option<(Place, u8)>
 }
 
 /// A byte of 128 or more.
-pub(crate) fn other_byte(alloc: Global, line: &[u8]) -> Result<Option<Offence>, AllocError> {
-    let Some((place, byte)) = first_byte(line, |byte| byte >= 128) else {
-        return Ok(None);
-    };
-    Ok(Some(Offence {
+pub(crate) fn other_byte(line: &[u8]) -> Option<Offence<'static>> {
+    let (place, byte) = first_byte(line, |byte| byte >= 128)?;
+    Some(Offence {
         place,
-        label: format!(in alloc; "byte {byte}")?,
+        label: with_one("byte {}", Piece::Number(byte as usize)),
         help: None,
-    }))
+    })
 }
 
 /// A tab or a carriage return where a space is meant.
-pub(crate) fn other_space(alloc: Global, line: &[u8]) -> Result<Option<Offence>, AllocError> {
-    let Some((place, _byte)) = first_byte(line, |byte| byte == b'\t' || byte == b'\r') else {
-        return Ok(None);
-    };
-    Ok(Some(Offence {
+pub(crate) fn other_space(line: &[u8]) -> Option<Offence<'static>> {
+    let (place, _byte) = first_byte(line, |byte| byte == b'\t' || byte == b'\r')?;
+    Some(Offence {
         place,
-        label: String::from_str(alloc, "only byte 32 is a space")?,
+        label: plain("only byte 32 is a space"),
         help: None,
-    }))
+    })
 }
 
 /// The name of a parameter.
@@ -81,10 +75,8 @@ fn param_name<'a>(param: &Param<'a>) -> &'a [u8] {
 
 /// Whether a line declares a name: as its own, or as that of a parameter or of a binder.
 fn declares(read: &LineRead<'_>, name: &[u8]) -> bool {
-    if let Some(own) = read.statement.declared_name() {
-        if own == name {
-            return true;
-        }
+    if is_own(&read.statement, name) {
+        return true;
     }
     for param in read.statement.params() {
         if param_name(param) == name {
@@ -179,12 +171,17 @@ fn declares_own(
     line: u32,
     name: &[u8],
 ) -> Result<bool, AllocError> {
-    let Some(read) = reading(alloc, file.line(line))? else {
-        return Ok(false);
-    };
-    match read.statement.declared_name() {
-        Some(own) => Ok(own == name),
+    match reading(alloc, file.line(line))? {
+        Some(read) => Ok(is_own(&read.statement, name)),
         None => Ok(false),
+    }
+}
+
+/// Whether a statement declares a name as its own.
+fn is_own(statement: &Statement<'_>, name: &[u8]) -> bool {
+    match statement.declared_name() {
+        Some(own) => own == name,
+        None => false,
     }
 }
 
@@ -206,29 +203,23 @@ fn declared_below(
 }
 
 /// What to do about a name that is not known.
-fn unknown_help(
+fn unknown_help<'t>(
     alloc: Global,
     file: &SourceFile<'_>,
     line: u32,
-    workspace: &Workspace,
-    name: &[u8],
-) -> Result<Option<String>, AllocError> {
-    let shown = cut_text(alloc, name, TYPE_LIMIT)?;
+    workspace: &'t Workspace,
+    name: &'t [u8],
+) -> Result<Option<Sentence<'t>>, AllocError> {
     if let Some(below) = declared_below(alloc, file, line, name)? {
-        let help = format!(in alloc;
-            "`{shown}` is declared in line {below}: a name is known from the line behind its own, so move that up"
-        )?;
-        return Ok(Some(help));
+        return Ok(Some(with_two(
+            "`{}` is declared in line {}: a name is known from the line behind its own, so move that up",
+            Piece::Name(name_of(name)),
+            Piece::Number(below as usize),
+        )));
     }
-    match similar_name(alloc, workspace, shown.as_str())? {
-        Some(other) => {
-            let help = format!(in alloc;
-                "a struct or trait with a similar name is known: `{other}`"
-            )?;
-            Ok(Some(help))
-        }
-        None => Ok(None),
-    }
+    let other = similar_name(alloc, workspace, name)?;
+    let template = "a struct or trait with a similar name is known: `{}`";
+    Ok(other.map(|other| with_one(template, Piece::Name(other))))
 }
 
 /// The crate that declares what a name stands for, if it is a struct or a trait.
@@ -254,6 +245,26 @@ pub(crate) fn above(
     }
 }
 
+/// The first of a line's tokens that it uses, and does not declare itself, which is not known, or which a crate that is given does not see.
+fn first_amiss<'t>(
+    line: &'t [u8],
+    read: &LineRead<'_>,
+    places: &[Place],
+    workspace: &Workspace,
+    seeing: Option<CrateId>,
+) -> Option<Used<'t>> {
+    for place in places {
+        let used = used_at(line, *place);
+        if is_amiss(workspace, seeing, used)
+            && uses(read, used.name)
+            && !declares(read, used.name)
+        {
+            return Some(used);
+        }
+    }
+    None
+}
+
 /// The first token that a line uses, and does not declare itself, which is not known, or which a crate that is given does not see.
 fn first_used<'t>(
     alloc: Global,
@@ -261,52 +272,31 @@ fn first_used<'t>(
     workspace: &Workspace,
     seeing: Option<CrateId>,
 ) -> Result<Option<Used<'t>>, AllocError> {
-    let Some(read) = reading(alloc, line)? else {
-        return Ok(None);
-    };
-    for place in &token_places(alloc, line)? {
-        let used = used_at(line, *place);
-        if is_amiss(workspace, seeing, used)
-            && uses(&read, used.name)
-            && !declares(&read, used.name)
-        {
-            return Ok(Some(used));
-        }
+    let places = token_places(alloc, line)?;
+    match reading(alloc, line)? {
+        Some(read) => Ok(first_amiss(line, &read, &places, workspace, seeing)),
+        None => Ok(None),
     }
-    Ok(None)
 }
 
-/// What is said of a lifetime that is not known.
-fn unknown_lifetime(alloc: Global, used: Used<'_>) -> Result<Offence, AllocError> {
-    let shown = name_of(used.shown);
-    Ok(Offence {
-        place: used.place,
-        label: format!(in alloc; "the lifetime `{shown}` is not declared in this line")?,
-        help: None,
-    })
-}
-
-/// That a name is not known.
-fn unknown_label(alloc: Global, used: Used<'_>) -> Result<String, AllocError> {
-    let shown = name_of(used.shown);
-    format!(in alloc; "`{shown}` is not known here")
-}
-
-/// What is said of a name that is not known.
-fn unknown_name(
+/// What is said of a name, or of a lifetime, that is not known.
+fn unknown_said<'t>(
     alloc: Global,
     file: &SourceFile<'_>,
     line: u32,
-    workspace: &Workspace,
-    used: Used<'_>,
-) -> Result<Offence, AllocError> {
-    let label = unknown_label(alloc, used)?;
+    workspace: &'t Workspace,
+    used: Used<'t>,
+) -> Result<Offence<'t>, AllocError> {
+    let shown = Piece::Name(name_of(used.shown));
+    let place = used.place;
+    if used.is_lifetime {
+        let label = with_one("the lifetime `{}` is not declared in this line", shown);
+        let help = None;
+        return Ok(Offence { place, label, help });
+    }
+    let label = with_one("`{}` is not known here", shown);
     let help = unknown_help(alloc, file, line, workspace, used.name)?;
-    Ok(Offence {
-        place: used.place,
-        label,
-        help,
-    })
+    Ok(Offence { place, label, help })
 }
 
 /// Whether a token that a line uses is not known, if the line does not declare it.
@@ -319,22 +309,16 @@ fn is_unknown(workspace: &Workspace, used: Used<'_>) -> bool {
 }
 
 /// The token with a name that is not known.
-pub(crate) fn unknown(
+pub(crate) fn unknown<'t>(
     alloc: Global,
-    file: &SourceFile<'_>,
+    file: &SourceFile<'t>,
     line: u32,
-    workspace: &Workspace,
-) -> Result<Option<Offence>, AllocError> {
-    let found = first_used(alloc, file.line(line), workspace, None)?;
-    let Some(used) = found else {
-        return Ok(None);
-    };
-    let told = if used.is_lifetime {
-        unknown_lifetime(alloc, used)
-    } else {
-        unknown_name(alloc, file, line, workspace, used)
-    };
-    Ok(Some(told?))
+    workspace: &'t Workspace,
+) -> Result<Option<Offence<'t>>, AllocError> {
+    match first_used(alloc, file.line(line), workspace, None)? {
+        Some(used) => Ok(Some(unknown_said(alloc, file, line, workspace, used)?)),
+        None => Ok(None),
+    }
 }
 
 /// Whether crate `seeing` does not see crate `seen`.
@@ -343,19 +327,13 @@ fn is_hidden(workspace: &Workspace, seeing: CrateId, seen: CrateId) -> bool {
 }
 
 /// What to do about a crate that does not see another one: to use it, where that one comes before.
-fn hidden_help(
-    alloc: Global,
-    workspace: &Workspace,
-    seeing: CrateId,
-    seen: CrateId,
-) -> Result<Option<String>, AllocError> {
+fn hidden_help(workspace: &Workspace, seeing: CrateId, seen: CrateId) -> Option<Sentence<'_>> {
     if seen.index >= seeing.index {
-        return Ok(None);
+        return None;
     }
-    let home = name_in(workspace, seen);
-    let own = name_in(workspace, seeing);
-    let help = format!(in alloc; "let crate `{own}` use it: `crate {own} uses {home}`")?;
-    Ok(Some(help))
+    let home = Piece::Name(name_in(workspace, seen));
+    let own = Piece::Name(name_in(workspace, seeing));
+    Some(with_three("let crate `{}` use it: `crate {} uses {}`", own, own, home))
 }
 
 /// The crate of the struct or trait that a token names, if another one does not see it.
@@ -379,83 +357,97 @@ fn is_amiss(workspace: &Workspace, seeing: Option<CrateId>, used: Used<'_>) -> b
     }
 }
 
-/// Of which crate a struct or trait is.
-fn hidden_label(
-    alloc: Global,
-    workspace: &Workspace,
-    owner: CrateId,
-    used: Used<'_>,
-) -> Result<String, AllocError> {
-    let shown = name_of(used.shown);
-    let home = name_in(workspace, owner);
-    format!(in alloc; "`{shown}` is of crate `{home}`")
-}
-
 /// What is said of a struct or trait of a crate that another one does not see.
-fn hidden_name(
-    alloc: Global,
-    workspace: &Workspace,
+fn hidden_said<'t>(
+    workspace: &'t Workspace,
     seeing: CrateId,
     owner: CrateId,
-    used: Used<'_>,
-) -> Result<Offence, AllocError> {
-    let label = hidden_label(alloc, workspace, owner, used)?;
-    let help = hidden_help(alloc, workspace, seeing, owner)?;
-    Ok(Offence {
+    used: Used<'t>,
+) -> Offence<'t> {
+    let shown = Piece::Name(name_of(used.shown));
+    let home = Piece::Name(name_in(workspace, owner));
+    Offence {
         place: used.place,
-        label,
-        help,
-    })
+        label: with_two("`{}` is of crate `{}`", shown, home),
+        help: hidden_help(workspace, seeing, owner),
+    }
 }
 
 /// The token with a struct or trait that a crate does not see.
-pub(crate) fn hidden(
+fn hidden_from<'t>(
     alloc: Global,
-    file: &SourceFile<'_>,
-    line: u32,
-    workspace: &Workspace,
+    line: &'t [u8],
+    workspace: &'t Workspace,
     seeing: CrateId,
-) -> Result<Option<Offence>, AllocError> {
-    let found = first_used(alloc, file.line(line), workspace, Some(seeing))?;
-    let Some(used) = found else {
+) -> Result<Option<Offence<'t>>, AllocError> {
+    let Some(used) = first_used(alloc, line, workspace, Some(seeing))? else {
         return Ok(None);
     };
     match hidden_owner(workspace, seeing, used) {
-        Some(owner) => Ok(Some(hidden_name(alloc, workspace, seeing, owner, used)?)),
+        Some(owner) => Ok(Some(hidden_said(workspace, seeing, owner, used))),
         None => Ok(None),
     }
+}
+
+/// The token with a struct or trait that the crate of a line does not see.
+pub(crate) fn hidden<'t>(
+    alloc: Global,
+    file: &SourceFile<'t>,
+    line: u32,
+    workspace: &'t Workspace,
+) -> Result<Option<Offence<'t>>, AllocError> {
+    match seeing_crate(alloc, file, line, workspace)? {
+        Some(seeing) => hidden_from(alloc, file.line(line), workspace, seeing),
+        None => Ok(None),
+    }
+}
+
+/// What a name in `core` or above stands for.
+fn kind_named(workspace: &Workspace, name: &[u8]) -> Option<&'static str> {
+    match workspace.known(name)? {
+        Known::Crate(_) => Some("crate"),
+        Known::Struct { .. } => Some("struct"),
+        Known::Trait { .. } => Some("trait"),
+    }
+}
+
+/// The first of these places at which a name stands.
+fn place_of_name(line: &[u8], places: &[Place], name: &[u8]) -> Option<Place> {
+    for place in places {
+        if text_of(line, *place) == name {
+            return Some(*place);
+        }
+    }
+    None
+}
+
+/// What is said of a declared name that is taken.
+fn taken_said(
+    line: &[u8],
+    read: &LineRead<'_>,
+    places: &[Place],
+    workspace: &Workspace,
+) -> Option<Offence<'static>> {
+    let own = read.statement.declared_name()?;
+    let kind = kind_named(workspace, own)?;
+    Some(Offence {
+        place: place_of_name(line, places, own)?,
+        label: with_one("the name of a {} above, or in `core`", Piece::Text(kind)),
+        help: None,
+    })
 }
 
 /// The token with a declared name that is taken.
 pub(crate) fn taken(
     alloc: Global,
-    file: &SourceFile<'_>,
-    line: u32,
+    line: &[u8],
     workspace: &Workspace,
-) -> Result<Option<Offence>, AllocError> {
-    let text = file.line(line);
-    let Some(read) = reading(alloc, text)? else {
-        return Ok(None);
-    };
-    let Some(own) = read.statement.declared_name() else {
-        return Ok(None);
-    };
-    let kind = match workspace.known(own) {
-        Some(Known::Crate(_)) => "crate",
-        Some(Known::Struct { .. }) => "struct",
-        Some(Known::Trait { .. }) => "trait",
-        None => return Ok(None),
-    };
-    for place in &token_places(alloc, text)? {
-        if text_of(text, *place) == own {
-            return Ok(Some(Offence {
-                place: *place,
-                label: format!(in alloc; "the name of a {kind} above, or in `core`")?,
-                help: None,
-            }));
-        }
+) -> Result<Option<Offence<'static>>, AllocError> {
+    let places = token_places(alloc, line)?;
+    match reading(alloc, line)? {
+        Some(read) => Ok(taken_said(line, &read, &places, workspace)),
+        None => Ok(None),
     }
-    Ok(None)
 }
 
 /// Whether a line stands in a section: a `later` line is the last above it that begins a crate or a section.
@@ -478,7 +470,7 @@ pub(crate) fn misplaced(
     alloc: Global,
     file: &SourceFile<'_>,
     line: u32,
-) -> Result<Option<Offence>, AllocError> {
+) -> Result<Offence<'static>, AllocError> {
     let (label, help) = if is_in_section(alloc, file, line)? {
         (
             "a later version adds impls alone here",
@@ -490,12 +482,11 @@ pub(crate) fn misplaced(
             "begin a crate above it: `crate NAME`",
         )
     };
-    let help = String::from_str(alloc, help)?;
-    Ok(Some(Offence {
+    Ok(Offence {
         place: whole_line(file.line(line)),
-        label: String::from_str(alloc, label)?,
-        help: Some(help),
-    }))
+        label: plain(label),
+        help: Some(plain(help)),
+    })
 }
 
 /// What a name of a crate in the lines above stands for.
@@ -507,7 +498,7 @@ fn crate_named(workspace: &Workspace, name: &[u8]) -> Option<CrateId> {
 }
 
 /// The crate to which a line belongs: that of the section or of the crate that begins last above it; of a question the one that it names.
-pub(crate) fn seeing_crate(
+fn seeing_crate(
     alloc: Global,
     file: &SourceFile<'_>,
     line: u32,
@@ -531,23 +522,6 @@ pub(crate) fn seeing_crate(
         }
     }
     Ok(found)
-}
-
-/// Adds a help, if there is one.
-pub(crate) fn push_any_help(
-    alloc: Global,
-    help: Option<String>,
-    children: &mut Vec<Subdiagnostic>,
-) -> Result<(), AllocError> {
-    match help {
-        Some(message) => push_help(alloc, message, children),
-        None => Ok(()),
-    }
-}
-
-/// The mark at the token.
-pub(crate) fn mark(line: u32, place: Place, label: String) -> SpanLabel {
-    SpanLabel::primary(on_line(line, place), label)
 }
 
 /// Whether more is known of the faults of this kind than their line: then the lines above it are read.

@@ -1,8 +1,9 @@
 //! What is said of a question that was answered open.
 
-use crate::items::{Texts, message_at, push_note, trait_home, trait_name};
-use crate::sources::source_name;
-use crate::spoken::{Spoken, conflict_text};
+use crate::items::{Texts, trait_home, trait_name};
+use crate::sentences::{Piece, Sentence, plain, tell_at, tell_note, with_four, with_one, with_two};
+use crate::sources::source_piece;
+use crate::spoken::Spoken;
 use crate::story::Story;
 use diagnostics::{Diagnostic, LIST_LIMIT, Level, Span, Subdiagnostic};
 use evaluation::{CandidateSource, Certainty};
@@ -11,20 +12,23 @@ use orphan_check::errors::Conflict;
 use std::alloc::{AllocError, Global};
 
 /// Which crate that is not seen may add which impl.
-fn unseen_text(
-    alloc: Global,
-    texts: Texts<'_>,
-    spoken: &Spoken,
-    conflict: Conflict,
-) -> Result<String, AllocError> {
-    let said = conflict_text(alloc, spoken, conflict)?;
+fn unseen_said<'s>(texts: Texts<'s>, spoken: &'s Spoken, conflict: Conflict) -> Sentence<'s> {
+    let bound = spoken.bound_piece();
+    let subject = spoken.subject_piece();
     match conflict {
         Conflict::Upstream => {
-            let name = trait_name(texts, spoken.trait_id);
-            let home = trait_home(texts, spoken.trait_id);
-            format!(in alloc; "{said} (`{name}` is of crate `{home}`)")
+            let name = Piece::Name(trait_name(texts, spoken.trait_id));
+            let home = Piece::Name(trait_home(texts, spoken.trait_id));
+            with_four(
+                "upstream crates may add a new impl of trait `{}` for type `{}` in future versions (`{}` is of crate `{}`)",
+                [bound, subject, name, home],
+            )
         }
-        Conflict::Downstream => format!(in alloc; "{said} (any crate that uses this one)"),
+        Conflict::Downstream => with_two(
+            "downstream crates may implement trait `{}` for type `{}` (any crate that uses this one)",
+            bound,
+            subject,
+        ),
     }
 }
 
@@ -34,18 +38,13 @@ fn is_left(candidate: &CandidateNode) -> bool {
 }
 
 /// What is said of a candidate that is left: that it applies, where the goal holds by it.
-fn way_text(
-    alloc: Global,
-    texts: Texts<'_>,
-    candidate: &CandidateNode,
-    holds: bool,
-) -> Result<String, AllocError> {
-    let name = source_name(alloc, texts, candidate.source)?;
-    if holds && candidate.certainty == Some(Certainty::Yes) {
-        format!(in alloc; "the {name} applies")
+fn way_said(texts: Texts<'_>, candidate: &CandidateNode, holds: bool) -> Sentence<'static> {
+    let template = if holds && candidate.certainty == Some(Certainty::Yes) {
+        "the {} applies"
     } else {
-        format!(in alloc; "the {name} may apply")
-    }
+        "the {} may apply"
+    };
+    with_one(template, source_piece(texts, candidate.source))
 }
 
 /// Adds the candidates that apply, or may. Of a type that is not known nothing is added: the one candidate stands for all of them.
@@ -58,19 +57,36 @@ fn push_ways(
     if story.is_unknown(0) {
         return Ok(());
     }
+    let holds = story.answer(0) == Answer::Yes;
     let mut count = 0usize;
     for candidate in story.candidates(0) {
         if is_left(candidate) {
             if count == LIST_LIMIT {
-                let message = String::from_str(alloc, "others may apply too")?;
-                return push_note(alloc, message, children);
+                return tell_note(alloc, plain("others may apply too"), children);
             }
             count = count.saturating_add(1);
-            let message = way_text(alloc, texts, candidate, story.answer(0) == Answer::Yes)?;
-            push_note(alloc, message, children)?;
+            tell_note(alloc, way_said(texts, candidate, holds), children)?;
         }
     }
     Ok(())
+}
+
+/// Adds which crate that is not seen may add which impl, where one may.
+fn push_unseen(
+    alloc: Global,
+    texts: Texts<'_>,
+    story: &Story<'_>,
+    unseen: Option<Conflict>,
+    children: &mut Vec<Subdiagnostic>,
+) -> Result<(), AllocError> {
+    match (unseen, story.spoken(0)) {
+        (Some(conflict), Some(spoken)) => tell_note(
+            alloc,
+            unseen_said(texts, spoken, conflict),
+            children,
+        ),
+        _ => Ok(()),
+    }
 }
 
 /// What is said of a question that was answered open, at a span, with which unseen crates may have an impl.
@@ -81,14 +97,12 @@ pub fn left_open(
     span: Span,
     unseen: Option<Conflict>,
 ) -> Result<Diagnostic, AllocError> {
-    let reference = story.reference(0);
-    let message = format!(in alloc; "`{reference}` holds, or some crate could make it hold")?;
-    let label = String::new(alloc);
-    let mut told = message_at(alloc, Level::Note, None, message, span, label)?;
-    if let (Some(conflict), Some(spoken)) = (unseen, story.spoken(0)) {
-        let said = unseen_text(alloc, texts, spoken, conflict)?;
-        push_note(alloc, said, &mut told.children)?;
-    }
+    let message = with_one(
+        "`{}` holds, or some crate could make it hold",
+        Piece::Text(story.reference(0)),
+    );
+    let mut told = tell_at(alloc, Level::Note, None, message, span, plain(""))?;
+    push_unseen(alloc, texts, story, unseen, &mut told.children)?;
     push_ways(alloc, texts, story, &mut told.children)?;
     Ok(told)
 }

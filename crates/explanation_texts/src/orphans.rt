@@ -4,7 +4,11 @@ ghost use Rattle.std.specs.Prelude.{IfSome};
 ghost use Rattle.type_terms.specs.Terms.{Has, types};
 ghost use Rattle.orphan_check.specs.Held.{ErrorHeld, LeavesHeld, TypeHeld};
 
-use crate::items::{Texts, crate_name, impl_line, note, push_help, push_note, trait_home};
+use crate::items::{Texts, crate_name, impl_line, trait_home};
+use crate::sentences::{
+    Piece, Sentence, plain, push_primary, sentence_text, tell, tell_help, tell_note, with_one,
+    with_two,
+};
 use crate::words::type_text;
 use answer_lines::HeaderNames;
 use diagnostics::{Diagnostic, ErrCode, LIST_LIMIT, Level, SpanLabel, Subdiagnostic, on_line};
@@ -45,35 +49,39 @@ fn sort_of_types(cx: &Interner, ty: Ty) -> &'static str
     }
 }
 
-/// Where a type comes from, as in "`V` is of crate `base`".
-fn home_text(alloc: Global, texts: Texts<'_>, cx: &Interner, ty: Ty) -> Result<String, AllocError>
+/// Where a type that is called so comes from.
+fn home_said<'s>(texts: Texts<'s>, cx: &Interner, ty: Ty, name: &'s str) -> Sentence<'s>
     requires { Has cx.now.entries types ty.0 }
 {
+    let name = Piece::Text(name);
     match cx.kind(ty) {
         TyKind::Adt(id, _) => match texts.workspace.structs().get(id.index as usize) {
             Some(entry) => {
-                let owner = crate_name(texts, entry.owner);
-                format!(in alloc; "is of crate `{owner}`")
+                let owner = Piece::Name(crate_name(texts, entry.owner));
+                with_two("`{}` is of crate `{}`", name, owner)
             }
-            None => String::from_str(alloc, "is of another crate"),
+            None => with_one("`{}` is of another crate", name),
         },
-        _ => String::from_str(alloc, "is of no crate"),
+        _ => with_one("`{}` is of no crate", name),
     }
 }
 
-/// What is said of a type that the walk met.
-fn met_note(
+/// Adds what is said of a type that the walk met.
+fn push_met_type(
     alloc: Global,
     refused: Refused<'_>,
     cx: &Interner,
     ty: Ty,
-) -> Result<Subdiagnostic, AllocError>
+    children: &mut Vec<Subdiagnostic>,
+) -> Result<(), AllocError>
     requires { Has cx.now.entries types ty.0 }
 {
     let name = type_text(alloc, cx, &refused.names(), ty)?;
-    let home = home_text(alloc, refused.texts, cx, ty)?;
-    let message = format!(in alloc; "`{name}` {home}")?;
-    Ok(note(alloc, message))
+    tell_note(
+        alloc,
+        home_said(refused.texts, cx, ty, name.as_str()),
+        children,
+    )
 }
 
 /// Adds what is said of each type that the walk met.
@@ -88,25 +96,61 @@ fn push_met(
 {
     for (place, met) in types.iter().enumerate() {
         if place == LIST_LIMIT {
-            return push_note(alloc, String::from_str(alloc, "..")?, children);
+            return tell_note(alloc, plain(".."), children);
         }
-        let told = met_note(alloc, refused, cx, met.0)?;
-        children.push(told)?;
+        push_met_type(alloc, refused, cx, met.0, children)?;
     }
     Ok(())
 }
 
-/// Puts a mark at the header of the impl, if it stands in the text.
-fn mark_header(
+/// Adds a mark at the header of the impl, if it stands in the text.
+fn push_header(
+    alloc: Global,
     refused: Refused<'_>,
-    label: String,
-    told: &mut Diagnostic,
+    label: Sentence<'_>,
+    spans: &mut Vec<SpanLabel>,
 ) -> Result<(), AllocError> {
-    if let Some(found) = impl_line(refused.texts, refused.id) {
-        let span = on_line(found.line, found.parts.header);
-        told.spans.push(SpanLabel::primary(span, label))?;
+    match impl_line(refused.texts, refused.id) {
+        Some(found) => push_primary(alloc, on_line(found.line, found.parts.header), label, spans),
+        None => Ok(()),
     }
-    Ok(())
+}
+
+/// The message where no type of the header is of the crate.
+fn nonlocal_message(cx: &Interner, types: &[(Ty, IsFirstInputType)]) -> Sentence<'static>
+    requires { LeavesHeld cx.now.entries types.now }
+{
+    let sort = match types.first() {
+        Some(met) => sort_of_types(cx, met.0),
+        None => "types defined outside of the crate",
+    };
+    with_one(
+        "only traits defined in the current crate can be implemented for {}",
+        Piece::Text(sort),
+    )
+}
+
+/// Adds what is said where no type of the header is of the crate.
+fn push_nonlocal(
+    alloc: Global,
+    refused: Refused<'_>,
+    cx: &Interner,
+    types: &[(Ty, IsFirstInputType)],
+    told: &mut Diagnostic,
+) -> Result<(), AllocError>
+    requires { LeavesHeld cx.now.entries types.now }
+{
+    let own = Piece::Name(crate_name(refused.texts, refused.crate_id));
+    let home = Piece::Name(trait_home(refused.texts, refused.entry.header.trait_id));
+    let label = with_one("no type here is of crate `{}`", own);
+    let advice = with_two(
+        "the trait is of crate `{}`: write this impl there, or for a struct of crate `{}`",
+        home,
+        own,
+    );
+    push_header(alloc, refused, label, &mut told.spans)?;
+    push_met(alloc, refused, cx, types, &mut told.children)?;
+    tell_help(alloc, advice, &mut told.children)
 }
 
 /// What is said where no type of the header is of the crate.
@@ -118,23 +162,9 @@ fn nonlocal(
 ) -> Result<Diagnostic, AllocError>
     requires { LeavesHeld cx.now.entries types.now }
 {
-    let sort = match types.first() {
-        Some(met) => sort_of_types(cx, met.0),
-        None => "types defined outside of the crate",
-    };
-    let message = format!(in alloc;
-        "only traits defined in the current crate can be implemented for {sort}"
-    )?;
-    let mut told = Diagnostic::new(alloc, Level::Error, Some(ErrCode::E0117), message);
-    let own = crate_name(refused.texts, refused.crate_id);
-    let label = format!(in alloc; "no type here is of crate `{own}`")?;
-    mark_header(refused, label, &mut told)?;
-    push_met(alloc, refused, cx, types, &mut told.children)?;
-    let home = trait_home(refused.texts, refused.entry.header.trait_id);
-    let advice = format!(in alloc;
-        "the trait is of crate `{home}`: write this impl there, or for a struct of crate `{own}`"
-    )?;
-    push_help(alloc, advice, &mut told.children)?;
+    let message = nonlocal_message(cx, types);
+    let mut told = tell(alloc, Level::Error, Some(ErrCode::E0117), message)?;
+    push_nonlocal(alloc, refused, cx, types, &mut told)?;
     Ok(told)
 }
 
@@ -148,19 +178,41 @@ fn uncovered_message(
 ) -> Result<String, AllocError>
     requires { IfSome local (TypeHeld cx.now.entries) }
 {
-    match local {
-        None => {
-            format!(in alloc;
-                "type parameter `{param}` must be used as the type parameter for some local type (e.g., `MyStruct<{param}>`)"
-            )
-        }
-        Some(ty) => {
-            let local = type_text(alloc, cx, &refused.names(), ty)?;
-            format!(in alloc;
-                "type parameter `{param}` must be covered by another type when it appears before the first local type (`{local}`)"
-            )
-        }
-    }
+    let param = Piece::Text(param);
+    let Some(ty) = local else {
+        let template =
+            "type parameter `{}` must be used as the type parameter for some local type (e.g., `MyStruct<{}>`)";
+        return sentence_text(alloc, with_two(template, param, param));
+    };
+    let local = type_text(alloc, cx, &refused.names(), ty)?;
+    let template =
+        "type parameter `{}` must be covered by another type when it appears before the first local type (`{}`)";
+    sentence_text(
+        alloc,
+        with_two(template, param, Piece::Text(local.as_str())),
+    )
+}
+
+/// Adds what is said where a parameter comes before the first local type, or there is no such type.
+fn push_uncovered(
+    alloc: Global,
+    refused: Refused<'_>,
+    param: &str,
+    has_local: bool,
+    told: &mut Diagnostic,
+) -> Result<(), AllocError> {
+    let template = if has_local {
+        "type parameter `{}` comes before the first local type"
+    } else {
+        "type parameter `{}` stands in no local type"
+    };
+    let label = with_one(template, Piece::Text(param));
+    let said = with_one(
+        "the trait is of crate `{}`, so a crate may write an impl of it only where a struct of its own comes before any parameter that stands alone",
+        Piece::Name(trait_home(refused.texts, refused.entry.header.trait_id)),
+    );
+    push_header(alloc, refused, label, &mut told.spans)?;
+    tell_note(alloc, said, &mut told.children)
 }
 
 /// What is said where a parameter comes before the first local type, or there is no such type.
@@ -176,17 +228,8 @@ fn uncovered(
     let param = type_text(alloc, cx, &refused.names(), error.uncovered)?;
     let message = uncovered_message(alloc, refused, cx, param.as_str(), error.local_ty)?;
     let mut told = Diagnostic::new(alloc, Level::Error, Some(ErrCode::E0210), message);
-    let how = match error.local_ty {
-        None => "stands in no local type",
-        Some(_) => "comes before the first local type",
-    };
-    let label = format!(in alloc; "type parameter `{param}` {how}")?;
-    mark_header(refused, label, &mut told)?;
-    let home = trait_home(refused.texts, refused.entry.header.trait_id);
-    let said = format!(in alloc;
-        "the trait is of crate `{home}`, so a crate may write an impl of it only where a struct of its own comes before any parameter that stands alone"
-    )?;
-    push_note(alloc, said, &mut told.children)?;
+    let has_local = error.local_ty.is_some();
+    push_uncovered(alloc, refused, param.as_str(), has_local, &mut told)?;
     Ok(told)
 }
 

@@ -1,7 +1,8 @@
 //! Why the candidates of a goal are refused.
 
-use crate::items::{Texts, push_note};
-use crate::sources::source_name;
+use crate::items::Texts;
+use crate::sentences::{Piece, Sentence, plain, tell_note, with_one, with_three, with_two};
+use crate::sources::source_piece;
 use crate::story::{Story, refused_premise};
 use diagnostics::{LIST_LIMIT, Subdiagnostic};
 use evaluation::CandidateSource;
@@ -9,27 +10,28 @@ use goal_walk::CandidateNode;
 use std::alloc::{AllocError, Global};
 
 /// Why a candidate is refused: what it needs, and what is to be said of that.
-fn refused_text(
-    alloc: Global,
+fn refusal<'s>(
     texts: Texts<'_>,
-    story: &Story<'_>,
+    story: &'s Story<'_>,
     candidate: &CandidateNode,
-    why: &str,
-) -> Result<String, AllocError> {
-    let name = source_name(alloc, texts, candidate.source)?;
+    why: &'static str,
+) -> Sentence<'s> {
+    let name = source_piece(texts, candidate.source);
     let Some(premise) = refused_premise(story, candidate) else {
-        let how = if candidate.certainty.is_some() {
-            "is not settled"
+        let template = if candidate.certainty.is_some() {
+            "the {} fits, and is not settled"
         } else {
-            "is refused"
+            "the {} fits, and is refused"
         };
-        return format!(in alloc; "the {name} fits, and {how}");
+        return with_one(template, name);
     };
-    let needs = story.reference(premise);
+    let needs = Piece::Text(story.reference(premise));
     if candidate.source == CandidateSource::CoherenceUnknowable {
-        format!(in alloc; "an impl of a crate that is not seen would need `{needs}`, {why}")
+        let template = "an impl of a crate that is not seen would need `{}`, {}";
+        with_two(template, needs, Piece::Text(why))
     } else {
-        format!(in alloc; "the {name} fits, but needs `{needs}`, {why}")
+        let template = "the {} fits, but needs `{}`, {}";
+        with_three(template, name, needs, Piece::Text(why))
     }
 }
 
@@ -39,16 +41,14 @@ pub(crate) fn push_refused(
     texts: Texts<'_>,
     story: &Story<'_>,
     place: usize,
-    why: &str,
+    why: &'static str,
     children: &mut Vec<Subdiagnostic>,
 ) -> Result<(), AllocError> {
     for (index, candidate) in story.candidates(place).iter().enumerate() {
         if index == LIST_LIMIT {
-            let message = String::from_str(alloc, "others fit too")?;
-            return push_note(alloc, message, children);
+            return tell_note(alloc, plain("others fit too"), children);
         }
-        let message = refused_text(alloc, texts, story, candidate, why)?;
-        push_note(alloc, message, children)?;
+        tell_note(alloc, refusal(texts, story, candidate, why), children)?;
     }
     Ok(())
 }

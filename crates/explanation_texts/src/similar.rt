@@ -1,5 +1,6 @@
 //! Names that are like one that is not known.
 
+use crate::items::{Name, name_of};
 use diagnostics::{TYPE_LIMIT, cut_text};
 use std::alloc::{AllocError, Global};
 use strsim::levenshtein;
@@ -11,19 +12,29 @@ fn near(name: &str) -> usize {
 }
 
 /// The name that is most like another one so far.
-#[derive(Drop)]
-struct Nearest {
-    name: Option<String>,
+#[derive(Clone, Copy)]
+struct Nearest<'w> {
+    name: Option<Name<'w>>,
     distance: usize,
 }
 
-/// Compares one more name.
-fn compare(alloc: Global, best: Nearest, wanted: &str, name: &[u8]) -> Result<Nearest, AllocError> {
+/// How many edits a name is away.
+fn edits(alloc: Global, wanted: &str, name: &[u8]) -> Result<usize, AllocError> {
     let other = cut_text(alloc, name, TYPE_LIMIT)?;
-    let distance = levenshtein(alloc, wanted, other.as_str())?;
+    levenshtein(alloc, wanted, other.as_str())
+}
+
+/// Compares one more name.
+fn compare<'w>(
+    alloc: Global,
+    best: Nearest<'w>,
+    wanted: &str,
+    name: &'w [u8],
+) -> Result<Nearest<'w>, AllocError> {
+    let distance = edits(alloc, wanted, name)?;
     if distance < best.distance {
         Ok(Nearest {
-            name: Some(other),
+            name: Some(name_of(name)),
             distance,
         })
     } else {
@@ -31,12 +42,12 @@ fn compare(alloc: Global, best: Nearest, wanted: &str, name: &[u8]) -> Result<Ne
     }
 }
 
-/// The struct or trait with the name that is most like this one, if one is near.
-pub(crate) fn similar_name(
+/// The struct or trait with the name that is most like a text, if one is near.
+fn nearest_name<'w>(
     alloc: Global,
-    workspace: &Workspace,
+    workspace: &'w Workspace,
     wanted: &str,
-) -> Result<Option<String>, AllocError> {
+) -> Result<Option<Name<'w>>, AllocError> {
     let mut best = Nearest {
         name: None,
         distance: near(wanted).saturating_add(1),
@@ -48,4 +59,14 @@ pub(crate) fn similar_name(
         best = compare(alloc, best, wanted, &entry.name)?;
     }
     Ok(best.name)
+}
+
+/// The struct or trait with the name that is most like this one, if one is near.
+pub(crate) fn similar_name<'w>(
+    alloc: Global,
+    workspace: &'w Workspace,
+    wanted: &[u8],
+) -> Result<Option<Name<'w>>, AllocError> {
+    let wanted = cut_text(alloc, wanted, TYPE_LIMIT)?;
+    nearest_name(alloc, workspace, wanted.as_str())
 }

@@ -1,6 +1,7 @@
 //! By what a candidate holds, in words.
 
-use crate::items::{Texts, impl_name};
+use crate::items::{Texts, impl_piece};
+use crate::sentences::{Piece, piece_text};
 use evaluation::{BuiltinImplSource, CandidateSource};
 use std::alloc::{AllocError, Global};
 
@@ -15,17 +16,20 @@ fn rule_name(source: BuiltinImplSource) -> &'static str {
 }
 
 /// By what a candidate holds, as in "by a built-in rule".
+pub(crate) fn source_piece(texts: Texts<'_>, source: CandidateSource) -> Piece<'static> {
+    match source {
+        CandidateSource::Impl(id) => impl_piece(texts, id),
+        CandidateSource::BuiltinImpl(source) => Piece::Text(rule_name(source)),
+        CandidateSource::ParamEnv(_) => Piece::Text("where-clause"),
+        CandidateSource::CoherenceUnknowable => Piece::Text("impl of a crate that is not seen"),
+    }
+}
+
+/// By what a candidate holds, as in "by a built-in rule".
 pub fn source_name(
     alloc: Global,
     texts: Texts<'_>,
     source: CandidateSource,
 ) -> Result<String, AllocError> {
-    match source {
-        CandidateSource::Impl(id) => impl_name(alloc, texts, id),
-        CandidateSource::BuiltinImpl(source) => String::from_str(alloc, rule_name(source)),
-        CandidateSource::ParamEnv(_) => String::from_str(alloc, "where-clause"),
-        CandidateSource::CoherenceUnknowable => {
-            String::from_str(alloc, "impl of a crate that is not seen")
-        }
-    }
+    piece_text(alloc, source_piece(texts, source))
 }

@@ -4,6 +4,7 @@ ghost use Rattle.std.specs.Prelude.{IfSome};
 ghost use Rattle.type_terms.specs.Kinds.{ArgHeld};
 ghost use Rattle.type_terms.specs.Terms.{Has, args_lists, types};
 
+use crate::sentences::{Piece, sentence_text, with_two};
 use crate::words::type_text;
 use answer_lines::{PrintNames, ShownNames, print_const, print_type_within};
 use diagnostics::{TYPE_LIMIT, cut_text};
@@ -43,6 +44,18 @@ impl Drop for Spoken {
             is_unknown: _,
             is_param: _,
         } = self;
+    }
+}
+
+impl Spoken {
+    /// The bound, in a sentence.
+    pub(crate) fn bound_piece(&self) -> Piece<'_> {
+        Piece::Text(self.bound.as_str())
+    }
+
+    /// The self type, in a sentence.
+    pub(crate) fn subject_piece(&self) -> Piece<'_> {
+        Piece::Text(self.subject.as_str())
     }
 }
 
@@ -189,7 +202,12 @@ pub fn speak(
     let subject = subject_text(alloc, cx, names, reference)?;
     let bound = bound_text(alloc, cx, names, reference)?;
     let unknown = unknown_text(alloc, cx, names, reference)?;
-    let whole = format!(in alloc; "{subject}: {bound}")?;
+    let sentence = with_two(
+        "{}: {}",
+        Piece::Text(subject.as_str()),
+        Piece::Text(bound.as_str()),
+    );
+    let whole = sentence_text(alloc, sentence)?;
     Ok(Spoken {
         reference: whole,
         subject,
@@ -207,18 +225,13 @@ pub fn conflict_text(
     spoken: &Spoken,
     conflict: Conflict,
 ) -> Result<String, AllocError> {
-    let bound = &spoken.bound;
-    let subject = &spoken.subject;
-    match conflict {
-        Conflict::Upstream => {
-            format!(in alloc;
-                "upstream crates may add a new impl of trait `{bound}` for type `{subject}` in future versions"
-            )
-        }
-        Conflict::Downstream => {
-            format!(in alloc;
-                "downstream crates may implement trait `{bound}` for type `{subject}`"
-            )
-        }
-    }
+    let template = match conflict {
+        Conflict::Upstream =>
+            "upstream crates may add a new impl of trait `{}` for type `{}` in future versions",
+        Conflict::Downstream => "downstream crates may implement trait `{}` for type `{}`",
+    };
+    sentence_text(
+        alloc,
+        with_two(template, spoken.bound_piece(), spoken.subject_piece()),
+    )
 }
