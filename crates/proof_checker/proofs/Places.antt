@@ -1,5 +1,5 @@
 -- References at places.
-use Rattle.std.proofs.Common.{◌≡◌, ◌<◌, ℕ, zero, suc, List, [], ◌∷◌, ◌++◌, take, ap, ◌∙◌, subst, Some, arith}
+use Rattle.std.proofs.Common.{◌≡◌, ◌<◌, ℕ, zero, suc, List, [], ◌∷◌, ◌++◌, length, take, refl, ap, sym, ◌∙◌, subst, Some, arith}
 use Rattle.std.specs.List.{slice_get}
 use Rattle.type_terms.specs.Worlds.{Reference}
 use Rattle.declarations.specs.Merges.{Each}
@@ -21,3 +21,14 @@ take-get zero rs k t e h = absurd (omega (arith, h))
 take-get (suc n) [] k t e h = cc
 take-get (suc n) (r ∷ rs) zero t e h = e
 take-get (suc n) (r ∷ rs) (suc k) t e h = take-get n rs k t e (omega (arith, h))
+
+-- what is left behind the first is shorter
+pub shorter : {A : Type 0} (x : A) (xs ys : List A) → xs ≡ x ∷ ys → length ys < length xs
+shorter x xs ys e = subst (λ l. length ys < length l) (sym e) (next-above-it (length ys))
+  where
+    next-above-it : (n : ℕ) → n < suc n
+    next-above-it n = omega arith
+
+pub none-left : {A : Type 0} (xs : List A) → length xs ≡ 0 → xs ≡ []
+none-left [] e = refl
+none-left (x ∷ xs) e = absurd (omega (arith, e))

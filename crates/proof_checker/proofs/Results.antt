@@ -1,6 +1,7 @@
 -- What is known of a result, made of what is known of it.
-use Rattle.std.specs.Prelude.{◌≡◌, Option, Some, None, Result, Ok, Err, IfOk, IfErr, IfSome}
+use Rattle.std.specs.Prelude.{◌≡◌, true, false, List, [], ◌∷◌, Option, Some, None, Result, Ok, Err, IfOk, IfErr, IsErrAnd, IfSome}
 use Rattle.std.proofs.Common.{ap}
+use Rattle.declarations.specs.Merges.{Each}
 
 pub mapped : {A F : Type 0} (P Q : A → Type 0) (r : Result A F) → ((v : A) → P v → Q v) → IfOk r P → IfOk r Q
 mapped P Q (Ok v) f p = f v p
@@ -28,3 +29,15 @@ mapped-some P Q (Err e) f p = tt
 pub of-error : {A F G : Type 0} (x : F) (r : Result A F) → (r ≡ Err x → G) → IfErr r (λ e. e ≡ x → G)
 of-error x (Ok v) f = tt
 of-error x (Err e) f = λ q. f (ap Err q)
+
+-- nothing is said of what was found where an error is handed on
+pub not-ok : {A F : Type 0} (P : A → Type 0) (Q : F → Type 0) (r : Result A F) → IsErrAnd r Q → IfOk r P
+not-ok P Q (Ok v) h = absurd h
+not-ok P Q (Err e) h = tt
+
+pub never : {A : Type 0} → false ≡ true → A
+never q = absurd cc
+
+pub none-each : {A : Type 0} (P : A → Type 0) (xs : List A) → xs ≡ [] → Each P xs
+none-each P [] e = tt
+none-each P (x ∷ xs) e = absurd cc

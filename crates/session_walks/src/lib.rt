@@ -6,6 +6,7 @@
 
 mod breaking;
 mod explained;
+mod headers;
 mod pairs;
 mod places;
 mod questions;

@@ -12,14 +12,13 @@ ghost use Rattle.sessions.specs.Proving.{SolverAdvances, SolverIsReady};
 ghost use Rattle.sessions.specs.Sessions.{SolverRests};
 ghost use Rattle.session_walks.specs.Walked.{PairWalkHeld, RestsAfter};
 
+use crate::headers::args_where_equal;
 use crate::walks::PairWalk;
 use candidate_assembly::solver::Solver;
 use declarations::items::ImplDef;
 use evaluation::TypingMode;
 use goal_walk::{GoalWalk, walk_goal};
-use infer_table::certainty::EqError;
 use infer_table::infer_ctxt::InferCtxt;
-use overlap_check::equate::equate_impl_headers;
 use overlap_check::header::fresh_impl_header;
 use overlap_check::intersection::ImplIntersection;
 use overlap_check::partners::pair_at;
@@ -49,16 +48,13 @@ fn common_header(
     let mut table = InferCtxt::new(alloc);
     let left_header = fresh_impl_header(alloc, cx, &mut table, left)?;
     let right_header = fresh_impl_header(alloc, cx, &mut table, right)?;
-    match equate_impl_headers(alloc, cx, &mut table, left_header, right_header) {
-        Ok(()) => {
-            let args = table.eager_resolve_vars(cx, left_header.trait_ref.args)?;
-            Ok(Some(TraitRef {
-                def_id: left_header.trait_ref.def_id,
-                args,
-            }))
-        }
-        Err(EqError::NoSolution) => Ok(None),
-        Err(EqError::Fault(fault)) => Err(fault),
+    let left_args = left_header.trait_ref.args;
+    match args_where_equal(alloc, cx, &mut table, left_header, right_header, left_args)? {
+        Some(args) => Ok(Some(TraitRef {
+            def_id: left_header.trait_ref.def_id,
+            args,
+        })),
+        None => Ok(None),
     }
 }
 

@@ -100,25 +100,19 @@ impl ProofOrder {
             }
         }
     }
-
-    /// The visit that begins at place 0.
-    fn begin(alloc: Global, walk: &GoalWalk) -> Result<ProofOrder, AllocError> {
-        let mut order = ProofOrder {
-            entered: Vec::new(alloc),
-            visits: Vec::new(alloc),
-            places: Vec::new(alloc),
-        };
-        order.enter(walk, 0)?;
-        Ok(order)
-    }
 }
 
 /// The places of the goals that a proof of the goal at place 0 needs, each behind those that it asks but for cycles; that goal is the last.
 fn places_of(alloc: Global, walk: &GoalWalk) -> Result<ProofOrder, AllocError> {
-    let mut order = ProofOrder::begin(alloc, walk)?;
+    let mut order = ProofOrder {
+        entered: Vec::new(alloc),
+        visits: Vec::new(alloc),
+        places: Vec::new(alloc),
+    };
+    order.enter(walk, 0)?;
     for _visit in 0..VISIT_LIMIT {
         if !order.visit(walk)? {
-            return Ok(order);
+            break;
         }
     }
     Ok(order)

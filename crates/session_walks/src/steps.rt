@@ -7,6 +7,7 @@ ghost use Rattle.declarations.specs.Applied.{TraitRefsHeld, HaveBounds};
 ghost use Rattle.declarations.specs.Held.{AreHeld, ImplHeld, ReferenceHeld};
 ghost use Rattle.declarations.specs.Merges.{Each};
 ghost use Rattle.infer_table.specs.Content.{Ready};
+ghost use Rattle.candidate_assembly.specs.Ready.{AreReadyDeclarations};
 ghost use Rattle.overlap_check.specs.Written.{IsWrittenWell};
 ghost use Rattle.proof_checker.specs.Steps.{StepHeld, WayHeld};
 ghost use Rattle.goal_walk.specs.Walking.{ReferencesHeld};
@@ -14,6 +15,7 @@ ghost use Rattle.sessions.specs.Proving.{SolverAdvances, SolverIsReady};
 ghost use Rattle.session_walks.specs.Shown.{AreShownPremises, ShowsItsSteps, StepIsShown, StepsAreShown};
 ghost use Rattle.session_walks.specs.Walked.{ProofWalkHeld};
 
+use crate::headers::args_where_equal;
 use crate::places::reference_at;
 use crate::shown::shown_steps;
 use crate::walks::{ProofWalk, ShownStep};
@@ -22,9 +24,7 @@ use declarations::declarations::Declarations;
 use declarations::items::ImplDef;
 use evaluation::CandidateSource;
 use goal_walk::GoalWalk;
-use infer_table::certainty::EqError;
 use infer_table::infer_ctxt::InferCtxt;
-use overlap_check::equate::equate_impl_headers;
 use overlap_check::header::{ImplHeader, fresh_impl_header};
 use proof_checker::rows::by_built_in;
 use proof_checker::rules::by_clause;
@@ -32,7 +32,7 @@ use proof_checker::steps::{Step, Way};
 use proof_checker::supertraits::by_supertrait;
 use sessions::ready_impls_are_written_well;
 use solver_context::SolverCx;
-use std::alloc::Global;
+use std::alloc::{AllocError, Global};
 use term_folds::predicate::TraitRef;
 use type_terms::interner::Interner;
 use type_terms::kinds::GenericArgs;
@@ -59,40 +59,32 @@ fn impl_args(
         impl_args: header.impl_args,
         trait_ref: reference,
     };
-    match equate_impl_headers(alloc, cx, table, header, asked) {
-        Ok(()) => {
-            let args = table.eager_resolve_vars(cx, header.impl_args)?;
-            Ok(Some(args))
-        }
-        Err(EqError::NoSolution) => Ok(None),
-        Err(EqError::Fault(fault)) => Err(fault),
-    }
+    args_where_equal(alloc, cx, table, header, asked, header.impl_args)
 }
 
 /// The way by an impl, where its header can be the reference.
 fn impl_way(
-    cx: &mut SolverCx<Solver>,
+    alloc: Global,
+    cx: &mut Interner,
+    declarations: &Declarations,
     table: &mut InferCtxt,
     id: ImplId,
     reference: TraitRef,
 ) -> Result<Way, Fault>
-    requires ready { SolverIsReady cx.old }
-    requires table { Ready cx.old.interner.entries table.old }
-    requires reference { ReferenceHeld cx.old.interner.entries reference }
-    ensures advances { SolverAdvances cx.old cx.new }
-    ensures table { Ready cx.new.interner.entries table.new }
-    ensures held { IfOk result (WayHeld cx.new.interner.entries) }
+    requires ready { AreReadyDeclarations cx.old.entries declarations.now }
+    requires table { Ready cx.old.entries table.old }
+    requires reference { ReferenceHeld cx.old.entries reference }
+    ensures grew { Grew cx.old cx.new }
+    ensures table { Ready cx.new.entries table.new }
+    ensures held { IfOk result (WayHeld cx.new.entries) }
 {
     ready_impls_are_written_well();
-    let Some(def) = cx.handler.declarations.impl_def(id) else {
+    let Some(def) = declarations.impl_def(id) else {
         return Ok(Way::Assumed);
     };
-    let found = impl_args(cx.alloc, &mut cx.interner, table, def, reference);
-    cx.interner.lawful();
-    match found {
-        Ok(Some(args)) => Ok(Way::Impl(id, args)),
-        Ok(None) => Ok(Way::Assumed),
-        Err(fault) => Err(fault),
+    match impl_args(alloc, cx, table, def, reference)? {
+        Some(args) => Ok(Way::Impl(id, args)),
+        None => Ok(Way::Assumed),
     }
 }
 
@@ -161,24 +153,6 @@ fn clause_way(
     }
 }
 
-/// The same over the interner of a context.
-fn clause_way_in(
-    cx: &mut SolverCx<Solver>,
-    clauses: &[TraitRef],
-    reference: TraitRef,
-) -> Result<Way, Fault>
-    requires ready { SolverIsReady cx.old }
-    requires clauses { TraitRefsHeld cx.old.interner.entries clauses.now }
-    requires reference { ReferenceHeld cx.old.interner.entries reference }
-    ensures advances { SolverAdvances cx.old cx.new }
-    ensures held { IfOk result (WayHeld cx.new.interner.entries) }
-{
-    let declarations = &cx.handler.declarations;
-    let way = clause_way(cx.alloc, &mut cx.interner, declarations, clauses, reference);
-    cx.interner.lawful();
-    way
-}
-
 /// The way by a built-in rule, where one that is checked concludes the reference.
 fn row_way(
     alloc: Global,
@@ -197,40 +171,34 @@ fn row_way(
     }
 }
 
-/// The same over the interner of a context.
-fn row_way_in(cx: &mut SolverCx<Solver>, reference: TraitRef) -> Result<Way, Fault>
-    requires ready { SolverIsReady cx.old }
-    requires reference { ReferenceHeld cx.old.interner.entries reference }
-    ensures advances { SolverAdvances cx.old cx.new }
-    ensures held { IfOk result (WayHeld cx.new.interner.entries) }
-{
-    let declarations = &cx.handler.declarations;
-    let way = row_way(cx.alloc, &mut cx.interner, declarations, reference);
-    cx.interner.lawful();
-    way
-}
-
-/// By what a candidate concludes a reference; what no rule of the checker concludes is taken for granted.
+/// By what a candidate concludes a reference; what no rule of the checker concludes is taken for granted, as is what has no candidate.
 fn way_by(
-    cx: &mut SolverCx<Solver>,
+    alloc: Global,
+    cx: &mut Interner,
+    declarations: &Declarations,
     table: &mut InferCtxt,
     clauses: &[TraitRef],
     reference: TraitRef,
-    source: CandidateSource,
+    source: Option<CandidateSource>,
 ) -> Result<Way, Fault>
-    requires ready { SolverIsReady cx.old }
-    requires table { Ready cx.old.interner.entries table.old }
-    requires clauses { TraitRefsHeld cx.old.interner.entries clauses.now }
-    requires reference { ReferenceHeld cx.old.interner.entries reference }
-    ensures advances { SolverAdvances cx.old cx.new }
-    ensures table { Ready cx.new.interner.entries table.new }
-    ensures held { IfOk result (WayHeld cx.new.interner.entries) }
+    requires ready { AreReadyDeclarations cx.old.entries declarations.now }
+    requires table { Ready cx.old.entries table.old }
+    requires clauses { TraitRefsHeld cx.old.entries clauses.now }
+    requires reference { ReferenceHeld cx.old.entries reference }
+    ensures grew { Grew cx.old cx.new }
+    ensures table { Ready cx.new.entries table.new }
+    ensures held { IfOk result (WayHeld cx.new.entries) }
 {
     match source {
-        CandidateSource::Impl(id) => impl_way(cx, table, id, reference),
-        CandidateSource::ParamEnv(_) => clause_way_in(cx, clauses, reference),
-        CandidateSource::BuiltinImpl(_) => row_way_in(cx, reference),
-        CandidateSource::CoherenceUnknowable => Ok(Way::Assumed),
+        Some(CandidateSource::Impl(id)) => {
+            impl_way(alloc, cx, declarations, table, id, reference)
+        }
+        Some(CandidateSource::ParamEnv(_)) => {
+            clause_way(alloc, cx, declarations, clauses, reference)
+        }
+        Some(CandidateSource::BuiltinImpl(_)) => row_way(alloc, cx, declarations, reference),
+        Some(CandidateSource::CoherenceUnknowable) => Ok(Way::Assumed),
+        None => Ok(Way::Assumed),
     }
 }
 
@@ -245,36 +213,13 @@ fn source_at(walk: &GoalWalk, place: usize) -> Option<CandidateSource> {
     }
 }
 
-/// By what the goal at a place is concluded.
-fn way_at(
-    cx: &mut SolverCx<Solver>,
-    table: &mut InferCtxt,
-    clauses: &[TraitRef],
-    walk: &GoalWalk,
-    reference: TraitRef,
-    place: usize,
-) -> Result<Way, Fault>
-    requires ready { SolverIsReady cx.old }
-    requires table { Ready cx.old.interner.entries table.old }
-    requires clauses { TraitRefsHeld cx.old.interner.entries clauses.now }
-    requires reference { ReferenceHeld cx.old.interner.entries reference }
-    ensures advances { SolverAdvances cx.old cx.new }
-    ensures table { Ready cx.new.interner.entries table.new }
-    ensures held { IfOk result (WayHeld cx.new.interner.entries) }
-{
-    match source_at(walk, place) {
-        Some(source) => way_by(cx, table, clauses, reference, source),
-        None => Ok(Way::Assumed),
-    }
-}
-
 /// The premises of a step by a way: the checker asks those of impls and of built-in rules alone.
-fn premises_by(alloc: Global, way: Way, shown: &ShownStep) -> Result<Vec<usize>, Fault>
+fn premises_by(alloc: Global, way: Way, shown: &ShownStep) -> Result<Vec<usize>, AllocError>
     ensures { IfOk result (λ ps. AreShownPremises way ps.items shown.now.premises.items) }
 {
     match way {
-        Way::Impl(_, _) => Ok(Vec::from_slice(alloc, &shown.premises)?),
-        Way::BuiltIn => Ok(Vec::from_slice(alloc, &shown.premises)?),
+        Way::Impl(_, _) => Vec::from_slice(alloc, &shown.premises),
+        Way::BuiltIn => Vec::from_slice(alloc, &shown.premises),
         Way::Clause(_) => Ok(Vec::new(alloc)),
         Way::Supertrait(_) => Ok(Vec::new(alloc)),
         Way::Assumed => Ok(Vec::new(alloc)),
@@ -283,26 +228,29 @@ fn premises_by(alloc: Global, way: Way, shown: &ShownStep) -> Result<Vec<usize>,
 
 /// The step that is shown so; none where the walk has no such place.
 fn step_of(
-    cx: &mut SolverCx<Solver>,
+    alloc: Global,
+    cx: &mut Interner,
+    declarations: &Declarations,
     table: &mut InferCtxt,
     clauses: &[TraitRef],
     walk: &GoalWalk,
     shown: &ShownStep,
 ) -> Result<Option<Step>, Fault>
-    requires ready { SolverIsReady cx.old }
-    requires table { Ready cx.old.interner.entries table.old }
-    requires clauses { TraitRefsHeld cx.old.interner.entries clauses.now }
-    requires walked { ReferencesHeld cx.old.interner.entries walk.now.references.items }
-    ensures advances { SolverAdvances cx.old cx.new }
-    ensures table { Ready cx.new.interner.entries table.new }
-    ensures held { IfOk result (λ o. IfSome o (StepHeld cx.new.interner.entries)) }
+    requires ready { AreReadyDeclarations cx.old.entries declarations.now }
+    requires table { Ready cx.old.entries table.old }
+    requires clauses { TraitRefsHeld cx.old.entries clauses.now }
+    requires walked { ReferencesHeld cx.old.entries walk.now.references.items }
+    ensures grew { Grew cx.old cx.new }
+    ensures table { Ready cx.new.entries table.new }
+    ensures held { IfOk result (λ o. IfSome o (StepHeld cx.new.entries)) }
     ensures shown { IfOk result (λ o. IfSome o (λ s. StepIsShown walk.now.references.items s shown.now)) }
 {
     let Some(reference) = reference_at(&walk.references, shown.place) else {
         return Ok(None);
     };
-    let way = way_at(cx, table, clauses, walk, reference, shown.place)?;
-    let premises = premises_by(cx.alloc, way, shown)?;
+    let source = source_at(walk, shown.place);
+    let way = way_by(alloc, cx, declarations, table, clauses, reference, source)?;
+    let premises = premises_by(alloc, way, shown)?;
     Ok(Some(Step {
         reference,
         way,
@@ -312,6 +260,34 @@ fn step_of(
 
 /// The steps that are shown so, in order; none where the walk has not all places.
 fn steps_of(
+    alloc: Global,
+    cx: &mut Interner,
+    declarations: &Declarations,
+    table: &mut InferCtxt,
+    clauses: &[TraitRef],
+    walk: &GoalWalk,
+    shown: &[ShownStep],
+) -> Result<Option<Vec<Step>>, Fault>
+    requires ready { AreReadyDeclarations cx.old.entries declarations.now }
+    requires table { Ready cx.old.entries table.old }
+    requires clauses { TraitRefsHeld cx.old.entries clauses.now }
+    requires walked { ReferencesHeld cx.old.entries walk.now.references.items }
+    ensures grew { Grew cx.old cx.new }
+    ensures held { IfOk result (λ o. IfSome o (λ v. Each (StepHeld cx.new.entries) v.items)) }
+    ensures shown { IfOk result (λ o. IfSome o (λ v. StepsAreShown walk.now.references.items v.items shown.now)) }
+{
+    let mut steps = Vec::new(alloc);
+    for next in shown {
+        match step_of(alloc, cx, declarations, table, clauses, walk, next)? {
+            Some(step) => steps.push(step)?,
+            None => return Ok(None),
+        }
+    }
+    Ok(Some(steps))
+}
+
+/// The same over the interner of a context.
+fn steps_in(
     cx: &mut SolverCx<Solver>,
     table: &mut InferCtxt,
     clauses: &[TraitRef],
@@ -326,14 +302,18 @@ fn steps_of(
     ensures held { IfOk result (λ o. IfSome o (λ v. Each (StepHeld cx.new.interner.entries) v.items)) }
     ensures shown { IfOk result (λ o. IfSome o (λ v. StepsAreShown walk.now.references.items v.items shown.now)) }
 {
-    let mut steps = Vec::new(cx.alloc);
-    for next in shown {
-        match step_of(cx, table, clauses, walk, next)? {
-            Some(step) => steps.push(step)?,
-            None => return Ok(None),
-        }
-    }
-    Ok(Some(steps))
+    let declarations = &cx.handler.declarations;
+    let steps = steps_of(
+        cx.alloc,
+        &mut cx.interner,
+        declarations,
+        table,
+        clauses,
+        walk,
+        shown,
+    );
+    cx.interner.lawful();
+    steps
 }
 
 /// A walk with the steps of the proof that it found. They are not checked.
@@ -352,7 +332,7 @@ pub(crate) fn with_steps(
     ensures shown { IfOk result ShowsItsSteps }
 {
     let shown = shown_steps(cx.alloc, &walk)?;
-    match steps_of(cx, table, clauses, &walk, &shown)? {
+    match steps_in(cx, table, clauses, &walk, &shown)? {
         Some(steps) => Ok(ProofWalk {
             walk,
             steps,

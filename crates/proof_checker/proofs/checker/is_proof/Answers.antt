@@ -11,6 +11,8 @@ use Rattle.proof_checker.proofs.Ways.{get-at}
 use Rattle.proof_checker.proofs.Places.{each-at}
 use Rattle.proof_checker.proofs.Later.{steps-kept, say-same, term-same, terms-same, assumed-same}
 use Rattle.proof_checker.proofs.Ends.{StepFollows, get-below, are-proof, moved, one-more-place}
+use Rattle.proof_checker.proofs.Results.{not-ok, never}
+use Rattle.declarations.proofs.Bounded.{at-limit}
 use Rattle.proof_checker.proofs.checker.is_proof.Goals as goal
 
 pub is_step-requires-clause-declared : goal.is_step-requires-clause-declared
@@ -69,3 +71,21 @@ pub returns-clause-proof : goal.returns-clause-proof
 returns-clause-proof c = λ _.
     are-proof c.args.cx.now.entries (declared c.args.cx.now.entries c.args.declarations.now) (terms_of c.args.cx.now.entries c.args.clauses.now) c.args.steps.now
     (λ i s e. let b = get-below c.args.steps.now i s e in let t = c.steps-test.false in let l : i < c.steps.place = omega (arith, b, t) in c.steps.invariant.follow i s l e)
+
+pub returns-then-not-branch-clause-grew : goal.returns-then-not-branch-clause-grew
+returns-then-not-branch-clause-grew c = grew-on c.steps.invariant.grew c.is_step.ensures.grew
+
+pub returns-then-not-branch-clause-proof : goal.returns-then-not-branch-clause-proof
+returns-then-not-branch-clause-proof c = never
+
+pub returns-in_err-is_step-clause-grew : goal.returns-in_err-is_step-clause-grew
+returns-in_err-is_step-clause-grew c = grew-on c.steps.invariant.grew c.is_step.ensures.grew
+
+pub returns-in_err-is_step-clause-proof : goal.returns-in_err-is_step-clause-proof
+returns-in_err-is_step-clause-proof c = not-ok _ _ c.from_residual.result c.from_residual.ensures.1
+
+pub returns-in_err-is_step-clause-full : goal.returns-in_err-is_step-clause-full
+returns-in_err-is_step-clause-full c = at-limit c.from_residual.result c.from_residual.ensures.1 c.in_err-is_step.ensures.full
+
+pub returns-clause-grew : goal.returns-clause-grew
+returns-clause-grew c = c.steps.invariant.grew

@@ -4,10 +4,12 @@ use Rattle.declarations.specs.Items.{declared}
 use Rattle.declarations.specs.Merges.{Each}
 use Rattle.declarations.proofs.Growth.{reference-kept}
 use Rattle.proof_checker.specs.Steps.{term_of, terms_of, steps_say, StepHeld}
-use Rattle.proof_checker.proofs.Results.{mapped}
+use Rattle.proof_checker.proofs.Results.{mapped, not-ok, never}
 use Rattle.proof_checker.proofs.Above.{each-end}
 use Rattle.proof_checker.proofs.Later.{term-same}
 use Rattle.proof_checker.proofs.Moved.{concludes, last-said}
+use Rattle.term_folds.proofs.Grown.{grew-on}
+use Rattle.declarations.proofs.Bounded.{at-limit}
 use Rattle.proof_checker.proofs.checker.is_proof_of.Goals as goal
 
 pub are_one-requires-clause-one : goal.are_one-requires-clause-one
@@ -34,3 +36,48 @@ returns-in-Some-clause-proof c =
     concludes es W E (term_of es c.args.asked) ss proof
     (subst (λ t. In t (steps_say es ss)) (sym (term-same es fs k last.reference held.0) ∙ one q ∙ term-same es fs k c.args.asked c.requires.asked) (last-said es ss front last back)))
     c.are_one.ensures.one
+
+pub is_proof-requires-clause-declared : goal.is_proof-requires-clause-declared
+is_proof-requires-clause-declared c = c.requires.declared
+
+pub is_proof-requires-clause-covered : goal.is_proof-requires-clause-covered
+is_proof-requires-clause-covered c = c.requires.covered
+
+pub is_proof-requires-clause-bounds : goal.is_proof-requires-clause-bounds
+is_proof-requires-clause-bounds c = c.requires.bounds
+
+pub is_proof-requires-clause-clauses : goal.is_proof-requires-clause-clauses
+is_proof-requires-clause-clauses c = c.requires.clauses
+
+pub is_proof-requires-clause-steps : goal.is_proof-requires-clause-steps
+is_proof-requires-clause-steps c = c.requires.steps
+
+pub returns-in_err-is_proof-clause-grew : goal.returns-in_err-is_proof-clause-grew
+returns-in_err-is_proof-clause-grew c = c.is_proof.ensures.grew
+
+pub returns-in_err-is_proof-clause-proof : goal.returns-in_err-is_proof-clause-proof
+returns-in_err-is_proof-clause-proof c = not-ok _ _ c.from_residual.result c.from_residual.ensures.1
+
+pub returns-in_err-is_proof-clause-full : goal.returns-in_err-is_proof-clause-full
+returns-in_err-is_proof-clause-full c = at-limit c.from_residual.result c.from_residual.ensures.1 c.in_err-is_proof.ensures.full
+
+pub returns-then-not-branch-clause-grew : goal.returns-then-not-branch-clause-grew
+returns-then-not-branch-clause-grew c = c.is_proof.ensures.grew
+
+pub returns-then-not-branch-clause-proof : goal.returns-then-not-branch-clause-proof
+returns-then-not-branch-clause-proof c = never
+
+pub are_one-requires-clause-other : goal.are_one-requires-clause-other
+are_one-requires-clause-other c = reference-kept c.args.cx.now.entries c.is_proof.new.cx.entries c.is_proof.ensures.grew.keeps c.args.asked c.requires.asked
+
+pub returns-in-Some-clause-grew : goal.returns-in-Some-clause-grew
+returns-in-Some-clause-grew c = grew-on c.is_proof.ensures.grew c.are_one.ensures.grew
+
+pub returns-in-Some-clause-full : goal.returns-in-Some-clause-full
+returns-in-Some-clause-full c = c.are_one.ensures.full
+
+pub returns-in-None-clause-grew : goal.returns-in-None-clause-grew
+returns-in-None-clause-grew c = c.is_proof.ensures.grew
+
+pub returns-in-None-clause-proof : goal.returns-in-None-clause-proof
+returns-in-None-clause-proof c = never

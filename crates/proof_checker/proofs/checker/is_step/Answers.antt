@@ -5,12 +5,15 @@ use Rattle.type_terms.specs.Rules as rule
 use Rattle.type_terms.specs.Rules.{is_coinductive}
 use Rattle.type_terms.specs.Proofs.{In, Every}
 use Rattle.declarations.specs.Items.{declared}
-use Rattle.proof_checker.specs.Checked.{IsRuleByWay, IsBuiltInRule}
-use Rattle.proof_checker.specs.Steps.{term_of, terms_of, steps_say, at_places, assumed_in, IsWayOf, StepHeld}
-use Rattle.proof_checker.proofs.Results.{mapped, both}
+use Rattle.proof_checker.specs.Checked.{IsRuleByWay, IsBuiltInRule, PremisesStand}
+use Rattle.proof_checker.specs.Steps.{term_of, terms_of, steps_say, at_places, assumed_in, IsWayOf, StepHeld, WayHeld}
+use Rattle.proof_checker.proofs.Results.{mapped, both, not-ok, never}
 use Rattle.proof_checker.proofs.Places.{each-at}
 use Rattle.proof_checker.proofs.Ways.{rule-more, assumed-rule}
 use Rattle.proof_checker.proofs.Later.{steps-kept, say-same, say-length, stand-all, stand-before, assumed-in}
+use Rattle.term_folds.proofs.Grown.{grew-none, grew-on}
+use Rattle.declarations.proofs.Bounded.{at-limit}
+use Rattle.declarations.specs.Applied.{TraitRefsHeld}
 use Rattle.proof_checker.proofs.checker.is_step.Goals as goal
 use Rattle.proof_checker.proofs.checker.is_step.Goals.{then-is_coinductive, else-is_coinductive}
 
@@ -166,3 +169,158 @@ returns-in-Assumed-clause-rule c = λ q.
       of_step = subst (λ w. IsWayOf w way) (sym c.in-Assumed.is) (found.0, refl);
       rule = subst (IsRuleByWay W (terms_of es c.args.clauses.now ++ assumed_in es ss) r way) (sym none) found.1;
     }
+
+pub by_impl-requires-clause-declared : goal.by_impl-requires-clause-declared
+by_impl-requires-clause-declared c = c.requires.declared
+
+pub by_impl-requires-clause-covered : goal.by_impl-requires-clause-covered
+by_impl-requires-clause-covered c = c.requires.covered
+
+pub by_impl-requires-clause-reference : goal.by_impl-requires-clause-reference
+by_impl-requires-clause-reference c = (each-at (StepHeld c.args.cx.now.entries) c.args.steps.now c.args.place c.args.step.now c.requires.steps c.requires.step).0
+
+pub by_impl-requires-clause-args : goal.by_impl-requires-clause-args
+by_impl-requires-clause-args c =
+    subst (WayHeld c.args.cx.now.entries) c.in-Impl.is (each-at (StepHeld c.args.cx.now.entries) c.args.steps.now c.args.place c.args.step.now c.requires.steps c.requires.step).1
+
+pub returns-in_err-premises-in-Impl-clause-grew : goal.returns-in_err-premises-in-Impl-clause-grew
+returns-in_err-premises-in-Impl-clause-grew c = c.by_impl.ensures.grew
+
+pub returns-in_err-premises-in-Impl-clause-rule : goal.returns-in_err-premises-in-Impl-clause-rule
+returns-in_err-premises-in-Impl-clause-rule c = not-ok _ _ c.from_residual.result c.from_residual.ensures.1
+
+pub returns-in_err-premises-in-Impl-clause-stand : goal.returns-in_err-premises-in-Impl-clause-stand
+returns-in_err-premises-in-Impl-clause-stand c = not-ok _ _ c.from_residual.result c.from_residual.ensures.1
+
+pub returns-in_err-premises-in-Impl-clause-full : goal.returns-in_err-premises-in-Impl-clause-full
+returns-in_err-premises-in-Impl-clause-full c = at-limit c.from_residual.result c.from_residual.ensures.1 c.in_err-premises-in-Impl.ensures.full
+
+pub premises_stand-requires-clause-premises : goal.premises_stand-requires-clause-premises
+premises_stand-requires-clause-premises c =
+    let fs = c.by_impl.new.cx.entries in
+    subst (TraitRefsHeld fs) (sym c.deref-in-Some.ensures.value) (subst (λ o. IfSome o (λ v. TraitRefsHeld fs v.items)) c.in-Some.is c.in_ok-premises-in-Impl.ensures.held)
+
+pub returns-in-Some-clause-grew : goal.returns-in-Some-clause-grew
+returns-in-Some-clause-grew c = grew-on c.by_impl.ensures.grew c.premises_stand.ensures.grew
+
+pub returns-in-Some-clause-full : goal.returns-in-Some-clause-full
+returns-in-Some-clause-full c = c.premises_stand.ensures.full
+
+pub returns-in-None-clause-grew : goal.returns-in-None-clause-grew
+returns-in-None-clause-grew c = c.by_impl.ensures.grew
+
+pub returns-in-None-clause-rule : goal.returns-in-None-clause-rule
+returns-in-None-clause-rule c = never
+
+pub returns-in-None-clause-stand : goal.returns-in-None-clause-stand
+returns-in-None-clause-stand c = never
+
+pub by_clause-requires-clause-clauses : goal.by_clause-requires-clause-clauses
+by_clause-requires-clause-clauses c = c.requires.clauses
+
+pub returns-in_err-found-in-Clause-clause-grew : goal.returns-in_err-found-in-Clause-clause-grew
+returns-in_err-found-in-Clause-clause-grew c = c.by_clause.ensures.grew
+
+pub returns-in_err-found-in-Clause-clause-rule : goal.returns-in_err-found-in-Clause-clause-rule
+returns-in_err-found-in-Clause-clause-rule c = not-ok _ _ c.from_residual-in_err-found-in-Clause.result c.from_residual-in_err-found-in-Clause.ensures.1
+
+pub returns-in_err-found-in-Clause-clause-stand : goal.returns-in_err-found-in-Clause-clause-stand
+returns-in_err-found-in-Clause-clause-stand c = not-ok _ _ c.from_residual-in_err-found-in-Clause.result c.from_residual-in_err-found-in-Clause.ensures.1
+
+pub returns-in_err-found-in-Clause-clause-full : goal.returns-in_err-found-in-Clause-clause-full
+returns-in_err-found-in-Clause-clause-full c = at-limit c.from_residual-in_err-found-in-Clause.result c.from_residual-in_err-found-in-Clause.ensures.1 c.in_err-found-in-Clause.ensures.full
+
+pub returns-then-found-clause-grew : goal.returns-then-found-clause-grew
+returns-then-found-clause-grew c = c.by_clause.ensures.grew
+
+pub returns-then-found-clause-stand : goal.returns-then-found-clause-stand
+returns-then-found-clause-stand c = λ q. subst (λ l. PremisesStand (declared c.args.cx.now.entries c.args.declarations.now) (steps_say c.args.cx.now.entries c.args.steps.now) c.args.place c.args.step.now.reference.def_id.index (at_places (steps_say c.args.cx.now.entries c.args.steps.now) l))
+    (sym (c.is_leaf-leaf.ensures q)) tt
+
+pub returns-else-found-clause-grew : goal.returns-else-found-clause-grew
+returns-else-found-clause-grew c = c.by_clause.ensures.grew
+
+pub returns-else-found-clause-rule : goal.returns-else-found-clause-rule
+returns-else-found-clause-rule c = λ q. never (sym c.if-found.false ∙ q)
+
+pub returns-else-found-clause-stand : goal.returns-else-found-clause-stand
+returns-else-found-clause-stand c = λ q. never (sym c.if-found.false ∙ q)
+
+pub by_supertrait-requires-clause-declared : goal.by_supertrait-requires-clause-declared
+by_supertrait-requires-clause-declared c = c.requires.declared
+
+pub by_supertrait-requires-clause-bounds : goal.by_supertrait-requires-clause-bounds
+by_supertrait-requires-clause-bounds c = c.requires.bounds
+
+pub by_supertrait-requires-clause-clauses : goal.by_supertrait-requires-clause-clauses
+by_supertrait-requires-clause-clauses c = c.requires.clauses
+
+pub returns-in_err-found-in-Supertrait-clause-grew : goal.returns-in_err-found-in-Supertrait-clause-grew
+returns-in_err-found-in-Supertrait-clause-grew c = c.by_supertrait.ensures.grew
+
+pub returns-in_err-found-in-Supertrait-clause-rule : goal.returns-in_err-found-in-Supertrait-clause-rule
+returns-in_err-found-in-Supertrait-clause-rule c = not-ok _ _ c.from_residual-in_err-found-in-Supertrait.result c.from_residual-in_err-found-in-Supertrait.ensures.1
+
+pub returns-in_err-found-in-Supertrait-clause-stand : goal.returns-in_err-found-in-Supertrait-clause-stand
+returns-in_err-found-in-Supertrait-clause-stand c = not-ok _ _ c.from_residual-in_err-found-in-Supertrait.result c.from_residual-in_err-found-in-Supertrait.ensures.1
+
+pub returns-in_err-found-in-Supertrait-clause-full : goal.returns-in_err-found-in-Supertrait-clause-full
+returns-in_err-found-in-Supertrait-clause-full c = at-limit c.from_residual-in_err-found-in-Supertrait.result c.from_residual-in_err-found-in-Supertrait.ensures.1 c.in_err-found-in-Supertrait.ensures.full
+
+pub returns-then-found-2-clause-grew : goal.returns-then-found-2-clause-grew
+returns-then-found-2-clause-grew c = c.by_supertrait.ensures.grew
+
+pub returns-then-found-2-clause-stand : goal.returns-then-found-2-clause-stand
+returns-then-found-2-clause-stand c = λ q. subst (λ l. PremisesStand (declared c.args.cx.now.entries c.args.declarations.now) (steps_say c.args.cx.now.entries c.args.steps.now) c.args.place c.args.step.now.reference.def_id.index (at_places (steps_say c.args.cx.now.entries c.args.steps.now) l))
+    (sym (c.is_leaf-leaf.ensures q)) tt
+
+pub returns-else-found-2-clause-grew : goal.returns-else-found-2-clause-grew
+returns-else-found-2-clause-grew c = c.by_supertrait.ensures.grew
+
+pub returns-else-found-2-clause-rule : goal.returns-else-found-2-clause-rule
+returns-else-found-2-clause-rule c = λ q. never (sym c.if-found-2.false ∙ q)
+
+pub returns-else-found-2-clause-stand : goal.returns-else-found-2-clause-stand
+returns-else-found-2-clause-stand c = λ q. never (sym c.if-found-2.false ∙ q)
+
+pub by_built_in-requires-clause-declared : goal.by_built_in-requires-clause-declared
+by_built_in-requires-clause-declared c = c.requires.declared
+
+pub returns-in_err-premises-in-BuiltIn-clause-grew : goal.returns-in_err-premises-in-BuiltIn-clause-grew
+returns-in_err-premises-in-BuiltIn-clause-grew c = c.by_built_in.ensures.grew
+
+pub returns-in_err-premises-in-BuiltIn-clause-rule : goal.returns-in_err-premises-in-BuiltIn-clause-rule
+returns-in_err-premises-in-BuiltIn-clause-rule c = not-ok _ _ c.from_residual-in_err-premises-in-BuiltIn.result c.from_residual-in_err-premises-in-BuiltIn.ensures.1
+
+pub returns-in_err-premises-in-BuiltIn-clause-stand : goal.returns-in_err-premises-in-BuiltIn-clause-stand
+returns-in_err-premises-in-BuiltIn-clause-stand c = not-ok _ _ c.from_residual-in_err-premises-in-BuiltIn.result c.from_residual-in_err-premises-in-BuiltIn.ensures.1
+
+pub returns-in_err-premises-in-BuiltIn-clause-full : goal.returns-in_err-premises-in-BuiltIn-clause-full
+returns-in_err-premises-in-BuiltIn-clause-full c = at-limit c.from_residual-in_err-premises-in-BuiltIn.result c.from_residual-in_err-premises-in-BuiltIn.ensures.1 c.in_err-premises-in-BuiltIn.ensures.full
+
+pub premises_stand-requires-in-Some-2-clause-premises : goal.premises_stand-requires-in-Some-2-clause-premises
+premises_stand-requires-in-Some-2-clause-premises c =
+    let fs = c.by_built_in.new.cx.entries in
+    subst (TraitRefsHeld fs) (sym c.deref-in-Some-2-2.ensures.value) (subst (λ o. IfSome o (λ v. TraitRefsHeld fs v.items)) c.in-Some-2.is c.in_ok-premises-in-BuiltIn.ensures.held)
+
+pub returns-in-Some-2-clause-grew : goal.returns-in-Some-2-clause-grew
+returns-in-Some-2-clause-grew c = grew-on c.by_built_in.ensures.grew c.premises_stand-in-Some-2.ensures.grew
+
+pub returns-in-Some-2-clause-full : goal.returns-in-Some-2-clause-full
+returns-in-Some-2-clause-full c = c.premises_stand-in-Some-2.ensures.full
+
+pub returns-in-None-2-clause-grew : goal.returns-in-None-2-clause-grew
+returns-in-None-2-clause-grew c = c.by_built_in.ensures.grew
+
+pub returns-in-None-2-clause-rule : goal.returns-in-None-2-clause-rule
+returns-in-None-2-clause-rule c = never
+
+pub returns-in-None-2-clause-stand : goal.returns-in-None-2-clause-stand
+returns-in-None-2-clause-stand c = never
+
+pub returns-in-Assumed-clause-grew : goal.returns-in-Assumed-clause-grew
+returns-in-Assumed-clause-grew c = grew-none
+
+pub returns-in-Assumed-clause-stand : goal.returns-in-Assumed-clause-stand
+returns-in-Assumed-clause-stand c = λ q. subst (λ l. PremisesStand (declared c.args.cx.now.entries c.args.declarations.now) (steps_say c.args.cx.now.entries c.args.steps.now) c.args.place c.args.step.now.reference.def_id.index (at_places (steps_say c.args.cx.now.entries c.args.steps.now) l))
+    (sym (c.is_leaf-leaf.ensures q)) tt

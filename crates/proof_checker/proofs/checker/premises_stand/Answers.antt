@@ -2,14 +2,17 @@ use Rattle.std.proofs.Common.{◌≡◌, ap, sym, ◌∙◌, subst, take, ◌∷
 use Rattle.type_terms.specs.Worlds.{Reference}
 use Rattle.type_terms.specs.Erased.{erased_reference}
 use Rattle.type_terms.specs.Proofs.{In, Every}
-use Rattle.term_folds.proofs.Grown.{grew-on}
+use Rattle.term_folds.proofs.Grown.{grew-on, grew-none}
 use Rattle.declarations.specs.Applied.{TraitRefsHeld}
 use Rattle.declarations.specs.Items.{reference_in}
-use Rattle.declarations.proofs.Growth.{reference-same}
+use Rattle.declarations.proofs.Growth.{reference-same, reference-kept}
 use Rattle.proof_checker.specs.declared.steps.Step.{Step}
 use Rattle.proof_checker.specs.Steps.{term_of, terms_of, steps_say, at_places, StepHeld}
 use Rattle.proof_checker.proofs.Ways.{get-at, get-map}
-use Rattle.proof_checker.proofs.Places.{each-at, places-more, take-get}
+use Rattle.proof_checker.proofs.Places.{each-at, places-more, take-get, shorter, none-left}
+use Rattle.proof_checker.proofs.Results.{never}
+use Rattle.declarations.specs.Held.{ReferenceHeld}
+use Rattle.proof_checker.proofs.TypeRows.{empty-of}
 use Rattle.proof_checker.proofs.checker.premises_stand.Goals as goal
 
 pub premises-preserved : goal.premises-preserved
@@ -41,3 +44,75 @@ premises-preserved c =
       stand = λ h. inv.stand (subst (λ l. Every (λ (p : Reference). In p (take c.args.allowed rs)) (terms_of es l)) (sym back)
           (subst (λ r. In r (take c.args.allowed rs)) eq (i, take-get c.args.allowed rs i (term_of es st.reference) said c.if-place-allowed.false), h));
     }
+
+pub premises-init : goal.premises-init
+premises-init c = record { grew = grew-none; left_held = c.requires.premises; are = λ h. h; stand = λ h. h }
+
+pub returns-then-place-allowed-clause-grew : goal.returns-then-place-allowed-clause-grew
+returns-then-place-allowed-clause-grew c = c.premises.invariant.grew
+
+pub returns-then-place-allowed-clause-are : goal.returns-then-place-allowed-clause-are
+returns-then-place-allowed-clause-are c = never
+
+pub returns-then-place-allowed-clause-stand : goal.returns-then-place-allowed-clause-stand
+returns-then-place-allowed-clause-stand c = never
+
+pub bounds-steps-place : goal.bounds-steps-place
+bounds-steps-place c = c.if-place-steps.false
+
+pub bounds-steps-place-else-place-steps : goal.bounds-steps-place-else-place-steps
+bounds-steps-place-else-place-steps c = c.if-place-steps.false
+
+pub are_one-requires-clause-one : goal.are_one-requires-clause-one
+are_one-requires-clause-one c =
+    let es = c.args.cx.now.entries in
+    reference-kept es c.premises.cx.entries c.premises.invariant.grew.keeps c.in-Some.premise.now (subst (TraitRefsHeld es) c.in-Some.ensures.cases.0 c.premises.invariant.left_held).0
+
+pub are_one-requires-clause-other : goal.are_one-requires-clause-other
+are_one-requires-clause-other c =
+    let es = c.args.cx.now.entries in
+    let now = c.premises.cx.entries in
+    let steps = c.args.steps.now in
+    let st = c.index-steps-place.result in
+    let i = c.in-Some-split_first.place.now in
+    let held = each-at (StepHeld es) steps i st c.requires.steps (get-at steps i st c.if-place-steps.false c.index-steps-place.is) in
+    subst (λ (s : Step). ReferenceHeld now s.reference) c.index-steps-place.is (reference-kept es now c.premises.invariant.grew.keeps st.reference held.0)
+
+pub returns-then-not-branch-clause-grew : goal.returns-then-not-branch-clause-grew
+returns-then-not-branch-clause-grew c = grew-on c.premises.invariant.grew c.are_one.ensures.grew
+
+pub returns-then-not-branch-clause-are : goal.returns-then-not-branch-clause-are
+returns-then-not-branch-clause-are c = never
+
+pub returns-then-not-branch-clause-stand : goal.returns-then-not-branch-clause-stand
+returns-then-not-branch-clause-stand c = never
+
+pub premises-smaller : goal.premises-smaller
+premises-smaller c = shorter c.in-Some.premise.now c.premises.left.now c.in-Some.others.now c.in-Some.ensures.cases.0
+
+pub returns-in-None-clause-grew : goal.returns-in-None-clause-grew
+returns-in-None-clause-grew c = c.premises.invariant.grew
+
+pub returns-in-None-clause-are : goal.returns-in-None-clause-are
+returns-in-None-clause-are c = never
+
+pub returns-in-None-clause-stand : goal.returns-in-None-clause-stand
+returns-in-None-clause-stand c = never
+
+pub returns-clause-grew : goal.returns-clause-grew
+returns-clause-grew c = c.premises.invariant.grew
+
+pub returns-clause-are : goal.returns-clause-are
+returns-clause-are c = λ q.
+    let es = c.args.cx.now.entries in
+    let rs = steps_say es c.args.steps.now in
+    let places = empty-of c.premises.left_places.now (sym c.is_empty.ensures ∙ q) in
+    let left = none-left c.premises.left.now c.in_default.ensures.cases in
+    c.premises.invariant.are (ap (at_places rs) places ∙ ap (terms_of es) (sym left))
+
+pub returns-clause-stand : goal.returns-clause-stand
+returns-clause-stand c = λ q.
+    let es = c.args.cx.now.entries in
+    let rs = steps_say es c.args.steps.now in
+    let left = none-left c.premises.left.now c.in_default.ensures.cases in
+    c.premises.invariant.stand (subst (λ l. Every (λ (p : Reference). In p (take c.args.allowed rs)) (terms_of es l)) (sym left) tt)

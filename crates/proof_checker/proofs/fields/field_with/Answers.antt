@@ -1,20 +1,12 @@
-use Rattle.std.proofs.Common.{◌≡◌, [], ◌∷◌, List, ap, ◌∙◌, subst, None, Err}
-use Rattle.type_terms.specs.Trees.{Trees, none, instantiate}
-use Rattle.type_terms.specs.Terms.{trees_at}
+use Rattle.std.proofs.Common.{◌≡◌, ap, sym, ◌∙◌, subst, None, Err}
+use Rattle.type_terms.specs.Trees.{instantiate}
+use Rattle.type_terms.specs.Terms.{Has, types, trees_at}
 use Rattle.type_terms.specs.declared.kinds.Ty.{Ty}
-use Rattle.type_terms.specs.Pieces.{Piece, each_piece, one_piece}
+use Rattle.type_terms.specs.Pieces.{each_piece, one_piece}
 use Rattle.term_folds.specs.Arguments.{first_misfit}
 use Rattle.term_folds.specs.declared.instantiate.InstantiateError.TheVariants as error
-use Rattle.proof_checker.proofs.Misfits.{no-misfit}
+use Rattle.proof_checker.proofs.Misfits.{no-misfit, one-same}
 use Rattle.proof_checker.proofs.fields.field_with.Goals as goal
-
-first-trees : List Piece → Trees
-first-trees [] = none
-first-trees (p ∷ ps) = p.trees
-
-one-same : (s t : Trees) → one_piece s ≡ one_piece t → s ≡ t
-unfolding first-trees
-one-same s t e = ap first-trees e
 
 pub returns-in-Ok-clause-is : goal.returns-in-Ok-clause-is
 returns-in-Ok-clause-is c =
@@ -32,3 +24,25 @@ returns-in-Ok-clause-fits c =
 
 pub returns-in-Err-Fault-clause-full : goal.returns-in-Err-Fault-clause-full
 returns-in-Err-Fault-clause-full c = λ q. c.in-Err-Fault.ensures.full (ap Err (c.in-Err-Fault.field-0-is ∙ ap error.Fault q))
+
+pub instantiate-requires-clause-held : goal.instantiate-requires-clause-held
+instantiate-requires-clause-held c = subst (λ (b : Ty). Has c.args.cx.now.entries types b.0) (sym c.bind.ensures) c.requires.field
+
+pub instantiate-requires-clause-range : goal.instantiate-requires-clause-range
+instantiate-requires-clause-range c = let es = c.args.cx.now.entries in
+    c.closed_arguments_are_in_range.ensures (trees_at es c.args.args.0) (one_piece (trees_at es c.bind.result.value.0)) c.requires.closed
+
+pub returns-in-Ok-clause-grew : goal.returns-in-Ok-clause-grew
+returns-in-Ok-clause-grew c = record { keeps = c.instantiate.ensures.keeps; limit = c.instantiate.ensures.limit }
+
+pub returns-in-Ok-clause-held : goal.returns-in-Ok-clause-held
+returns-in-Ok-clause-held c = c.in-Ok.ensures.held
+
+pub returns-in-Err-Fault-clause-grew : goal.returns-in-Err-Fault-clause-grew
+returns-in-Err-Fault-clause-grew c = record { keeps = c.instantiate.ensures.keeps; limit = c.instantiate.ensures.limit }
+
+pub returns-in-Err-ParamOutOfRange-clause-grew : goal.returns-in-Err-ParamOutOfRange-clause-grew
+returns-in-Err-ParamOutOfRange-clause-grew c = record { keeps = c.instantiate.ensures.keeps; limit = c.instantiate.ensures.limit }
+
+pub returns-in-Err-ParamKind-clause-grew : goal.returns-in-Err-ParamKind-clause-grew
+returns-in-Err-ParamKind-clause-grew c = record { keeps = c.instantiate.ensures.keeps; limit = c.instantiate.ensures.limit }

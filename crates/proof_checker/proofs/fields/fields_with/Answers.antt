@@ -1,15 +1,18 @@
-use Rattle.std.proofs.Common.{◌≡◌, ◌++◌, List, map, ap, sym, ◌∙◌, subst, None}
+use Rattle.std.proofs.Common.{◌≡◌, ◌++◌, List, map, ap, sym, ◌∙◌, subst, None, append-nil}
 use Rattle.std.specs.Prelude.{IfSome}
-use Rattle.type_terms.specs.Trees.{instantiate}
+use Rattle.type_terms.specs.Trees.{instantiate, outer_binder}
 use Rattle.type_terms.specs.Kinds.{TysHeld}
 use Rattle.type_terms.specs.Terms.{Has, args_lists, types, trees_at}
 use Rattle.type_terms.specs.declared.kinds.Ty.{Ty}
 use Rattle.term_folds.specs.Arguments.{first_misfit}
-use Rattle.type_terms.specs.Kept.{trees-later}
+use Rattle.type_terms.specs.Kept.{trees-later, has-later}
 use Rattle.term_folds.proofs.Grown.{grew-on}
 use Rattle.declarations.specs.Merges.{Each}
 use Rattle.declarations.specs.Unsizing.{field_trees}
 use Rattle.proof_checker.proofs.PartRows.{types-more, one-more-type}
+use Rattle.proof_checker.proofs.Results.{not-ok, none-each}
+use Rattle.declarations.proofs.Bounded.{at-limit}
+use Rattle.proof_checker.proofs.Places.{shorter, none-left}
 use Rattle.proof_checker.proofs.fields.fields_with.Goals as goal
 
 pub fields-preserved : goal.fields-preserved
@@ -45,3 +48,52 @@ fields-preserved c =
       found_held = subst (TysHeld next) (sym put) (types-more now next k found ty inv.found_held made_held);
       are = subst (λ (l : List Ty). field_trees next l ++ ys ≡ all) (sym put) (one-more-type now next k found ty y ys all inv.found_held is before);
     }
+
+pub field_with-requires-clause-field : goal.field_with-requires-clause-field
+field_with-requires-clause-field c =
+    let es = c.args.cx.now.entries in
+    has-later es c.fields.cx.entries c.fields.invariant.grew.keeps types c.in-Some.next.now.0 (subst (TysHeld es) c.in-Some.ensures.cases.0 c.fields.invariant.left_held).0
+
+pub field_with-requires-clause-args : goal.field_with-requires-clause-args
+field_with-requires-clause-args c = has-later c.args.cx.now.entries c.fields.cx.entries c.fields.invariant.grew.keeps args_lists c.args.args.0 c.requires.args
+
+pub field_with-requires-clause-closed : goal.field_with-requires-clause-closed
+field_with-requires-clause-closed c =
+    ap outer_binder (trees-later c.args.cx.now.entries c.fields.cx.entries c.fields.invariant.grew.keeps args_lists c.args.args.0 c.requires.args) ∙ c.requires.closed
+
+pub returns-in_err-ty-clause-grew : goal.returns-in_err-ty-clause-grew
+returns-in_err-ty-clause-grew c = grew-on c.fields.invariant.grew c.field_with.ensures.grew
+
+pub returns-in_err-ty-clause-held : goal.returns-in_err-ty-clause-held
+returns-in_err-ty-clause-held c = not-ok _ _ c.from_residual.result c.from_residual.ensures.1
+
+pub returns-in_err-ty-clause-are : goal.returns-in_err-ty-clause-are
+returns-in_err-ty-clause-are c = not-ok _ _ c.from_residual.result c.from_residual.ensures.1
+
+pub returns-in_err-ty-clause-full : goal.returns-in_err-ty-clause-full
+returns-in_err-ty-clause-full c = at-limit c.from_residual.result c.from_residual.ensures.1 c.in_err-ty.ensures.full
+
+pub returns-in_err-push-in-Some-2-clause-grew : goal.returns-in_err-push-in-Some-2-clause-grew
+returns-in_err-push-in-Some-2-clause-grew c = grew-on c.fields.invariant.grew c.field_with.ensures.grew
+
+pub fields-smaller : goal.fields-smaller
+fields-smaller c = shorter c.in-Some.next.now c.fields.left.now c.in-Some.others.now c.in-Some.ensures.cases.0
+
+pub returns-in-None-clause-grew : goal.returns-in-None-clause-grew
+returns-in-None-clause-grew c = grew-on c.fields.invariant.grew c.field_with.ensures.grew
+
+pub returns-clause-grew : goal.returns-clause-grew
+returns-clause-grew c = c.fields.invariant.grew
+
+pub returns-clause-held : goal.returns-clause-held
+returns-clause-held c = c.fields.invariant.found_held
+
+pub returns-clause-are : goal.returns-clause-are
+returns-clause-are c =
+    let es = c.args.cx.now.entries in
+    let found = field_trees c.fields.cx.entries c.fields.found.items in
+    let left = none-left c.fields.left.now c.in_default.ensures.cases in
+    sym (append-nil found) ∙ ap (λ (l : List Ty). found ++ map (instantiate 0 (trees_at es c.args.args.0)) (field_trees es l)) (sym left) ∙ c.fields.invariant.are
+
+pub returns-clause-fits : goal.returns-clause-fits
+returns-clause-fits c = c.fields.invariant.fits (none-each _ _ (none-left c.fields.left.now c.in_default.ensures.cases))

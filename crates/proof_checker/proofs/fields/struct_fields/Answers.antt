@@ -1,4 +1,4 @@
-use Rattle.std.proofs.Common.{◌≡◌, List, [], ◌∷◌, map, sym, subst, None}
+use Rattle.std.proofs.Common.{◌≡◌, List, [], ◌∷◌, map, sym, subst, None, ◌∙◌}
 use Rattle.type_terms.specs.Erased.{erased_struct}
 use Rattle.type_terms.specs.Kinds.{TysHeld}
 use Rattle.type_terms.specs.Terms.{Entry, Has, types, trees_at}
@@ -11,6 +11,7 @@ use Rattle.declarations.specs.Unsizing.{field_trees}
 use Rattle.proof_checker.proofs.Impls.{args-made}
 use Rattle.proof_checker.proofs.PartRows.{fields-erased}
 use Rattle.proof_checker.proofs.Results.{both-some}
+use Rattle.term_folds.proofs.Grown.{grew-none}
 use Rattle.proof_checker.proofs.fields.struct_fields.Goals as goal
 
 each-types : (es : List Entry) (ts : List Ty) → Each (λ (t : Ty). Has es types t.0) ts → TysHeld es ts
@@ -39,3 +40,24 @@ returns-clause-are c =
           (subst (λ (l : List Ty). Each (λ (f : Ty). first_misfit A (trees_at es f.0) ≡ None) l) dv fits) (subst (λ (l : List Ty). field_trees new v.items ≡ map (instantiate 0 A) (field_trees es l)) dv are),
     ))
     c.fields_with.ensures.are c.fields_with.ensures.fits
+
+pub returns-in-None-clause-grew : goal.returns-in-None-clause-grew
+returns-in-None-clause-grew c = grew-none
+
+pub outer_exclusive_binder-requires : goal.outer_exclusive_binder-requires
+outer_exclusive_binder-requires c = c.requires.args
+
+pub fields_with-requires-clause-args : goal.fields_with-requires-clause-args
+fields_with-requires-clause-args c = c.requires.args
+
+pub fields_with-requires-clause-closed : goal.fields_with-requires-clause-closed
+fields_with-requires-clause-closed c = sym c.outer_exclusive_binder.ensures ∙ c.if-outer_exclusive_binder-ne0.false
+
+pub returns-clause-grew : goal.returns-clause-grew
+returns-clause-grew c = c.fields_with.ensures.grew
+
+pub returns-clause-held : goal.returns-clause-held
+returns-clause-held c = c.fields_with.ensures.held
+
+pub returns-clause-full : goal.returns-clause-full
+returns-clause-full c = c.fields_with.ensures.full

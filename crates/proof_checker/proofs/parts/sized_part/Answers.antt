@@ -10,6 +10,8 @@ use Rattle.declarations.specs.Items.{declared}
 use Rattle.proof_checker.specs.Rows.{AreFields, IsOneRow, each_asked_of, last_type}
 use Rattle.proof_checker.proofs.PartRows.{sized-struct-row}
 use Rattle.proof_checker.proofs.TypeRows.{held-last}
+use Rattle.proof_checker.proofs.Results.{not-ok}
+use Rattle.declarations.proofs.Bounded.{at-limit}
 use Rattle.proof_checker.proofs.parts.sized_part.Goals as goal
 
 pub returns-in_ok-last-in-Some-clause-asks : goal.returns-in_ok-last-in-Some-clause-asks
@@ -32,3 +34,24 @@ returns-in_ok-last-in-Some-clause-held c =
     let new = c.struct_fields.new.cx.entries in
     let held = subst (λ o. IfSome o (λ v. TysHeld new v.items)) c.in-Some.is c.in_ok-found.ensures.held in
     subst (TysHeld new) (sym (c.in_ok-last-in-Some.ensures.is ∙ ap last_type c.deref.ensures.value)) (held-last new c.in-Some.fields.items held)
+
+pub kind-requires : goal.kind-requires
+kind-requires c = c.requires.self_held
+
+pub returns-in_err-found-clause-grew : goal.returns-in_err-found-clause-grew
+returns-in_err-found-clause-grew c = c.struct_fields.ensures.grew
+
+pub returns-in_err-found-clause-asks : goal.returns-in_err-found-clause-asks
+returns-in_err-found-clause-asks c = not-ok _ _ c.from_residual.result c.from_residual.ensures.1
+
+pub returns-in_err-found-clause-held : goal.returns-in_err-found-clause-held
+returns-in_err-found-clause-held c = not-ok _ _ c.from_residual.result c.from_residual.ensures.1
+
+pub returns-in_err-found-clause-full : goal.returns-in_err-found-clause-full
+returns-in_err-found-clause-full c = at-limit c.from_residual.result c.from_residual.ensures.1 c.in_err-found.ensures.full
+
+pub returns-in_ok-last-in-Some-clause-grew : goal.returns-in_ok-last-in-Some-clause-grew
+returns-in_ok-last-in-Some-clause-grew c = c.struct_fields.ensures.grew
+
+pub returns-in-None-clause-grew : goal.returns-in-None-clause-grew
+returns-in-None-clause-grew c = c.struct_fields.ensures.grew

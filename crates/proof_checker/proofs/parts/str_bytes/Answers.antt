@@ -1,25 +1,44 @@
-use Rattle.std.proofs.Common.{ap, ◌∙◌, arith, Err}
+use Rattle.std.proofs.Common.{◌≤◌, ap, ◌∙◌, arith, Err}
 use Rattle.type_terms.specs.Label.{slice}
 use Rattle.type_terms.specs.Trees.{tree, none}
-use Rattle.type_terms.specs.Terms.{types}
+use Rattle.type_terms.specs.Terms.{types, bounds_lists}
 use Rattle.type_terms.specs.Kept.{trees-is}
 use Rattle.type_terms.proofs.FailFacts.{refused-term}
+use Rattle.term_folds.proofs.Grown.{grew-on}
 use Rattle.declarations.proofs.Bounded.{at-limit}
 use Rattle.proof_checker.proofs.parts.str_bytes.Goals as goal
+
+no-further : types ≤ bounds_lists
+no-further = omega arith
 
 pub returns-in_err-byte-clause-full : goal.returns-in_err-byte-clause-full
 returns-in_err-byte-clause-full c =
     let refused = c.in_err-byte.ensures in
-    at-limit c.from_residual.result c.from_residual.ensures.1 (λ p. refused-term types (omega arith) (refused.full (ap Err p)) refused.limit refused.refused)
+    at-limit c.from_residual.result c.from_residual.ensures.1 (λ p. refused-term types no-further (refused.full (ap Err p)) refused.limit refused.refused)
 
 pub returns-in_err-bytes-clause-full : goal.returns-in_err-bytes-clause-full
 returns-in_err-bytes-clause-full c =
     let refused = c.in_err-bytes.ensures in
     let handed = c.from_residual-in_err-bytes in
-    at-limit handed.result handed.ensures.1 (λ p. refused-term types (omega arith) (refused.full (ap Err p)) refused.limit refused.refused)
+    at-limit handed.result handed.ensures.1 (λ p. refused-term types no-further (refused.full (ap Err p)) refused.limit refused.refused)
 
 pub returns-clause-is : goal.returns-clause-is
 returns-clause-is c =
     let mid = c.mk_ty.new.self.entries in
     let new = c.mk_ty-2.new.self.entries in
     trees-is new types c.in_ok-bytes.bytes.0 _ c.in_ok-bytes.ensures.is ∙ ap (λ t. tree slice t none) (trees-is mid types c.in_ok-byte.byte.0 _ c.in_ok-byte.ensures.is)
+
+pub mk_ty-requires-2 : goal.mk_ty-requires-2
+mk_ty-requires-2 c = (_, c.in_ok-byte.ensures.is)
+
+pub returns-in_err-byte-clause-grew : goal.returns-in_err-byte-clause-grew
+returns-in_err-byte-clause-grew c = record { keeps = c.mk_ty.ensures.keeps; limit = c.mk_ty.ensures.limit }
+
+pub returns-in_err-bytes-clause-grew : goal.returns-in_err-bytes-clause-grew
+returns-in_err-bytes-clause-grew c = grew-on {b = c.mk_ty.new.self} (record { keeps = c.mk_ty.ensures.keeps; limit = c.mk_ty.ensures.limit }) (record { keeps = c.mk_ty-2.ensures.keeps; limit = c.mk_ty-2.ensures.limit })
+
+pub returns-clause-grew : goal.returns-clause-grew
+returns-clause-grew c = grew-on {b = c.mk_ty.new.self} (record { keeps = c.mk_ty.ensures.keeps; limit = c.mk_ty.ensures.limit }) (record { keeps = c.mk_ty-2.ensures.keeps; limit = c.mk_ty-2.ensures.limit })
+
+pub returns-clause-held : goal.returns-clause-held
+returns-clause-held c = (_, c.in_ok-bytes.ensures.is)

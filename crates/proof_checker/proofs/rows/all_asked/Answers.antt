@@ -1,15 +1,17 @@
-use Rattle.std.proofs.Common.{◌≡◌, ◌++◌, ap, sym, ◌∙◌, subst}
-use Rattle.type_terms.specs.Kept.{trees-later}
+use Rattle.std.proofs.Common.{◌≡◌, ◌++◌, ap, sym, ◌∙◌, subst, append-nil}
+use Rattle.type_terms.specs.Kept.{trees-later, has-later}
 use Rattle.type_terms.specs.Kinds.{TysHeld}
 use Rattle.type_terms.specs.Rules.{asked}
 use Rattle.type_terms.specs.Terms.{types, trees_at}
 use Rattle.type_terms.specs.Trees.{erase}
-use Rattle.term_folds.proofs.Grown.{grew-on}
+use Rattle.term_folds.proofs.Grown.{grew-on, grew-none}
 use Rattle.declarations.specs.Applied.{TraitRefsHeld}
-use Rattle.declarations.proofs.Bounded.{held-more}
+use Rattle.declarations.proofs.Bounded.{held-more, at-limit}
 use Rattle.proof_checker.specs.Rows.{each_asked_of}
 use Rattle.proof_checker.specs.Steps.{terms_of}
 use Rattle.proof_checker.proofs.TypeRows.{one-more-term}
+use Rattle.proof_checker.proofs.Results.{not-ok, none-each}
+use Rattle.proof_checker.proofs.Places.{shorter, none-left}
 use Rattle.proof_checker.proofs.rows.all_asked.Goals as goal
 
 pub tys-preserved : goal.tys-preserved
@@ -37,3 +39,49 @@ tys-preserved c =
       found_held = subst (TraitRefsHeld next) (sym put) (held-more now next k found r inv.found_held c.in_ok-trait_ref.ensures.held);
       are = subst (λ l. terms_of next l ++ ys ≡ all) (sym put) (one-more-term now next k found r (asked t (erase (trees_at es x.0))) ys inv.found_held is ∙ before);
     }
+
+pub tys-init : goal.tys-init
+tys-init c =
+    let es = c.args.cx.now.entries in
+    record {
+      grew = grew-none;
+      left_held = c.requires;
+      found_held = none-each _ _ c.new-found.ensures.items;
+      are = ap (λ l. terms_of es l ++ each_asked_of es c.args.def_id.index c.args.tys.now) c.new-found.ensures.items;
+    }
+
+pub type_asked-requires : goal.type_asked-requires
+type_asked-requires c =
+    let es = c.args.cx.now.entries in
+    has-later es c.tys.cx.entries c.tys.invariant.grew.keeps types c.in-Some.ty.now.0 (subst (TysHeld es) c.in-Some.ensures.cases.0 c.tys.invariant.left_held).0
+
+pub returns-in_err-trait_ref-clause-grew : goal.returns-in_err-trait_ref-clause-grew
+returns-in_err-trait_ref-clause-grew c = grew-on c.tys.invariant.grew c.type_asked.ensures.grew
+
+pub returns-in_err-trait_ref-clause-held : goal.returns-in_err-trait_ref-clause-held
+returns-in_err-trait_ref-clause-held c = not-ok _ _ c.from_residual.result c.from_residual.ensures.1
+
+pub returns-in_err-trait_ref-clause-are : goal.returns-in_err-trait_ref-clause-are
+returns-in_err-trait_ref-clause-are c = not-ok _ _ c.from_residual.result c.from_residual.ensures.1
+
+pub returns-in_err-trait_ref-clause-full : goal.returns-in_err-trait_ref-clause-full
+returns-in_err-trait_ref-clause-full c = at-limit c.from_residual.result c.from_residual.ensures.1 c.in_err-trait_ref.ensures.full
+
+pub returns-in_err-push-clause-grew : goal.returns-in_err-push-clause-grew
+returns-in_err-push-clause-grew c = grew-on c.tys.invariant.grew c.type_asked.ensures.grew
+
+pub tys-smaller : goal.tys-smaller
+tys-smaller c = shorter c.in-Some.ty.now c.tys.left.now c.in-Some.others.now c.in-Some.ensures.cases.0
+
+pub returns-clause-grew : goal.returns-clause-grew
+returns-clause-grew c = c.tys.invariant.grew
+
+pub returns-clause-held : goal.returns-clause-held
+returns-clause-held c = c.tys.invariant.found_held
+
+pub returns-clause-are : goal.returns-clause-are
+returns-clause-are c =
+    let es = c.args.cx.now.entries in
+    let found = terms_of c.tys.cx.entries c.tys.found.items in
+    let left = none-left c.tys.left.now c.in_default.ensures.cases in
+    sym (append-nil found) ∙ ap (λ l. found ++ each_asked_of es c.args.def_id.index l) (sym left) ∙ c.tys.invariant.are

@@ -1,17 +1,20 @@
-use Rattle.std.proofs.Common.{◌≡◌, ◌++◌, ap, sym, ◌∙◌, subst, None}
+use Rattle.std.proofs.Common.{◌≡◌, ◌++◌, ap, sym, ◌∙◌, subst, None, append-nil}
 use Rattle.std.specs.Prelude.{IfSome}
 use Rattle.type_terms.specs.Worlds.{with_args, all_with_args}
 use Rattle.type_terms.specs.Terms.{args_lists, trees_at}
 use Rattle.term_folds.specs.Arguments.{first_misfit}
 use Rattle.term_folds.specs.declared.predicate.TraitRef.{TraitRef}
-use Rattle.type_terms.specs.Kept.{trees-later}
-use Rattle.term_folds.proofs.Grown.{grew-on}
+use Rattle.type_terms.specs.Kept.{trees-later, has-later}
+use Rattle.term_folds.proofs.Grown.{grew-on, grew-none}
 use Rattle.declarations.specs.Items.{reference_in}
 use Rattle.declarations.specs.Held.{ReferenceHeld}
 use Rattle.declarations.specs.Merges.{Each}
 use Rattle.declarations.specs.Applied.{references_in, TraitRefsHeld}
-use Rattle.declarations.proofs.Growth.{reference-same}
-use Rattle.declarations.proofs.Bounded.{held-more, one-more}
+use Rattle.declarations.proofs.Growth.{reference-same, reference-kept}
+use Rattle.declarations.proofs.Bounded.{held-more, one-more, at-limit}
+use Rattle.proof_checker.proofs.Results.{not-ok, none-each}
+use Rattle.type_terms.specs.Trees.{outer_binder}
+use Rattle.proof_checker.proofs.Places.{shorter, none-left}
 use Rattle.proof_checker.proofs.rules.all_with_arguments.Goals as goal
 
 pub references-preserved : goal.references-preserved
@@ -47,3 +50,69 @@ references-preserved c =
       found_held = subst (TraitRefsHeld next) (sym put) (held-more now next k found r inv.found_held made_held);
       are = subst (λ l. references_in next l ++ ys ≡ all) (sym put) (one-more now next k found r y ys all inv.found_held is before);
     }
+
+pub references-init : goal.references-init
+references-init c =
+    let es = c.args.cx.now.entries in
+    record {
+      grew = grew-none;
+      left_held = c.requires.held;
+      fits = λ h. h;
+      found_held = none-each _ _ c.new-found.ensures.items;
+      are = ap (λ l. references_in es l ++ all_with_args (trees_at es c.args.args.0) (references_in es c.args.references.now)) c.new-found.ensures.items;
+    }
+
+pub with_arguments-requires-clause-held : goal.with_arguments-requires-clause-held
+with_arguments-requires-clause-held c =
+    let es = c.args.cx.now.entries in
+    reference-kept es c.references.cx.entries c.references.invariant.grew.keeps c.in-Some.next.now (subst (TraitRefsHeld es) c.in-Some.ensures.cases.0 c.references.invariant.left_held).0
+
+pub with_arguments-requires-clause-args : goal.with_arguments-requires-clause-args
+with_arguments-requires-clause-args c = has-later c.args.cx.now.entries c.references.cx.entries c.references.invariant.grew.keeps args_lists c.args.args.0 c.requires.args
+
+pub with_arguments-requires-clause-closed : goal.with_arguments-requires-clause-closed
+with_arguments-requires-clause-closed c =
+    ap outer_binder (trees-later c.args.cx.now.entries c.references.cx.entries c.references.invariant.grew.keeps args_lists c.args.args.0 c.requires.args) ∙ c.requires.closed
+
+pub returns-in_err-instance-clause-grew : goal.returns-in_err-instance-clause-grew
+returns-in_err-instance-clause-grew c = grew-on c.references.invariant.grew c.with_arguments.ensures.grew
+
+pub returns-in_err-instance-clause-held : goal.returns-in_err-instance-clause-held
+returns-in_err-instance-clause-held c = not-ok _ _ c.from_residual.result c.from_residual.ensures.1
+
+pub returns-in_err-instance-clause-are : goal.returns-in_err-instance-clause-are
+returns-in_err-instance-clause-are c = not-ok _ _ c.from_residual.result c.from_residual.ensures.1
+
+pub returns-in_err-instance-clause-full : goal.returns-in_err-instance-clause-full
+returns-in_err-instance-clause-full c = at-limit c.from_residual.result c.from_residual.ensures.1 c.in_err-instance.ensures.full
+
+pub returns-in_err-push-in-Some-2-clause-grew : goal.returns-in_err-push-in-Some-2-clause-grew
+returns-in_err-push-in-Some-2-clause-grew c = grew-on c.references.invariant.grew c.with_arguments.ensures.grew
+
+pub returns-in_err-push-in-Some-2-clause-held : goal.returns-in_err-push-in-Some-2-clause-held
+returns-in_err-push-in-Some-2-clause-held c = not-ok _ _ c.from_residual-in_err-push-in-Some-2.result c.from_residual-in_err-push-in-Some-2.ensures.1
+
+pub returns-in_err-push-in-Some-2-clause-are : goal.returns-in_err-push-in-Some-2-clause-are
+returns-in_err-push-in-Some-2-clause-are c = not-ok _ _ c.from_residual-in_err-push-in-Some-2.result c.from_residual-in_err-push-in-Some-2.ensures.1
+
+pub references-smaller : goal.references-smaller
+references-smaller c = shorter c.in-Some.next.now c.references.left.now c.in-Some.others.now c.in-Some.ensures.cases.0
+
+pub returns-in-None-clause-grew : goal.returns-in-None-clause-grew
+returns-in-None-clause-grew c = grew-on c.references.invariant.grew c.with_arguments.ensures.grew
+
+pub returns-clause-grew : goal.returns-clause-grew
+returns-clause-grew c = c.references.invariant.grew
+
+pub returns-clause-held : goal.returns-clause-held
+returns-clause-held c = c.references.invariant.found_held
+
+pub returns-clause-are : goal.returns-clause-are
+returns-clause-are c =
+    let es = c.args.cx.now.entries in
+    let found = references_in c.references.cx.entries c.references.found.items in
+    let left = none-left c.references.left.now c.in_default.ensures.cases in
+    sym (append-nil found) ∙ ap (λ l. found ++ all_with_args (trees_at es c.args.args.0) (references_in es l)) (sym left) ∙ c.references.invariant.are
+
+pub returns-clause-fits : goal.returns-clause-fits
+returns-clause-fits c = c.references.invariant.fits (none-each _ _ (none-left c.references.left.now c.in_default.ensures.cases))

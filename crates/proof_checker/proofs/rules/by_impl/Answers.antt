@@ -5,7 +5,7 @@ use Rattle.type_terms.specs.Erased.{erased_reference}
 use Rattle.type_terms.specs.Proofs.{In}
 use Rattle.type_terms.proofs.Members.{here, in-filter}
 use Rattle.type_terms.specs.Terms.{args_lists, trees_at}
-use Rattle.type_terms.specs.Kept.{trees-later}
+use Rattle.type_terms.specs.Kept.{trees-later, has-later}
 use Rattle.term_folds.specs.Arguments.{first_misfit}
 use Rattle.term_folds.specs.declared.predicate.TraitRef.{TraitRef}
 use Rattle.declarations.specs.Items.{reference_in, impl_in, written}
@@ -13,10 +13,12 @@ use Rattle.declarations.specs.Held.{ReferenceHeld}
 use Rattle.declarations.specs.Merges.{Each}
 use Rattle.declarations.specs.Applied.{references_in, TraitRefsHeld}
 use Rattle.declarations.proofs.Growth.{reference-same, reference-kept, each-kept}
-use Rattle.declarations.proofs.Bounded.{all-same}
-use Rattle.proof_checker.proofs.Results.{both-some}
+use Rattle.declarations.proofs.Bounded.{all-same, at-limit}
+use Rattle.proof_checker.proofs.Results.{both-some, not-ok}
 use Rattle.proof_checker.proofs.Fitting.{fits-of}
 use Rattle.proof_checker.proofs.Impls.{args-made, clauses-fit, fits-back, terms-map, by-the-impl}
+use Rattle.term_folds.proofs.Grown.{grew-none, grew-on}
+use Rattle.type_terms.specs.Trees.{outer_binder}
 use Rattle.proof_checker.proofs.rules.by_impl.Goals as goal
 
 pub all_with_arguments-requires-clause-held : goal.all_with_arguments-requires-clause-held
@@ -64,3 +66,72 @@ returns-clause-rule c =
     (ap erased_reference (sym hd) ∙ q ∙ ap erased_reference (reference-same es es1 k1 c.args.reference c.requires.reference))
     (terms-map es3 v.items ∙ ap (map erased_reference) (pr ∙ ap (λ a. all_with_args a (references_in es2 cl)) now_then ∙ ap (all_with_args A) (all-same es es2 (λ j e g. k2 j e (k1 j e g)) cl held_cl ∙ ap (references_in es) dv))))
     c.all_with_arguments.ensures.are c.all_with_arguments.ensures.fits
+
+pub returns-in-None-clause-grew : goal.returns-in-None-clause-grew
+returns-in-None-clause-grew c = grew-none
+
+pub outer_exclusive_binder-requires : goal.outer_exclusive_binder-requires
+outer_exclusive_binder-requires c = c.requires.args
+
+pub with_arguments-requires-clause-held : goal.with_arguments-requires-clause-held
+with_arguments-requires-clause-held c = (c.in-Some.ensures.held c.args.cx.now.entries c.requires.declared).header
+
+pub with_arguments-requires-clause-args : goal.with_arguments-requires-clause-args
+with_arguments-requires-clause-args c = c.requires.args
+
+pub with_arguments-requires-clause-closed : goal.with_arguments-requires-clause-closed
+with_arguments-requires-clause-closed c = sym c.outer_exclusive_binder.ensures ∙ c.if-outer_exclusive_binder-ne0.false
+
+pub returns-in_err-made-clause-grew : goal.returns-in_err-made-clause-grew
+returns-in_err-made-clause-grew c = c.with_arguments.ensures.grew
+
+pub returns-in_err-made-clause-held : goal.returns-in_err-made-clause-held
+returns-in_err-made-clause-held c = not-ok _ _ c.from_residual.result c.from_residual.ensures.1
+
+pub returns-in_err-made-clause-rule : goal.returns-in_err-made-clause-rule
+returns-in_err-made-clause-rule c = not-ok _ _ c.from_residual.result c.from_residual.ensures.1
+
+pub returns-in_err-made-clause-full : goal.returns-in_err-made-clause-full
+returns-in_err-made-clause-full c = at-limit c.from_residual.result c.from_residual.ensures.1 c.in_err-made.ensures.full
+
+pub returns-in-None-made-clause-grew : goal.returns-in-None-made-clause-grew
+returns-in-None-made-clause-grew c = c.with_arguments.ensures.grew
+
+pub are_one-requires-clause-one : goal.are_one-requires-clause-one
+are_one-requires-clause-one c = subst (λ o. IfSome o (ReferenceHeld c.with_arguments.new.cx.entries)) c.in-Some-made.is c.in_ok-made.ensures.held
+
+pub are_one-requires-clause-other : goal.are_one-requires-clause-other
+are_one-requires-clause-other c = reference-kept c.args.cx.now.entries c.with_arguments.new.cx.entries c.with_arguments.ensures.grew.keeps c.args.reference c.requires.reference
+
+pub returns-in_err-are_one-clause-grew : goal.returns-in_err-are_one-clause-grew
+returns-in_err-are_one-clause-grew c = grew-on c.with_arguments.ensures.grew c.are_one.ensures.grew
+
+pub returns-in_err-are_one-clause-held : goal.returns-in_err-are_one-clause-held
+returns-in_err-are_one-clause-held c = not-ok _ _ c.from_residual-in_err-are_one.result c.from_residual-in_err-are_one.ensures.1
+
+pub returns-in_err-are_one-clause-rule : goal.returns-in_err-are_one-clause-rule
+returns-in_err-are_one-clause-rule c = not-ok _ _ c.from_residual-in_err-are_one.result c.from_residual-in_err-are_one.ensures.1
+
+pub returns-in_err-are_one-clause-full : goal.returns-in_err-are_one-clause-full
+returns-in_err-are_one-clause-full c = at-limit c.from_residual-in_err-are_one.result c.from_residual-in_err-are_one.ensures.1 c.in_err-are_one.ensures.full
+
+pub returns-then-not-branch-clause-grew : goal.returns-then-not-branch-clause-grew
+returns-then-not-branch-clause-grew c = grew-on c.with_arguments.ensures.grew c.are_one.ensures.grew
+
+pub all_with_arguments-requires-clause-args : goal.all_with_arguments-requires-clause-args
+all_with_arguments-requires-clause-args c =
+    has-later c.args.cx.now.entries c.are_one.new.cx.entries (λ i e h. c.are_one.ensures.grew.keeps i e (c.with_arguments.ensures.grew.keeps i e h)) args_lists c.args.args.0 c.requires.args
+
+pub all_with_arguments-requires-clause-closed : goal.all_with_arguments-requires-clause-closed
+all_with_arguments-requires-clause-closed c =
+    ap outer_binder (trees-later c.args.cx.now.entries c.are_one.new.cx.entries (λ i e h. c.are_one.ensures.grew.keeps i e (c.with_arguments.ensures.grew.keeps i e h)) args_lists c.args.args.0 c.requires.args)
+    ∙ sym c.outer_exclusive_binder.ensures ∙ c.if-outer_exclusive_binder-ne0.false
+
+pub returns-clause-grew : goal.returns-clause-grew
+returns-clause-grew c = grew-on (grew-on c.with_arguments.ensures.grew c.are_one.ensures.grew) c.all_with_arguments.ensures.grew
+
+pub returns-clause-held : goal.returns-clause-held
+returns-clause-held c = c.all_with_arguments.ensures.held
+
+pub returns-clause-full : goal.returns-clause-full
+returns-clause-full c = c.all_with_arguments.ensures.full

@@ -10,6 +10,9 @@ use Rattle.declarations.proofs.Growth.{reference-kept}
 use Rattle.proof_checker.specs.Steps.{term_of}
 use Rattle.proof_checker.proofs.Later.{term-same}
 use Rattle.proof_checker.proofs.Above.{IsAbove, first-above, next-above, above-later, each-append, each-front, each-end}
+use Rattle.proof_checker.proofs.Results.{not-ok, never}
+use Rattle.declarations.proofs.Bounded.{at-limit}
+use borrow.Author.Count.{falls}
 use Rattle.proof_checker.proofs.supertraits.is_supertrait_of.Goals as goal
 
 pub looked-init : goal.looked-init
@@ -75,3 +78,59 @@ looked-preserved c =
           (each-append (IsAbove W r fs) c.pop.new.self.items c.deref.result.now (above-later W r now fs (λ i e h. k2 i e (k1 i e h)) c.pop.new.self.items rest)
           (subst (Each (IsAbove W r fs)) (sym c.deref.ensures.value) (next-above es d c.requires.bounds r (term_of now next) stands.1 fs found c.in_ok-above-in-Some.ensures.held are)));
     }
+
+pub returns-in_err-waiting-clause-grew : goal.returns-in_err-waiting-clause-grew
+returns-in_err-waiting-clause-grew c = c.written_supertraits.ensures.grew
+
+pub returns-in_err-waiting-clause-above : goal.returns-in_err-waiting-clause-above
+returns-in_err-waiting-clause-above c = not-ok _ _ c.from_residual.result c.from_residual.ensures.1
+
+pub returns-in_err-waiting-clause-full : goal.returns-in_err-waiting-clause-full
+returns-in_err-waiting-clause-full c = at-limit c.from_residual.result c.from_residual.ensures.1 c.in_err-waiting.ensures.full
+
+pub are_one-requires-clause-other : goal.are_one-requires-clause-other
+are_one-requires-clause-other c = reference-kept c.args.cx.now.entries c.looked.cx.entries c.looked.invariant.grew.keeps c.args.reference c.requires.reference
+
+pub returns-in_err-are_one-in-Some-clause-grew : goal.returns-in_err-are_one-in-Some-clause-grew
+returns-in_err-are_one-in-Some-clause-grew c = grew-on c.looked.invariant.grew c.are_one.ensures.grew
+
+pub returns-in_err-are_one-in-Some-clause-above : goal.returns-in_err-are_one-in-Some-clause-above
+returns-in_err-are_one-in-Some-clause-above c = not-ok _ _ c.from_residual-in_err-are_one-in-Some.result c.from_residual-in_err-are_one-in-Some.ensures.1
+
+pub returns-in_err-are_one-in-Some-clause-full : goal.returns-in_err-are_one-in-Some-clause-full
+returns-in_err-are_one-in-Some-clause-full c =
+    at-limit c.from_residual-in_err-are_one-in-Some.result c.from_residual-in_err-are_one-in-Some.ensures.1 c.in_err-are_one-in-Some.ensures.full
+
+pub returns-then-branch-clause-grew : goal.returns-then-branch-clause-grew
+returns-then-branch-clause-grew c = grew-on c.looked.invariant.grew c.are_one.ensures.grew
+
+pub returns-in_err-above-in-Some-clause-grew : goal.returns-in_err-above-in-Some-clause-grew
+returns-in_err-above-in-Some-clause-grew c = grew-on (grew-on c.looked.invariant.grew c.are_one.ensures.grew) c.written_supertraits-in-Some.ensures.grew
+
+pub returns-in_err-above-in-Some-clause-above : goal.returns-in_err-above-in-Some-clause-above
+returns-in_err-above-in-Some-clause-above c = not-ok _ _ c.from_residual-in_err-above-in-Some.result c.from_residual-in_err-above-in-Some.ensures.1
+
+pub returns-in_err-above-in-Some-clause-full : goal.returns-in_err-above-in-Some-clause-full
+returns-in_err-above-in-Some-clause-full c =
+    at-limit c.from_residual-in_err-above-in-Some.result c.from_residual-in_err-above-in-Some.ensures.1 c.in_err-above-in-Some.ensures.full
+
+pub returns-in_err-put_all-in-Some-clause-grew : goal.returns-in_err-put_all-in-Some-clause-grew
+returns-in_err-put_all-in-Some-clause-grew c = grew-on (grew-on c.looked.invariant.grew c.are_one.ensures.grew) c.written_supertraits-in-Some.ensures.grew
+
+pub returns-in_err-put_all-in-Some-clause-above : goal.returns-in_err-put_all-in-Some-clause-above
+returns-in_err-put_all-in-Some-clause-above c = not-ok _ _ c.from_residual-in_err-put_all-in-Some.result c.from_residual-in_err-put_all-in-Some.ensures.1
+
+pub looked-smaller : goal.looked-smaller
+looked-smaller c = falls 1024 c.looked._looked c.looked-test.true
+
+pub returns-in-None-clause-grew : goal.returns-in-None-clause-grew
+returns-in-None-clause-grew c = c.looked.invariant.grew
+
+pub returns-in-None-clause-above : goal.returns-in-None-clause-above
+returns-in-None-clause-above c = never
+
+pub returns-clause-grew : goal.returns-clause-grew
+returns-clause-grew c = c.looked.invariant.grew
+
+pub returns-clause-above : goal.returns-clause-above
+returns-clause-above c = never

@@ -30,3 +30,30 @@ clauses-preserved c =
       walked = c.walk_clause.ensures.walked;
       left = (subst (TraitRefsHeld es) c.in-Some.ensures.cases.0 c.clauses.invariant.left).1;
     }
+
+pub walk_clause-requires-clause-table : goal.walk_clause-requires-clause-table
+walk_clause-requires-clause-table c = c.clauses.invariant.table
+
+pub walk_clause-requires-clause-walked : goal.walk_clause-requires-clause-walked
+walk_clause-requires-clause-walked c = c.clauses.invariant.walked
+
+pub returns-in_err-place-clause-table : goal.returns-in_err-place-clause-table
+returns-in_err-place-clause-table c = c.walk_clause.ensures.table
+
+pub returns-in_err-place-clause-walked : goal.returns-in_err-place-clause-walked
+returns-in_err-place-clause-walked c = c.walk_clause.ensures.walked
+
+pub returns-in_err-push-clause-table : goal.returns-in_err-push-clause-table
+returns-in_err-push-clause-table c = c.walk_clause.ensures.table
+
+pub returns-in_err-push-clause-walked : goal.returns-in_err-push-clause-walked
+returns-in_err-push-clause-walked c = c.walk_clause.ensures.walked
+
+pub returns-clause-rests : goal.returns-clause-rests
+returns-clause-rests c = c.clauses.invariant.rests
+
+pub returns-clause-table : goal.returns-clause-table
+returns-clause-table c = c.clauses.invariant.table
+
+pub returns-clause-walked : goal.returns-clause-walked
+returns-clause-walked c = c.clauses.invariant.walked

@@ -33,3 +33,18 @@ returns-clause-held c =
       common = has-later old new (λ i e h. c.walk_clauses-2.ensures.rests.keeps i e (c.walk_clauses.ensures.rests.keeps i e h)) args_lists c.args.common.args.0 c.requires.common;
       walked = c.walk_clauses-2.ensures.walked;
     }
+
+pub walk_clauses-requires-clause-rest : goal.walk_clauses-requires-clause-rest
+walk_clauses-requires-clause-rest c = c.requires.rest
+
+pub walk_clauses-requires-clause-table : goal.walk_clauses-requires-clause-table
+walk_clauses-requires-clause-table c = c.requires.table
+
+pub walk_clauses-requires-2-clause-table : goal.walk_clauses-requires-2-clause-table
+walk_clauses-requires-2-clause-table c = c.walk_clauses.ensures.table
+
+pub walk_clauses-requires-2-clause-walked : goal.walk_clauses-requires-2-clause-walked
+walk_clauses-requires-2-clause-walked c = c.walk_clauses.ensures.walked
+
+pub returns-in_err-left-clause-rests : goal.returns-in_err-left-clause-rests
+returns-in_err-left-clause-rests c = c.walk_clauses.ensures.rests

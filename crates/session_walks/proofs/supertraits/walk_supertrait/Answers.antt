@@ -28,3 +28,9 @@ walk_numbered-requires-clause-clauses c =
 
 pub returns-clause-rests : goal.returns-clause-rests
 returns-clause-rests c = rests-further c.args.graph.now.root_depth c.args.cx.now c.own_goals_in.new.cx c.walk_numbered.new.cx c.args.graph.now c.walk_numbered.new.graph c.args.cache.now c.walk_numbered.new.cache (rests-advanced c.args.graph.now.root_depth c.args.cx.now c.own_goals_in.new.cx c.args.graph.now c.args.cache.now c.requires.rest c.own_goals_in.ensures.advances) (c.walk_numbered.ensures.rests)
+
+pub own_goals_in-requires-clause-applied : goal.own_goals_in-requires-clause-applied
+own_goals_in-requires-clause-applied c = c.requires.applied
+
+pub returns-clause-held : goal.returns-clause-held
+returns-clause-held c = c.walk_numbered.ensures.held

@@ -4,7 +4,7 @@ use Rattle.type_terms.specs.Terms.{Has, args_lists}
 use Rattle.term_folds.specs.declared.predicate.TraitRef.{TraitRef}
 use Rattle.sessions.proofs.Posing.{goal-held}
 use Rattle.declarations.proofs.Growth.{references-kept}
-use Rattle.session_walks.proofs.Rests.{rests-advanced, rests-further}
+use Rattle.session_walks.proofs.Rests.{rests-advanced, rests-further, rests-none}
 use Rattle.session_walks.proofs.supertraits.walk_under.Goals as goal
 
 pub returns-in_err-table-clause-rests : goal.returns-in_err-table-clause-rests
@@ -23,3 +23,15 @@ walk_alone-requires-clause-goal c =
 
 pub returns-clause-rests : goal.returns-clause-rests
 returns-clause-rests c = rests-further c.args.graph.now.root_depth c.args.cx.now c.question_table_in.new.cx c.walk_alone.new.cx c.args.graph.now c.walk_alone.new.graph c.args.cache.now c.walk_alone.new.cache (rests-advanced c.args.graph.now.root_depth c.args.cx.now c.question_table_in.new.cx c.args.graph.now c.args.cache.now c.requires.rest c.question_table_in.ensures.advances) (c.walk_alone.ensures.rests)
+
+pub returns-in_err-goal-clause-rests : goal.returns-in_err-goal-clause-rests
+returns-in_err-goal-clause-rests c = rests-none c.args.graph.now.root_depth c.args.cx.now c.args.graph.now c.args.cache.now c.requires.rest
+
+pub question_table_in-requires : goal.question_table_in-requires
+question_table_in-requires c = c.requires.rest.ready
+
+pub walk_alone-requires-clause-table : goal.walk_alone-requires-clause-table
+walk_alone-requires-clause-table c = c.in_ok-table.ensures.ready
+
+pub returns-clause-held : goal.returns-clause-held
+returns-clause-held c = c.walk_alone.ensures.held

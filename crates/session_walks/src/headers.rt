@@ -1,0 +1,43 @@
+//! Headers of impls, made equal.
+
+ghost use Rattle.std.specs.Prelude.{IfOk, IfSome};
+ghost use Rattle.type_terms.specs.Terms.{Has, args_lists};
+ghost use Rattle.term_folds.specs.Growth.{Grew};
+ghost use Rattle.declarations.specs.Held.{ReferenceHeld};
+ghost use Rattle.infer_table.specs.Content.{Ready};
+
+use infer_table::certainty::EqError;
+use infer_table::infer_ctxt::InferCtxt;
+use overlap_check::equate::equate_impl_headers;
+use overlap_check::header::ImplHeader;
+use std::alloc::Global;
+use type_terms::Fault;
+use type_terms::interner::Interner;
+use type_terms::kinds::GenericArgs;
+
+/// What arguments over the table are where two headers are equal; none where they cannot be.
+pub(crate) fn args_where_equal(
+    alloc: Global,
+    cx: &mut Interner,
+    table: &mut InferCtxt,
+    left: ImplHeader,
+    right: ImplHeader,
+    args: GenericArgs,
+) -> Result<Option<GenericArgs>, Fault>
+    requires table { Ready cx.old.entries table.old }
+    requires left { ReferenceHeld cx.old.entries left.trait_ref }
+    requires right { ReferenceHeld cx.old.entries right.trait_ref }
+    requires args { Has cx.old.entries args_lists args.0 }
+    ensures table { Ready cx.new.entries table.new }
+    ensures grew { Grew cx.old cx.new }
+    ensures held { IfOk result (λ o. IfSome o (λ a. Has cx.new.entries args_lists a.0)) }
+{
+    match equate_impl_headers(alloc, cx, table, left, right) {
+        Ok(()) => {
+            let resolved = table.eager_resolve_vars(cx, args)?;
+            Ok(Some(resolved))
+        }
+        Err(EqError::NoSolution) => Ok(None),
+        Err(EqError::Fault(fault)) => Err(fault),
+    }
+}
