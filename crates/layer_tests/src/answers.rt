@@ -37,8 +37,8 @@ struct Posed {
 /// Two unknown types and a constant. No question here has more unknowns.
 fn add_unknowns(cx: &mut Interner, table: &mut InferCtxt) -> Result<(), Fault>
     requires { Ready cx.old.entries table.old }
-    ensures ready { Ready cx.new.entries table.new }
-    ensures keeps { Keeps cx.old.entries cx.new.entries }
+    ensures ready { IfOk result (λ _. Ready cx.new.entries table.new) }
+    ensures keeps { IfOk result (λ _. Keeps cx.old.entries cx.new.entries) }
 {
     let _ = table.next_ty_var(cx)?;
     let _ = table.next_ty_var(cx)?;
@@ -48,7 +48,7 @@ fn add_unknowns(cx: &mut Interner, table: &mut InferCtxt) -> Result<(), Fault>
 
 fn table_of_unknowns(alloc: Global, cx: &mut Interner) -> Result<InferCtxt, Fault>
     ensures ready { IfOk result (λ table. Ready cx.new.entries table) }
-    ensures keeps { Keeps cx.old.entries cx.new.entries }
+    ensures keeps { IfOk result (λ _. Keeps cx.old.entries cx.new.entries) }
 {
     let mut table = InferCtxt::new(alloc);
     add_unknowns(cx, &mut table)?;

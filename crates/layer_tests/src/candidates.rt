@@ -22,7 +22,10 @@ use candidate_assembly::decided::is_decided;
 use candidate_assembly::impls::next_impl_candidate;
 use candidate_assembly::trait_goals::assemble_and_evaluate_candidates;
 use declarations::declarations::Declarations;
-use evaluation::{CandidateSource, CandidateSpec, Certainty, Considered, GoalSource, TypingMode};
+use evaluation::{
+    BuiltinImplSource, CandidateSource, CandidateSpec, Certainty, Considered, GoalSource,
+    TypingMode,
+};
 use infer_table::goal::Goal;
 use infer_table::input::{CanonicalInput, canonicalize_goal};
 use std::alloc::Global;
@@ -31,10 +34,17 @@ use type_terms::Fault;
 use type_terms::interner::Interner;
 use workspace::Workspace;
 
+/// Where a candidate comes from: an impl, by its number, or a built-in rule.
+#[derive(Clone, Copy)]
+pub enum Source {
+    Impl(u32),
+    BuiltinImpl(BuiltinImplSource),
+}
+
 /// What a candidate is, but for its premises.
 #[derive(Clone, Copy)]
 pub struct Told {
-    pub source: CandidateSource,
+    pub source: Source,
     pub certainty: Certainty,
     /// Whether both sides of each of its equations are one term.
     pub equal: bool,
@@ -169,6 +179,15 @@ fn asks(spec: &CandidateSpec, wanted: &[Clause]) -> bool {
         })
 }
 
+/// Whether the candidate comes from where it is wanted to.
+fn is_from(found: CandidateSource, wanted: Source) -> bool {
+    match (found, wanted) {
+        (CandidateSource::Impl(id), Source::Impl(index)) => id.index == index,
+        (CandidateSource::BuiltinImpl(rule), Source::BuiltinImpl(wanted)) => rule == wanted,
+        _ => false,
+    }
+}
+
 fn is_told(spec: &Option<CandidateSpec>, wanted: Wanted) -> bool {
     match (spec, wanted.told) {
         (Some(spec), Some(told)) => {
@@ -176,7 +195,7 @@ fn is_told(spec: &Option<CandidateSpec>, wanted: Wanted) -> bool {
                 .equations
                 .iter()
                 .all(|equation| equation.left == equation.right);
-            spec.source == told.source
+            is_from(spec.source, told.source)
                 && spec.certainty == told.certainty
                 && equal == told.equal
                 && asks(spec, wanted.premises)

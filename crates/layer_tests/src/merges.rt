@@ -1,9 +1,10 @@
 //! What responses say, and their merges.
 ghost use Rattle.std.specs.Prelude.{IfOk};
 ghost use Rattle.std.specs.List.{All};
-ghost use Rattle.type_terms.specs.Terms.{Has, Keeps, types};
+ghost use Rattle.type_terms.specs.Terms.{Keeps};
 ghost use Rattle.evaluation.specs.Responses.{ValuesHeld};
 
+use crate::goals::{Sample, make};
 use evaluation::{
     MergeCandidateInfo, bail_with_ambiguity, flounder, is_same_response, try_merge_candidates,
 };
@@ -13,27 +14,10 @@ use infer_table::response::CanonicalResponse;
 use std::alloc::Global;
 use type_terms::Fault;
 use type_terms::interner::Interner;
-use type_terms::kinds::{GenericArgKind, Ty, TyKind, UintTy};
+use type_terms::kinds::GenericArgKind;
 
-/// A value of the goal's one unknown type.
-#[derive(Clone, Copy)]
-enum Value {
-    Bool,
-    Byte,
-}
-
-fn make(cx: &mut Interner, value: Value) -> Result<Ty, Fault>
-    ensures keeps { Keeps cx.old.entries cx.new.entries }
-    ensures held { IfOk result (λ ty. Has cx.new.entries types ty.0) }
-{
-    match value {
-        Value::Bool => cx.mk_ty(TyKind::Bool),
-        Value::Byte => cx.mk_ty(TyKind::Uint(UintTy::U8)),
-    }
-}
-
-/// A yes by which the type has this value.
-fn response(alloc: Global, cx: &mut Interner, value: Value) -> Result<CanonicalResponse, Fault>
+/// A yes by which the goal's one unknown type has this value.
+fn response(alloc: Global, cx: &mut Interner, value: Sample) -> Result<CanonicalResponse, Fault>
     ensures keeps { Keeps cx.old.entries cx.new.entries }
     ensures held { IfOk result (λ r. ValuesHeld cx.new.entries r) }
 {
@@ -50,8 +34,8 @@ fn response(alloc: Global, cx: &mut Interner, value: Value) -> Result<CanonicalR
 fn responses(alloc: Global, cx: &mut Interner) -> Result<[CanonicalResponse; 2], Fault>
     ensures { IfOk result (λ rs. All (ValuesHeld cx.new.entries) rs) }
 {
-    let first = response(alloc, cx, Value::Bool)?;
-    let second = response(alloc, cx, Value::Byte)?;
+    let first = response(alloc, cx, Sample::Bool)?;
+    let second = response(alloc, cx, Sample::Byte)?;
     Ok([first, second])
 }
 

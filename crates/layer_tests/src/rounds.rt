@@ -25,7 +25,7 @@ fn begun_with(alloc: Global, cx: &mut Interner, sample: Sample) -> Result<EvalCt
 fn hear(_cx: &Interner, context: &mut EvalCtxt, answer: CanonicalResponse) -> Result<(), Fault>
     requires ready { IsReadyContext _cx.now.entries context.old }
     requires held { ResultHeld _cx.now.entries (Some answer) }
-    ensures { IsReadyContext _cx.now.entries context.new }
+    ensures { IfOk result (λ _. IsReadyContext _cx.now.entries context.new) }
 {
     context.reply(Some(answer))?;
     Ok(())
@@ -34,7 +34,7 @@ fn hear(_cx: &Interner, context: &mut EvalCtxt, answer: CanonicalResponse) -> Re
 /// Brings the reply that the type is `u8`.
 fn hear_byte(alloc: Global, cx: &mut Interner, context: &mut EvalCtxt) -> Result<(), Fault>
     requires { IsReadyContext cx.old.entries context.old }
-    ensures { IsReadyContext cx.new.entries context.new }
+    ensures { IfOk result (λ _. IsReadyContext cx.new.entries context.new) }
 {
     let byte = if_byte(alloc, cx)?;
     hear(cx, context, byte)
@@ -43,7 +43,7 @@ fn hear_byte(alloc: Global, cx: &mut Interner, context: &mut EvalCtxt) -> Result
 /// How sure it is that the goals hold, or none where a reply is waited for.
 fn evaluate(cx: &mut Interner, context: &mut EvalCtxt) -> Result<Option<Certainty>, EvalError>
     requires { IsReadyContext cx.old.entries context.old }
-    ensures { IsReadyContext cx.new.entries context.new }
+    ensures { IfOk result (λ _. IsReadyContext cx.new.entries context.new) }
 {
     match context.try_evaluate_added_goals(cx)? {
         EvalStep::Ready(certainty) => Ok(Some(certainty)),
@@ -116,7 +116,7 @@ fn begun_with_both(alloc: Global, cx: &mut Interner) -> Result<EvalCtxt, Fault>
 /// How sure the evaluation's answer is, or none where a reply is waited for.
 fn make_response(cx: &mut Interner, context: &mut EvalCtxt) -> Result<Option<Certainty>, EvalError>
     requires { IsReadyContext cx.old.entries context.old }
-    ensures { IsReadyContext cx.new.entries context.new }
+    ensures { IfOk result (λ _. IsReadyContext cx.new.entries context.new) }
 {
     match context.evaluate_added_goals_and_make_canonical_response(cx, Certainty::Yes)? {
         EvalStep::Ready(answer) => Ok(Some(answer.certainty)),

@@ -2,9 +2,9 @@
 //!
 //! A row is a goal, and behind it as where-clauses the premises that are wanted; the goal is asked without them.
 
-use crate::candidates::{Row, Told, first_place_that_differs};
-use evaluation::{BuiltinImplSource, CandidateSource, Certainty, MaybeCause};
-use type_terms::{Fault, ImplId};
+use crate::candidates::{Row, Source, Told, first_place_that_differs};
+use evaluation::{BuiltinImplSource, Certainty, MaybeCause};
+use type_terms::Fault;
 
 /// What the rows are asked over. The impls stand behind the 39 of `core`.
 const DECLARED: &[u8] = b"crate here
@@ -28,89 +28,89 @@ impl Safe for Part<bool>";
 
 /// A rule that wins over all others.
 const TRIVIAL: Option<Told> = Some(Told {
-    source: CandidateSource::BuiltinImpl(BuiltinImplSource::Trivial),
+    source: Source::BuiltinImpl(BuiltinImplSource::Trivial),
     certainty: Certainty::Yes,
     equal: true,
 });
 
 /// Any other rule.
 const MISC: Option<Told> = Some(Told {
-    source: CandidateSource::BuiltinImpl(BuiltinImplSource::Misc),
+    source: Source::BuiltinImpl(BuiltinImplSource::Misc),
     certainty: Certainty::Yes,
     equal: true,
 });
 
 /// One whose equations do not hold.
 const UNEQUAL: Option<Told> = Some(Told {
-    source: CandidateSource::BuiltinImpl(BuiltinImplSource::Misc),
+    source: Source::BuiltinImpl(BuiltinImplSource::Misc),
     certainty: Certainty::Yes,
     equal: false,
 });
 
 /// One of which nothing is known.
 const AMBIGUOUS: Option<Told> = Some(Told {
-    source: CandidateSource::BuiltinImpl(BuiltinImplSource::Misc),
+    source: Source::BuiltinImpl(BuiltinImplSource::Misc),
     certainty: Certainty::Maybe(MaybeCause::Ambiguity),
     equal: true,
 });
 
 /// The principal of the `dyn`.
 const PRINCIPAL: Option<Told> = Some(Told {
-    source: CandidateSource::BuiltinImpl(BuiltinImplSource::Object(0)),
+    source: Source::BuiltinImpl(BuiltinImplSource::Object(0)),
     certainty: Certainty::Yes,
     equal: true,
 });
 
 /// One with other arguments.
 const OTHER_PRINCIPAL: Option<Told> = Some(Told {
-    source: CandidateSource::BuiltinImpl(BuiltinImplSource::Object(0)),
+    source: Source::BuiltinImpl(BuiltinImplSource::Object(0)),
     certainty: Certainty::Yes,
     equal: false,
 });
 
 /// The first supertrait, elaborated, of the principal.
 const FIRST_SUPERTRAIT: Option<Told> = Some(Told {
-    source: CandidateSource::BuiltinImpl(BuiltinImplSource::Object(1)),
+    source: Source::BuiltinImpl(BuiltinImplSource::Object(1)),
     certainty: Certainty::Yes,
     equal: true,
 });
 
 const SECOND_SUPERTRAIT: Option<Told> = Some(Told {
-    source: CandidateSource::BuiltinImpl(BuiltinImplSource::Object(2)),
+    source: Source::BuiltinImpl(BuiltinImplSource::Object(2)),
     certainty: Certainty::Yes,
     equal: true,
 });
 
 /// An upcast to the first supertrait.
 const UPCAST_TO_FIRST: Option<Told> = Some(Told {
-    source: CandidateSource::BuiltinImpl(BuiltinImplSource::TraitUpcasting(1)),
+    source: Source::BuiltinImpl(BuiltinImplSource::TraitUpcasting(1)),
     certainty: Certainty::Yes,
     equal: true,
 });
 
 const UPCAST_TO_SECOND: Option<Told> = Some(Told {
-    source: CandidateSource::BuiltinImpl(BuiltinImplSource::TraitUpcasting(2)),
+    source: Source::BuiltinImpl(BuiltinImplSource::TraitUpcasting(2)),
     certainty: Certainty::Yes,
     equal: true,
 });
 
 /// `impl Clone for u8`.
 const IMPL_10_OF_CORE: Option<Told> = Some(Told {
-    source: CandidateSource::Impl(ImplId { index: 9 }),
+    source: Source::Impl(9),
     certainty: Certainty::Yes,
     equal: true,
 });
 
 /// `impl Safe for Foul`.
 const IMPL_FOR_FOUL: Option<Told> = Some(Told {
-    source: CandidateSource::Impl(ImplId { index: 39 }),
+    source: Source::Impl(39),
     certainty: Certainty::Yes,
     equal: true,
 });
 
 /// `impl Safe for Part<bool>`, at a parameter: at another type, as `Part<u8>`, the impl is passed over.
 const IMPL_FOR_OTHER_PART: Option<Told> = Some(Told {
-    source: CandidateSource::Impl(ImplId { index: 40 }),
+    source: Source::Impl(40),
     certainty: Certainty::Yes,
     equal: false,
 });
@@ -253,11 +253,12 @@ const UNSIZING: [Row; 25] = [
     (b"Tail<[u8; 3]>: Unsize<?x>", AMBIGUOUS),
 ];
 
+const TABLES: [&[Row]; 4] = [&SELF_TYPES, &AUTO_TRAITS, &CALLS_AND_BOUNDS, &UNSIZING];
+
 #[test]
 fn rules_make_their_candidates(rt: HostRuntime) -> Result<(), Fault> {
-    let tables: [&[Row]; 4] = [&SELF_TYPES, &AUTO_TRAITS, &CALLS_AND_BOUNDS, &UNSIZING];
     assert_eq!(rt;
-        first_place_that_differs(rt.alloc(), DECLARED, &tables)?,
+        first_place_that_differs(rt.alloc(), DECLARED, &TABLES)?,
         None
     );
     Ok(())

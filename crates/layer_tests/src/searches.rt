@@ -1,6 +1,6 @@
 //! Small goals, with the frames that they start. What no list of rules can show is tried here too: how often a goal runs.
 
-ghost use Rattle.std.specs.Prelude.{◌≤◌};
+ghost use Rattle.std.specs.Prelude.{◌≡◌, ◌≤◌};
 ghost use Rattle.search_graph.specs.Cache.{AreJustified};
 ghost use Rattle.scripted_goals.specs.Toy.{toy_meaning};
 
@@ -342,27 +342,65 @@ fn add_levels(alloc: Global, scripts: &mut Scripts) -> Result<(), AllocError> {
     Ok(())
 }
 
+/// Adds the goals of the first chain.
+fn add_chain(alloc: Global, scripts: &mut Scripts) -> Result<(), AllocError> {
+    add(alloc, scripts, &[], Rule::All, YES)?;
+    for below in 0..CHAIN - 1 {
+        let step = Step::Ask(below, PathKind::Unknown);
+        add(alloc, scripts, &[step], Rule::All, YES)?;
+    }
+    Ok(())
+}
+
+/// Adds the goals that are listed.
+fn add_listed(alloc: Global, scripts: &mut Scripts) -> Result<(), AllocError> {
+    for (steps, rule, otherwise) in GOALS {
+        add(alloc, scripts, steps, rule, otherwise)?;
+    }
+    Ok(())
+}
+
+fn add_all(alloc: Global, scripts: &mut Scripts) -> Result<(), AllocError> {
+    add_chain(alloc, scripts)?;
+    add_listed(alloc, scripts)?;
+    let first = CHAIN + GOALS.len();
+    let kind = PathKind::Coinductive;
+    add_clique(alloc, scripts, first, kind, Rule::All, YES, &[])?;
+    add_levels(alloc, scripts)?;
+    add_more_cliques(alloc, scripts)
+}
+
 fn all_goals(alloc: Global) -> Result<Scripts, AllocError> {
     let mut scripts = Scripts {
         goals: Vec::new(alloc),
     };
-    add(alloc, &mut scripts, &[], Rule::All, YES)?;
-    for below in 0..CHAIN - 1 {
-        let step = Step::Ask(below, PathKind::Unknown);
-        add(alloc, &mut scripts, &[step], Rule::All, YES)?;
-    }
-    for (steps, rule, otherwise) in GOALS {
-        add(alloc, &mut scripts, steps, rule, otherwise)?;
-    }
-    let first = CHAIN + GOALS.len();
-    let kind = PathKind::Coinductive;
-    add_clique(alloc, &mut scripts, first, kind, Rule::All, YES, &[])?;
-    add_levels(alloc, &mut scripts)?;
-    add_more_cliques(alloc, &mut scripts)?;
+    add_all(alloc, &mut scripts)?;
     Ok(scripts)
 }
 
-/// What a new search with this depth finds, and whether it is empty before the goal and after it.
+/// What a search that has met no goal finds, and whether it is empty before the goal and after it.
+fn evaluated(
+    graph: &mut SearchGraph<Toy>,
+    scripts: &mut Scripts,
+    cache: &mut GlobalCache<Toy>,
+    goal: usize,
+) -> Result<(Found, bool), GraphFault>
+    requires empty { graph.old.current_depth ≡ 0 }
+    requires cache { AreJustified toy_meaning scripts.old cache.old }
+    ensures { AreJustified toy_meaning scripts.new cache.new }
+{
+    let was_empty = graph.is_empty();
+    match graph.evaluate_goal(cache, scripts, goal, PathKind::Inductive) {
+        Err(GraphFault::Memory) => Err(GraphFault::Memory),
+        answer => {
+            let found = (answer, graph.frames(), graph.limits_met());
+            let is_empty = graph.is_empty() && graph.debug_current_depth() == 0;
+            Ok((found, was_empty && is_empty))
+        }
+    }
+}
+
+/// The same of a new search with this depth.
 fn solve(
     alloc: Global,
     scripts: &mut Scripts,
@@ -374,15 +412,7 @@ fn solve(
     ensures { AreJustified toy_meaning scripts.new cache.new }
 {
     let mut graph: SearchGraph<Toy> = SearchGraph::new(alloc, depth.max(1))?;
-    let was_empty = graph.is_empty();
-    match graph.evaluate_goal(cache, scripts, goal, PathKind::Inductive) {
-        Err(GraphFault::Memory) => Err(GraphFault::Memory),
-        answer => {
-            let found = (answer, graph.frames(), graph.limits_met());
-            let is_empty = graph.is_empty() && graph.debug_current_depth() == 0;
-            Ok((found, was_empty && is_empty))
-        }
-    }
+    evaluated(&mut graph, scripts, cache, goal)
 }
 
 /// The same with a new cache.
@@ -406,16 +436,29 @@ fn goals_are_answered_with_a_new_cache(rt: HostRuntime) -> Result<(), GraphFault
     Ok(())
 }
 
+/// The first depth and goal, in the order of the list, of which something else is found with this cache.
+fn first_that_differs(
+    alloc: Global,
+    scripts: &mut Scripts,
+    cache: &mut GlobalCache<Toy>,
+) -> Result<Option<(usize, usize)>, GraphFault>
+    requires { AreJustified toy_meaning scripts.old cache.old }
+{
+    for (depth, goal, wanted) in TOGETHER {
+        if solve(alloc, scripts, cache, depth, goal)? != (wanted, true) {
+            return Ok(Some((depth, goal)));
+        }
+    }
+    Ok(None)
+}
+
 #[test]
 fn goals_are_answered_with_one_cache(rt: HostRuntime) -> Result<(), GraphFault> {
     let mut scripts = all_goals(rt.alloc())?;
     let mut cache: GlobalCache<Toy> = GlobalCache::new(rt.alloc())?;
-    for (depth, goal, wanted) in TOGETHER {
-        let found = solve(rt.alloc(), &mut scripts, &mut cache, depth, goal)?;
-        assert!(rt;
-            found == (wanted, true),
-            "goal {goal} with the depth {depth}"
-        );
-    }
+    assert_eq!(rt;
+        first_that_differs(rt.alloc(), &mut scripts, &mut cache)?,
+        None
+    );
     Ok(())
 }

@@ -1,5 +1,5 @@
 //! A candidate for `^0: Show`: that `[T]` is `Show` if `T` is.
-ghost use Rattle.std.specs.Prelude.{◌<◌, IfOk};
+ghost use Rattle.std.specs.Prelude.{IfOk};
 ghost use Rattle.type_terms.specs.Terms.{Has, Keeps, types};
 ghost use Rattle.infer_table.specs.Goals.{GoalHeld};
 ghost use Rattle.evaluation.specs.Lists.{Every};
@@ -23,22 +23,26 @@ use type_terms::kinds::{GenericArgKind, Ty, TyKind, UintTy};
 use type_terms::number::{BoundVar, BoundVarIndexKind};
 use type_terms::{Fault, TraitId};
 
-/// Canonical variable `^index`.
-fn variable(cx: &mut Interner, index: u32) -> Result<Ty, Fault>
-    requires { index < 100 }
+/// The goal's variable `^0`.
+const OF_GOAL: BoundVar = BoundVar { index: 0 };
+
+/// The candidate's own unknown, `^1`.
+const OF_CANDIDATE: BoundVar = BoundVar { index: 1 };
+
+/// This canonical variable as a type.
+fn variable(cx: &mut Interner, var: BoundVar) -> Result<Ty, Fault>
     ensures held { IfOk result (λ ty. Has cx.new.entries types ty.0) }
     ensures keeps { Keeps cx.old.entries cx.new.entries }
 {
-    cx.mk_ty(TyKind::Bound(BoundVarIndexKind::Canonical, BoundVar { index }))
+    cx.mk_ty(TyKind::Bound(BoundVarIndexKind::Canonical, var))
 }
 
-/// `^index: Show`.
-fn shown(alloc: Global, cx: &mut Interner, index: u32) -> Result<Goal, Fault>
-    requires { index < 100 }
+/// That this variable is `Show`.
+fn shown(alloc: Global, cx: &mut Interner, var: BoundVar) -> Result<Goal, Fault>
     ensures held { IfOk result (λ goal. GoalHeld cx.new.entries goal) }
     ensures keeps { Keeps cx.old.entries cx.new.entries }
 {
-    let ty = variable(cx, index)?;
+    let ty = variable(cx, var)?;
     let args = cx.mk_args(vec![in alloc; GenericArgKind::Ty(ty)]?)?;
     let def_id = TraitId { index: 2 };
     Ok(Goal {
@@ -54,7 +58,7 @@ fn question(alloc: Global, cx: &mut Interner) -> Result<CanonicalInput, Fault>
     ensures held { IfOk result (λ input. GoalHeld cx.new.entries input.goal) }
     ensures keeps { Keeps cx.old.entries cx.new.entries }
 {
-    let goal = shown(alloc, cx, 0)?;
+    let goal = shown(alloc, cx, OF_GOAL)?;
     Ok(CanonicalInput {
         mode: TypingMode::PostAnalysis,
         goal,
@@ -67,7 +71,7 @@ fn slice(cx: &mut Interner) -> Result<Ty, Fault>
     ensures held { IfOk result (λ ty. Has cx.new.entries types ty.0) }
     ensures keeps { Keeps cx.old.entries cx.new.entries }
 {
-    let element = variable(cx, 1)?;
+    let element = variable(cx, OF_CANDIDATE)?;
     cx.mk_ty(TyKind::Slice(element))
 }
 
@@ -76,7 +80,7 @@ fn equation(cx: &mut Interner) -> Result<Equation, Fault>
     ensures held { IfOk result (λ e. EquationHeld cx.new.entries e) }
     ensures keeps { Keeps cx.old.entries cx.new.entries }
 {
-    let left = variable(cx, 0)?;
+    let left = variable(cx, OF_GOAL)?;
     let right = slice(cx)?;
     Ok(Equation {
         left: GenericArgKind::Ty(left),
@@ -90,7 +94,7 @@ fn candidate(alloc: Global, cx: &mut Interner) -> Result<CandidateSpec, Fault>
     ensures keeps { Keeps cx.old.entries cx.new.entries }
 {
     let equation = equation(cx)?;
-    let nested = shown(alloc, cx, 1)?;
+    let nested = shown(alloc, cx, OF_CANDIDATE)?;
     let equations = vec![in alloc; equation]?;
     let nested_goals = vec![in alloc; (GoalSource::ImplWhereBound, nested)]?;
     Ok(CandidateSpec {

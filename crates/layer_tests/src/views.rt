@@ -36,18 +36,19 @@ enum Call {
     RelevantImpls,
 }
 
+/// The trait of the reference at a place, where one stands there.
+fn trait_at(references: &[TraitRef], place: usize) -> Option<u32> {
+    let reference = references.get(place)?;
+    Some(reference.def_id.index)
+}
+
 /// The traits of the first three references.
 fn traits_of(references: &[TraitRef]) -> [Option<u32>; 3] {
-    match references {
-        [] => [None; 3],
-        [first] => [Some(first.def_id.index), None, None],
-        [first, second] => [Some(first.def_id.index), Some(second.def_id.index), None],
-        [first, second, third, ..] => [
-            Some(first.def_id.index),
-            Some(second.def_id.index),
-            Some(third.def_id.index),
-        ],
-    }
+    [
+        trait_at(references, 0),
+        trait_at(references, 1),
+        trait_at(references, 2),
+    ]
 }
 
 /// The last two impls that the goal's self type can have.

@@ -286,16 +286,6 @@ fn first_that_walks_otherwise(
     Ok(None)
 }
 
-/// The place of the first header of which something else is answered.
-fn first_that_differs(alloc: Global, headers: &[Header]) -> Result<Option<usize>, Fault> {
-    for (place, header) in headers.iter().enumerate() {
-        if !holds(alloc, *header)? {
-            return Ok(Some(place));
-        }
-    }
-    Ok(None)
-}
-
 /// Whether a reference is known to crate 2.
 fn is_known(
     alloc: Global,
@@ -340,7 +330,9 @@ fn are_known_so(
 
 #[test]
 fn headers_keep_the_rule_or_break_it(rt: HostRuntime) -> Result<(), Fault> {
-    assert_eq!(rt; first_that_differs(rt.alloc(), &HEADERS)?, None);
+    for header in HEADERS {
+        assert!(rt; holds(rt.alloc(), header)?);
+    }
     Ok(())
 }
 

@@ -1,6 +1,6 @@
 use Rattle.search_graph.specs.Cache.{AreJustified}
 use Rattle.scripted_goals.specs.Toy.{toy_meaning}
-use Rattle.layer_tests.proofs.searches.goals_are_answered_with_one_cache.Given as goal
+use Rattle.layer_tests.proofs.searches.first_that_differs.Given as goal
 
 abbrev pub invariant-loop-depth : goal.invariant-loop-depth
-invariant-loop-depth g l = AreJustified toy_meaning l.scripts l.cache
+invariant-loop-depth l = AreJustified toy_meaning l.scripts l.cache
