@@ -1,5 +1,5 @@
 //! Canonical forms of goals.
-ghost use Rattle.std.specs.Prelude.{IfOk, ◌<◌, ◌≡◌, []};
+ghost use Rattle.std.specs.Prelude.{IfOk, ◌≡◌, []};
 ghost use Rattle.type_terms.specs.Terms.{Has, Keeps, types};
 ghost use Rattle.infer_table.specs.Content.{Ready};
 ghost use Rattle.infer_table.specs.Goals.{GoalHeld, PredicateHeld};
@@ -54,19 +54,17 @@ fn shown_goal(
     requires ready { Ready cx.old.entries table.now }
     ensures keeps { Keeps cx.old.entries cx.new.entries }
     ensures held { IfOk result (λ r. GoalHeld cx.new.entries r.input.goal) }
-    ensures ready { Ready cx.new.entries table.now }
 {
     let predicate = shown(alloc, cx, ty)?;
     let goal = goal_without_clauses(alloc, predicate);
     canonicalize_goal(alloc, cx, table, TypingMode::Coherence, &goal)
 }
 
-/// An unknown type.
-fn unknown(index: u32) -> Sample
-    requires { index < 100 }
-{
-    Sample::Unknown(TyVid { index })
-}
+const FIRST: Sample = Sample::Unknown(TyVid { index: 0 });
+
+const THIRD: Sample = Sample::Unknown(TyVid { index: 3 });
+
+const FIFTH: Sample = Sample::Unknown(TyVid { index: 5 });
 
 /// The canonical form, in a table without variables, of the goal that a type of this shape is `Show`.
 fn form(alloc: Global, cx: &mut Interner, shape: Shape) -> Result<Canonicalized, Fault>
@@ -94,10 +92,9 @@ fn is_one_question(
 #[test]
 fn goals_are_one_question_up_to_the_numbers_of_unknowns(rt: HostRuntime) -> Result<(), Fault> {
     let mut cx = Interner::new(rt.alloc(), 100);
-    let (third, fifth) = (unknown(3), unknown(5));
     for (left, right, is_one) in [
-        (Shape::VecOf(third), Shape::VecOf(fifth), true),
-        (Shape::Pair(third, third), Shape::Pair(third, fifth), false),
+        (Shape::VecOf(THIRD), Shape::VecOf(FIFTH), true),
+        (Shape::Pair(THIRD, THIRD), Shape::Pair(THIRD, FIFTH), false),
     ] {
         assert!(rt; is_one_question(rt.alloc(), &mut cx, left, right)? == is_one);
     }
@@ -120,9 +117,9 @@ fn opened(
 
 /// Whether the form of `V<?3>: Show` has one value, and gives `V<?0>: Show`, in which no lifetime stands.
 fn form_is_opened(alloc: Global, cx: &mut Interner) -> Result<[bool; 3], Fault> {
-    let form = form(alloc, cx, Shape::VecOf(unknown(3)))?;
+    let form = form(alloc, cx, Shape::VecOf(THIRD))?;
     let (has_no_lifetime, args) = opened(alloc, cx, &form.input)?;
-    let list = make(alloc, cx, Shape::VecOf(unknown(0)))?;
+    let list = make(alloc, cx, Shape::VecOf(FIRST))?;
     let wanted = shown(alloc, cx, list)?;
     Ok([
         form.values.len() == 1,

@@ -33,7 +33,6 @@ fn instantiated(
     args: GenericArgs,
 ) -> Result<Ty, InstantiateError>
     requires { Has cx.old.entries args_lists args.0 }
-    ensures { Keeps cx.old.entries cx.new.entries }
 {
     let param = cx.mk_ty(TyKind::Param(0))?;
     let params = one(alloc, cx, GenericArgKind::Ty(param))?;

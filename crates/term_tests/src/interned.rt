@@ -1,18 +1,20 @@
 //! What a full table answers, and that terms made twice are one.
-ghost use Rattle.std.specs.Prelude.{◌<◌, IfOk};
-ghost use Rattle.type_terms.specs.Terms.{Has, args_lists, type_lists, bounds_lists};
+ghost use Rattle.std.specs.Prelude.{IfOk};
+ghost use Rattle.type_terms.specs.Terms.{Has, args_lists, bounds_lists};
+ghost use Rattle.type_terms.specs.Kinds.{RegionHeld};
 
+use crate::tables::{Sample, pair};
 use std::alloc::Global;
 use type_terms::flags::TypeFlags;
 use type_terms::interner::Interner;
 use type_terms::kinds::{
-    Bounds, BoundsData, ConstKind, GenericArgKind, GenericArgs, Principal, Ty, TyKind, Tys, UintTy,
+    Bounds, BoundsData, ConstKind, GenericArgKind, GenericArgs, Principal, TyKind, UintTy,
 };
 use type_terms::region::{Region, RegionKind};
 use type_terms::{Fault, TraitId};
 
 /// Whether a term was refused because a table is full.
-fn is_full<T: Drop>(answer: Result<T, Fault>) -> Result<bool, Fault> {
+fn is_full<T: Copy>(answer: Result<T, Fault>) -> Result<bool, Fault> {
     match answer {
         Ok(_) => Ok(false),
         Err(Fault::Full) => Ok(true),
@@ -37,21 +39,25 @@ fn a_full_table_still_finds_its_terms(rt: HostRuntime) -> Result<(), Fault> {
     Ok(())
 }
 
-/// Lists of two lifetimes, in this order or in the other.
-fn lifetimes(cx: &mut Interner, alloc: Global, static_first: bool) -> Result<GenericArgs, Fault>
+const STATIC: RegionKind = RegionKind::ReStatic;
+
+const PARAMETER: RegionKind = RegionKind::ReEarlyParam(0);
+
+/// The list of two lifetimes.
+fn lifetimes(
+    cx: &mut Interner,
+    alloc: Global,
+    first: RegionKind,
+    second: RegionKind,
+) -> Result<GenericArgs, Fault>
+    requires first { RegionHeld first }
+    requires second { RegionHeld second }
     ensures { IfOk result (λ args. Has cx.new.entries args_lists args.0) }
 {
-    let fixed = GenericArgKind::Lifetime(Region {
-        kind: RegionKind::ReStatic,
-    });
-    let parameter = GenericArgKind::Lifetime(Region {
-        kind: RegionKind::ReEarlyParam(0),
-    });
-    if static_first {
-        cx.mk_args(vec![in alloc; fixed, parameter]?)
-    } else {
-        cx.mk_args(vec![in alloc; parameter, fixed]?)
-    }
+    cx.mk_args(vec![in alloc;
+        GenericArgKind::Lifetime(Region { kind: first }),
+        GenericArgKind::Lifetime(Region { kind: second }),
+    ]?)
 }
 
 /// Constants that are made twice.
@@ -65,39 +71,29 @@ fn constants(cx: &mut Interner) -> Result<[bool; 3], Fault> {
 
 /// Lists of lifetimes that are made twice.
 fn lists_of_lifetimes(alloc: Global, cx: &mut Interner) -> Result<[bool; 3], Fault> {
-    let there = lifetimes(cx, alloc, true)?;
+    let there = lifetimes(cx, alloc, STATIC, PARAMETER)?;
     let has_two = cx.args(there).len() == 2;
-    let same = lifetimes(cx, alloc, true)?;
-    let back = lifetimes(cx, alloc, false)?;
+    let same = lifetimes(cx, alloc, STATIC, PARAMETER)?;
+    let back = lifetimes(cx, alloc, PARAMETER, STATIC)?;
     Ok([has_two, there == same, there == back])
-}
-
-/// The list of `u8` and `bool` in this order, or in the other.
-fn types(cx: &mut Interner, alloc: Global, byte_first: bool) -> Result<Tys, Fault>
-    ensures { IfOk result (λ list. Has cx.new.entries type_lists list.0) }
-{
-    let byte = cx.mk_ty(TyKind::Uint(UintTy::U8))?;
-    let boolean = cx.mk_ty(TyKind::Bool)?;
-    if byte_first {
-        cx.mk_tys(vec![in alloc; byte, boolean]?)
-    } else {
-        cx.mk_tys(vec![in alloc; boolean, byte]?)
-    }
 }
 
 /// Lists of types that are made twice; then the table is full.
 fn lists_of_types(alloc: Global, cx: &mut Interner) -> Result<[bool; 4], Fault> {
-    let there = types(cx, alloc, true)?;
+    let there = pair(alloc, cx, Sample::Byte, Sample::Bool)?;
     let has_two = cx.tys(there).len() == 2;
-    let same = types(cx, alloc, true)?;
-    let back = types(cx, alloc, false)?;
+    let same = pair(alloc, cx, Sample::Byte, Sample::Bool)?;
+    let back = pair(alloc, cx, Sample::Bool, Sample::Byte)?;
     let is_refused = is_full(cx.mk_tys(Vec::new(alloc)))?;
     Ok([has_two, there == same, there == back, is_refused])
 }
 
+const FIRST: TraitId = TraitId { index: 1 };
+
+const SECOND: TraitId = TraitId { index: 2 };
+
 /// The bounds `dyn for<'a> P + A` of a principal without arguments and an auto trait.
-fn object_bounds(cx: &mut Interner, alloc: Global, auto_trait: u32) -> Result<Bounds, Fault>
-    requires { auto_trait < 16 }
+fn object_bounds(cx: &mut Interner, alloc: Global, auto_trait: TraitId) -> Result<Bounds, Fault>
     ensures { IfOk result (λ b. Has cx.new.entries bounds_lists b.0) }
 {
     let args = cx.mk_args(Vec::new(alloc))?;
@@ -106,7 +102,7 @@ fn object_bounds(cx: &mut Interner, alloc: Global, auto_trait: u32) -> Result<Bo
         def_id: TraitId { index: 7 },
         args,
     });
-    let autos = vec![in alloc; TraitId { index: auto_trait }]?;
+    let autos = vec![in alloc; auto_trait]?;
     cx.mk_bounds(BoundsData { principal, autos })
 }
 
@@ -132,12 +128,12 @@ fn equal_terms_have_one_handle(rt: HostRuntime) -> Result<(), Fault> {
 /// Bounds that are made twice: which of them are one; and the flags, the outer binder and the depth of the first, and how many auto
 /// traits it has.
 fn bounds(alloc: Global, cx: &mut Interner) -> Result<([bool; 2], [u32; 3], usize), Fault> {
-    let first = object_bounds(cx, alloc, 1)?;
+    let first = object_bounds(cx, alloc, FIRST)?;
     let outer = cx.outer_exclusive_binder(first).index;
     let numbers = [cx.flags(first).0, outer, cx.depth(first)];
     let count = cx.bounds(first).autos.len();
-    let same = object_bounds(cx, alloc, 1)?;
-    let other = object_bounds(cx, alloc, 2)?;
+    let same = object_bounds(cx, alloc, FIRST)?;
+    let other = object_bounds(cx, alloc, SECOND)?;
     Ok(([first == same, first == other], numbers, count))
 }
 

@@ -11,7 +11,7 @@ use std::alloc::Global;
 use term_folds::binder::Binder;
 use term_folds::fn_sig::FnSig;
 use type_terms::interner::Interner;
-use type_terms::kinds::{ConstKind, GenericArgKind, Mutability, Ty, TyKind, UintTy};
+use type_terms::kinds::{ConstKind, GenericArgKind, Mutability, Ty, TyKind, Tys, UintTy};
 use type_terms::number::{BoundVar, BoundVarIndexKind, ConstVid, DebruijnIndex, RegionVid, TyVid};
 use type_terms::region::{Region, RegionKind};
 use type_terms::{AdtId, Fault};
@@ -43,6 +43,21 @@ fn make_sample(cx: &mut Interner, sample: Sample) -> Result<Ty, Fault>
     }
 }
 
+/// The list of two types.
+pub(crate) fn pair(
+    alloc: Global,
+    cx: &mut Interner,
+    first: Sample,
+    second: Sample,
+) -> Result<Tys, Fault>
+    ensures held { IfOk result (λ list. Has cx.new.entries type_lists list.0) }
+    ensures keeps { Keeps cx.old.entries cx.new.entries }
+{
+    let first = make_sample(cx, first)?;
+    let second = make_sample(cx, second)?;
+    cx.mk_tys(vec![in alloc; first, second]?)
+}
+
 pub(crate) fn make(alloc: Global, cx: &mut Interner, shape: Shape) -> Result<Ty, Fault>
     ensures held { IfOk result (λ ty. Has cx.new.entries types ty.0) }
     ensures keeps { Keeps cx.old.entries cx.new.entries }
@@ -55,9 +70,7 @@ pub(crate) fn make(alloc: Global, cx: &mut Interner, shape: Shape) -> Result<Ty,
             cx.mk_ty(TyKind::Adt(AdtId { index: 0 }, args))
         }
         Shape::Pair(first, second) => {
-            let first = make_sample(cx, first)?;
-            let second = make_sample(cx, second)?;
-            let items = cx.mk_tys(vec![in alloc; first, second]?)?;
+            let items = pair(alloc, cx, first, second)?;
             cx.mk_ty(TyKind::Tuple(items))
         }
     }
@@ -93,7 +106,6 @@ pub(crate) fn equated(answer: Result<(), EqError>) -> Result<bool, Fault> {
 /// A type with the values of its variables.
 fn resolve(alloc: Global, cx: &mut Interner, table: &InferCtxt, shape: Shape) -> Result<Ty, Fault>
     requires { Ready cx.old.entries table.now }
-    ensures { Ready cx.new.entries table.now }
 {
     let ty = make(alloc, cx, shape)?;
     table.eager_resolve_vars(cx, ty)
@@ -102,7 +114,6 @@ fn resolve(alloc: Global, cx: &mut Interner, table: &InferCtxt, shape: Shape) ->
 /// What a variable stands for.
 fn value_of(alloc: Global, cx: &mut Interner, table: &InferCtxt, shape: Shape) -> Result<Ty, Fault>
     requires { Ready cx.old.entries table.now }
-    ensures { Ready cx.new.entries table.now }
 {
     let ty = make(alloc, cx, shape)?;
     Ok(table.shallow_resolve(cx, ty))
@@ -136,7 +147,7 @@ pub(crate) fn empty_table(alloc: Global, cx: &Interner) -> InferCtxt
 /// Makes two unknown types.
 fn two_unknowns(cx: &mut Interner, table: &mut InferCtxt) -> Result<(), Fault>
     requires { Ready cx.old.entries table.old }
-    ensures { Ready cx.new.entries table.new }
+    ensures { IfOk result (λ _. Ready cx.new.entries table.new) }
 {
     table.next_ty_var(cx)?;
     table.next_ty_var(cx)?;
@@ -273,30 +284,20 @@ fn a_roll_back_takes_a_value_away(rt: HostRuntime) -> Result<(), EqError> {
     Ok(())
 }
 
-/// `fn(&'a u8)` with this lifetime for `'a`.
+/// `fn(&'a u8) -> &'a u8` with this lifetime for `'a`.
 fn signature(alloc: Global, cx: &mut Interner, region: Region) -> Result<FnSig, Fault>
     requires { RegionHeld region.kind }
     ensures { IfOk result (λ sig. Has cx.new.entries type_lists sig.inputs_and_output.0) }
 {
-    let unit = unit_type(alloc, cx)?;
     let reference = byte_reference(cx, region)?;
-    let inputs_and_output = cx.mk_tys(vec![in alloc; reference, unit]?)?;
+    let inputs_and_output = cx.mk_tys(vec![in alloc; reference, reference]?)?;
     Ok(FnSig { inputs_and_output })
-}
-
-/// `()`.
-fn unit_type(alloc: Global, cx: &mut Interner) -> Result<Ty, Fault>
-    ensures { IfOk result (λ ty. Has cx.new.entries types ty.0) }
-{
-    let items = cx.mk_tys(Vec::new(alloc))?;
-    cx.mk_ty(TyKind::Tuple(items))
 }
 
 /// `&'a u8` with this lifetime for `'a`.
 fn byte_reference(cx: &mut Interner, region: Region) -> Result<Ty, Fault>
     requires { RegionHeld region.kind }
-    ensures held { IfOk result (λ ty. Has cx.new.entries types ty.0) }
-    ensures keeps { Keeps cx.old.entries cx.new.entries }
+    ensures { IfOk result (λ ty. Has cx.new.entries types ty.0) }
 {
     let byte = cx.mk_ty(TyKind::Uint(UintTy::U8))?;
     cx.mk_ty(TyKind::Ref(region, byte, Mutability::Not))
@@ -315,7 +316,7 @@ const FREE: Region = Region {
     kind: RegionKind::ReVar(RegionVid { index: 0 }),
 };
 
-/// Whether `for<'a> fn(&'a u8)` has a lifetime variable for `'a` once it is opened.
+/// Whether `for<'a> fn(&'a u8) -> &'a u8` has a lifetime variable for `'a` once it is opened.
 fn is_opened(alloc: Global, cx: &mut Interner) -> Result<bool, Fault> {
     let value = signature(alloc, cx, BOUND)?;
     let mut table = empty_table(alloc, cx);

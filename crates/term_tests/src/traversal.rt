@@ -3,6 +3,7 @@ ghost use Rattle.std.specs.Prelude.{◌≡◌, IfOk};
 ghost use Rattle.type_terms.specs.Terms.{Has, Keeps, types};
 ghost use Rattle.type_terms.specs.Kinds.{RegionHeld};
 
+use crate::tables::{Sample, Shape, make};
 use std::alloc::Global;
 use term_folds::binder::Binder;
 use term_folds::fn_sig::FnSig;
@@ -268,22 +269,9 @@ fn identity_folds_give_the_same_handle(rt: HostRuntime) -> Result<(), Fault> {
     Ok(())
 }
 
-/// `bool` or `char`.
-fn bool_or_char(cx: &mut Interner, is_bool: bool) -> Result<Ty, Fault>
-    ensures { IfOk result (λ ty. Has cx.new.entries types ty.0) }
-{
-    if is_bool {
-        cx.mk_ty(TyKind::Bool)
-    } else {
-        cx.mk_ty(TyKind::Char)
-    }
-}
-
-/// Whether `NoBool` leaves `V<bool>` or `V<char>` as it is, or none where it refuses it.
-fn without_bool(alloc: Global, cx: &mut Interner, is_bool: bool) -> Result<Option<bool>, Fault> {
-    let argument = bool_or_char(cx, is_bool)?;
-    let args = cx.mk_args(vec![in alloc; GenericArgKind::Ty(argument)]?)?;
-    let ty = cx.mk_ty(TyKind::Adt(AdtId { index: 0 }, args))?;
+/// Whether `NoBool` leaves `V` of this type as it is, or none where it refuses it.
+fn without_bool(alloc: Global, cx: &mut Interner, argument: Sample) -> Result<Option<bool>, Fault> {
+    let ty = make(alloc, cx, Shape::VecOf(argument))?;
     match ty.try_fold_with(alloc, cx, &NoBool) {
         Ok(folded) => Ok(Some(folded == ty)),
         Err(Refusal::Bool) => Ok(None),
@@ -294,8 +282,8 @@ fn without_bool(alloc: Global, cx: &mut Interner, is_bool: bool) -> Result<Optio
 #[test]
 fn a_refusal_below_a_struct_is_the_answer(rt: HostRuntime) -> Result<(), Fault> {
     let mut cx = Interner::new(rt.alloc(), 8);
-    for (is_bool, wanted) in [(true, None), (false, Some(true))] {
-        assert!(rt; without_bool(rt.alloc(), &mut cx, is_bool)? == wanted);
+    for (argument, wanted) in [(Sample::Bool, None), (Sample::Byte, Some(true))] {
+        assert!(rt; without_bool(rt.alloc(), &mut cx, argument)? == wanted);
     }
     Ok(())
 }
