@@ -14,6 +14,7 @@ ghost use Rattle.std.specs.Prelude.{IfSome, ◌≤◌};
 ghost use Rattle.benchmarks.specs.declared.TheConstants.{MOST};
 
 use equations::Order;
+use searches::Counts;
 use std::alloc::Global;
 use std::process::ExitCode;
 use std::rt::Env;
@@ -34,10 +35,8 @@ enum Program {
     Cyclic,
     /// A walk of a large term.
     Walked(Walk, Shape),
-    /// Variables that are each equated with the next, the first pair first.
-    Chained,
-    /// The same, the last pair first.
-    ChainedBackward,
+    /// Variables that are each equated with the next, in this order of the pairs.
+    Chained(Order),
     /// Variables whose values are slices of the next.
     NestedValues,
 }
@@ -45,120 +44,145 @@ enum Program {
 /// The greatest count that a run takes.
 const MOST: u32 = 1_000_000;
 
-fn program_named(name: &str) -> Option<Program> {
-    match name {
-        "nested" => Some(Program::Nested),
-        "instantiated" => Some(Program::Instantiated),
-        "canonical" => Some(Program::Canonical),
-        "cached" => Some(Program::Cached),
-        "cyclic" => Some(Program::Cyclic),
-        "chained" => Some(Program::Chained),
-        "chained_backward" => Some(Program::ChainedBackward),
-        "nested_values" => Some(Program::NestedValues),
-        _ => {
-            let (shape, walk) = name.split_once('_')?;
-            Some(Program::Walked(walk_named(walk)?, shape_named(shape)?))
+const PROGRAMS: [(&str, Program); 8] = [
+    ("nested", Program::Nested),
+    ("instantiated", Program::Instantiated),
+    ("canonical", Program::Canonical),
+    ("cached", Program::Cached),
+    ("cyclic", Program::Cyclic),
+    ("chained", Program::Chained(Order::Forward)),
+    ("chained_backward", Program::Chained(Order::Backward)),
+    ("nested_values", Program::NestedValues),
+];
+
+const WALKS: [(&str, Walk); 7] = [
+    ("instantiated", Walk::Instantiated),
+    ("resolved", Walk::Resolved),
+    ("bound", Walk::Bound),
+    ("equated", Walk::Equated),
+    ("related", Walk::Related),
+    ("canonicalized", Walk::Canonicalized),
+    ("reopened", Walk::Reopened),
+];
+
+const SHAPES: [(&str, Shape); 3] = [
+    ("pairs", Shape::Pairs),
+    ("slices", Shape::Slices),
+    ("structs", Shape::Structs),
+];
+
+/// What has this name in the table.
+fn named<T: Copy>(table: &[(&str, T)], name: &str) -> Option<T> {
+    for (known, found) in table {
+        if *known == name {
+            return Some(*found);
         }
     }
+    None
 }
 
-fn walk_named(name: &str) -> Option<Walk> {
-    match name {
-        "instantiated" => Some(Walk::Instantiated),
-        "resolved" => Some(Walk::Resolved),
-        "bound" => Some(Walk::Bound),
-        "equated" => Some(Walk::Equated),
-        "related" => Some(Walk::Related),
-        "canonicalized" => Some(Walk::Canonicalized),
-        "reopened" => Some(Walk::Reopened),
-        _ => None,
+fn program_named(name: &str) -> Option<Program> {
+    if let Some(program) = named(&PROGRAMS, name) {
+        return Some(program);
     }
-}
-
-fn shape_named(name: &str) -> Option<Shape> {
-    match name {
-        "pairs" => Some(Shape::Pairs),
-        "slices" => Some(Shape::Slices),
-        "structs" => Some(Shape::Structs),
-        _ => None,
-    }
+    let (shape, walk) = name.split_once('_')?;
+    Some(Program::Walked(named(&WALKS, walk)?, named(&SHAPES, shape)?))
 }
 
 /// A program and a count of at most a million, where these are the words.
+fn program_and_count(name: &str, count: &str) -> Option<(Program, u32)>
+    ensures { IfSome result (λ words. words.1 ≤ MOST) }
+{
+    let program = program_named(name)?;
+    let count = count.parse::<u32>().ok()?;
+    if count > MOST {
+        return None;
+    }
+    Some((program, count))
+}
+
+/// The program and the count that the words are, if they are no more than these.
 fn read_words<R: Env + Alloc>(rt: &R) -> Option<(Program, u32)>
     ensures { IfSome result (λ words. words.1 ≤ MOST) }
 {
     let mut args = env::args(rt).ok()?;
     let _program = args.next();
-    let program = program_named(args.next()?.as_str())?;
-    let count = args.next()?.parse::<u32>().ok()?;
-    if count > MOST || args.next().is_some() {
-        return None;
+    let name = args.next()?;
+    let count = args.next()?;
+    match args.next() {
+        Some(_) => None,
+        None => program_and_count(&name, &count),
     }
-    Some((program, count))
 }
 
 /// Runs so much of a program, and prints what came of it; nothing where a table is full, or memory or printing failed.
 fn run(rt: &impl Print, alloc: Global, program: Program, count: u32) -> Option<()>
     requires { count ≤ MOST }
 {
-    let printed = match program {
-        Program::Nested => {
-            let depth = terms::nested(alloc, count).ok()?;
-            println!(rt; "a type {depth} deep")
-        }
+    match program {
+        Program::Cached => print_counts(rt, searches::cached(alloc, count as usize).ok()?),
+        Program::Cyclic => print_counts(rt, searches::cyclic(alloc, count as usize).ok()?),
+        _ => print_made(rt, made(alloc, program, count)?),
+    }
+}
+
+fn print_counts(rt: &impl Print, counts: Counts) -> Option<()> {
+    let Counts { goals, yes, frames } = counts;
+    println!(rt; "{goals} goals, {yes} yes, {frames} frames").ok()
+}
+
+/// A number, with what is printed before it and after it.
+type Made = (&'static str, usize, &'static str);
+
+fn print_made(rt: &impl Print, made: Made) -> Option<()> {
+    let (before, number, after) = made;
+    println!(rt; "{before}{number}{after}").ok()
+}
+
+/// What comes of so much of a program that does not search.
+fn made(alloc: Global, program: Program, count: u32) -> Option<Made>
+    requires { count ≤ MOST }
+{
+    match program {
+        Program::Nested => Some((
+            "a type ",
+            terms::nested(alloc, count).ok()? as usize,
+            " deep",
+        )),
         Program::Instantiated => {
             let instances = terms::instantiated(alloc, count).ok()?;
-            println!(rt; "{instances} instances")
+            Some(("", instances as usize, " instances"))
         }
         Program::Canonical => {
             let variables = forms::canonical(alloc, count).ok()?;
-            println!(rt; "a form with {variables} variables")
+            Some(("a form with ", variables, " variables"))
         }
-        Program::Cached => {
-            let counts = searches::cached(alloc, count as usize).ok()?;
-            println!(rt;
-                "{} goals, {} yes, {} frames",
-                counts.goals, counts.yes, counts.frames
-            )
-        }
-        Program::Cyclic => {
-            let counts = searches::cyclic(alloc, count as usize).ok()?;
-            println!(rt;
-                "{} goals, {} yes, {} frames",
-                counts.goals, counts.yes, counts.frames
-            )
-        }
-        Program::Walked(walk, shape) => return run_walk(rt, alloc, walk, shape, count),
-        Program::Chained => {
-            let found = equations::chained(alloc, count, Order::Forward).ok()?;
-            println!(rt; "{found} variables")
-        }
-        Program::ChainedBackward => {
-            let found = equations::chained(alloc, count, Order::Backward).ok()?;
-            println!(rt; "{found} variables")
+        Program::Walked(walk, shape) => walked(alloc, walk, shape, count),
+        Program::Chained(order) => {
+            let found = equations::chained(alloc, count, order).ok()?;
+            Some(("", found as usize, " variables"))
         }
         Program::NestedValues => {
             let depth = equations::nested_values(alloc, count).ok()?;
-            println!(rt; "a type {depth} deep")
+            Some(("a type ", depth as usize, " deep"))
         }
-    };
-    printed.ok()
+        Program::Cached | Program::Cyclic => None,
+    }
 }
 
-/// Walks a term of that shape, so many levels deep, and prints what came of it, as `run` does.
-fn run_walk(rt: &impl Print, alloc: Global, walk: Walk, shape: Shape, levels: u32) -> Option<()> {
+/// What comes of a walk of a term of that shape, so many levels deep.
+fn walked(alloc: Global, walk: Walk, shape: Shape, levels: u32) -> Option<Made> {
     let found = walks::run(alloc, walk, shape, levels)?;
-    let printed = match walk {
-        Walk::Instantiated => println!(rt; "an instance {found} deep"),
-        Walk::Resolved => println!(rt; "a type {found} deep"),
-        Walk::Bound => println!(rt; "a value {found} deep"),
-        Walk::Equated => println!(rt; "two types {found} deep"),
-        Walk::Related => println!(rt; "{found} constraint"),
-        Walk::Canonicalized => println!(rt; "a form with {found} variable"),
-        Walk::Reopened => println!(rt; "a goal with {found} unknown"),
+    let (before, after) = match walk {
+        Walk::Instantiated => ("an instance ", " deep"),
+        Walk::Resolved => ("a type ", " deep"),
+        Walk::Bound => ("a value ", " deep"),
+        Walk::Equated => ("two types ", " deep"),
+        Walk::Related => ("", " constraint"),
+        Walk::Canonicalized => ("a form with ", " variable"),
+        Walk::Reopened => ("a goal with ", " unknown"),
     };
-    printed.ok()
+    Some((before, found, after))
 }
 
 fn exit_status(rt: &HostRuntime) -> u8 {

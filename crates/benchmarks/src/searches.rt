@@ -1,6 +1,8 @@
 //! The searches, over scripts.
 
-ghost use Rattle.std.specs.Prelude.{◌≤◌, ◌<◌};
+ghost use Rattle.std.specs.Prelude.{◌≤◌, ◌<◌, IfOk};
+ghost use Rattle.search_graph.specs.Cache.{AreJustified};
+ghost use Rattle.scripted_goals.specs.Toy.{toy_meaning};
 
 use scripted_goals::{Rule, Script, Scripts, Step, Toy, YES};
 use search_graph::{GlobalCache, GraphFault, PathKind, SearchGraph};
@@ -8,7 +10,7 @@ use std::alloc::{AllocError, Global};
 use std::ops::Range;
 
 /// What a search came to.
-#[derive(Clone, Copy, PartialEq, Eq)]
+#[derive(Clone, Copy)]
 pub struct Counts {
     /// How many goals were evaluated by themselves.
     pub goals: usize,
@@ -31,29 +33,33 @@ fn add_goal(scripts: &mut Scripts, steps: Vec<Step>) -> Result<(), AllocError> {
     Ok(())
 }
 
-/// Ten facts, and so many goals that each ask all of these.
-fn scripts_over_facts(alloc: Global, count: usize) -> Result<Scripts, AllocError> {
-    let mut scripts = Scripts {
-        goals: Vec::new(alloc),
-    };
-    for _ in 0..ASKED {
-        add_goal(&mut scripts, Vec::new(alloc))?;
+/// Steps that ask all of the ten facts.
+fn steps_over_facts(alloc: Global) -> Result<Vec<Step>, AllocError> {
+    let mut steps = Vec::with_capacity(alloc, ASKED)?;
+    for fact in 0..ASKED {
+        steps.push(Step::Ask(fact, PathKind::Unknown))?;
     }
-    for _ in 0..count {
-        let mut steps = Vec::with_capacity(alloc, ASKED)?;
-        for fact in 0..ASKED {
-            steps.push(Step::Ask(fact, PathKind::Unknown))?;
-        }
-        add_goal(&mut scripts, steps)?;
-    }
-    Ok(scripts)
+    Ok(steps)
 }
 
-/// So many goals of which each asks the one after it, the last the first, and each the one before it.
-fn scripts_in_a_ring(alloc: Global, count: usize) -> Result<Scripts, AllocError> {
-    let mut scripts = Scripts {
-        goals: Vec::new(alloc),
-    };
+/// Adds ten facts, and so many goals that each ask all of these.
+fn add_facts_and_goals(
+    alloc: Global,
+    scripts: &mut Scripts,
+    count: usize,
+) -> Result<(), AllocError> {
+    for _ in 0..ASKED {
+        add_goal(scripts, Vec::new(alloc))?;
+    }
+    for _ in 0..count {
+        let steps = steps_over_facts(alloc)?;
+        add_goal(scripts, steps)?;
+    }
+    Ok(())
+}
+
+/// Adds so many goals of which each asks the one after it, the last the first, and each the one before it.
+fn add_ring(alloc: Global, scripts: &mut Scripts, count: usize) -> Result<(), AllocError> {
     for goal in 0..count {
         let after = if goal + 1 < count { goal + 1 } else { 0 };
         let before = if goal > 0 { goal - 1 } else { count - 1 };
@@ -61,9 +67,53 @@ fn scripts_in_a_ring(alloc: Global, count: usize) -> Result<Scripts, AllocError>
             Step::Ask(after, PathKind::Coinductive),
             Step::Ask(before, PathKind::Coinductive),
         ];
-        add_goal(&mut scripts, steps.to_vec(alloc)?)?;
+        add_goal(scripts, steps.to_vec(alloc)?)?;
     }
-    Ok(scripts)
+    Ok(())
+}
+
+/// Evaluates a goal in a new search with this depth; answers its result, and how many frames were started.
+fn evaluate(
+    alloc: Global,
+    scripts: &mut Scripts,
+    cache: &mut GlobalCache<Toy>,
+    depth: usize,
+    goal: usize,
+) -> Result<(u8, u64), GraphFault>
+    requires depth { 1 ≤ depth }
+    requires cache { AreJustified toy_meaning scripts.old cache.old }
+    ensures { IfOk result (λ _. AreJustified toy_meaning scripts.new cache.new) }
+{
+    let mut graph: SearchGraph<Toy> = SearchGraph::new(alloc, depth)?;
+    let answer = graph.evaluate_goal(cache, scripts, goal, PathKind::Inductive)?;
+    Ok((answer, graph.frames()))
+}
+
+/// Evaluates the goals in turn on this cache, with this depth.
+fn evaluate_each(
+    alloc: Global,
+    scripts: &mut Scripts,
+    cache: &mut GlobalCache<Toy>,
+    depth: usize,
+    goals: Range<usize>,
+) -> Result<Counts, GraphFault>
+    requires depth { 1 ≤ depth }
+    requires cache { AreJustified toy_meaning scripts.old cache.old }
+{
+    let mut counts = Counts {
+        goals: 0,
+        yes: 0,
+        frames: 0,
+    };
+    for goal in goals {
+        let (answer, frames) = evaluate(alloc, scripts, cache, depth, goal)?;
+        counts.goals = counts.goals.saturating_add(1);
+        if answer == YES {
+            counts.yes = counts.yes.saturating_add(1);
+        }
+        counts.frames = counts.frames.saturating_add(frames);
+    }
+    Ok(counts)
 }
 
 /// Evaluates the goals in turn on one new cache, with this depth.
@@ -76,28 +126,21 @@ fn evaluate_all(
     requires { 1 ≤ depth }
 {
     let mut cache: GlobalCache<Toy> = GlobalCache::new(alloc)?;
-    let mut counts = Counts {
-        goals: 0,
-        yes: 0,
-        frames: 0,
-    };
-    for goal in goals {
-        let mut graph: SearchGraph<Toy> = SearchGraph::new(alloc, depth)?;
-        let answer = graph.evaluate_goal(&mut cache, scripts, goal, PathKind::Inductive)?;
-        counts.goals = counts.goals.saturating_add(1);
-        if answer == YES {
-            counts.yes = counts.yes.saturating_add(1);
-        }
-        counts.frames = counts.frames.saturating_add(graph.frames());
+    evaluate_each(alloc, scripts, &mut cache, depth, goals)
+}
+
+fn no_goals(alloc: Global) -> Scripts {
+    Scripts {
+        goals: Vec::new(alloc),
     }
-    Ok(counts)
 }
 
 /// So many goals that each ask ten whose results are cached.
 pub fn cached(alloc: Global, count: usize) -> Result<Counts, GraphFault>
     requires { count ≤ 1000000 }
 {
-    let mut scripts = scripts_over_facts(alloc, count)?;
+    let mut scripts = no_goals(alloc);
+    add_facts_and_goals(alloc, &mut scripts, count)?;
     evaluate_all(alloc, &mut scripts, 8, ASKED..ASKED + count)
 }
 
@@ -105,6 +148,7 @@ pub fn cached(alloc: Global, count: usize) -> Result<Counts, GraphFault>
 pub fn cyclic(alloc: Global, count: usize) -> Result<Counts, GraphFault>
     requires { count ≤ 1000000 }
 {
-    let mut scripts = scripts_in_a_ring(alloc, count)?;
+    let mut scripts = no_goals(alloc);
+    add_ring(alloc, &mut scripts, count)?;
     evaluate_all(alloc, &mut scripts, count + 1, 0..1)
 }

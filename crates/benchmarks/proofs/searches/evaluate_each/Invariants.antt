@@ -1,6 +1,6 @@
 use Rattle.search_graph.specs.Cache.{AreJustified}
 use Rattle.scripted_goals.specs.Toy.{toy_meaning}
-use Rattle.benchmarks.proofs.searches.evaluate_all.Given as goal
+use Rattle.benchmarks.proofs.searches.evaluate_each.Given as goal
 
 -- the cache's results are justified
 abbrev pub invariant-loop-goal : goal.invariant-loop-goal
