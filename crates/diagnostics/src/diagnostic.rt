@@ -1,6 +1,6 @@
 //! Diagnostics as data: what is said, where, and what follows.
 
-ghost use Rattle.std.specs.Prelude.{◌≡◌, []};
+ghost use Rattle.std.specs.Prelude.{◌≡◌, true, false, []};
 
 use crate::span::Span;
 use std::alloc::Global;
@@ -115,6 +115,7 @@ impl Drop for Diagnostic {
 impl SpanLabel {
     /// What the message is about.
     pub fn primary(span: Span, label: String) -> SpanLabel
+        ensures primary { result.is_primary ≡ true }
         ensures span { result.span ≡ span }
         ensures label { result.label ≡ label }
     {
@@ -127,6 +128,7 @@ impl SpanLabel {
 
     /// What stands beside it.
     pub fn secondary(span: Span, label: String) -> SpanLabel
+        ensures secondary { result.is_primary ≡ false }
         ensures span { result.span ≡ span }
         ensures label { result.label ≡ label }
     {
@@ -141,6 +143,7 @@ impl SpanLabel {
 impl Subdiagnostic {
     /// A message without a span.
     pub fn new(alloc: Global, level: Level, message: String) -> Subdiagnostic
+        ensures level { result.level ≡ level }
         ensures message { result.message ≡ message }
         ensures spans { result.spans.items ≡ [] }
     {
@@ -155,6 +158,8 @@ impl Subdiagnostic {
 impl Diagnostic {
     /// A message without a span, a proof or children: these are put into its fields.
     pub fn new(alloc: Global, level: Level, code: Option<ErrCode>, message: String) -> Diagnostic
+        ensures level { result.level ≡ level }
+        ensures code { result.code ≡ code }
         ensures message { result.message ≡ message }
         ensures spans { result.spans.items ≡ [] }
         ensures proof { result.proof.items ≡ [] }
