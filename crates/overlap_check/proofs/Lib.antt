@@ -25,3 +25,4 @@ pub mod Judged
 pub mod Walked
 pub mod PairLists
 pub mod Tops
+pub mod ImplRulesLaw

@@ -2,6 +2,7 @@ pub mod OpenedHeaders
 pub mod Verdicts
 pub mod Questions
 pub mod SessionLaws
+pub mod ImplRules
 pub mod Worked
 pub mod Fresh
 pub mod Goals

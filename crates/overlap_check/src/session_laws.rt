@@ -1,5 +1,6 @@
 //! What a session promises of its answers, and what follows from it.
 
+ghost use Rattle.overlap_check.specs.ImplRules.{ImplRulesAreInstances};
 ghost use Rattle.overlap_check.specs.SessionLaws.{RefusedIsReal, AnswersHoldEverywhere, ApartIsCleared, BoundedIsRefuted, DecidedIsAnswered, HeadlineHolds, HeadlineInAnyOrder, HeadlineOfHeldSets, PassedIsAccepted, RefusedClauseClears};
 ghost use Rattle.overlap_check.specs.Worked.{ALaterPairIsRefused, ClearedByAClause, FlagsOfLeaves, ForeignLeaf, LifetimesAlone, NotAcceptedUnlinked, ParametersStandForThemselves, ProvedAloneAndRefuted, RefusedForSomeDay, RefutedForAllValues, TwoTextsAccepted, VariableUncoveredBeforeLocal, ValuesOfBothKinds};
 
@@ -77,4 +78,10 @@ pub fn worked_answers()
 /// A pair of which no where-clause was refused, each asked by a goal that covers it, really overlaps.
 pub fn refused_is_real()
     ensures { RefusedIsReal }
+{}
+
+/// The rule that an impl gives for a reference is that of any arguments that fit and make its header the reference; it gives none where
+/// there are no such. So what `proofs` are made of is said without the way in which arguments are found.
+pub fn impl_rules_are_instances()
+    ensures { ImplRulesAreInstances }
 {}
