@@ -2,7 +2,10 @@ pub mod Depths
 pub mod Streams
 pub mod Faults
 pub mod Lines
-pub mod Coherent
+pub mod CrateAnswers
+pub mod CheckAnswers
+pub mod ProvedAnswers
+pub mod Told
 pub mod Groups
 pub mod KeptLines
 pub mod LineByLine

@@ -1,7 +1,7 @@
 //! From a text in memory to its output in memory: nothing is read, and nothing is written.
 
 ghost use Rattle.std.specs.Prelude.{◌≡◌, ◌⊎◌, IfOk, IfErr};
-ghost use Rattle.coherence.specs.Lines.{IsOutputText};
+ghost use Rattle.coherence.specs.Told.{IsToldText};
 
 use crate::status::{RunFault, Status};
 use crate::text_run::answer_text;
@@ -22,7 +22,7 @@ pub struct Output {
 ///
 /// The error is a refused request for memory, or a table of terms that was full. A text of more than 1,048,576 bytes has a fault.
 pub fn answer(alloc: Global, text: &[u8], limits: Limits) -> Result<Output, RunFault>
-    ensures whole { IfOk result (λ output. IsOutputText limits.depth text.now output.status output.text.items) }
+    ensures whole { IfOk result (λ output. IsToldText limits.depth text.now output.status output.text.items) }
     ensures fault { IfErr result (λ fault. (fault ≡ RunFault.Memory) ⊎ (fault ≡ RunFault.Full)) }
 {
     let mut lines = Vec::new(alloc);

@@ -2,9 +2,8 @@
 
 ghost use Rattle.std.specs.Prelude.{◌≡◌, ◌≢◌, IfOk, IfErr, IfSome, OnErr};
 ghost use Rattle.std.specs.Io.KnownBytes.{Keeps};
-ghost use Rattle.coherence.specs.Coherent.{AcceptedLinesTell, HeldLinesTell};
-ghost use Rattle.coherence.specs.Lines.{WritesOutput, WritesPrefix};
 ghost use Rattle.coherence.specs.Streams.{ConsumesAtMost};
+ghost use Rattle.coherence.specs.Told.{AcceptedTextsHold, AllSayHeld, SupertraitsStand, TellsAll, TellsSome};
 
 use crate::coherent::{accepted_lines_tell, held_lines_tell};
 use crate::output_lines::OutputLines;
@@ -22,8 +21,8 @@ pub fn answer_text<W: Write>(
     limits: Limits,
     writer: &mut W,
 ) -> Result<Status, RunFault>
-    ensures whole { IfOk result (λ status. WritesOutput limits.depth text.now status (W.contents writer.old) (W.contents writer.new)) }
-    ensures prefix { OnErr result (WritesPrefix limits.depth text.now (W.contents writer.old) (W.contents writer.new)) }
+    ensures whole { IfOk result (λ status. TellsAll limits.depth text.now status (W.contents writer.old) (W.contents writer.new)) }
+    ensures prefix { OnErr result (TellsSome limits.depth text.now (W.contents writer.old) (W.contents writer.new)) }
     ensures written { IfErr result (λ fault. fault ≢ RunFault.Read) }
 {
     let mut lines = OutputLines::new(alloc, text, limits)?;
@@ -46,15 +45,15 @@ pub fn run<R: Read, W: Write>(
 ) -> Result<Status, RunFault>
     // What is written is the output for all that the reader holds.
     ensures whole { IfOk result
-        (λ status. IfSome (R.remaining reader.old) (λ bytes. WritesOutput limits.depth bytes status (W.contents writer.old) (W.contents writer.new))) }
+        (λ status. IfSome (R.remaining reader.old) (λ bytes. TellsAll limits.depth bytes status (W.contents writer.old) (W.contents writer.new))) }
     // Where it stops before, a prefix of that has been written.
-    ensures prefix { OnErr result (IfSome (R.remaining reader.old) (λ bytes. WritesPrefix limits.depth bytes (W.contents writer.old) (W.contents writer.new))) }
+    ensures prefix { OnErr result (IfSome (R.remaining reader.old) (λ bytes. TellsSome limits.depth bytes (W.contents writer.old) (W.contents writer.new))) }
     // Where reading fails, nothing has been written.
     ensures unread { IfErr result (λ fault. fault ≡ RunFault.Read → Keeps (W.contents writer.old) (W.contents writer.new)) }
     // Where the line of each crate says `accepted`, and the supertraits of headers are proved, the text is coherent as a whole.
-    ensures coherent { AcceptedLinesTell }
+    ensures coherent { AcceptedTextsHold SupertraitsStand }
     // So it is where each crate has a line `supers N: held` too, and then nothing is assumed of supertraits.
-    ensures held { HeldLinesTell }
+    ensures held { AcceptedTextsHold AllSayHeld }
     // So much is read at most, whatever comes.
     ensures bounded { ConsumesAtMost (R.remaining reader.old) (R.remaining reader.new) READ_LIMIT }
 {

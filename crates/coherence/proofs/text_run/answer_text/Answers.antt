@@ -1,15 +1,17 @@
 use Rattle.std.proofs.Common.{◌+◌, [], ◌∷◌, ◌++◌, List, ℕ, sym, ap, ◌∙◌, subst, Result, IfOk, OnOk, Vec, Global}
 use Rattle.std.specs.Io.KnownBytes.{Appends}
+use Rattle.std.specs.List.{flat_map}
 use Rattle.std.proofs.KnownBytes.{Appends-nil}
 use Rattle.std.proofs.lemmas.Result.{err_from_is_err_and}
 use Rattle.text_definitions.specs.Declarations.{Declarations}
+use Rattle.text_definitions.specs.Output.{output_text}
 use Rattle.text_definitions.specs.Text.{TextGives}
 use Rattle.coherence.specs.LineByLine.{OutputProgress, IsAfterLine, IsLineAt, status_of}
-use Rattle.coherence.specs.Lines.{IsOutput}
+use Rattle.coherence.specs.Told.{IsToldText}
 use Rattle.coherence.specs.Streams.{AppendsPrefix}
 use Rattle.coherence.specs.declared.status.RunFault.{RunFault}
 use Rattle.coherence.specs.declared.status.Status.{Status}
-use Rattle.coherence.proofs.FirstLines.{FirstLines, no_lines, and_line, all-lines, some-lines, all-given}
+use Rattle.coherence.proofs.Told.{FirstLines, no_lines, and_line, all-lines, some-lines, all-given}
 use Rattle.coherence.proofs.LineLaws.{one_more, line_prefix, whole_prefix}
 use Rattle.coherence.proofs.text_run.answer_text.Goals as goal
 
@@ -74,4 +76,5 @@ returns-clause-whole g c =
     let end = c.next.ensures.end c.in_default.is in
     let all = all-lines c.args.limits.depth c.args.text.now at.text inv.text at.given so_far.0 so_far.1 (all-given at inv.has_failed end.1) in
     let status = c.status.ensures ∙ ap (λ (p : OutputProgress). status_of p.text) end.0 in
-    (so_far.0, subst (λ (s : Status). IsOutput c.args.limits.depth c.args.text.now s so_far.0) (sym status) all, so_far.2)
+    let text = flat_map output_text so_far.0 in
+    (text, subst (λ (s : Status). IsToldText c.args.limits.depth c.args.text.now s text) (sym status) all, so_far.2)

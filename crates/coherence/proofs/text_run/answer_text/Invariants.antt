@@ -4,7 +4,7 @@ use Rattle.std.specs.List.{flat_map}
 use Rattle.text_definitions.specs.Output.{Answer, output_text}
 use Rattle.text_definitions.specs.Text.{TextGives}
 use Rattle.coherence.specs.LineByLine.{line_count}
-use Rattle.coherence.proofs.FirstLines.{FirstLines}
+use Rattle.coherence.proofs.Told.{FirstLines}
 use Rattle.coherence.proofs.text_run.answer_text.Given as goal
 
 abbrev pub invariant-loop-line : goal.invariant-loop-line

@@ -1,0 +1,166 @@
+-- The lines of checks and of questions, said directly.
+use Rattle.std.proofs.Common.{◌≡◌, ◌≤◌, ◌<◌, ℕ, zero, suc, ◌+◌, ◌-◌, true, List, [], ◌∷◌, ◌++◌, map, take, length, get_or, Some, refl, sym, ap, ◌∙◌, subst, arith, append_assoc}
+use Rattle.std.specs.Fmt.{decimal}
+use Rattle.std.specs.Prelude.{codes, slice_get}
+use Rattle.std.proofs.lemmas.List.{append_cancel_left}
+use Rattle.std.proofs.lemmas.Option.{same_Some}
+use Rattle.type_terms.specs.Answers.{IsDeterminate}
+use Rattle.type_terms.specs.Erased.{erased_reference, erased_impl, erased_world}
+use Rattle.type_terms.specs.Proofs.{In, Every, HasProof}
+use Rattle.type_terms.specs.Supers.{opaque_reference, IsHeld}
+use Rattle.type_terms.specs.Worlds.{World, Reference, ImplDecl, sees, view_of}
+use Rattle.type_terms.proofs.Members.{in-filter, filter-in, in-map}
+use Rattle.type_terms.proofs.ProofEntries.{map-in}
+use Rattle.type_terms.proofs.ViewLaws.{sees-itself}
+use Rattle.text_definitions.specs.Declarations.{Declarations, NamedImpl, Check, of_later, of_supers, Question, world_of}
+use Rattle.text_definitions.specs.Names.{answer_values}
+use Rattle.text_definitions.specs.Output.{Answer, answer_text, values_text}
+use Rattle.language_definitions.proofs.SamePrinted.{yes-values-text-is}
+use Rattle.sessions.specs.QuestionAnswers as answers
+use Rattle.sessions.specs.Promises.{view_in}
+use Rattle.sessions.specs.Releases as releases
+use Rattle.sessions.specs.Releases.{StopsAt, asked_supers, given_clauses}
+use Rattle.sessions.specs.Subjects.{IsOfText}
+use Rattle.sessions.proofs.OpaqueTerms.{reference-opaque-erased}
+use Rattle.coherence.specs.CheckAnswers.{header_supers, StopsWith, CheckAnswer, says_compatible, says_breaking, says_held, says_stopped}
+use Rattle.coherence.specs.Lines.{crate_text, number_in_crate, IsCheckLine, of_version, of_headers, IsQuestionLine, of_prove, of_refute}
+use Rattle.coherence.specs.ProvedAnswers.{QuestionAnswer, says_yes, says_unproved, says_maybe, says_no, says_open}
+use Rattle.coherence.proofs.AskedHeaders.{supers-are-asked}
+use Rattle.coherence.proofs.ImplPlaces.{HaveNumbers, impls-have-numbers}
+use Rattle.coherence.proofs.SolvedQuestions.{to-yes, to-no}
+
+-- ---- texts
+behind-clause : (x a b c e : List ℕ) → x ++ (a ++ b ++ c ++ e) ≡ x ++ a ++ b ++ c ++ e
+behind-clause x a b c e = simp append_assoc
+
+behind-word : (x s w a b c e : List ℕ) → x ++ s ++ w ++ a ++ b ++ c ++ e ≡ x ++ (s ++ (w ++ (a ++ b ++ c ++ e)))
+behind-word x s w a b c e = simp append_assoc
+
+-- ---- where a check stops
+clauses-given : (rs : List Reference) → map (λ r. erased_reference (opaque_reference r)) rs ≡ map opaque_reference (map erased_reference rs)
+clauses-given [] = refl
+clauses-given (r ∷ rs) = two (sym (reference-opaque-erased r)) (clauses-given rs)
+  where
+    two : {a b : Reference} {xs ys : List Reference} → a ≡ b → xs ≡ ys → a ∷ xs ≡ b ∷ ys
+    two p q = cc
+
+module _ (d : Declarations) (text : IsOfText d) (c : ℕ) where
+  abbrev U : World
+  U = view_in d c
+
+  places : HaveNumbers d.impls
+  places = impls-have-numbers text.0 d text.1
+
+  at-number : (x : ImplDecl) → In x (view_of (world_of d) c).impls → (n : NamedImpl) × (slice_get d.impls x.name ≡ Some n) × (n.item ≡ x)
+  at-number x i =
+      let f = in-filter (λ (y : ImplDecl). sees (world_of d) c y.home) (world_of d).impls x i in
+      let m = map-in (λ (n : NamedImpl). n.item) d.impls x f.0 in
+      let number : m.1.0 ≡ x.name = sym (places m.1.0 m.0 m.1.1) ∙ ap (λ (y : ImplDecl). y.name) m.2 in
+      (m.0, subst (λ k. slice_get d.impls k ≡ Some m.0) number m.1.1, m.2)
+
+  own-seen : (k : ℕ) (n : NamedImpl) → slice_get d.impls k ≡ Some n → n.item.home ≡ c → In (erased_impl n.item) U.impls
+  own-seen k n at own =
+      let W : World = erased_world (world_of d) in
+      filter-in (λ (y : ImplDecl). sees W c y.home) W.impls (erased_impl n.item)
+      (in-map erased_impl (world_of d).impls n.item (in-map (λ (m : NamedImpl). m.item) d.impls n (k, at)))
+      (subst (λ h. sees W c h ≡ true) (sym own) (sees-itself (length W.crates) W c))
+
+  module _ (limit k j : ℕ) (h : StopsAt limit d c k j) where
+    abbrev x : ImplDecl
+    x = h.stops.found
+
+    record StopsOn (E supers : List Reference) : Type 0 where
+      at : slice_get supers (j - 1) ≡ Some h.stops.super
+      before : Every (HasProof U E) (take (j - 1) supers)
+      not_determinate : IsDeterminate limit U E h.stops.super → ⊥
+
+    stops-on : StopsOn (map opaque_reference (erased_impl x).clauses) (header_supers U x)
+    stops-on =
+        subst (λ E. StopsOn E (header_supers U x)) (clauses-given x.clauses)
+        (subst (StopsOn (given_clauses x)) (supers-are-asked d text c x h.stops.stands)
+        (record { at = h.stops.at; before = h.stops.before; not_determinate = h.stops.not_determinate }))
+
+    pub stops-with : StopsWith limit d c k (j - 1)
+    stops-with =
+        let n = at-number x h.stops.stands in
+        let s = subst (λ y. StopsOn (map opaque_reference (erased_impl y).clauses) (header_supers U y)) (sym n.2) stops-on in
+        record {
+          earlier = λ m i l at own. h.first (erased_impl i.item) (own-seen m i at own) own (subst (λ z. z < k) (sym (places m i at)) l);
+          found = n.0;
+          there = subst (λ z. slice_get d.impls z ≡ Some n.0) h.stops.named n.1;
+          own = ap (λ (y : ImplDecl). y.home) n.2 ∙ h.stops.own;
+          super = h.stops.super;
+          at = s.at;
+          before = s.before;
+          not_determinate = s.not_determinate;
+        }
+
+-- ---- checks
+one-back : (n : ℕ) → 1 ≤ n → n - 1 + 1 ≡ n
+one-back n h = omega (arith, h)
+
+module _ (limit : ℕ) (d : Declarations) (text : IsOfText d) where
+  stopped : (c k j : ℕ) (w : List ℕ) → In w (codes "missing" ∷ codes "undecided" ∷ []) → StopsAt limit d c k j
+      → CheckAnswer limit d (of_supers c) (codes "supers " ++ crate_text d c ++ codes ": " ++ w ++ (codes " impl " ++ decimal (number_in_crate d k) ++ codes " clause " ++ decimal j))
+  stopped c k j w i h =
+      let line = codes "supers " ++ crate_text d c ++ codes ": " ++ w in
+      subst (CheckAnswer limit d (of_supers c)) (sym (behind-clause line (codes " impl ") (decimal (number_in_crate d k)) (codes " clause ") (decimal j)))
+      (subst (λ m. CheckAnswer limit d (of_supers c) (line ++ codes " impl " ++ decimal (number_in_crate d k) ++ codes " clause " ++ decimal m)) (one-back j h.stops.counted)
+      (says_stopped c k (j - 1) w i (stops-with d text c limit k j h)))
+
+  check-told : (x : Check) (l : Answer) → IsCheckLine limit d x l → CheckAnswer limit d x (answer_text l)
+  check-told _ _ (of_version k c releases.compatible h) =
+      subst (CheckAnswer limit d (of_later k c)) (sym (append_assoc (codes "later " ++ crate_text d c) (codes ": ") (codes "compatible"))) (says_compatible k c h)
+  check-told _ _ (of_version k c (releases.breaking n) h) =
+      subst (λ t. CheckAnswer limit d (of_later k c) (t ++ decimal n)) (sym (append_assoc (codes "later " ++ crate_text d c) (codes ": ") (codes "breaking impl ")))
+      (subst (λ m. CheckAnswer limit d (of_later k c) (codes "later " ++ crate_text d c ++ codes ": breaking impl " ++ decimal m)) (one-back n h.counted)
+      (says_breaking k c (n - 1) h.found h.there h.breaks h.before))
+  check-told _ _ (of_headers c releases.held h) =
+      subst (CheckAnswer limit d (of_supers c)) (sym (append_assoc (codes "supers " ++ crate_text d c) (codes ": ") (codes "held"))) (says_held c h)
+  check-told _ _ (of_headers c (releases.missing k j) h) = stopped c k j (codes "missing") (0, refl) h
+  check-told _ _ (of_headers c (releases.undecided k j) h) = stopped c k j (codes "undecided") (1, refl) h
+
+pub check-answer : (limit : ℕ) (d : Declarations) (x : Check) (l : Answer) → IsOfText d → IsCheckLine limit d x l → CheckAnswer limit d x (answer_text l)
+check-answer limit d x l text h = check-told limit d text x l h
+
+-- ---- the word of a line that does not say `held`
+other-word : (w rest : List ℕ) → In w (codes "missing" ∷ codes "undecided" ∷ []) → w ++ rest ≡ codes "held" → ⊥
+other-word w rest (zero, e) h = absurd (apart (ap (λ (xs : List ℕ). get_or (xs ++ rest) 0 0) (same_Some (codes "missing") w e) ∙ ap (λ (xs : List ℕ). get_or xs 0 0) h))
+  where
+    apart : ◌≡◌ {A = ℕ} 109 104 → ⊥
+    apart g = omega (arith, g)
+other-word w rest (suc zero, e) h = absurd (apart (ap (λ (xs : List ℕ). get_or (xs ++ rest) 0 0) (same_Some (codes "undecided") w e) ∙ ap (λ (xs : List ℕ). get_or xs 0 0) h))
+  where
+    apart : ◌≡◌ {A = ℕ} 117 104 → ⊥
+    apart g = omega (arith, g)
+other-word w rest (suc (suc k), e) h = absurd cc
+
+pub held-answer : (limit : ℕ) (d : Declarations) (c : ℕ) (t : List ℕ) → CheckAnswer limit d (of_supers c) t → t ≡ codes "supers " ++ crate_text d c ++ codes ": held" → IsHeld (view_in d c) c
+held-answer limit d c _ (says_held _ h) e = h
+held-answer limit d c _ (says_stopped _ k j w i s) e =
+    let a = codes " impl " in
+    let b = decimal (number_in_crate d k) in
+    let f = codes " clause " in
+    let g = decimal (j + 1) in
+    let line = codes "supers " ++ crate_text d c in
+    absurd (other-word w (a ++ b ++ f ++ g) i (append_cancel_left (codes ": ") (w ++ (a ++ b ++ f ++ g)) (codes "held") (append_cancel_left line (codes ": " ++ (w ++ (a ++ b ++ f ++ g))) (codes ": held") (sym (behind-word line (codes ": ") w a b f g) ∙ e))))
+
+-- ---- questions
+module _ (limit : ℕ) (d : Declarations) (n : ℕ) (q : Question) where
+  question-told : (l : Answer) → IsQuestionLine limit d n q l → QuestionAnswer limit d n q (answer_text l)
+  question-told _ (of_prove (answers.yes ts) e h) =
+      subst (λ t. QuestionAnswer limit d n q (t ++ values_text (answer_values d q ts))) (sym (append_assoc (codes "prove " ++ decimal n) (codes ": ") (codes "yes")))
+      (subst (λ v. QuestionAnswer limit d n q (codes "prove " ++ decimal n ++ codes ": yes" ++ v)) (yes-values-text-is d q ts)
+      (says_yes ts (to-yes limit d q.asker (map (λ v. v.kind) q.variables) (map erased_reference q.clauses) (erased_reference q.asked) ts h) e))
+  question-told _ (of_prove answers.unproved e h) =
+      subst (QuestionAnswer limit d n q) (sym (append_assoc (codes "prove " ++ decimal n) (codes ": ") (codes "unproved"))) (says_unproved (λ x. h x.0 x.1) e)
+  question-told _ (of_prove answers.maybe e h) =
+      subst (QuestionAnswer limit d n q) (sym (append_assoc (codes "prove " ++ decimal n) (codes ": ") (codes "maybe"))) (says_maybe h e)
+  question-told _ (of_refute answers.no e h) =
+      subst (QuestionAnswer limit d n q) (sym (append_assoc (codes "refute " ++ decimal n) (codes ": ") (codes "no")))
+      (says_no (to-no limit d q.asker (map (λ v. v.kind) q.variables) (erased_reference q.asked) h) e)
+  question-told _ (of_refute answers.unrefuted e h) =
+      subst (QuestionAnswer limit d n q) (sym (append_assoc (codes "refute " ++ decimal n) (codes ": ") (codes "open"))) (says_open h e)
+
+pub question-answer : (limit : ℕ) (d : Declarations) (n : ℕ) (q : Question) (l : Answer) → IsQuestionLine limit d n q l → QuestionAnswer limit d n q (answer_text l)
+question-answer limit d n q l h = question-told limit d n q l h
