@@ -1,4 +1,4 @@
--- The lines that a run writes.
+-- The lines of the answer as data, which the functions of this crate make of what a session answers; `Told` says what a run writes.
 use Rattle.std.specs.Prelude.{◌≡◌, ℕ, suc, true, false, List, [], take, count_by, slice_get, ◌==◌}
 use Rattle.std.specs.Option.{option_map, option_map_or}
 use Rattle.type_terms.specs.Trees.{Trees}

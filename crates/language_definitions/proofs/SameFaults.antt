@@ -63,7 +63,7 @@ all-numbered d l =
     both-numbered (faults_by_kind d l) (ms ++ line_tests d l) (kinds-numbered d l) (both-numbered ms (line_tests d l) (mentions-numbered e l (line_mentions e l)) refl)
 
 -- ---- one number
--- a test of the number is among those of the kind of line, of line_mentions, or of the line
+-- a test of the number is among those of the kind of line, of its mentions, or of the line
 abbrev of_mentions : ℕ → Declarations → Line → Bool
 of_mentions n d l = list_any (λ m. holds n (mention_faults (with_own d l) l m)) (line_mentions (with_own d l) l)
 
@@ -117,7 +117,7 @@ mention-among d l (list_mention k) = refl
 mention-among d l (number_mention k) = refl
 mention-among d l (type_mention k) = refl
 
--- a test of one kind of line, a test of line_mentions, and one of the line
+-- a test of one kind of line, a test of its mentions, and one of the line
 by-kind : (n : ℕ) (d : Declarations) (l : Line) (t : Bool) → has n mention_numbers ≡ false → holds n (line_tests d l) ≡ false → holds n (faults_by_kind d l) ≡ t → holds n (all_tests d l) ≡ t
 by-kind n d l t m x e =
     split n d l

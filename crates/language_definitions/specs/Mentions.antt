@@ -99,7 +99,7 @@ clause_mentions d k = type_mention 1 ∷ (type_mentions d [] 2 of_type k.subject
 abbrev pub header_mentions : Declarations → Clause → List Mention
 header_mentions d h = bound_mentions d h.bound ++ type_mention 1 ∷ type_mentions d [] 2 of_type h.subject
 
--- what a line line_mentions, parameters aside; names are looked up in d
+-- what a line mentions, parameters aside; names are looked up in d
 abbrev pub line_mentions : Declarations → Line → List Mention
 line_mentions d (crate_line n us) = map crate_mention us
 line_mentions d (struct_line f n ps fs) = flat_map (λ m. m) (types_mentions d [] 1 fs)
