@@ -1,4 +1,4 @@
-//! Long texts and lists, cut.
+//! Long texts, cut.
 
 ghost use Rattle.std.specs.Prelude.{◌≡◌, ◌≤◌, ◌<◌, ◌++◌, length, map, take, codes, string_bytes, IfOk};
 ghost use Rattle.diagnostics.specs.Shown.{shown};
@@ -24,22 +24,6 @@ pub fn cut_text(alloc: Global, text: &[u8], limit: usize) -> Result<String, Allo
     } else {
         out.push_shown(&text[..limit]);
         out.push_str("..");
-    }
-    out.finish()
-}
-
-/// A list as it is shown: its first items with `, ` between each two, and `, ..` behind them where it has more than `LIST_LIMIT`.
-pub fn cut_list(alloc: Global, items: &[String]) -> Result<String, AllocError> {
-    let mut out = TextWriter::new(alloc);
-    for (index, item) in items.iter().enumerate() {
-        if index > 0 {
-            out.push_str(", ");
-        }
-        if index == LIST_LIMIT {
-            out.push_str("..");
-            break;
-        }
-        out.push_str(item.as_str());
     }
     out.finish()
 }

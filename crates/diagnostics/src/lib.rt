@@ -21,7 +21,7 @@ mod tokens;
 mod window;
 mod writer;
 
-pub use cut::{LIST_LIMIT, TYPE_LIMIT, cut_list, cut_text};
+pub use cut::{LIST_LIMIT, TYPE_LIMIT, cut_text};
 pub use diagnostic::{Diagnostic, ErrCode, Level, ProofRow, SpanLabel, Subdiagnostic};
 pub use json::json_line;
 pub use parts::{LineParts, parts_of_impl, parts_of_question};
@@ -29,3 +29,4 @@ pub use rendering::render;
 pub use source::SourceFile;
 pub use span::{Place, Span, on_line};
 pub use tokens::{text_of, token_places};
+pub use writer::shown_byte;

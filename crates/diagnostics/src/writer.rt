@@ -7,7 +7,7 @@ use std::alloc::{AllocError, Global};
 use std::fmt::InlineText;
 
 /// A byte as it is shown: a printable one of ASCII as it is, a tab as a space, any other as `?`.
-fn shown(byte: u8) -> u8
+pub fn shown_byte(byte: u8) -> u8
     ensures value { result ≡ shown byte }
     ensures printable { 32 ≤ result }
     ensures ascii { result < 127 }
@@ -87,7 +87,7 @@ impl TextWriter {
         ensures len { string_len self.new.text ≤ string_len self.old.text + 1 }
     {
         if !self.is_refused {
-            self.is_refused = self.text.push(char::from(shown(byte))).is_err();
+            self.is_refused = self.text.push(char::from(shown_byte(byte))).is_err();
         }
     }
 

@@ -4,7 +4,7 @@ use crate::lines::{ImplLine, ItemLines};
 use crate::sentences::{Piece, piece_text, plain, push_primary};
 use diagnostics::{
     Diagnostic, ErrCode, Level, Place, SourceFile, Span, SpanLabel, Subdiagnostic, TYPE_LIMIT,
-    on_line, text_of,
+    on_line, shown_byte, text_of,
 };
 use std::alloc::{AllocError, Global};
 use std::fmt;
@@ -55,20 +55,11 @@ pub struct Name<'w> {
     bytes: &'w [u8],
 }
 
-/// A byte of a name as it is shown.
-fn shown_char(byte: u8) -> char {
-    match byte {
-        b'\t' => ' ',
-        b' '..=b'~' => char::from(byte),
-        _ => '?',
-    }
-}
-
 impl Display for Name<'_> {
     fn fmt<W: fmt::Write>(&self, f: &mut fmt::Formatter<W>) -> fmt::Result {
         let shown = self.bytes.get(..TYPE_LIMIT).unwrap_or(self.bytes);
         for byte in shown {
-            f.write_char(shown_char(*byte))?;
+            f.write_char(char::from(shown_byte(*byte)))?;
         }
         if shown.len() < self.bytes.len() {
             f.write_str("..")?;
