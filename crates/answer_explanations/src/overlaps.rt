@@ -129,7 +129,7 @@ fn tell_pair<'w>(
     let clauses = clauses_of(alloc, session, pair, later, earlier)?;
     let header = header_text(alloc, texts, session, earlier)?;
     let common = speak(alloc, session.interner(), &names, pair.common)?;
-    let story = tell(alloc, session.interner(), &names, &pair.walk)?;
+    let story = tell(alloc, session.interner(), &names, &pair.walk, &[])?;
     Ok(Conflicting {
         later,
         earlier,

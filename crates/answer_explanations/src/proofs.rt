@@ -64,7 +64,7 @@ pub(crate) fn tell_proof<'w>(
     requires { ProofWalkHeld cx.now.entries proof.now }
 {
     let goals = speak_steps(alloc, cx, names, &proof.steps)?;
-    let story = tell(alloc, cx, names, &proof.walk)?;
+    let story = tell(alloc, cx, names, &proof.walk, &[])?;
     Ok(ToldProof {
         proof,
         story,

@@ -13,7 +13,8 @@ use answer_lines::ShownNames;
 use diagnostics::{Diagnostic, Span};
 use explanation_texts::{Asking, Texts, left_open, refuted, tell, unproved, unsettled};
 use session_walks::{
-    Conflict, GoalWalk, ProofWalk, explain_proof, explain_question, explain_refutation, unseen_at,
+    Conflict, GoalWalk, ProofWalk, checked_rules, explain_proof, explain_question,
+    explain_refutation, unseen_at,
 };
 use sessions::{ProveAnswer, RefuteAnswer, Session};
 use std::alloc::{AllocError, Global};
@@ -116,11 +117,12 @@ fn tell_not_proved(
     question: Questioned<'_>,
     cx: &Interner,
     walk: &GoalWalk,
+    rules: &[(usize, usize)],
     answer: NotProved,
 ) -> Result<Diagnostic, AllocError>
     requires { WalkHeld cx.now.entries walk.now }
 {
-    let story = tell(alloc, cx, &question.names(), walk)?;
+    let story = tell(alloc, cx, &question.names(), walk, rules)?;
     let span = question.span();
     match answer {
         NotProved::Unproved => {
@@ -148,8 +150,9 @@ fn explain_not_proved(
 {
     let before = session.frames();
     let walk = explain_question(session, number)?;
+    let rules = checked_rules(session, &walk)?;
     spending.add_explanation(before, session.frames(), walk.nodes.len());
-    Ok(tell_not_proved(alloc, question, session.interner(), &walk, answer)?)
+    Ok(tell_not_proved(alloc, question, session.interner(), &walk, &rules, answer)?)
 }
 
 /// Why a `prove` question is answered as it is.
@@ -197,7 +200,7 @@ fn tell_refutation(
 ) -> Result<Diagnostic, AllocError>
     requires { WalkHeld cx.now.entries walk.now }
 {
-    let story = tell(alloc, cx, &question.names(), walk)?;
+    let story = tell(alloc, cx, &question.names(), walk, &[])?;
     let span = question.span();
     match answer {
         RefuteAnswer::No => refuted(alloc, question.texts, &story, span, unseen),

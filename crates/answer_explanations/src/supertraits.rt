@@ -7,7 +7,7 @@ ghost use Rattle.sessions.specs.Subjects.{StaysOn};
 use answer_lines::ShownNames;
 use diagnostics::{Diagnostic, Place, Span, on_line};
 use explanation_texts::{Asking, Story, Texts, impl_line, tell, unproved, unsettled};
-use session_walks::{GoalWalk, explain_supertrait};
+use session_walks::{GoalWalk, checked_rules, explain_supertrait};
 use sessions::{Session, SupersAnswer};
 use std::alloc::{AllocError, Global};
 use type_terms::{Fault, ImplId};
@@ -79,6 +79,7 @@ fn explain_walk(
     texts: Texts<'_>,
     session: &Session<'_>,
     walk: &GoalWalk,
+    rules: &[(usize, usize)],
     unheld: Unheld,
     depth: u32,
     seen: &[ImplId],
@@ -90,8 +91,27 @@ fn explain_walk(
         params: params_of(texts, unheld.id),
         variables: &[],
     };
-    let story = tell(alloc, session.interner(), &names, walk)?;
+    let story = tell(alloc, session.interner(), &names, walk, rules)?;
     diagnose(alloc, texts, &story, unheld, depth, seen)
+}
+
+/// Why a supertrait is not held; nothing where there is no such.
+fn explain_unheld(
+    alloc: Global,
+    texts: Texts<'_>,
+    session: &mut Session<'_>,
+    unheld: Unheld,
+    depth: u32,
+    seen: &[ImplId],
+) -> Result<Option<Diagnostic>, Fault>
+    ensures { StaysOn session.old session.new }
+{
+    let Some(walk) = explain_supertrait(session, unheld.id, unheld.number)? else {
+        return Ok(None);
+    };
+    let rules = checked_rules(session, &walk)?;
+    let told = explain_walk(alloc, texts, session, &walk, &rules, unheld, depth, seen)?;
+    Ok(Some(told))
 }
 
 /// What is said of a crate whose headers' supertraits were checked; nothing where all are held.
@@ -108,9 +128,5 @@ pub(crate) fn supertraits(
     let Some(unheld) = unheld_of(answer) else {
         return Ok(None);
     };
-    let Some(walk) = explain_supertrait(session, unheld.id, unheld.number)? else {
-        return Ok(None);
-    };
-    let told = explain_walk(alloc, texts, session, &walk, unheld, depth, seen)?;
-    Ok(Some(told))
+    explain_unheld(alloc, texts, session, unheld, depth, seen)
 }

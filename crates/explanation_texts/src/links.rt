@@ -36,12 +36,26 @@ fn link_at(path: &[usize], number: usize) -> Option<Link> {
     })
 }
 
-/// The candidate of the asker that asks, and which of its goals it is, from 0.
-fn asking<'s>(story: &'s Story<'_>, link: Link) -> Option<(&'s CandidateNode, usize)> {
-    for candidate in story.candidates(link.asker) {
-        for (place, premise) in candidate.premises.iter().enumerate() {
+/// A candidate that asks a goal.
+#[derive(Clone, Copy)]
+struct CandidateLink<'s> {
+    candidate: &'s CandidateNode,
+    /// Which of the goals that it asks this one is, from 0.
+    clause: usize,
+    /// Whether it was checked that its impl asks so.
+    is_rule: bool,
+}
+
+/// The candidate of the asker that asks.
+fn asking<'s>(story: &'s Story<'_>, link: Link) -> Option<CandidateLink<'s>> {
+    for (number, candidate) in story.candidates(link.asker).iter().enumerate() {
+        for (clause, premise) in candidate.premises.iter().enumerate() {
             if *premise == link.asked {
-                return Some((candidate, place));
+                return Some(CandidateLink {
+                    candidate,
+                    clause,
+                    is_rule: story.is_rule(link.asker, number),
+                });
             }
         }
     }
@@ -76,25 +90,30 @@ fn push_marks(
     }
 }
 
-/// What the asked goal of a link is required for, by this candidate: by what is said where that is no impl.
+/// What the asked goal of a link is required for, by a candidate of which it is said where it is no impl, or where it was not checked.
 fn required_for<'s>(
     texts: Texts<'_>,
     story: &'s Story<'_>,
     link: Link,
-    candidate: Option<&CandidateNode>,
+    asks: Option<CandidateLink<'_>>,
 ) -> Sentence<'s> {
     let subject = Piece::Text(story.subject(link.asker));
     let bound = Piece::Text(story.bound(link.asker));
-    match candidate {
-        Some(candidate) if !matches!(candidate.source, CandidateSource::Impl(_)) => {
+    match asks {
+        Some(asks) if !matches!(asks.candidate.source, CandidateSource::Impl(_)) => {
             let template = "required for `{}` to implement `{}`, by a {}";
             with_three(
                 template,
                 subject,
                 bound,
-                source_piece(texts, candidate.source),
+                source_piece(texts, asks.candidate.source),
             )
         }
+        Some(asks) if !asks.is_rule => with_two(
+            "required for `{}` to implement `{}`, not checked",
+            subject,
+            bound,
+        ),
         _ => with_two("required for `{}` to implement `{}`", subject, bound),
     }
 }
@@ -108,12 +127,11 @@ fn link_note(
     is_marked: bool,
 ) -> Result<Subdiagnostic, AllocError> {
     let asks = asking(story, link);
-    let candidate = asks.map(|(candidate, _clause)| candidate);
-    let mut told = told_note(alloc, required_for(texts, story, link, candidate))?;
-    if let (true, Some((candidate, clause))) = (is_marked, asks) {
-        if let CandidateSource::Impl(id) = candidate.source {
+    let mut told = told_note(alloc, required_for(texts, story, link, asks))?;
+    if let (true, Some(asks)) = (is_marked, asks) {
+        if let CandidateSource::Impl(id) = asks.candidate.source {
             let label = bound_label(story, link);
-            push_marks(alloc, texts, id, clause, label, &mut told.spans)?;
+            push_marks(alloc, texts, id, asks.clause, label, &mut told.spans)?;
         }
     }
     Ok(told)
@@ -135,8 +153,7 @@ fn push_hidden(
 
 /// The impl that asks.
 fn asking_impl(story: &Story<'_>, link: Link) -> Option<ImplId> {
-    let (candidate, _clause) = asking(story, link)?;
-    match candidate.source {
+    match asking(story, link)?.candidate.source {
         CandidateSource::Impl(id) => Some(id),
         _ => None,
     }

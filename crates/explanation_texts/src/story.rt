@@ -14,6 +14,8 @@ use type_terms::interner::Interner;
 pub struct Story<'w> {
     spoken: Vec<Spoken>,
     walk: &'w GoalWalk,
+    /// Candidates that were checked, each by the place of its goal and its number among the candidates there.
+    rules: &'w [(usize, usize)],
 }
 
 /// The references as texts.
@@ -33,17 +35,23 @@ fn speak_all(
     Ok(spoken)
 }
 
-/// A walk over the terms of an interner, told.
+/// A walk over the terms of an interner, told. Of its candidates by impls these were checked: each by the place of its goal and its number
+/// among the candidates there. Of others it is said where they are told.
 pub fn tell<'w>(
     alloc: Global,
     cx: &Interner,
     names: &ShownNames<'_>,
     walk: &'w GoalWalk,
+    rules: &'w [(usize, usize)],
 ) -> Result<Story<'w>, AllocError>
     requires { ReferencesHeld cx.now.entries walk.now.references.items }
 {
     let spoken = speak_all(alloc, cx, names, &walk.references)?;
-    Ok(Story { spoken, walk })
+    Ok(Story {
+        spoken,
+        walk,
+        rules,
+    })
 }
 
 impl Story<'_> {
@@ -153,6 +161,17 @@ impl Story<'_> {
             Some(node) => &node.candidates,
             None => &[],
         }
+    }
+
+    /// Whether the candidate of a goal with a number was checked.
+    pub(crate) fn is_rule(&self, place: usize, number: usize) -> bool {
+        let place = self.shown_at(place);
+        for rule in self.rules {
+            if rule.0 == place && rule.1 == number {
+                return true;
+            }
+        }
+        false
     }
 
     /// The candidate of a goal, if there is just one.

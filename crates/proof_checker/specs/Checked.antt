@@ -1,5 +1,5 @@
 -- What is checked of one step.
-use Rattle.std.specs.Prelude.{ℕ, take, List, [], if◌then◌else◌}
+use Rattle.std.specs.Prelude.{◌≡◌, ℕ, take, List, [], ◌++◌, if◌then◌else◌}
 use Rattle.type_terms.specs.Worlds.{World, Reference}
 use Rattle.type_terms.specs.Rules.{Rule, BuiltIn, by_super, built_in, rules, is_coinductive}
 use Rattle.type_terms.specs.Rules as rule
@@ -29,3 +29,11 @@ pub record StepHasRule (W : World) (E : List Reference) (es : List terms.Entry) 
 -- The premises are among the references rs, and among the first k of them unless the trait of what they conclude is coinductive.
 abbrev pub PremisesStand : World → List Reference → ℕ → ℕ → List Reference → Type 0
 PremisesStand W rs k t ps = Every (λ p. In p (if is_coinductive W t then rs else take k rs)) ps
+
+-- The first of these are the premises.
+abbrev pub BeginsWith : List Reference → List Reference → Type 0
+BeginsWith rs ps = (others : List Reference) × (rs ≡ ps ++ others)
+
+-- By this way the reference follows from these premises, and maybe further ones behind them.
+abbrev pub FollowsFrom : World → List Reference → Reference → rule.Way → List Reference → Type 0
+FollowsFrom W E r w ps = (others : List Reference) × IsRuleByWay W E r w (ps ++ others)

@@ -4,6 +4,7 @@
 pub mod checker;
 mod fields;
 mod lifetimes;
+pub mod links;
 mod parts;
 pub mod rows;
 pub mod rules;

@@ -1,6 +1,7 @@
 mod LaterImpls
 mod LaterProofs
 mod Rests
+mod RuleCandidates
 mod ShownSteps
 mod Staying
 mod UnseenCrates

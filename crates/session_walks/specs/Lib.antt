@@ -1,4 +1,5 @@
 pub mod Causes
+pub mod Rules
 pub mod Shown
 pub mod Unseen
 pub mod Walked

@@ -10,6 +10,7 @@ mod headers;
 mod pairs;
 mod places;
 mod questions;
+mod rules;
 mod shown;
 mod steps;
 mod supertraits;
@@ -22,6 +23,7 @@ pub use explained::{
     explain_breaking, explain_overlap, explain_proof, explain_question, explain_refutation,
     explain_supertrait,
 };
+pub use rules::checked_rules;
 pub use unseen::{impl_header, unseen_at, unseen_crates};
 pub use walks::{PairWalk, ProofWalk, ShownStep};
 

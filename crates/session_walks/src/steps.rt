@@ -39,7 +39,7 @@ use type_terms::kinds::GenericArgs;
 use type_terms::{Fault, ImplId};
 
 /// Arguments with which the header of an impl is the reference; none where there are none.
-fn impl_args(
+pub(crate) fn impl_args(
     alloc: Global,
     cx: &mut Interner,
     table: &mut InferCtxt,

@@ -32,7 +32,7 @@ module _ (V : World) (cs : List CrateDecl) where
       let own = if same_reference s r then record { way = by_clause k; premises = [] } ∷ [] else [] in
       ap (λ zs. own ++ (super_rules r k 0 zs ++ clause_rules W r (suc k) ss)) (supers-same V cs V.impls s) ∙ ap (λ us. own ++ (super_rules r k 0 (strict_supertraits V s) ++ us)) (clauses-aside r (suc k) ss)
 
-  rules-aside : (E : List Reference) (r : Reference) → rules W E r ≡ rules V E r
+  pub rules-aside : (E : List Reference) (r : Reference) → rules W E r ≡ rules V E r
   rules-aside E r = two (built-in-aside r) (clauses-aside r 0 E)
     where
       two : {b b' c c' : List Rule} → b ≡ b' → c ≡ c' → flat_map (impl_rules r) V.impls ++ (b ++ c) ≡ flat_map (impl_rules r) V.impls ++ (b' ++ c')

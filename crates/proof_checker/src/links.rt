@@ -1,0 +1,79 @@
+//! Whether an impl is asked for a reference, and asks for others.
+ghost use Rattle.std.specs.Prelude.{◌≡◌, true, List, IfOk, IfErr};
+ghost use Rattle.type_terms.specs.Rules.{by_impl};
+ghost use Rattle.type_terms.specs.Terms.{Has, args_lists};
+ghost use Rattle.type_terms.specs.Worlds.{Reference};
+ghost use Rattle.term_folds.specs.Growth.{Grew, FullAtLimit};
+ghost use Rattle.declarations.specs.Applied.{TraitRefsHeld};
+ghost use Rattle.declarations.specs.Held.{ReferenceHeld, AreHeld};
+ghost use Rattle.declarations.specs.Items.{declared};
+ghost use Rattle.proof_checker.specs.Checked.{BeginsWith, FollowsFrom};
+ghost use Rattle.proof_checker.specs.Steps.{term_of, terms_of, ParametersAreCovered};
+
+use crate::lifetimes::are_one;
+use crate::rules::by_impl;
+use declarations::declarations::Declarations;
+use std::alloc::Global;
+use term_folds::predicate::TraitRef;
+use type_terms::interner::Interner;
+use type_terms::kinds::GenericArgs;
+use type_terms::{Fault, ImplId};
+
+/// Whether the first of these references are the premises, one for one.
+fn are_first(
+    alloc: Global,
+    cx: &mut Interner,
+    asked: &[TraitRef],
+    premises: &[TraitRef],
+) -> Result<bool, Fault>
+    requires asked { TraitRefsHeld cx.old.entries asked.now }
+    requires premises { TraitRefsHeld cx.old.entries premises.now }
+    ensures grew { Grew cx.old cx.new }
+    ensures first { IfOk result (λ b. b ≡ true → BeginsWith (terms_of cx.old.entries asked.now) (terms_of cx.old.entries premises.now)) }
+    ensures full { IfErr result (FullAtLimit cx.new) }
+{
+    let mut left = premises;
+    let mut left_asked = asked;
+    'premises: while let Some((premise, others)) = left.split_first() {
+        match left_asked.split_first() {
+            Some((first, other_asked)) => {
+                if !are_one(alloc, cx, *first, *premise)? {
+                    return Ok(false);
+                }
+                left = others;
+                left_asked = other_asked;
+            }
+            None => return Ok(false),
+        }
+    }
+    Ok(true)
+}
+
+/// Whether the reference follows by the impl with these arguments, from premises of which the first are these.
+///
+/// `false` says nothing: references that differ in the lifetimes of a `for` may be missed.
+/// The fault is `Memory` where memory is refused, or `Full` where a kind of term is full.
+pub fn follows_by_impl(
+    alloc: Global,
+    cx: &mut Interner,
+    declarations: &Declarations,
+    reference: TraitRef,
+    id: ImplId,
+    args: GenericArgs,
+    premises: &[TraitRef],
+) -> Result<bool, Fault>
+    requires declared { AreHeld cx.old.entries declarations.now }
+    requires covered { ParametersAreCovered cx.old.entries declarations.now }
+    requires reference { ReferenceHeld cx.old.entries reference }
+    requires args { Has cx.old.entries args_lists args.0 }
+    requires premises { TraitRefsHeld cx.old.entries premises.now }
+    ensures grew { Grew cx.old cx.new }
+    ensures follows { IfOk result (λ b. b ≡ true → (E : List Reference) → FollowsFrom (declared cx.old.entries declarations.now) E
+        (term_of cx.old.entries reference) (by_impl id.index) (terms_of cx.old.entries premises.now)) }
+    ensures full { IfErr result (FullAtLimit cx.new) }
+{
+    match by_impl(alloc, cx, declarations, reference, id, args)? {
+        Some(asked) => are_first(alloc, cx, &asked, premises),
+        None => Ok(false),
+    }
+}

@@ -1,0 +1,91 @@
+-- Candidates that are rules, while the interner grows.
+use Rattle.std.proofs.Common.{◌≡◌, ◌+◌, ℕ, zero, suc, List, [], ◌∷◌, ◌++◌, take, sym, subst, Some, arith}
+use Rattle.std.specs.List.{AllZip, slice_get}
+use Rattle.type_terms.specs.Rules.{by_impl}
+use Rattle.type_terms.specs.Rules as rule
+use Rattle.type_terms.specs.Proofs.{In}
+use Rattle.type_terms.specs.Terms.{Entry, Keeps}
+use Rattle.type_terms.specs.Worlds.{World, Reference, CrateDecl}
+use Rattle.term_folds.specs.declared.predicate.TraitRef.{TraitRef}
+use Rattle.declarations.specs.Applied.{TraitRefsHeld}
+use Rattle.declarations.specs.Held.{ReferenceHeld}
+use Rattle.declarations.specs.Merges.{Each}
+use Rattle.goal_walk.specs.Walking.{ReferencesHeld}
+use Rattle.goal_walk.specs.declared.nodes.CandidateNode.{CandidateNode}
+use Rattle.goal_walk.specs.declared.nodes.GoalWalk.{GoalWalk}
+use Rattle.proof_checker.specs.Checked.{FollowsFrom}
+use Rattle.proof_checker.specs.Steps.{term_of, terms_of}
+use Rattle.proof_checker.proofs.Later.{term-same, terms-same}
+use Rattle.sessions.proofs.ProofsAside.{rules-aside}
+use Rattle.session_walks.specs.Rules.{IsRule, IsRuleAt}
+use Rattle.session_walks.proofs.ShownSteps.{every-there}
+
+-- one more item stands beside its own
+pub zip-push : {A B : Type 0} (R : A → B → Type 0) (xs : List A) (i j : ℕ) (x : A) (ys : List B) (y : B) → j ≡ i + 1 → AllZip R (take i xs) ys → slice_get xs i ≡ Some x → R x y → AllZip R (take j xs) (ys ++ y ∷ [])
+zip-push R [] i j x ys y q h e p = absurd cc
+zip-push R (z ∷ xs) i zero x ys y q h e p = absurd (omega (arith, q))
+zip-push R (z ∷ xs) zero (suc j) x [] y q h e p =
+    let same : z ≡ x = cc in
+    let none : j ≡ 0 = omega (arith, q) in
+    subst (λ k. AllZip R (z ∷ take k xs) (y ∷ [])) (sym none) (subst (λ w. R w y) (sym same) p, tt)
+zip-push R (z ∷ xs) zero (suc j) x (w ∷ ys) y q h e p = absurd h
+zip-push R (z ∷ xs) (suc i) (suc j) x [] y q h e p = absurd h
+zip-push R (z ∷ xs) (suc i) (suc j) x (w ∷ ys) y q h e p = (h.0, zip-push R xs i j x ys y (omega (arith, q)) h.1 e p)
+
+pub each-put : {A : Type 0} (P : A → Type 0) (xs : List A) (x : A) → Each P xs → P x → Each P (xs ++ x ∷ [])
+each-put P [] x h p = (p, tt)
+each-put P (y ∷ xs) x h p = (h.0, each-put P xs x h.1 p)
+
+-- references of a walk are the interner's
+pub there-held : (es : List Entry) (rs : List TraitRef) (k : ℕ) (r : TraitRef) → ReferencesHeld es rs → slice_get rs k ≡ Some r → ReferenceHeld es r
+there-held es rs k r h e = every-there (ReferenceHeld es) rs k r h e
+
+pub all-held : (es : List Entry) (rs : List TraitRef) (ks : List ℕ) (vs : List TraitRef) → ReferencesHeld es rs → AllZip (λ k r. slice_get rs k ≡ Some r) ks vs → TraitRefsHeld es vs
+all-held es rs [] [] h z = tt
+all-held es rs [] (v ∷ vs) h z = absurd z
+all-held es rs (k ∷ ks) [] h z = absurd z
+all-held es rs (k ∷ ks) (v ∷ vs) h z = (there-held es rs k v h z.0, all-held es rs ks vs h z.1)
+
+-- what is a rule later was one before
+pub follows-before : (es now : List Entry) → Keeps es now → (V W : World) → V ≡ W → (E : List Reference) (r : TraitRef) → ReferenceHeld es r → (w : rule.Way) (ps : List TraitRef) → TraitRefsHeld es ps
+    → FollowsFrom V E (term_of now r) w (terms_of now ps) → FollowsFrom W E (term_of es r) w (terms_of es ps)
+follows-before es now k V W e E r h w ps g f =
+    subst (λ (U : World). FollowsFrom U E (term_of es r) w (terms_of es ps)) e
+    (subst (λ t. FollowsFrom V E t w (terms_of es ps)) (term-same es now k r h)
+    (subst (λ ts. FollowsFrom V E (term_of now r) w ts) (terms-same es now k ps g) f))
+
+pub rule-before : (es now : List Entry) → Keeps es now → (V W : World) → V ≡ W → (rs : List TraitRef) → ReferencesHeld es rs → (p : ℕ) (c : CandidateNode) → IsRule now V rs p c → IsRule es W rs p c
+rule-before es now k V W e rs h p c x = record {
+  impl = x.impl;
+  source = x.source;
+  reference = x.reference;
+  goal = x.goal;
+  premises = x.premises;
+  asked = x.asked;
+  follows = λ E. follows-before es now k V W e E x.reference (there-held es rs p x.reference h x.goal) (by_impl x.impl.index) x.premises (all-held es rs c.premises.items x.premises h x.asked) (x.follows E);
+}
+
+pub at-before : (es now : List Entry) → Keeps es now → (V W : World) → V ≡ W → (w : GoalWalk) → ReferencesHeld es w.references.items → (x : ℕ × ℕ) → IsRuleAt now V w x → IsRuleAt es W w x
+at-before es now k V W e w h x i = (i.0, i.1, i.2, i.3, rule-before es now k V W e w.references.items h x.0 i.2 i.4)
+
+-- Which crates a world lists makes no difference.
+pub at-aside : (V : World) (cs : List CrateDecl) (es : List Entry) (w : GoalWalk) (x : ℕ × ℕ) → IsRuleAt es V w x → IsRuleAt es (record V { crates = cs }) w x
+at-aside V cs es w x i = (
+  i.0,
+  i.1,
+  i.2,
+  i.3,
+  (let r = i.4 in record {
+    impl = r.impl;
+    source = r.source;
+    reference = r.reference;
+    goal = r.goal;
+    premises = r.premises;
+    asked = r.asked;
+    follows = λ E. let f = r.follows E in (f.0, subst (In (let u : rule.Rule = record { way = by_impl r.impl.index; premises = terms_of es r.premises ++ f.0 } in u)) (sym (rules-aside V cs E (term_of es r.reference))) f.1);
+  }),
+)
+
+pub each-at-aside : (V : World) (cs : List CrateDecl) (es : List Entry) (w : GoalWalk) (xs : List (ℕ × ℕ)) → Each (IsRuleAt es V w) xs → Each (IsRuleAt es (record V { crates = cs }) w) xs
+each-at-aside V cs es w [] h = tt
+each-at-aside V cs es w (x ∷ xs) h = (at-aside V cs es w x h.0, each-at-aside V cs es w xs h.1)
