@@ -30,6 +30,8 @@ struct Conflicting<'w> {
     later: ImplId,
     earlier: ImplId,
     common: Spoken,
+    /// Whether it was checked that both impls conclude it.
+    is_checked: bool,
     story: Story<'w>,
     clauses: Vec<Clause>,
     /// The header of the earlier impl as text; empty where it is not told.
@@ -43,6 +45,7 @@ impl Drop for Conflicting<'_> {
             later: _,
             earlier: _,
             common: _,
+            is_checked: _,
             story: _,
             clauses: _,
             header: _,
@@ -134,6 +137,7 @@ fn tell_pair<'w>(
         later,
         earlier,
         common,
+        is_checked: pair.is_checked,
         story,
         clauses,
         header,
@@ -248,6 +252,10 @@ fn diagnose(
     )?;
     let mut told = Diagnostic::new(alloc, Level::Error, Some(ErrCode::E0119), message);
     mark_headers(alloc, texts, found, &mut told)?;
+    if !found.is_checked {
+        let said = String::from_str(alloc, "that both headers have this instance is not checked")?;
+        push_note(alloc, said, &mut told.children)?;
+    }
     push_clause_notes(alloc, texts, found, &mut told.children)?;
     Ok(told)
 }

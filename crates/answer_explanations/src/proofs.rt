@@ -1,6 +1,6 @@
 //! What is said of a question that was answered yes.
 
-ghost use Rattle.session_walks.specs.Walked.{ProofWalkHeld, StepsHeld};
+ghost use Rattle.session_walks.specs.Walked.{AllStepsHeld, ProofWalkHeld};
 
 use answer_lines::ShownNames;
 use diagnostics::{Diagnostic, Level, ProofRow, Span};
@@ -44,7 +44,7 @@ fn speak_steps(
     names: &ShownNames<'_>,
     steps: &[Step],
 ) -> Result<Vec<Spoken>, AllocError>
-    requires { StepsHeld cx.now.entries steps.now }
+    requires { AllStepsHeld cx.now.entries steps.now }
 {
     let mut spoken = Vec::new(alloc);
     for step in steps {

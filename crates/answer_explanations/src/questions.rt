@@ -14,7 +14,7 @@ use diagnostics::{Diagnostic, Span};
 use explanation_texts::{Asking, Texts, left_open, refuted, tell, unproved, unsettled};
 use session_walks::{
     Conflict, GoalWalk, ProofWalk, checked_rules, explain_proof, explain_question,
-    explain_refutation, unseen_at,
+    explain_refutation, no_impl_fits, unseen_at,
 };
 use sessions::{ProveAnswer, RefuteAnswer, Session};
 use std::alloc::{AllocError, Global};
@@ -189,21 +189,34 @@ fn explain_proving(
     }
 }
 
+/// How a `refute` question is answered, with what was checked beside its walk.
+#[derive(Clone, Copy)]
+struct Refuting {
+    answer: RefuteAnswer,
+    unseen: Option<Conflict>,
+    has_no_impl: bool,
+}
+
 /// What is said of a `refute` question.
 fn tell_refutation(
     alloc: Global,
     question: Questioned<'_>,
     cx: &Interner,
     walk: &GoalWalk,
-    answer: RefuteAnswer,
-    unseen: Option<Conflict>,
+    rules: &[(usize, usize)],
+    refuting: Refuting,
 ) -> Result<Diagnostic, AllocError>
     requires { WalkHeld cx.now.entries walk.now }
 {
-    let story = tell(alloc, cx, &question.names(), walk, &[])?;
+    let story = tell(alloc, cx, &question.names(), walk, rules)?;
     let span = question.span();
+    let Refuting {
+        answer,
+        unseen,
+        has_no_impl,
+    } = refuting;
     match answer {
-        RefuteAnswer::No => refuted(alloc, question.texts, &story, span, unseen),
+        RefuteAnswer::No => refuted(alloc, question.texts, &story, span, unseen, has_no_impl),
         RefuteAnswer::Open => left_open(alloc, question.texts, &story, span, unseen),
     }
 }
@@ -225,9 +238,14 @@ fn explain_refuting(
     spending.add_answer(before, between);
     let answer = answer?;
     let walk = explain_refutation(session, number)?;
+    let rules = checked_rules(session, &walk)?;
     spending.add_explanation(between, session.frames(), walk.nodes.len());
-    let unseen = unseen_at(session, &walk, 0)?;
-    Ok(tell_refutation(alloc, question, session.interner(), &walk, answer, unseen)?)
+    let refuting = Refuting {
+        answer,
+        unseen: unseen_at(session, &walk, 0)?,
+        has_no_impl: no_impl_fits(session, &walk, 0),
+    };
+    Ok(tell_refutation(alloc, question, session.interner(), &walk, &rules, refuting)?)
 }
 
 /// Why a question of the session's crate is answered as it is, unless explanations took as long as they may. Questions count from 1.

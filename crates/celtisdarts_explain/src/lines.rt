@@ -23,5 +23,10 @@ pub fn is_best(line: &[u8]) -> bool {
             return true;
         }
     }
-    line.windows(YES.len()).any(|part| part == YES)
+    for part in line.windows(YES.len()) {
+        if part == YES {
+            return true;
+        }
+    }
+    false
 }

@@ -42,7 +42,7 @@ struct CandidateLink<'s> {
     candidate: &'s CandidateNode,
     /// Which of the goals that it asks this one is, from 0.
     clause: usize,
-    /// Whether it was checked that its impl asks so.
+    /// Whether it was checked that its impl, or the built-in rule, asks so.
     is_rule: bool,
 }
 
@@ -90,7 +90,7 @@ fn push_marks(
     }
 }
 
-/// What the asked goal of a link is required for, by a candidate of which it is said where it is no impl, or where it was not checked.
+/// What the asked goal of a link is required for, by a candidate of which it is said where it is no impl, and where it was not checked.
 fn required_for<'s>(
     texts: Texts<'_>,
     story: &'s Story<'_>,
@@ -101,7 +101,11 @@ fn required_for<'s>(
     let bound = Piece::Text(story.bound(link.asker));
     match asks {
         Some(asks) if !matches!(asks.candidate.source, CandidateSource::Impl(_)) => {
-            let template = "required for `{}` to implement `{}`, by a {}";
+            let template = if asks.is_rule {
+                "required for `{}` to implement `{}`, by a {}"
+            } else {
+                "required for `{}` to implement `{}`, by a {}, not checked"
+            };
             with_three(
                 template,
                 subject,

@@ -28,42 +28,37 @@ fn reading(alloc: Global, line: &[u8]) -> Result<Option<LineRead<'_>>, AllocErro
     }
 }
 
-/// The first byte of a line that a test holds of, as a place.
-fn first_byte<P: Fn(u8) -> bool>(line: &[u8], holds: P) -> Option<(Place, u8)>
-    requires { P.IsAlwaysCallable holds }
-{
+/// What is wrong with one byte of a line.
+fn offending_byte(at: usize, label: Sentence<'static>) -> Offence<'static> {
+    Offence {
+        place: Place {
+            start: at,
+            end: at.saturating_add(1),
+        },
+        label,
+        help: None,
+    }
+}
+
+/// A byte of 128 or more.
+pub(crate) fn other_byte(line: &[u8]) -> Option<Offence<'static>> {
     for (at, byte) in line.iter().enumerate() {
-        if holds(*byte) {
-            return Some((
-                Place {
-                    start: at,
-                    end: at.saturating_add(1),
-                },
-                *byte,
-            ));
+        if *byte >= 128 {
+            let label = with_one("byte {}", Piece::Number(*byte as usize));
+            return Some(offending_byte(at, label));
         }
     }
     None
 }
 
-/// A byte of 128 or more.
-pub(crate) fn other_byte(line: &[u8]) -> Option<Offence<'static>> {
-    let (place, byte) = first_byte(line, |byte| byte >= 128)?;
-    Some(Offence {
-        place,
-        label: with_one("byte {}", Piece::Number(byte as usize)),
-        help: None,
-    })
-}
-
 /// A tab or a carriage return where a space is meant.
 pub(crate) fn other_space(line: &[u8]) -> Option<Offence<'static>> {
-    let (place, _byte) = first_byte(line, |byte| byte == b'\t' || byte == b'\r')?;
-    Some(Offence {
-        place,
-        label: plain("only byte 32 is a space"),
-        help: None,
-    })
+    for (at, byte) in line.iter().enumerate() {
+        if *byte == b'\t' || *byte == b'\r' {
+            return Some(offending_byte(at, plain("only byte 32 is a space")));
+        }
+    }
+    None
 }
 
 /// The name of a parameter.
@@ -219,7 +214,10 @@ fn unknown_help<'t>(
     }
     let other = similar_name(alloc, workspace, name)?;
     let template = "a struct or trait with a similar name is known: `{}`";
-    Ok(other.map(|other| with_one(template, Piece::Name(other))))
+    match other {
+        Some(other) => Ok(Some(with_one(template, Piece::Name(other)))),
+        None => Ok(None),
+    }
 }
 
 /// The crate that declares what a name stands for, if it is a struct or a trait.

@@ -9,19 +9,21 @@ use evaluation::CandidateSource;
 use goal_walk::CandidateNode;
 use std::alloc::{AllocError, Global};
 
-/// Why a candidate is refused: what it needs, and what is to be said of that.
+/// Why a candidate is refused: what it needs, and what is to be said of that. Where it was not checked that it fits, that is said too.
 fn refusal<'s>(
     texts: Texts<'_>,
     story: &'s Story<'_>,
     candidate: &CandidateNode,
+    is_rule: bool,
     why: &'static str,
 ) -> Sentence<'s> {
     let name = source_piece(texts, candidate.source);
     let Some(premise) = refused_premise(story, candidate) else {
-        let template = if candidate.certainty.is_some() {
-            "the {} fits, and is not settled"
-        } else {
-            "the {} fits, and is refused"
+        let template = match (candidate.certainty.is_some(), is_rule) {
+            (true, true) => "the {} fits, and is not settled",
+            (true, false) => "the {} fits, not checked, and is not settled",
+            (false, true) => "the {} fits, and is refused",
+            (false, false) => "the {} fits, not checked, and is refused",
         };
         return with_one(template, name);
     };
@@ -30,7 +32,11 @@ fn refusal<'s>(
         let template = "an impl of a crate that is not seen would need `{}`, {}";
         with_two(template, needs, Piece::Text(why))
     } else {
-        let template = "the {} fits, but needs `{}`, {}";
+        let template = if is_rule {
+            "the {} fits, but needs `{}`, {}"
+        } else {
+            "the {} fits, not checked, but needs `{}`, {}"
+        };
         with_three(template, name, needs, Piece::Text(why))
     }
 }
@@ -48,7 +54,12 @@ pub(crate) fn push_refused(
         if index == LIST_LIMIT {
             return tell_note(alloc, plain("others fit too"), children);
         }
-        tell_note(alloc, refusal(texts, story, candidate, why), children)?;
+        let is_rule = story.is_rule(place, index);
+        tell_note(
+            alloc,
+            refusal(texts, story, candidate, is_rule, why),
+            children,
+        )?;
     }
     Ok(())
 }

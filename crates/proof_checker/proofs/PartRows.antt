@@ -16,7 +16,7 @@ use Rattle.term_folds.specs.Arguments.{first_misfit}
 use Rattle.declarations.specs.Merges.{Each}
 use Rattle.declarations.specs.Relevant.{next_above, relevant_impls}
 use Rattle.declarations.specs.Unsizing.{field_trees}
-use Rattle.proof_checker.specs.Rows.{AreFields, IsOneRow, each_asked_of, last_type}
+use Rattle.proof_checker.specs.Rows.{AreFieldsOf, IsOneRow, each_asked_of, last_type}
 use Rattle.proof_checker.proofs.Fitting.{fits-of}
 use Rattle.proof_checker.proofs.TypeRows.{erase-append, tys-asked, tys-last}
 
@@ -59,12 +59,12 @@ module _ (es new : List Entry) (law : Lawful es) (A : Trees) (made : is_made is_
 one-of : (u : Rule) → (u ∷ []) ++ [] ≡ u ∷ []
 one-of u = refl
 
-pub struct-row : (V : World) (s : ℕ) (A : Trees) (es : List Entry) (t : ℕ) (ts : List Ty) → Lawful es → TysHeld es ts → AreFields V s A (erase (tys_trees es ts))
+pub struct-row : (V : World) (s : ℕ) (A : Trees) (es : List Entry) (t : ℕ) (ts : List Ty) → Lawful es → TysHeld es ts → AreFieldsOf V s A (erase (tys_trees es ts))
     → IsOneRow (flat_map (λ x. row auto_struct (each_asked t (fields_of x A))) (structs_named V s)) (each_asked_of es t ts)
 struct-row V s A es t ts law h a =
     subst (λ xs. IsOneRow (flat_map (λ x. row auto_struct (each_asked t (fields_of x A))) xs) (each_asked_of es t ts)) (sym a.1) (tt, ap (each_asked t) a.2 ∙ tys-asked es law t ts h)
 
-pub sized-struct-row : (V : World) (s : ℕ) (A : Trees) (es : List Entry) (ts : List Ty) → Lawful es → TysHeld es ts → AreFields V s A (erase (tys_trees es ts))
+pub sized-struct-row : (V : World) (s : ℕ) (A : Trees) (es : List Entry) (ts : List Ty) → Lawful es → TysHeld es ts → AreFieldsOf V s A (erase (tys_trees es ts))
     → IsOneRow (flat_map (λ x. row sized_struct (last_asked sized (fields_of x A))) (structs_named V s)) (each_asked_of es sized (last_type ts))
 sized-struct-row V s A es ts law h a =
     subst (λ xs. IsOneRow (flat_map (λ x. row sized_struct (last_asked sized (fields_of x A))) xs) (each_asked_of es sized (last_type ts))) (sym a.1)

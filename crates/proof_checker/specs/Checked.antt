@@ -30,10 +30,14 @@ pub record StepHasRule (W : World) (E : List Reference) (es : List terms.Entry) 
 abbrev pub PremisesStand : World → List Reference → ℕ → ℕ → List Reference → Type 0
 PremisesStand W rs k t ps = Every (λ p. In p (if is_coinductive W t then rs else take k rs)) ps
 
--- The first of these are the premises.
-abbrev pub BeginsWith : List Reference → List Reference → Type 0
-BeginsWith rs ps = (others : List Reference) × (rs ≡ ps ++ others)
+-- The first of the references rs are the premises.
+abbrev pub AreFirstOf : List Reference → List Reference → Type 0
+AreFirstOf rs ps = (others : List Reference) × (rs ≡ ps ++ others)
 
 -- By this way the reference follows from these premises, and maybe further ones behind them.
-abbrev pub FollowsFrom : World → List Reference → Reference → rule.Way → List Reference → Type 0
-FollowsFrom W E r w ps = (others : List Reference) × IsRuleByWay W E r w (ps ++ others)
+abbrev pub IsConcludedFrom : World → List Reference → Reference → rule.Way → List Reference → Type 0
+IsConcludedFrom W E r w ps = (others : List Reference) × IsRuleByWay W E r w (ps ++ others)
+
+-- It does so by some built-in row.
+abbrev pub IsBuiltInConclusion : World → List Reference → Reference → List Reference → Type 0
+IsBuiltInConclusion W E r ps = (b : BuiltIn) × IsConcludedFrom W E r (built_in b) ps

@@ -26,8 +26,8 @@ abbrev pub HasRow : World → ℕ → Trees → List Reference → Type 0
 HasRow V t s ps = (b : BuiltIn) × In (let u : Rule = record { way = built_in b; premises = ps } in u) (built_in_rules V (asked t s))
 
 -- The struct of the number is declared, and has these types as its fields, with the arguments.
-abbrev pub AreFields : World → ℕ → Trees → Trees → Type 0
-AreFields V s A ts = (x : StructDecl) × (structs_named V s ≡ x ∷ []) × (fields_of x A ≡ ts)
+abbrev pub AreFieldsOf : World → ℕ → Trees → Trees → Type 0
+AreFieldsOf V s A ts = (x : StructDecl) × (structs_named V s ≡ x ∷ []) × (fields_of x A ≡ ts)
 
 -- The trait is an auto trait, and no impl of it is written for the type: its own rule stands.
 abbrev pub HasOwnRule : World → ℕ → Trees → Type 0

@@ -9,7 +9,7 @@ ghost use Rattle.declarations.specs.Held.{AreHeld};
 ghost use Rattle.declarations.specs.Items.{declared};
 ghost use Rattle.declarations.specs.Merges.{Each};
 ghost use Rattle.declarations.specs.Unsizing.{field_trees};
-ghost use Rattle.proof_checker.specs.Rows.{AreFields};
+ghost use Rattle.proof_checker.specs.Rows.{AreFieldsOf};
 
 use declarations::declarations::Declarations;
 use std::alloc::Global;
@@ -90,7 +90,7 @@ pub(crate) fn struct_fields(
     requires args { Has cx.old.entries args_lists args.0 }
     ensures grew { Grew cx.old cx.new }
     ensures held { IfOk result (λ o. IfSome o (λ v. TysHeld cx.new.entries v.items)) }
-    ensures are { IfOk result (λ o. IfSome o (λ v. AreFields (declared cx.old.entries declarations.now) def_id.index
+    ensures are { IfOk result (λ o. IfSome o (λ v. AreFieldsOf (declared cx.old.entries declarations.now) def_id.index
         (erase (trees_at cx.old.entries args.0)) (erase (tys_trees cx.new.entries v.items)))) }
     ensures full { IfErr result (FullAtLimit cx.new) }
 {

@@ -1,4 +1,4 @@
-//! Whether an impl is asked for a reference, and asks for others.
+//! Whether an impl, or a built-in rule, is asked for a reference, and asks for others.
 ghost use Rattle.std.specs.Prelude.{◌≡◌, true, List, IfOk, IfErr};
 ghost use Rattle.type_terms.specs.Rules.{by_impl};
 ghost use Rattle.type_terms.specs.Terms.{Has, args_lists};
@@ -7,10 +7,11 @@ ghost use Rattle.term_folds.specs.Growth.{Grew, FullAtLimit};
 ghost use Rattle.declarations.specs.Applied.{TraitRefsHeld};
 ghost use Rattle.declarations.specs.Held.{ReferenceHeld, AreHeld};
 ghost use Rattle.declarations.specs.Items.{declared};
-ghost use Rattle.proof_checker.specs.Checked.{BeginsWith, FollowsFrom};
+ghost use Rattle.proof_checker.specs.Checked.{AreFirstOf, IsBuiltInConclusion, IsConcludedFrom};
 ghost use Rattle.proof_checker.specs.Steps.{term_of, terms_of, ParametersAreCovered};
 
 use crate::lifetimes::are_one;
+use crate::rows::by_built_in;
 use crate::rules::by_impl;
 use declarations::declarations::Declarations;
 use std::alloc::Global;
@@ -29,7 +30,7 @@ fn are_first(
     requires asked { TraitRefsHeld cx.old.entries asked.now }
     requires premises { TraitRefsHeld cx.old.entries premises.now }
     ensures grew { Grew cx.old cx.new }
-    ensures first { IfOk result (λ b. b ≡ true → BeginsWith (terms_of cx.old.entries asked.now) (terms_of cx.old.entries premises.now)) }
+    ensures first { IfOk result (λ b. b ≡ true → AreFirstOf (terms_of cx.old.entries asked.now) (terms_of cx.old.entries premises.now)) }
     ensures full { IfErr result (FullAtLimit cx.new) }
 {
     let mut left = premises;
@@ -68,11 +69,36 @@ pub fn follows_by_impl(
     requires args { Has cx.old.entries args_lists args.0 }
     requires premises { TraitRefsHeld cx.old.entries premises.now }
     ensures grew { Grew cx.old cx.new }
-    ensures follows { IfOk result (λ b. b ≡ true → (E : List Reference) → FollowsFrom (declared cx.old.entries declarations.now) E
+    ensures follows { IfOk result (λ b. b ≡ true → (E : List Reference) → IsConcludedFrom (declared cx.old.entries declarations.now) E
         (term_of cx.old.entries reference) (by_impl id.index) (terms_of cx.old.entries premises.now)) }
     ensures full { IfErr result (FullAtLimit cx.new) }
 {
     match by_impl(alloc, cx, declarations, reference, id, args)? {
+        Some(asked) => are_first(alloc, cx, &asked, premises),
+        None => Ok(false),
+    }
+}
+
+/// Whether the reference follows by a built-in rule that is checked, from premises of which the first are these.
+///
+/// `false` says nothing: references that differ in the lifetimes of a `for` may be missed, and not each built-in rule is checked.
+/// The fault is `Memory` where memory is refused, or `Full` where a kind of term is full.
+pub fn follows_by_built_in(
+    alloc: Global,
+    cx: &mut Interner,
+    declarations: &Declarations,
+    reference: TraitRef,
+    premises: &[TraitRef],
+) -> Result<bool, Fault>
+    requires declared { AreHeld cx.old.entries declarations.now }
+    requires reference { ReferenceHeld cx.old.entries reference }
+    requires premises { TraitRefsHeld cx.old.entries premises.now }
+    ensures grew { Grew cx.old cx.new }
+    ensures follows { IfOk result (λ b. b ≡ true → (E : List Reference)
+        → IsBuiltInConclusion (declared cx.old.entries declarations.now) E (term_of cx.old.entries reference) (terms_of cx.old.entries premises.now)) }
+    ensures full { IfErr result (FullAtLimit cx.new) }
+{
+    match by_built_in(alloc, cx, declarations, reference)? {
         Some(asked) => are_first(alloc, cx, &asked, premises),
         None => Ok(false),
     }

@@ -5,3 +5,4 @@ mod RuleCandidates
 mod ShownSteps
 mod Staying
 mod UnseenCrates
+mod Unmatched

@@ -10,14 +10,15 @@ use Rattle.term_folds.specs.declared.predicate.TraitRef.{TraitRef}
 use Rattle.declarations.specs.Applied.{TraitRefsHeld}
 use Rattle.declarations.specs.Held.{ReferenceHeld}
 use Rattle.declarations.specs.Merges.{Each}
+use Rattle.evaluation.specs.declared.candidate.CandidateSource.{CandidateSource}
 use Rattle.goal_walk.specs.Walking.{ReferencesHeld}
 use Rattle.goal_walk.specs.declared.nodes.CandidateNode.{CandidateNode}
 use Rattle.goal_walk.specs.declared.nodes.GoalWalk.{GoalWalk}
-use Rattle.proof_checker.specs.Checked.{FollowsFrom}
+use Rattle.proof_checker.specs.Checked.{IsConcludedFrom}
 use Rattle.proof_checker.specs.Steps.{term_of, terms_of}
 use Rattle.proof_checker.proofs.Later.{term-same, terms-same}
 use Rattle.sessions.proofs.ProofsAside.{rules-aside}
-use Rattle.session_walks.specs.Rules.{IsRule, IsRuleAt}
+use Rattle.session_walks.specs.Rules.{Concludes, IsRuleCandidate, IsRuleAt, HasRulesByBoth}
 use Rattle.session_walks.proofs.ShownSteps.{every-there}
 
 -- one more item stands beside its own
@@ -48,27 +49,32 @@ all-held es rs (k ∷ ks) (v ∷ vs) h z = (there-held es rs k v h z.0, all-held
 
 -- what is a rule later was one before
 pub follows-before : (es now : List Entry) → Keeps es now → (V W : World) → V ≡ W → (E : List Reference) (r : TraitRef) → ReferenceHeld es r → (w : rule.Way) (ps : List TraitRef) → TraitRefsHeld es ps
-    → FollowsFrom V E (term_of now r) w (terms_of now ps) → FollowsFrom W E (term_of es r) w (terms_of es ps)
+    → IsConcludedFrom V E (term_of now r) w (terms_of now ps) → IsConcludedFrom W E (term_of es r) w (terms_of es ps)
 follows-before es now k V W e E r h w ps g f =
-    subst (λ (U : World). FollowsFrom U E (term_of es r) w (terms_of es ps)) e
-    (subst (λ t. FollowsFrom V E t w (terms_of es ps)) (term-same es now k r h)
-    (subst (λ ts. FollowsFrom V E (term_of now r) w ts) (terms-same es now k ps g) f))
+    subst (λ (U : World). IsConcludedFrom U E (term_of es r) w (terms_of es ps)) e
+    (subst (λ t. IsConcludedFrom V E t w (terms_of es ps)) (term-same es now k r h)
+    (subst (λ ts. IsConcludedFrom V E (term_of now r) w ts) (terms-same es now k ps g) f))
 
-pub rule-before : (es now : List Entry) → Keeps es now → (V W : World) → V ≡ W → (rs : List TraitRef) → ReferencesHeld es rs → (p : ℕ) (c : CandidateNode) → IsRule now V rs p c → IsRule es W rs p c
+pub concludes-before : (es now : List Entry) → Keeps es now → (V W : World) → V ≡ W → (s : CandidateSource) (r : TraitRef) → ReferenceHeld es r → (ps : List TraitRef) → TraitRefsHeld es ps
+    → Concludes now V s r ps → Concludes es W s r ps
+concludes-before es now k V W e s r h ps g f = λ E. let x = f E in (x.0, x.1, follows-before es now k V W e E r h x.0 ps g x.2)
+
+pub rule-before : (es now : List Entry) → Keeps es now → (V W : World) → V ≡ W → (rs : List TraitRef) → ReferencesHeld es rs → (p : ℕ) (c : CandidateNode) → IsRuleCandidate now V rs p c → IsRuleCandidate es W rs p c
 rule-before es now k V W e rs h p c x = record {
-  impl = x.impl;
-  source = x.source;
   reference = x.reference;
   goal = x.goal;
   premises = x.premises;
   asked = x.asked;
-  follows = λ E. follows-before es now k V W e E x.reference (there-held es rs p x.reference h x.goal) (by_impl x.impl.index) x.premises (all-held es rs c.premises.items x.premises h x.asked) (x.follows E);
+  concludes = concludes-before es now k V W e c.source x.reference (there-held es rs p x.reference h x.goal) x.premises (all-held es rs c.premises.items x.premises h x.asked) x.concludes;
 }
 
 pub at-before : (es now : List Entry) → Keeps es now → (V W : World) → V ≡ W → (w : GoalWalk) → ReferencesHeld es w.references.items → (x : ℕ × ℕ) → IsRuleAt now V w x → IsRuleAt es W w x
 at-before es now k V W e w h x i = (i.0, i.1, i.2, i.3, rule-before es now k V W e w.references.items h x.0 i.2 i.4)
 
 -- Which crates a world lists makes no difference.
+pub concluded-aside : (V : World) (cs : List CrateDecl) (E : List Reference) (r : Reference) (w : rule.Way) (ps : List Reference) → IsConcludedFrom V E r w ps → IsConcludedFrom (record V { crates = cs }) E r w ps
+concluded-aside V cs E r w ps f = (f.0, subst (In (let u : rule.Rule = record { way = w; premises = ps ++ f.0 } in u)) (sym (rules-aside V cs E r)) f.1)
+
 pub at-aside : (V : World) (cs : List CrateDecl) (es : List Entry) (w : GoalWalk) (x : ℕ × ℕ) → IsRuleAt es V w x → IsRuleAt es (record V { crates = cs }) w x
 at-aside V cs es w x i = (
   i.0,
@@ -76,16 +82,21 @@ at-aside V cs es w x i = (
   i.2,
   i.3,
   (let r = i.4 in record {
-    impl = r.impl;
-    source = r.source;
     reference = r.reference;
     goal = r.goal;
     premises = r.premises;
     asked = r.asked;
-    follows = λ E. let f = r.follows E in (f.0, subst (In (let u : rule.Rule = record { way = by_impl r.impl.index; premises = terms_of es r.premises ++ f.0 } in u)) (sym (rules-aside V cs E (term_of es r.reference))) f.1);
+    concludes = λ E. let y = r.concludes E in (y.0, y.1, concluded-aside V cs E (term_of es r.reference) y.0 (terms_of es r.premises) y.2);
   }),
 )
 
 pub each-at-aside : (V : World) (cs : List CrateDecl) (es : List Entry) (w : GoalWalk) (xs : List (ℕ × ℕ)) → Each (IsRuleAt es V w) xs → Each (IsRuleAt es (record V { crates = cs }) w) xs
 each-at-aside V cs es w [] h = tt
 each-at-aside V cs es w (x ∷ xs) h = (at-aside V cs es w x h.0, each-at-aside V cs es w xs h.1)
+
+-- ---- what two impls have in common
+pub both-aside : (V : World) (cs : List CrateDecl) (r : Reference) (i j : ℕ) → HasRulesByBoth V r i j → HasRulesByBoth (record V { crates = cs }) r i j
+both-aside V cs r i j h = (λ E. concluded-aside V cs E r (by_impl i) [] (h.0 E), λ E. concluded-aside V cs E r (by_impl j) [] (h.1 E))
+
+pub both-moved : (V W : World) → V ≡ W → (r s : Reference) → r ≡ s → (i j : ℕ) → HasRulesByBoth V r i j → HasRulesByBoth W s i j
+both-moved V W e r s q i j h = subst (λ (U : World). HasRulesByBoth U s i j) e (subst (λ t. HasRulesByBoth V t i j) q h)

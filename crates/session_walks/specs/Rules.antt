@@ -1,29 +1,56 @@
--- Which candidates of a walk are rules.
-use Rattle.std.specs.Prelude.{◌≡◌, ℕ, List, Some}
+-- What is checked of walks: which candidates are rules, which goals no impl has, and what two impls have in common.
+use Rattle.std.specs.Prelude.{◌≡◌, ℕ, List, [], Some}
 use Rattle.std.specs.List.{AllZip, slice_get}
-use Rattle.type_terms.specs.Rules.{by_impl}
+use Rattle.type_terms.specs.Proofs.{In}
+use Rattle.type_terms.specs.Rules.{Way, BuiltIn, by_impl, built_in, impl_rules}
 use Rattle.type_terms.specs.Terms.{Entry}
-use Rattle.type_terms.specs.Worlds.{World, Reference}
-use Rattle.type_terms.specs.declared.ImplId.{ImplId}
+use Rattle.type_terms.specs.Worlds.{World, Reference, ImplDecl}
 use Rattle.term_folds.specs.declared.predicate.TraitRef.{TraitRef}
-use Rattle.evaluation.specs.declared.candidate.CandidateSource.TheVariants.{Impl}
+use Rattle.evaluation.specs.declared.candidate.CandidateSource.{CandidateSource}
+use Rattle.evaluation.specs.declared.candidate.CandidateSource.TheVariants.{Impl, BuiltinImpl}
 use Rattle.goal_walk.specs.declared.nodes.CandidateNode.{CandidateNode}
 use Rattle.goal_walk.specs.declared.nodes.Node.{Node}
 use Rattle.goal_walk.specs.declared.nodes.GoalWalk.{GoalWalk}
-use Rattle.proof_checker.specs.Checked.{FollowsFrom}
+use Rattle.proof_checker.specs.Checked.{IsConcludedFrom}
 use Rattle.proof_checker.specs.Steps.{term_of, terms_of}
 
--- By the rules of W, whatever the where-clauses are, an impl concludes the goal at place p of rs from the goals that the candidate asks, and
--- maybe further ones behind them.
-pub record IsRule (es : List Entry) (W : World) (rs : List TraitRef) (p : ℕ) (c : CandidateNode) : Type 0 where
-  pub impl : ImplId
-  pub source : c.source ≡ Impl impl
+-- The source is this way of a rule. It does not say which built-in row it is.
+abbrev pub IsSourceOf : CandidateSource → Way → Type 0
+IsSourceOf (Impl i) w = w ≡ by_impl i.index
+IsSourceOf (BuiltinImpl s) w = (b : BuiltIn) × (w ≡ built_in b)
+IsSourceOf s w = ⊥
+
+-- By the rules of W, whatever the where-clauses are, the source concludes the reference from these premises, and maybe further ones behind
+-- them.
+abbrev pub Concludes : List Entry → World → CandidateSource → TraitRef → List TraitRef → Type 0
+Concludes es W s r ps = (E : List Reference) → (w : Way) × IsSourceOf s w × IsConcludedFrom W E (term_of es r) w (terms_of es ps)
+
+-- The candidate's source does so of the goal at place p of rs, and the premises are the goals that the candidate asks.
+pub record IsRuleCandidate (es : List Entry) (W : World) (rs : List TraitRef) (p : ℕ) (c : CandidateNode) : Type 0 where
   pub reference : TraitRef
   pub goal : slice_get rs p ≡ Some reference
   pub premises : List TraitRef
   pub asked : AllZip (λ k r. slice_get rs k ≡ Some r) c.premises.items premises
-  pub follows : (E : List Reference) → FollowsFrom W E (term_of es reference) (by_impl impl.index) (terms_of es premises)
+  pub concludes : Concludes es W c.source reference premises
 
 -- So does the candidate with this number, from 0, of the goal at this place.
 abbrev pub IsRuleAt : List Entry → World → GoalWalk → ℕ × ℕ → Type 0
-IsRuleAt es W w x = (n : Node) × (slice_get w.nodes.items x.0 ≡ Some n) × (c : CandidateNode) × (slice_get n.candidates.items x.1 ≡ Some c) × IsRule es W w.references.items x.0 c
+IsRuleAt es W w x =
+    (n : Node) × (slice_get w.nodes.items x.0 ≡ Some n) × (c : CandidateNode) × (slice_get n.candidates.items x.1 ≡ Some c)
+    × IsRuleCandidate es W w.references.items x.0 c
+
+-- No impl of W has a rule for r.
+abbrev pub HasNoImpl : World → Reference → Type 0
+HasNoImpl W r = (i : ImplDecl) → In i W.impls → impl_rules r i ≡ []
+
+-- None has one for the goal at place p of rs.
+abbrev pub HasNoImplAt : List Entry → World → List TraitRef → ℕ → Type 0
+HasNoImplAt es W rs p = (r : TraitRef) × (slice_get rs p ≡ Some r) × HasNoImpl W (term_of es r)
+
+-- The impl of W with this number has a rule for r, whatever it asks.
+abbrev pub HasRuleByImpl : World → Reference → ℕ → Type 0
+HasRuleByImpl W r i = (E : List Reference) → IsConcludedFrom W E r (by_impl i) []
+
+-- So have both.
+abbrev pub HasRulesByBoth : World → Reference → ℕ → ℕ → Type 0
+HasRulesByBoth W r i j = HasRuleByImpl W r i × HasRuleByImpl W r j

@@ -1,6 +1,6 @@
 -- What walks of a session keep, and what they hold.
 use Rattle.std.specs.Prelude.{ℕ, List}
-use Rattle.type_terms.specs.Terms.{Entry, Keeps}
+use Rattle.type_terms.specs.Terms.{Entry, Has, Keeps, args_lists}
 use Rattle.declarations.specs.Held.{ReferenceHeld}
 use Rattle.declarations.specs.Merges.{Each}
 use Rattle.search_graph.specs.SearchState.{SearchState}
@@ -14,6 +14,7 @@ use Rattle.proof_checker.specs.declared.steps.Step.{Step}
 use Rattle.sessions.specs.Proving.{SolvesTheSame}
 use Rattle.sessions.specs.Resting.{Cached}
 use Rattle.sessions.specs.Sessions.{SolverRests}
+use Rattle.session_walks.specs.declared.pairs.CommonHeader.{CommonHeader}
 use Rattle.session_walks.specs.declared.walks.PairWalk.{PairWalk}
 use Rattle.session_walks.specs.declared.walks.ProofWalk.{ProofWalk}
 
@@ -29,15 +30,21 @@ abbrev pub WalkHeld : List Entry → GoalWalk → Type 0
 WalkHeld es w = ReferencesHeld es w.references.items
 
 -- So are steps.
-abbrev pub StepsHeld : List Entry → List Step → Type 0
-StepsHeld es ss = Each (StepHeld es) ss
+abbrev pub AllStepsHeld : List Entry → List Step → Type 0
+AllStepsHeld es ss = Each (StepHeld es) ss
 
 -- So are the walk of a proof and its steps.
 pub record ProofWalkHeld (es : List Entry) (p : ProofWalk) : Type 0 where
   pub walked : WalkHeld es p.walk
-  pub steps : StepsHeld es p.steps.items
+  pub steps : AllStepsHeld es p.steps.items
 
 -- So are those of a pair's walk.
 pub record PairWalkHeld (es : List Entry) (p : PairWalk) : Type 0 where
   pub common : ReferenceHeld es p.common
   pub walked : WalkHeld es p.walk
+
+-- So are a header that two impls have in common, and the arguments of each.
+pub record CommonHeld (es : List Entry) (x : CommonHeader) : Type 0 where
+  pub reference : ReferenceHeld es x.reference
+  pub left : Has es args_lists x.left.0
+  pub right : Has es args_lists x.right.0

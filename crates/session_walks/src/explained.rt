@@ -3,12 +3,14 @@
 ghost use Rattle.std.specs.Prelude.{◌≡◌, true, IfOk, IfSome};
 ghost use Rattle.type_terms.specs.Kinds.{ArgsHeld};
 ghost use Rattle.text_definitions.specs.Declarations.{Question};
+ghost use Rattle.proof_checker.specs.Steps.{term_of};
 ghost use Rattle.sessions.specs.Later.{section_headers};
 ghost use Rattle.sessions.specs.Promises.{view_in};
 ghost use Rattle.sessions.specs.Releases.{IsSectionOf};
 ghost use Rattle.sessions.specs.Shown.{AreProofOfQuestion};
 ghost use Rattle.sessions.specs.Subjects.{AsksProof, AsksRefutation, StaysOn};
 ghost use Rattle.session_walks.specs.Causes.{IsCauseAt};
+ghost use Rattle.session_walks.specs.Rules.{HasRulesByBoth};
 ghost use Rattle.session_walks.specs.Shown.{ShowsItsSteps};
 ghost use Rattle.session_walks.specs.Walked.{PairWalkHeld, ProofWalkHeld, WalkHeld};
 
@@ -135,6 +137,8 @@ pub fn explain_overlap(
     earlier: ImplId,
 ) -> Result<Option<PairWalk>, Fault>
     ensures held { IfOk result (λ o. IfSome o (PairWalkHeld session.new.terms)) }
+    ensures rules { IfOk result (λ o. IfSome o (λ p. p.is_checked ≡ true
+        → HasRulesByBoth (view_in session.old.declarations session.old.of_crate) (term_of session.new.terms p.common) later.index earlier.index)) }
     ensures stays { StaysOn session.old session.new }
 {
     let _ = session.workspace.crates();

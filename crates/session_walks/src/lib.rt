@@ -1,11 +1,14 @@
 //! Why a session answers as it does: walks of the goals that it asked, over its own search.
 //!
 //! What a walk shows is how the search answers each goal, and no more is proved of it than that its terms are the session's. But the
-//! steps of a proof that it finds go through the checker (`Session::is_proof_of`), so what is shown as checked is a proof.
+//! steps of a proof that it finds go through the checker (`Session::is_proof_of`), so what is shown as checked is a proof; and so do
+//! candidates that ask goals (`checked_rules`), and what two overlapping impls have in common. That no impl fits a goal is looked up
+//! (`no_impl_fits`).
 #![tactic(auto)]
 
 mod breaking;
 mod explained;
+mod fitting;
 mod headers;
 mod pairs;
 mod places;
@@ -23,6 +26,7 @@ pub use explained::{
     explain_breaking, explain_overlap, explain_proof, explain_question, explain_refutation,
     explain_supertrait,
 };
+pub use fitting::no_impl_fits;
 pub use rules::checked_rules;
 pub use unseen::{impl_header, unseen_at, unseen_crates};
 pub use walks::{PairWalk, ProofWalk, ShownStep};

@@ -1,34 +1,50 @@
 //! The where-clauses of two impls, walked where their headers are equal.
 
-ghost use Rattle.std.specs.Prelude.{IfOk, IfSome};
+ghost use Rattle.std.specs.Prelude.{◌≡◌, true, IfOk, IfSome};
 ghost use Rattle.term_folds.specs.Growth.{Grew};
 ghost use Rattle.declarations.specs.Applied.{TraitRefsHeld};
 ghost use Rattle.declarations.specs.Held.{ImplHeld, ReferenceHeld};
+ghost use Rattle.declarations.specs.Items.{declared};
 ghost use Rattle.infer_table.specs.Content.{Ready};
+ghost use Rattle.candidate_assembly.specs.Ready.{AreReadyDeclarations};
 ghost use Rattle.overlap_check.specs.Written.{IsWrittenWell};
+ghost use Rattle.proof_checker.specs.Steps.{term_of};
 ghost use Rattle.goal_walk.specs.Walking.{ReferencesHeld};
 ghost use Rattle.sessions.specs.Checking.{HaveOwnNumbers, rules_in};
 ghost use Rattle.sessions.specs.Proving.{SolverAdvances, SolverIsReady};
 ghost use Rattle.sessions.specs.Sessions.{SolverRests};
-ghost use Rattle.session_walks.specs.Walked.{PairWalkHeld, RestsAfter};
+ghost use Rattle.session_walks.specs.Rules.{HasRulesByBoth};
+ghost use Rattle.session_walks.specs.Walked.{CommonHeld, PairWalkHeld, RestsAfter};
 
 use crate::headers::args_where_equal;
 use crate::walks::PairWalk;
 use candidate_assembly::solver::Solver;
+use declarations::declarations::Declarations;
 use declarations::items::ImplDef;
+use declarations::laws::declarations_are_kept;
 use evaluation::TypingMode;
 use goal_walk::{GoalWalk, walk_goal};
 use infer_table::infer_ctxt::InferCtxt;
 use overlap_check::header::fresh_impl_header;
 use overlap_check::intersection::ImplIntersection;
 use overlap_check::partners::pair_at;
+use proof_checker::links::follows_by_impl;
 use search_graph::{GlobalCache, SearchGraph};
 use sessions::{goal_under, intersection_at, ready_impls_are_written_well};
 use solver_context::{SolverCx, SolverGraph};
 use std::alloc::Global;
 use term_folds::predicate::TraitRef;
 use type_terms::interner::Interner;
+use type_terms::kinds::GenericArgs;
 use type_terms::{Fault, ImplId};
+
+/// What the headers of two impls are where they are equal, and the arguments with which each is that.
+#[derive(Clone, Copy)]
+struct CommonHeader {
+    reference: TraitRef,
+    left: GenericArgs,
+    right: GenericArgs,
+}
 
 /// What the headers of two impls are where they are equal; none where they cannot be.
 fn common_header(
@@ -36,43 +52,108 @@ fn common_header(
     cx: &mut Interner,
     left: &ImplDef,
     right: &ImplDef,
-) -> Result<Option<TraitRef>, Fault>
+) -> Result<Option<CommonHeader>, Fault>
     requires left_held { ImplHeld cx.old.entries left.now }
     requires right_held { ImplHeld cx.old.entries right.now }
     requires left_written { IsWrittenWell cx.old.entries left.now }
     requires right_written { IsWrittenWell cx.old.entries right.now }
     ensures grew { Grew cx.old cx.new }
-    ensures held { IfOk result (λ o. IfSome o (ReferenceHeld cx.new.entries)) }
+    ensures held { IfOk result (λ o. IfSome o (CommonHeld cx.new.entries)) }
 {
     cx.lawful();
     let mut table = InferCtxt::new(alloc);
-    let left_header = fresh_impl_header(alloc, cx, &mut table, left)?;
-    let right_header = fresh_impl_header(alloc, cx, &mut table, right)?;
-    let left_args = left_header.trait_ref.args;
-    match args_where_equal(alloc, cx, &mut table, left_header, right_header, left_args)? {
-        Some(args) => Ok(Some(TraitRef {
-            def_id: left_header.trait_ref.def_id,
-            args,
-        })),
-        None => Ok(None),
-    }
+    let first = fresh_impl_header(alloc, cx, &mut table, left)?;
+    let second = fresh_impl_header(alloc, cx, &mut table, right)?;
+    let header = first.trait_ref;
+    let Some(args) = args_where_equal(alloc, cx, &mut table, first, second, header.args)? else {
+        return Ok(None);
+    };
+    let left = table.eager_resolve_vars(cx, first.impl_args)?;
+    let right = table.eager_resolve_vars(cx, second.impl_args)?;
+    let reference = TraitRef {
+        def_id: header.def_id,
+        args,
+    };
+    Ok(Some(CommonHeader {
+        reference,
+        left,
+        right,
+    }))
 }
 
-/// The same of the impls of two numbers, where the crate that asks has to compare them.
+/// Whether each of two impls concludes what their headers are, whatever it asks.
+fn both_conclude(
+    alloc: Global,
+    cx: &mut Interner,
+    declarations: &Declarations,
+    common: CommonHeader,
+    later: ImplId,
+    earlier: ImplId,
+) -> Result<bool, Fault>
+    requires ready { AreReadyDeclarations cx.old.entries declarations.now }
+    requires common { CommonHeld cx.old.entries common }
+    ensures grew { Grew cx.old cx.new }
+    ensures rules { IfOk result (λ b. b ≡ true → HasRulesByBoth (declared cx.old.entries declarations.now)
+        (term_of cx.old.entries common.reference) later.index earlier.index) }
+{
+    ready_impls_are_written_well();
+    declarations_are_kept();
+    let reference = common.reference;
+    if !follows_by_impl(alloc, cx, declarations, reference, later, common.left, &[])? {
+        return Ok(false);
+    }
+    follows_by_impl(
+        alloc,
+        cx,
+        declarations,
+        reference,
+        earlier,
+        common.right,
+        &[],
+    )
+}
+
+/// What the headers of the impls of two numbers are where they are equal, where the crate that asks has to compare them; and whether it
+/// was checked that each concludes that.
+fn checked_common(
+    alloc: Global,
+    cx: &mut Interner,
+    declarations: &Declarations,
+    later: ImplId,
+    earlier: ImplId,
+) -> Result<Option<(TraitRef, bool)>, Fault>
+    requires ready { AreReadyDeclarations cx.old.entries declarations.now }
+    ensures grew { Grew cx.old cx.new }
+    ensures held { IfOk result (λ o. IfSome o (λ x. ReferenceHeld cx.new.entries x.0)) }
+    ensures rules { IfOk result (λ o. IfSome o (λ x. x.1 ≡ true → HasRulesByBoth (declared cx.old.entries declarations.now)
+        (term_of cx.new.entries x.0) later.index earlier.index)) }
+{
+    ready_impls_are_written_well();
+    declarations_are_kept();
+    let Some((left, right)) = pair_at(declarations, later, earlier) else {
+        return Ok(None);
+    };
+    let Some(common) = common_header(alloc, cx, left, right)? else {
+        return Ok(None);
+    };
+    let is_checked = both_conclude(alloc, cx, declarations, common, later, earlier)?;
+    Ok(Some((common.reference, is_checked)))
+}
+
+/// The same over the interner of a context.
 fn common_header_at(
     cx: &mut SolverCx<Solver>,
     later: ImplId,
     earlier: ImplId,
-) -> Result<Option<TraitRef>, Fault>
+) -> Result<Option<(TraitRef, bool)>, Fault>
     requires ready { SolverIsReady cx.old }
     ensures advances { SolverAdvances cx.old cx.new }
-    ensures held { IfOk result (λ o. IfSome o (ReferenceHeld cx.new.interner.entries)) }
+    ensures held { IfOk result (λ o. IfSome o (λ x. ReferenceHeld cx.new.interner.entries x.0)) }
+    ensures rules { IfOk result (λ o. IfSome o (λ x. x.1 ≡ true
+        → HasRulesByBoth (rules_in cx.old) (term_of cx.new.interner.entries x.0) later.index earlier.index)) }
 {
-    ready_impls_are_written_well();
-    let Some((left, right)) = pair_at(&cx.handler.declarations, later, earlier) else {
-        return Ok(None);
-    };
-    let common = common_header(cx.alloc, &mut cx.interner, left, right);
+    let declarations = &cx.handler.declarations;
+    let common = checked_common(cx.alloc, &mut cx.interner, declarations, later, earlier);
     cx.interner.lawful();
     common
 }
@@ -142,23 +223,25 @@ fn walk_intersection(
     cache: &mut GlobalCache<SolverGraph<Solver>>,
     cx: &mut SolverCx<Solver>,
     found: &mut ImplIntersection,
-    common: TraitRef,
+    common: (TraitRef, bool),
     depth: u32,
 ) -> Result<PairWalk, Fault>
     requires rest { SolverRests graph.old.root_depth cx.old graph.old cache.old }
     requires table { Ready cx.old.interner.entries found.old.table }
     requires left { TraitRefsHeld cx.old.interner.entries found.old.left.items }
     requires right { TraitRefsHeld cx.old.interner.entries found.old.right.items }
-    requires common { ReferenceHeld cx.old.interner.entries common }
+    requires common { ReferenceHeld cx.old.interner.entries common.0 }
     ensures rests { RestsAfter graph.old.root_depth cx.old cx.new graph.new cache.new }
     ensures held { IfOk result (PairWalkHeld cx.new.interner.entries) }
+    ensures common { IfOk result (λ p. (p.common ≡ common.0) × (p.is_checked ≡ common.1)) }
 {
     let mut walk = GoalWalk::new(cx.alloc);
     let table = &mut found.table;
     let left = walk_clauses(graph, cache, cx, table, &mut walk, &found.left, depth)?;
     let right = walk_clauses(graph, cache, cx, table, &mut walk, &found.right, depth)?;
     Ok(PairWalk {
-        common,
+        common: common.0,
+        is_checked: common.1,
         walk,
         left,
         right,
@@ -181,6 +264,8 @@ pub(crate) fn walk_pair(
     requires numbers { HaveOwnNumbers (rules_in cx.old) }
     ensures rests { RestsAfter graph.old.root_depth cx.old cx.new graph.new cache.new }
     ensures held { IfOk result (λ o. IfSome o (PairWalkHeld cx.new.interner.entries)) }
+    ensures rules { IfOk result (λ o. IfSome o (λ p. p.is_checked ≡ true
+        → HasRulesByBoth (rules_in cx.old) (term_of cx.new.interner.entries p.common) later.index earlier.index)) }
 {
     let Some(common) = common_header_at(cx, later, earlier)? else {
         return Ok(None);

@@ -42,6 +42,8 @@ impl Drop for ProofWalk {
 pub struct PairWalk {
     /// What both headers are where they are equal. Its unknowns stand for any terms.
     pub common: TraitRef,
+    /// Whether the checker finds that each of the impls concludes it, from what its where-clauses ask.
+    pub is_checked: bool,
     pub walk: GoalWalk,
     /// The places of the where-clauses of the first impl, in their order.
     pub left: Vec<usize>,
@@ -54,6 +56,7 @@ impl Drop for PairWalk {
     fn drop(self) {
         let PairWalk {
             common: _,
+            is_checked: _,
             walk: _,
             left: _,
             right: _,

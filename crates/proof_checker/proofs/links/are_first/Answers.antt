@@ -4,12 +4,12 @@ use Rattle.term_folds.proofs.Grown.{grew-on}
 use Rattle.declarations.specs.Applied.{TraitRefsHeld}
 use Rattle.declarations.proofs.Growth.{reference-same}
 use Rattle.type_terms.specs.Erased.{erased_reference}
-use Rattle.proof_checker.specs.Checked.{BeginsWith}
+use Rattle.proof_checker.specs.Checked.{AreFirstOf}
 use Rattle.proof_checker.specs.Steps.{term_of, terms_of}
 use Rattle.proof_checker.proofs.Places.{none-left}
 use Rattle.proof_checker.proofs.links.are_first.Goals as goal
 
-begins-more : (x y : Reference) (xs ys : List Reference) → x ≡ y → BeginsWith xs ys → BeginsWith (x ∷ xs) (y ∷ ys)
+begins-more : (x y : Reference) (xs ys : List Reference) → x ≡ y → AreFirstOf xs ys → AreFirstOf (x ∷ xs) (y ∷ ys)
 begins-more x y xs ys e h = (h.0, ap (λ l. x ∷ l) h.1 ∙ ap (λ z. z ∷ (ys ++ h.0)) e)
 
 pub premises-preserved : goal.premises-preserved
@@ -29,8 +29,8 @@ premises-preserved c =
       grew = grew-on inv.grew c.are_one.ensures.grew;
       left_held = held.1;
       asked_held = held2.1;
-      first = λ h. inv.first (subst (λ l. BeginsWith (terms_of es c.premises.left_asked.now) (terms_of es l)) (sym back)
-          (subst (λ l. BeginsWith (terms_of es l) (terms_of es (x ∷ c.in-Some.others.now))) (sym back2)
+      first = λ h. inv.first (subst (λ l. AreFirstOf (terms_of es c.premises.left_asked.now) (terms_of es l)) (sym back)
+          (subst (λ l. AreFirstOf (terms_of es l) (terms_of es (x ∷ c.in-Some.others.now))) (sym back2)
           (begins-more (term_of es y) (term_of es x) (terms_of es c.in-Some-split_first.other_asked.now) (terms_of es c.in-Some.others.now) eq h)));
     }
 
@@ -38,4 +38,4 @@ pub returns-clause-first : goal.returns-clause-first
 returns-clause-first c = λ q.
     let es = c.args.cx.now.entries in
     let left = none-left c.premises.left.now c.in_default.ensures.cases in
-    c.premises.invariant.first (subst (λ l. BeginsWith (terms_of es c.premises.left_asked.now) (terms_of es l)) (sym left) (terms_of es c.premises.left_asked.now, refl))
+    c.premises.invariant.first (subst (λ l. AreFirstOf (terms_of es c.premises.left_asked.now) (terms_of es l)) (sym left) (terms_of es c.premises.left_asked.now, refl))

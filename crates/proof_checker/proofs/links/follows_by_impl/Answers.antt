@@ -1,7 +1,6 @@
-use Rattle.std.proofs.Common.{◌≡◌, ap, sym, ◌∙◌, subst, map, List, ◌++◌}
+use Rattle.std.proofs.Common.{◌≡◌, ap, sym, ◌∙◌, subst, map, ◌++◌}
 use Rattle.std.specs.Prelude.{IfSome}
 use Rattle.type_terms.specs.Rules as rule
-use Rattle.type_terms.specs.Worlds.{Reference}
 use Rattle.type_terms.specs.Erased.{erased_reference}
 use Rattle.declarations.specs.Items.{declared}
 use Rattle.declarations.specs.Held.{ReferenceHeld}

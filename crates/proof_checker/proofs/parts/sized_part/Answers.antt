@@ -7,7 +7,7 @@ use Rattle.type_terms.specs.Terms.{types, trees_at}
 use Rattle.type_terms.specs.Trees.{erase}
 use Rattle.type_terms.specs.declared.kinds.Ty.{Ty}
 use Rattle.declarations.specs.Items.{declared}
-use Rattle.proof_checker.specs.Rows.{AreFields, IsOneRow, each_asked_of, last_type}
+use Rattle.proof_checker.specs.Rows.{AreFieldsOf, IsOneRow, each_asked_of, last_type}
 use Rattle.proof_checker.proofs.PartRows.{sized-struct-row}
 use Rattle.proof_checker.proofs.TypeRows.{held-last}
 use Rattle.proof_checker.proofs.Results.{not-ok}
@@ -24,7 +24,7 @@ returns-in_ok-last-in-Some-clause-asks c =
     let self = trees-is es types c.args.self_ty.0 _ c.in-Adt.ensures.is in
     let fields = c.in-Some.fields.items in
     let held = subst (λ o. IfSome o (λ v. TysHeld new v.items)) c.in-Some.is c.in_ok-found.ensures.held in
-    let are = subst (λ o. IfSome o (λ v. AreFields V s A (erase (tys_trees new v.items)))) c.in-Some.is c.in_ok-found.ensures.are in
+    let are = subst (λ o. IfSome o (λ v. AreFieldsOf V s A (erase (tys_trees new v.items)))) c.in-Some.is c.in_ok-found.ensures.are in
     let last = c.in_ok-last-in-Some.ensures.is ∙ ap last_type c.deref.ensures.value in
     subst (λ (l : List Ty). IsOneRow (sized_rules V (erase (trees_at es c.args.self_ty.0))) (each_asked_of new sized l)) (sym last)
     (subst (λ t. IsOneRow (sized_rules V (erase t)) (each_asked_of new sized (last_type fields))) (sym self) (sized-struct-row V s A new fields c.lawful.ensures held are))

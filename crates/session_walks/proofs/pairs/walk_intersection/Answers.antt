@@ -30,7 +30,7 @@ returns-clause-held c =
     let old = c.args.cx.now.interner.entries in
     let new = c.walk_clauses-2.new.cx.interner.entries in
     record {
-      common = has-later old new (λ i e h. c.walk_clauses-2.ensures.rests.keeps i e (c.walk_clauses.ensures.rests.keeps i e h)) args_lists c.args.common.args.0 c.requires.common;
+      common = has-later old new (λ i e h. c.walk_clauses-2.ensures.rests.keeps i e (c.walk_clauses.ensures.rests.keeps i e h)) args_lists c.args.common.0.args.0 c.requires.common;
       walked = c.walk_clauses-2.ensures.walked;
     }
 
