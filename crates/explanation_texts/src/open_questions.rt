@@ -37,12 +37,19 @@ fn is_left(candidate: &CandidateNode) -> bool {
     candidate.certainty.is_some() && candidate.source != CandidateSource::CoherenceUnknowable
 }
 
-/// What is said of a candidate that is left: that it applies, where the goal holds by it.
-fn way_said(texts: Texts<'_>, candidate: &CandidateNode, holds: bool) -> Sentence<'static> {
-    let template = if holds && candidate.certainty == Some(Certainty::Yes) {
+/// What is said of a candidate that is left: that it applies, where the goal holds by it, and where that was not checked, this too.
+fn way_said(
+    texts: Texts<'_>,
+    candidate: &CandidateNode,
+    holds: bool,
+    is_rule: bool,
+) -> Sentence<'static> {
+    let template = if !holds || candidate.certainty != Some(Certainty::Yes) {
+        "the {} may apply"
+    } else if is_rule {
         "the {} applies"
     } else {
-        "the {} may apply"
+        "the {} applies, not checked"
     };
     with_one(template, source_piece(texts, candidate.source))
 }
@@ -59,13 +66,14 @@ fn push_ways(
     }
     let holds = story.answer(0) == Answer::Yes;
     let mut count = 0usize;
-    for candidate in story.candidates(0) {
+    for (number, candidate) in story.candidates(0).iter().enumerate() {
         if is_left(candidate) {
             if count == LIST_LIMIT {
                 return tell_note(alloc, plain("others may apply too"), children);
             }
             count = count.saturating_add(1);
-            tell_note(alloc, way_said(texts, candidate, holds), children)?;
+            let said = way_said(texts, candidate, holds, story.is_rule(0, number));
+            tell_note(alloc, said, children)?;
         }
     }
     Ok(())

@@ -2,7 +2,7 @@
 //!
 //! What a walk shows is how the search answers each goal, and no more is proved of it than that its terms are the session's. But the
 //! steps of a proof that it finds go through the checker (`Session::is_proof_of`), so what is shown as checked is a proof; and so do
-//! candidates that ask goals (`checked_rules`), and what two overlapping impls have in common. That no impl fits a goal is looked up
+//! candidates (`checked_rules`), and what two overlapping impls have in common. That no impl fits a goal is looked up
 //! (`no_impl_fits`).
 #![tactic(auto)]
 

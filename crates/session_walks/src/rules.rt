@@ -176,14 +176,12 @@ fn is_rule_at(
     is_rule(alloc, cx, declarations, table, walk, at.0, candidate)
 }
 
-/// The candidates of a walk that ask goals, by the places of their own goals and their numbers there.
+/// The candidates of a walk, by the places of their goals and their numbers there.
 fn candidates_of(alloc: Global, walk: &GoalWalk) -> Result<Vec<(usize, usize)>, AllocError> {
     let mut found = Vec::new(alloc);
     for (place, node) in walk.nodes.iter().enumerate() {
-        for (number, candidate) in node.candidates.iter().enumerate() {
-            if !candidate.premises.is_empty() {
-                found.push((place, number))?;
-            }
+        for number in 0..node.candidates.len() {
+            found.push((place, number))?;
         }
     }
     Ok(found)
@@ -214,7 +212,7 @@ fn rules_among(
     Ok(rules)
 }
 
-/// The same over the interner of a context, of all candidates of a walk that ask goals.
+/// The same over the interner of a context, of all candidates of a walk.
 fn rules_in(cx: &mut SolverCx<Solver>, walk: &GoalWalk) -> Result<Vec<(usize, usize)>, Fault>
     requires ready { SolverIsReady cx.old }
     requires walked { ReferencesHeld cx.old.interner.entries walk.now.references.items }
@@ -240,8 +238,8 @@ fn rules_in(cx: &mut SolverCx<Solver>, walk: &GoalWalk) -> Result<Vec<(usize, us
 /// goals that it asks, and maybe further ones behind them. Each is named by the place of its goal and its number among the candidates there,
 /// from 0.
 ///
-/// Those that ask no goal are not looked at. One that is not named may be a rule too, as where its goal has unknowns for which the impl needs
-/// values, or the built-in rule is not checked. The fault is `Memory` where memory is refused, or `Full` where a table of the session is full.
+/// One that is not named may be a rule too, as where its goal has unknowns for which the impl needs values, or the built-in rule is not
+/// checked. The fault is `Memory` where memory is refused, or `Full` where a table of the session is full.
 pub fn checked_rules(
     session: &mut Session<'_>,
     walk: &GoalWalk,
