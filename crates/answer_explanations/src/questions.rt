@@ -11,10 +11,12 @@ use crate::proofs::{proved, tell_proof};
 use crate::spending::{Next, Spending, too_long};
 use answer_lines::ShownNames;
 use diagnostics::{Diagnostic, Span};
-use explanation_texts::{Asking, Texts, left_open, refuted, tell, unproved, unsettled};
+use explanation_texts::{
+    Asking, NothingFits, Texts, left_open, refuted, tell, unproved, unsettled,
+};
 use session_walks::{
     Conflict, GoalWalk, ProofWalk, checked_rules, explain_proof, explain_question,
-    explain_refutation, no_impl_fits, unseen_at,
+    explain_refutation, no_built_in_rule_fits, no_impl_fits, unseen_at,
 };
 use sessions::{ProveAnswer, RefuteAnswer, Session};
 use std::alloc::{AllocError, Global};
@@ -194,7 +196,7 @@ fn explain_proving(
 struct Refuting {
     answer: RefuteAnswer,
     unseen: Option<Conflict>,
-    has_no_impl: bool,
+    checked: NothingFits,
 }
 
 /// What is said of a `refute` question.
@@ -213,10 +215,10 @@ fn tell_refutation(
     let Refuting {
         answer,
         unseen,
-        has_no_impl,
+        checked,
     } = refuting;
     match answer {
-        RefuteAnswer::No => refuted(alloc, question.texts, &story, span, unseen, has_no_impl),
+        RefuteAnswer::No => refuted(alloc, question.texts, &story, span, unseen, checked),
         RefuteAnswer::Open => left_open(alloc, question.texts, &story, span, unseen),
     }
 }
@@ -243,7 +245,10 @@ fn explain_refuting(
     let refuting = Refuting {
         answer,
         unseen: unseen_at(session, &walk, 0)?,
-        has_no_impl: no_impl_fits(session, &walk, 0),
+        checked: NothingFits {
+            no_impl: no_impl_fits(session, &walk, 0),
+            no_built_in_rule: no_built_in_rule_fits(session, &walk, 0),
+        },
     };
     Ok(tell_refutation(alloc, question, session.interner(), &walk, &rules, refuting)?)
 }

@@ -33,7 +33,7 @@ pub use items::{
 pub use lines::{ImplLine, ItemLines, item_lines};
 pub use open_questions::left_open;
 pub use orphans::orphan;
-pub use refutations::refuted;
+pub use refutations::{NothingFits, refuted};
 pub use sources::source_name;
 pub use spoken::{Spoken, conflict_text, speak};
 pub use story::{Story, tell};

@@ -11,14 +11,31 @@ use diagnostics::{Diagnostic, Level, Span, Subdiagnostic};
 use orphan_check::errors::Conflict;
 use std::alloc::{AllocError, Global};
 
-/// That nothing fits, and whether that was checked. It never is of a trait with built-in rules.
-fn nothing_fits<'s>(texts: Texts<'s>, spoken: &Spoken, is_checked: bool) -> Sentence<'s> {
-    let template = if has_rules(texts, spoken.trait_id) {
-        "no impl and no built-in rule of `{}` fits, not checked"
-    } else if is_checked {
-        "no impl of `{}` fits"
+/// What was checked of a goal that nothing fits.
+#[derive(Clone, Copy)]
+pub struct NothingFits {
+    /// Whether it was checked that no impl has it.
+    pub no_impl: bool,
+    /// Whether it was checked that no built-in rule has it.
+    pub no_built_in_rule: bool,
+}
+
+/// That nothing fits, and where that was not checked, this too.
+fn nothing_fits<'s>(texts: Texts<'s>, spoken: &Spoken, checked: NothingFits) -> Sentence<'s> {
+    let NothingFits {
+        no_impl,
+        no_built_in_rule,
+    } = checked;
+    let template = if !has_rules(texts, spoken.trait_id) {
+        if no_impl {
+            "no impl of `{}` fits"
+        } else {
+            "no impl of `{}` fits, not checked"
+        }
+    } else if no_impl && no_built_in_rule {
+        "no impl and no built-in rule of `{}` fits"
     } else {
-        "no impl of `{}` fits, not checked"
+        "no impl and no built-in rule of `{}` fits, not checked"
     };
     with_one(template, Piece::Name(trait_name(texts, spoken.trait_id)))
 }
@@ -67,7 +84,7 @@ fn push_whys(
     texts: Texts<'_>,
     story: &Story<'_>,
     unseen: Option<Conflict>,
-    has_no_impl: bool,
+    checked: NothingFits,
     children: &mut Vec<Subdiagnostic>,
 ) -> Result<(), AllocError> {
     push_refused(
@@ -82,26 +99,26 @@ fn push_whys(
         return Ok(());
     };
     if story.candidates(0).is_empty() && story.is_whole(0) {
-        tell_note(alloc, nothing_fits(texts, spoken, has_no_impl), children)?;
+        tell_note(alloc, nothing_fits(texts, spoken, checked), children)?;
     }
     tell_note(alloc, unseen_why(texts, spoken, unseen), children)
 }
 
-/// What is said of a question that was answered no, at a span, with which unseen crates may have an impl, and whether it was checked that no
-/// impl that is seen has its reference.
+/// What is said of a question that was answered no, at a span, with which unseen crates may have an impl, and whether it was checked that
+/// nothing that is seen has its reference.
 pub fn refuted(
     alloc: Global,
     texts: Texts<'_>,
     story: &Story<'_>,
     span: Span,
     unseen: Option<Conflict>,
-    has_no_impl: bool,
+    checked: NothingFits,
 ) -> Result<Diagnostic, AllocError> {
     let message = with_one(
         "no crate that may be linked with this one can make `{}` hold",
         Piece::Text(story.reference(0)),
     );
     let mut told = tell_at(alloc, Level::Note, None, message, span, plain(""))?;
-    push_whys(alloc, texts, story, unseen, has_no_impl, &mut told.children)?;
+    push_whys(alloc, texts, story, unseen, checked, &mut told.children)?;
     Ok(told)
 }

@@ -6,3 +6,4 @@ mod ShownSteps
 mod Staying
 mod UnseenCrates
 mod Unmatched
+mod Rowless

@@ -26,6 +26,7 @@ use Rattle.type_terms.proofs.Members.{in-cases, in-nothing, self-number}
 use Rattle.type_terms.proofs.ProofEntries.{map-in}
 use Rattle.type_terms.proofs.Walking.{both}
 use Rattle.declarations.specs.Apart.{levels, are_apart}
+use Rattle.declarations.specs.Heads.{head_of}
 use Rattle.declarations.specs.Items.{Items, declared, written}
 use Rattle.declarations.specs.Relevant.{is_relevant_to, is_match, matches_in, next_above}
 use Rattle.declarations.proofs.Fixed.{no-flags, fixed-erased, fixed-instance}
@@ -125,20 +126,38 @@ begins : (t u : Trees) → IsA of_type t → StartsWithType (t +++ u)
 begins none u h = absurd h
 begins (tree l c o) u h = h.0
 
+heads-first : (t u : Trees) → IsA of_type t → head_of (t +++ u) ≡ head_of t
+heads-first none u h = absurd h
+heads-first (tree l c o) u h = refl
+
+at-is : (es : List Entry) (k i : ℕ) (t : Trees) → Is es k i t → trees_at es i ≡ t
+at-is es k i t h = rw h refl
+
+type-is : (es : List Entry) → Lawful es → (i : ℕ) → Has es types i → IsA of_type (trees_at es i)
+type-is es law i h = (law.sorted i _ (is-at es types i h)).as_type refl
+
+pub held-type : (es : List Entry) (xs : List GenericArgKind) (t : Ty) → ArgsHeld es xs → slice_get xs 0 ≡ Some (AType t) → Has es types t.0
+held-type es [] t held e = cc
+held-type es (x ∷ xs) t held e = let one : x ≡ AType t = cc in subst (ArgHeld es) one held.0
+
+-- a list of arguments that begins with a type is that, and the others
+begins-with : (es : List Entry) (i : ℕ) (xs : List GenericArgKind) (t : Ty) → Is es args_lists i (args_trees es xs) → slice_get xs 0 ≡ Some (AType t) → (u : Trees) × (trees_at es i ≡ trees_at es t.0 +++ u)
+begins-with es i [] t at e = cc
+begins-with es i (x ∷ xs) t at e =
+    let one : x ≡ AType t = cc in
+    (args_trees es xs, at-is es args_lists i (args_trees es (x ∷ xs)) at ∙ ap (λ a. arg_trees es a +++ args_trees es xs) one)
+
 pub starts-with-type : (es : List Entry) → Lawful es → (i : ℕ) (xs : List GenericArgKind) (t : Ty) → Is es args_lists i (args_trees es xs) → ArgsHeld es xs → slice_get xs 0 ≡ Some (AType t)
     → StartsWithType (trees_at es i)
-starts-with-type es law i [] t at held e = cc
-starts-with-type es law i (x ∷ xs) t at held e =
-    let one : x ≡ AType t = cc in
-    subst StartsWithType (sym (at-is es args_lists i (args_trees es (x ∷ xs)) at))
-    (subst (λ a. StartsWithType (arg_trees es a +++ args_trees es xs)) (sym one)
-    (begins (trees_at es t.0) (args_trees es xs) (type-is es law t.0 (subst (ArgHeld es) one held.0))))
-  where
-    at-is : (es : List Entry) (k i : ℕ) (t : Trees) → Is es k i t → trees_at es i ≡ t
-    at-is es k i t h = rw h refl
+starts-with-type es law i xs t at held e =
+    let b = begins-with es i xs t at e in
+    subst StartsWithType (sym b.1) (begins (trees_at es t.0) b.0 (type-is es law t.0 (held-type es xs t held e)))
 
-    type-is : (es : List Entry) → Lawful es → (i : ℕ) → Has es types i → IsA of_type (trees_at es i)
-    type-is es law i h = (law.sorted i _ (is-at es types i h)).as_type refl
+pub head-of-first : (es : List Entry) → Lawful es → (i : ℕ) (xs : List GenericArgKind) (t : Ty) → Is es args_lists i (args_trees es xs) → ArgsHeld es xs → slice_get xs 0 ≡ Some (AType t)
+    → head_of (trees_at es i) ≡ head_of (trees_at es t.0)
+head-of-first es law i xs t at held e =
+    let b = begins-with es i xs t at e in
+    ap head_of b.1 ∙ heads-first (trees_at es t.0) b.0 (type-is es law t.0 (held-type es xs t held e))
 
 -- ---- what a look at the impls tells
 pub no-arguments : (t : Trees) → StartsWithType t → t ≡ none → ⊥

@@ -1,8 +1,9 @@
 -- What is checked of walks: which candidates are rules, which goals no impl has, and what two impls have in common.
-use Rattle.std.specs.Prelude.{◌≡◌, ℕ, List, [], Some}
+use Rattle.std.specs.Prelude.{◌≡◌, ℕ, Bool, true, false, List, [], Some}
 use Rattle.std.specs.List.{AllZip, slice_get}
+use Rattle.type_terms.specs.Label.{Label, tuple, fn_ptr, dynamic}
 use Rattle.type_terms.specs.Proofs.{In}
-use Rattle.type_terms.specs.Rules.{Way, BuiltIn, by_impl, built_in, impl_rules}
+use Rattle.type_terms.specs.Rules.{Way, BuiltIn, by_impl, built_in, built_in_rules, impl_rules}
 use Rattle.type_terms.specs.Terms.{Entry}
 use Rattle.type_terms.specs.Worlds.{World, Reference, ImplDecl}
 use Rattle.term_folds.specs.declared.predicate.TraitRef.{TraitRef}
@@ -46,6 +47,21 @@ HasNoImpl W r = (i : ImplDecl) → In i W.impls → impl_rules r i ≡ []
 -- None has one for the goal at place p of rs.
 abbrev pub HasNoImplAt : List Entry → World → List TraitRef → ℕ → Type 0
 HasNoImplAt es W rs p = (r : TraitRef) × (slice_get rs p ≡ Some r) × HasNoImpl W (term_of es r)
+
+-- No built-in row of W concludes r.
+abbrev pub HasNoRow : World → Reference → Type 0
+HasNoRow W r = built_in_rules W r ≡ []
+
+-- None concludes the goal at place p of rs.
+abbrev pub HasNoRowAt : List Entry → World → List TraitRef → ℕ → Type 0
+HasNoRowAt es W rs p = (r : TraitRef) × (slice_get rs p ≡ Some r) × HasNoRow W (term_of es r)
+
+-- A type with this label is no tuple, no fn pointer and no `dyn`.
+abbrev pub is_bare : Label → Bool
+is_bare tuple = false
+is_bare (fn_ptr n) = false
+is_bare dynamic = false
+is_bare l = true
 
 -- The impl of W with this number has a rule for r, whatever it asks.
 abbrev pub HasRuleByImpl : World → Reference → ℕ → Type 0

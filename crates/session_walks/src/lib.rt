@@ -2,8 +2,8 @@
 //!
 //! What a walk shows is how the search answers each goal, and no more is proved of it than that its terms are the session's. But the
 //! steps of a proof that it finds go through the checker (`Session::is_proof_of`), so what is shown as checked is a proof; and so do
-//! candidates (`checked_rules`), and what two overlapping impls have in common. That no impl fits a goal is looked up
-//! (`no_impl_fits`).
+//! candidates (`checked_rules`), and what two overlapping impls have in common. That no impl and no built-in rule fits a
+//! goal is looked up (`no_impl_fits`, `no_built_in_rule_fits`).
 #![tactic(auto)]
 
 mod breaking;
@@ -26,7 +26,7 @@ pub use explained::{
     explain_breaking, explain_overlap, explain_proof, explain_question, explain_refutation,
     explain_supertrait,
 };
-pub use fitting::no_impl_fits;
+pub use fitting::{no_built_in_rule_fits, no_impl_fits};
 pub use rules::checked_rules;
 pub use unseen::{impl_header, unseen_at, unseen_crates};
 pub use walks::{PairWalk, ProofWalk, ShownStep};
