@@ -5,6 +5,7 @@
 #![tactic(auto)]
 
 mod breaking;
+mod checked;
 mod checks;
 mod explaining;
 mod overlaps;

@@ -4,6 +4,7 @@ ghost use Rattle.std.specs.Prelude.{◌≡◌, IfOk};
 ghost use Rattle.sessions.specs.Subjects.{StaysOn};
 ghost use Rattle.session_walks.specs.Walked.{PairWalkHeld};
 
+use crate::checked::none_checked;
 use answer_lines::ShownNames;
 use diagnostics::{Diagnostic, ErrCode, Level, SpanLabel, Subdiagnostic, on_line};
 use explanation_texts::{
@@ -132,7 +133,13 @@ fn tell_pair<'w>(
     let clauses = clauses_of(alloc, session, pair, later, earlier)?;
     let header = header_text(alloc, texts, session, earlier)?;
     let common = speak(alloc, session.interner(), &names, pair.common)?;
-    let story = tell(alloc, session.interner(), &names, &pair.walk, &[])?;
+    let story = tell(
+        alloc,
+        session.interner(),
+        &names,
+        &pair.walk,
+        none_checked(),
+    )?;
     Ok(Conflicting {
         later,
         earlier,

@@ -2,6 +2,7 @@
 
 ghost use Rattle.session_walks.specs.Walked.{AllStepsHeld, ProofWalkHeld};
 
+use crate::checked::none_checked;
 use answer_lines::ShownNames;
 use diagnostics::{Diagnostic, Level, ProofRow, Span};
 use explanation_texts::{
@@ -64,7 +65,7 @@ pub(crate) fn tell_proof<'w>(
     requires { ProofWalkHeld cx.now.entries proof.now }
 {
     let goals = speak_steps(alloc, cx, names, &proof.steps)?;
-    let story = tell(alloc, cx, names, &proof.walk, &[])?;
+    let story = tell(alloc, cx, names, &proof.walk, none_checked())?;
     Ok(ToldProof {
         proof,
         story,

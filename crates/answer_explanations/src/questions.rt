@@ -7,6 +7,7 @@ ghost use Rattle.sessions.specs.Subjects.{AsksProof, AsksRefutation, StaysOn};
 ghost use Rattle.text_definitions.specs.Declarations.{Question};
 ghost use Rattle.type_terms.specs.Kinds.{ArgsHeld};
 
+use crate::checked::of_checked;
 use crate::proofs::{proved, tell_proof};
 use crate::spending::{Next, Spending, too_long};
 use answer_lines::ShownNames;
@@ -15,8 +16,8 @@ use explanation_texts::{
     Asking, NothingFits, Texts, left_open, refuted, tell, unproved, unsettled,
 };
 use session_walks::{
-    Conflict, GoalWalk, ProofWalk, checked_rules, explain_proof, explain_question,
-    explain_refutation, no_built_in_rule_fits, no_impl_fits, unseen_at,
+    CheckedCandidates, Conflict, GoalWalk, ProofWalk, checked_candidates, explain_proof,
+    explain_question, explain_refutation, no_built_in_rule_fits, no_impl_fits, unseen_at,
 };
 use sessions::{ProveAnswer, RefuteAnswer, Session};
 use std::alloc::{AllocError, Global};
@@ -119,12 +120,12 @@ fn tell_not_proved(
     question: Questioned<'_>,
     cx: &Interner,
     walk: &GoalWalk,
-    rules: &[(usize, usize)],
+    checked: &CheckedCandidates,
     answer: NotProved,
 ) -> Result<Diagnostic, AllocError>
     requires { WalkHeld cx.now.entries walk.now }
 {
-    let story = tell(alloc, cx, &question.names(), walk, rules)?;
+    let story = tell(alloc, cx, &question.names(), walk, of_checked(checked))?;
     let span = question.span();
     match answer {
         NotProved::Unproved => {
@@ -152,9 +153,9 @@ fn explain_not_proved(
 {
     let before = session.frames();
     let walk = explain_question(session, number)?;
-    let rules = checked_rules(session, &walk)?;
+    let checked = checked_candidates(session, &walk)?;
     spending.add_explanation(before, session.frames(), walk.nodes.len());
-    Ok(tell_not_proved(alloc, question, session.interner(), &walk, &rules, answer)?)
+    Ok(tell_not_proved(alloc, question, session.interner(), &walk, &checked, answer)?)
 }
 
 /// Why a `prove` question is answered as it is.
@@ -205,12 +206,12 @@ fn tell_refutation(
     question: Questioned<'_>,
     cx: &Interner,
     walk: &GoalWalk,
-    rules: &[(usize, usize)],
+    checked: &CheckedCandidates,
     refuting: Refuting,
 ) -> Result<Diagnostic, AllocError>
     requires { WalkHeld cx.now.entries walk.now }
 {
-    let story = tell(alloc, cx, &question.names(), walk, rules)?;
+    let story = tell(alloc, cx, &question.names(), walk, of_checked(checked))?;
     let span = question.span();
     let Refuting {
         answer,
@@ -240,7 +241,7 @@ fn explain_refuting(
     spending.add_answer(before, between);
     let answer = answer?;
     let walk = explain_refutation(session, number)?;
-    let rules = checked_rules(session, &walk)?;
+    let checked = checked_candidates(session, &walk)?;
     spending.add_explanation(between, session.frames(), walk.nodes.len());
     let refuting = Refuting {
         answer,
@@ -250,7 +251,14 @@ fn explain_refuting(
             no_built_in_rule: no_built_in_rule_fits(session, &walk, 0),
         },
     };
-    Ok(tell_refutation(alloc, question, session.interner(), &walk, &rules, refuting)?)
+    Ok(tell_refutation(
+        alloc,
+        question,
+        session.interner(),
+        &walk,
+        &checked,
+        refuting,
+    )?)
 }
 
 /// Why a question of the session's crate is answered as it is, unless explanations took as long as they may. Questions count from 1.

@@ -4,10 +4,11 @@ ghost use Rattle.std.specs.Prelude.{◌≡◌};
 ghost use Rattle.session_walks.specs.Walked.{WalkHeld};
 ghost use Rattle.sessions.specs.Subjects.{StaysOn};
 
+use crate::checked::of_checked;
 use answer_lines::ShownNames;
 use diagnostics::{Diagnostic, Place, Span, on_line};
 use explanation_texts::{Asking, Story, Texts, impl_line, tell, unproved, unsettled};
-use session_walks::{GoalWalk, checked_rules, explain_supertrait};
+use session_walks::{CheckedCandidates, GoalWalk, checked_candidates, explain_supertrait};
 use sessions::{Session, SupersAnswer};
 use std::alloc::{AllocError, Global};
 use type_terms::{Fault, ImplId};
@@ -79,7 +80,7 @@ fn explain_walk(
     texts: Texts<'_>,
     session: &Session<'_>,
     walk: &GoalWalk,
-    rules: &[(usize, usize)],
+    checked: &CheckedCandidates,
     unheld: Unheld,
     depth: u32,
     seen: &[ImplId],
@@ -91,7 +92,7 @@ fn explain_walk(
         params: params_of(texts, unheld.id),
         variables: &[],
     };
-    let story = tell(alloc, session.interner(), &names, walk, rules)?;
+    let story = tell(alloc, session.interner(), &names, walk, of_checked(checked))?;
     diagnose(alloc, texts, &story, unheld, depth, seen)
 }
 
@@ -109,8 +110,8 @@ fn explain_unheld(
     let Some(walk) = explain_supertrait(session, unheld.id, unheld.number)? else {
         return Ok(None);
     };
-    let rules = checked_rules(session, &walk)?;
-    let told = explain_walk(alloc, texts, session, &walk, &rules, unheld, depth, seen)?;
+    let checked = checked_candidates(session, &walk)?;
+    let told = explain_walk(alloc, texts, session, &walk, &checked, unheld, depth, seen)?;
     Ok(Some(told))
 }
 

@@ -1,6 +1,6 @@
 //! Candidates by the built-in rules of single traits, and of auto traits.
-ghost use Rattle.term_folds.specs.Growth.{Grew, FullAtLimit};
-ghost use Rattle.std.specs.Prelude.{◌≡◌, List, IfOk, IfSome, IfErr};
+ghost use Rattle.type_terms.specs.Growth.{GrewOrFull};
+ghost use Rattle.std.specs.Prelude.{◌≡◌, List, IfOk, IfSome};
 ghost use Rattle.type_terms.specs.Worlds.{World};
 ghost use Rattle.type_terms.specs.Rules.{Rule, sized, asked};
 ghost use Rattle.type_terms.specs.Terms.{Has, types, trees_at};
@@ -41,10 +41,9 @@ pub(crate) fn type_asked(
     ty: Ty,
 ) -> Result<TraitRef, Fault>
     requires { Has cx.old.entries types ty.0 }
-    ensures grew { Grew cx.old cx.new }
+    ensures terms { GrewOrFull cx.old cx.new result }
     ensures held { IfOk result (ReferenceHeld cx.new.entries) }
     ensures is { IfOk result (λ r. reference_in cx.new.entries r ≡ asked def_id.index (trees_at cx.old.entries ty.0)) }
-    ensures full { IfErr result (FullAtLimit cx.new) }
 {
     let list = vec![in alloc; GenericArgKind::Ty(ty)]?;
     let args = cx.mk_args(list)?;
@@ -59,10 +58,9 @@ pub(crate) fn types_asked(
     tys: &[Ty],
 ) -> Result<Vec<TraitRef>, Fault>
     requires { TypesHeld cx.old.entries tys.now }
-    ensures grew { Grew cx.old cx.new }
+    ensures terms { GrewOrFull cx.old cx.new result }
     ensures held { IfOk result (λ v. TraitRefsHeld cx.new.entries v.items) }
     ensures are { IfOk result (λ v. references_in cx.new.entries v.items ≡ types_asked cx.old.entries def_id.index tys.now) }
-    ensures full { IfErr result (FullAtLimit cx.new) }
 {
     let mut found = Vec::new(alloc);
     let mut left = tys;
@@ -85,11 +83,10 @@ fn for_constituent_tys(
 ) -> Result<Option<CandidateSpec>, Fault>
     requires goal { GoalHeld cx.old.entries goal.now.goal }
     requires held { IfSome tys (λ v. TypesHeld cx.old.entries v.items) }
-    ensures grew { Grew cx.old cx.new }
+    ensures terms { GrewOrFull cx.old cx.new result }
     ensures held { IfOk result (λ o. IfSome o (SpecHeld cx.new.entries)) }
     ensures is { IfOk result (λ o. (V : World) (us : List Rule) → AreConstituents (λ v. v.items) cx.old.entries def_id.index us tys
         → candidates_of V goal.now.goal.predicate.trait_ref.def_id.index cx.new.entries o ≡ as_written V (asked_of cx.old.entries goal.now) source us) }
-    ensures full { IfErr result (FullAtLimit cx.new) }
 {
     match tys {
         Some(tys) => {
@@ -110,12 +107,11 @@ pub fn consider_builtin_sized_candidate(
     goal: &CanonicalInput,
 ) -> Result<Option<CandidateSpec>, Fault>
     requires { CanBeConsidered cx.old.entries declarations.now goal.now }
-    ensures grew { Grew cx.old cx.new }
+    ensures terms { GrewOrFull cx.old cx.new result }
     ensures held { IfOk result (λ o. IfSome o (SpecHeld cx.new.entries)) }
     ensures is { let V = written cx.old.entries declarations.now in
         IfOk result (λ o. candidates_of V goal.now.goal.predicate.trait_ref.def_id.index cx.new.entries o
         ≡ sized_candidates V (asked_of cx.old.entries goal.now)) }
-    ensures full { IfErr result (FullAtLimit cx.new) }
 {
     let self_ty = goal.goal.predicate.self_ty(cx);
     let tys = instantiate_constituent_tys_for_sized_trait(alloc, cx, declarations, self_ty)?;
@@ -132,11 +128,10 @@ pub fn consider_builtin_copy_clone_candidate(
 ) -> Result<Option<CandidateSpec>, Fault>
     requires goal { GoalHeld cx.old.entries goal.now.goal }
     requires first { StartsWithType (trees_at cx.old.entries goal.now.goal.predicate.trait_ref.args.0) }
-    ensures grew { Grew cx.old cx.new }
+    ensures terms { GrewOrFull cx.old cx.new result }
     ensures held { IfOk result (λ o. IfSome o (SpecHeld cx.new.entries)) }
     ensures is { IfOk result (λ o. (V : World)
         → candidates_of V goal.now.goal.predicate.trait_ref.def_id.index cx.new.entries o ≡ copy_candidates V (asked_of cx.old.entries goal.now)) }
-    ensures full { IfErr result (FullAtLimit cx.new) }
 {
     let self_ty = goal.goal.predicate.self_ty(cx);
     let tys = instantiate_constituent_tys_for_copy_clone_trait(alloc, cx, self_ty)?;
@@ -159,11 +154,10 @@ pub fn consider_builtin_tuple_candidate(
 ) -> Result<Option<CandidateSpec>, Fault>
     requires goal { GoalHeld cx.old.entries goal.now.goal }
     requires first { StartsWithType (trees_at cx.old.entries goal.now.goal.predicate.trait_ref.args.0) }
-    ensures grew { Grew cx.old cx.new }
+    ensures terms { GrewOrFull cx.old cx.new result }
     ensures held { IfOk result (λ o. IfSome o (SpecHeld cx.new.entries)) }
     ensures is { IfOk result (λ o. (V : World)
         → candidates_of V goal.now.goal.predicate.trait_ref.def_id.index cx.new.entries o ≡ tuple_candidates V (asked_of cx.old.entries goal.now)) }
-    ensures full { IfErr result (FullAtLimit cx.new) }
 {
     let self_ty = goal.goal.predicate.self_ty(cx);
     let tys = constituents_for_tuple_trait(alloc, cx, self_ty);
@@ -186,11 +180,10 @@ pub fn consider_builtin_fn_ptr_trait_candidate(
 ) -> Result<Option<CandidateSpec>, Fault>
     requires goal { GoalHeld cx.old.entries goal.now.goal }
     requires first { StartsWithType (trees_at cx.old.entries goal.now.goal.predicate.trait_ref.args.0) }
-    ensures grew { Grew cx.old cx.new }
+    ensures terms { GrewOrFull cx.old cx.new result }
     ensures held { IfOk result (λ o. IfSome o (SpecHeld cx.new.entries)) }
     ensures is { IfOk result (λ o. (V : World)
         → candidates_of V goal.now.goal.predicate.trait_ref.def_id.index cx.new.entries o ≡ fn_ptr_candidates V (asked_of cx.old.entries goal.now)) }
-    ensures full { IfErr result (FullAtLimit cx.new) }
 {
     let self_ty = goal.goal.predicate.self_ty(cx);
     let tys = constituents_for_fn_ptr_trait(alloc, cx, self_ty);
@@ -215,12 +208,11 @@ pub fn consider_auto_trait_candidate(
 ) -> Result<Option<CandidateSpec>, Fault>
     requires considered { CanBeConsidered cx.old.entries declarations.now goal.now }
     requires impls { HavePlainHeads cx.old.entries declarations.now }
-    ensures grew { Grew cx.old cx.new }
+    ensures terms { GrewOrFull cx.old cx.new result }
     ensures held { IfOk result (λ o. IfSome o (SpecHeld cx.new.entries)) }
     ensures is { let V = written cx.old.entries declarations.now in
         IfOk result (λ o. candidates_of V goal.now.goal.predicate.trait_ref.def_id.index cx.new.entries o
         ≡ auto_candidates V (asked_of cx.old.entries goal.now)) }
-    ensures full { IfErr result (FullAtLimit cx.new) }
 {
     let trait_ref = goal.goal.predicate.trait_ref;
     let self_ty = goal.goal.predicate.self_ty(cx);

@@ -1,6 +1,6 @@
 //! The candidates by built-in rules, one after the other.
-ghost use Rattle.term_folds.specs.Growth.{Grew, FullAtLimit};
-ghost use Rattle.std.specs.Prelude.{◌≡◌, ◌==◌, true, List, IfOk, IfSome, option_map, IfErr};
+ghost use Rattle.type_terms.specs.Growth.{GrewOrFull};
+ghost use Rattle.std.specs.Prelude.{◌≡◌, ◌==◌, true, List, IfOk, IfSome, option_map};
 ghost use Rattle.std.specs.List.{slice_get};
 ghost use Rattle.type_terms.specs.Rules.{unsize, is_auto};
 ghost use Rattle.type_terms.specs.Terms.{Entry, trees_at};
@@ -90,11 +90,10 @@ fn consider_rule_for(
 ) -> Result<Option<CandidateSpec>, Fault>
     requires considered { CanBeConsidered cx.old.entries declarations.now goal.now }
     requires impls { HavePlainHeads cx.old.entries declarations.now }
-    ensures grew { Grew cx.old cx.new }
+    ensures terms { GrewOrFull cx.old cx.new result }
     ensures held { IfOk result (λ o. IfSome o (SpecHeld cx.new.entries)) }
     ensures is { let V = written cx.old.entries declarations.now in
         IfOk result (λ o. candidates_of V goal.now.goal.predicate.trait_ref.def_id.index cx.new.entries o ≡ of_rule V (asked_of cx.old.entries goal.now) rule) }
-    ensures full { IfErr result (FullAtLimit cx.new) }
 {
     match rule {
         BuiltInRule::Sized => consider_builtin_sized_candidate(alloc, cx, declarations, goal),
@@ -116,12 +115,11 @@ fn consider_rule(
 ) -> Result<Option<CandidateSpec>, Fault>
     requires considered { CanBeConsidered cx.old.entries declarations.now goal.now }
     requires impls { HavePlainHeads cx.old.entries declarations.now }
-    ensures grew { Grew cx.old cx.new }
+    ensures terms { GrewOrFull cx.old cx.new result }
     ensures held { IfOk result (λ o. IfSome o (SpecHeld cx.new.entries)) }
     ensures is { let V = written cx.old.entries declarations.now in
         IfOk result (λ o. candidates_of V goal.now.goal.predicate.trait_ref.def_id.index cx.new.entries o
         ≡ by_the_rule V (asked_of cx.old.entries goal.now) rule) }
-    ensures full { IfErr result (FullAtLimit cx.new) }
 {
     if speaks_of(declarations, rule, goal.goal.predicate.trait_ref.def_id) {
         consider_rule_for(alloc, cx, declarations, goal, rule)
@@ -156,11 +154,10 @@ pub fn consider_builtin_candidate(
     requires object { ObjectIsApplied declarations.now (trees_at cx.old.entries goal.now.goal.predicate.trait_ref.args.0) }
     requires unsizing { (goal.now.goal.predicate.trait_ref.def_id.index == unsize) ≡ true
         → CanUnsize declarations.now (self_of (asked_of cx.old.entries goal.now)) }
-    ensures grew { Grew cx.old cx.new }
+    ensures terms { GrewOrFull cx.old cx.new result }
     ensures held { IfOk result (λ o. IfSome o (SpecHeld cx.new.entries)) }
     ensures is { let V = written cx.old.entries declarations.now in let a = asked_of cx.old.entries goal.now in
         IfOk result (λ o. option_map (candidate_of V a.reference.trait cx.new.entries) o ≡ slice_get (built_in V a) place) }
-    ensures full { IfErr result (FullAtLimit cx.new) }
 {
     let rules = [
         BuiltInRule::Sized,

@@ -1,6 +1,6 @@
 //! Candidates by the built-in rule of calls.
-ghost use Rattle.term_folds.specs.Growth.{Grew, FullAtLimit};
-ghost use Rattle.std.specs.Prelude.{◌≡◌, List, IfErr, IfOk, IfSome};
+ghost use Rattle.type_terms.specs.Growth.{GrewOrFull};
+ghost use Rattle.std.specs.Prelude.{◌≡◌, List, IfOk, IfSome};
 ghost use Rattle.std.specs.Option.{option_map};
 ghost use Rattle.type_terms.specs.Label.{tuple};
 ghost use Rattle.type_terms.specs.Trees.{tree, none};
@@ -81,10 +81,9 @@ fn inputs(inputs_and_output: &[Ty]) -> &[Ty]
 /// The tuple of a `fn` pointer's inputs.
 fn tupled_inputs(alloc: Global, cx: &mut Interner, inputs_and_output: Tys) -> Result<Ty, Fault>
     requires { Has cx.old.entries type_lists inputs_and_output.0 }
-    ensures grew { Grew cx.old cx.new }
+    ensures terms { GrewOrFull cx.old cx.new result }
     ensures held { IfOk result (λ r. Has cx.new.entries types r.0) }
     ensures is { IfOk result (λ r. trees_at cx.new.entries r.0 ≡ tree tuple (but_last (trees_at cx.old.entries inputs_and_output.0)) none) }
-    ensures full { IfErr result (FullAtLimit cx.new) }
 {
     cx.lawful();
     let list = Vec::from_slice(alloc, inputs(cx.tys(inputs_and_output)))?;
@@ -100,10 +99,9 @@ fn output_is_sized(
     inputs_and_output: Tys,
 ) -> Result<Vec<TraitRef>, Fault>
     requires { Has cx.old.entries type_lists inputs_and_output.0 }
-    ensures grew { Grew cx.old cx.new }
+    ensures terms { GrewOrFull cx.old cx.new result }
     ensures held { IfOk result (λ v. TraitRefsHeld cx.new.entries v.items) }
     ensures are { IfOk result (λ v. references_in cx.new.entries v.items ≡ last_asked sized (trees_at cx.old.entries inputs_and_output.0)) }
-    ensures full { IfErr result (FullAtLimit cx.new) }
 {
     cx.lawful();
     let output = last_alone(alloc, cx.tys(inputs_and_output))?;
@@ -121,13 +119,12 @@ fn call_candidate(
     requires goal { GoalHeld cx.old.entries goal.now.goal }
     requires signature { Has cx.old.entries type_lists inputs_and_output.0 }
     requires arguments { ArgHeld cx.old.entries arguments }
-    ensures grew { Grew cx.old cx.new }
+    ensures terms { GrewOrFull cx.old cx.new result }
     ensures held { IfOk result (SpecHeld cx.new.entries) }
     ensures is { let types = trees_at cx.old.entries inputs_and_output.0 in
         let equations = all_equal (tree tuple (but_last types) none) (arg_trees cx.old.entries arguments) in
         IfOk result (λ s. (V : World) → candidate_of V goal.now.goal.predicate.trait_ref.def_id.index cx.new.entries s
         ≡ by_rule V (asked_of cx.old.entries goal.now) misc equations (last_asked sized types)) }
-    ensures full { IfErr result (FullAtLimit cx.new) }
 {
     let inputs = tupled_inputs(alloc, cx, inputs_and_output)?;
     let premises = output_is_sized(alloc, cx, inputs_and_output)?;
@@ -150,11 +147,10 @@ pub fn consider_builtin_fn_trait_candidates(
 ) -> Result<Option<CandidateSpec>, Fault>
     requires goal { GoalHeld cx.old.entries goal.now.goal }
     requires first { StartsWithType (trees_at cx.old.entries goal.now.goal.predicate.trait_ref.args.0) }
-    ensures grew { Grew cx.old cx.new }
+    ensures terms { GrewOrFull cx.old cx.new result }
     ensures held { IfOk result (λ o. IfSome o (SpecHeld cx.new.entries)) }
     ensures is { IfOk result (λ o. (V : World)
         → candidates_of V goal.now.goal.predicate.trait_ref.def_id.index cx.new.entries o ≡ call_candidates V (asked_of cx.old.entries goal.now)) }
-    ensures full { IfErr result (FullAtLimit cx.new) }
 {
     cx.lawful();
     let self_ty = goal.goal.predicate.self_ty(cx);

@@ -1,6 +1,6 @@
 //! `dyn` types: what they are written with, their principal with a self type put in, and its supertraits.
-ghost use Rattle.term_folds.specs.Growth.{Grew, FullAtLimit};
-ghost use Rattle.std.specs.Prelude.{◌≡◌, ◌==◌, List, length, filter, count_by, IfOk, IfErr};
+ghost use Rattle.type_terms.specs.Growth.{GrewOrFull};
+ghost use Rattle.std.specs.Prelude.{◌≡◌, ◌==◌, List, length, filter, count_by, IfOk};
 ghost use Rattle.std.specs.List.{list_any, slice_get};
 ghost use Rattle.type_terms.specs.Trees.{Trees, ◌+++◌};
 ghost use Rattle.type_terms.specs.Rules.{principal_with, autos_with, are_declared, are_dyn_compatible};
@@ -57,10 +57,9 @@ fn args_with_self(
 ) -> Result<GenericArgs, Fault>
     requires self_held { Has cx.old.entries types self_ty.0 }
     requires args { Has cx.old.entries args_lists args.0 }
-    ensures grew { Grew cx.old cx.new }
+    ensures terms { GrewOrFull cx.old cx.new result }
     ensures held { IfOk result (λ r. Has cx.new.entries args_lists r.0) }
     ensures are { IfOk result (λ r. trees_at cx.new.entries r.0 ≡ trees_at cx.old.entries self_ty.0 +++ trees_at cx.old.entries args.0) }
-    ensures full { IfErr result (FullAtLimit cx.new) }
 {
     let mut list = vec![in alloc; GenericArgKind::Ty(self_ty)]?;
     list.extend_from_slice(cx.args(args))?;
@@ -78,11 +77,10 @@ pub(crate) fn principal_with(
 ) -> Result<Option<TraitRef>, Fault>
     requires self_held { Has cx.old.entries types self_ty.0 }
     requires bounds { Has cx.old.entries bounds_lists bounds.0 }
-    ensures grew { Grew cx.old cx.new }
+    ensures terms { GrewOrFull cx.old cx.new result }
     ensures held { IfOk result (λ o. TraitRefsHeld cx.new.entries (if_there o)) }
     ensures is { IfOk result
         (λ o. WithLifetime cx.old.entries bounds (λ b. references_in cx.new.entries (if_there o) ≡ principal_with (trees_at cx.old.entries self_ty.0) b)) }
-    ensures full { IfErr result (FullAtLimit cx.new) }
 {
     match cx.bounds(bounds).principal {
         Some(principal) => {
@@ -105,11 +103,10 @@ fn elaborate_principal(
     requires bounds { HaveBounds cx.old.entries declarations.now }
     requires held { TraitRefsHeld cx.old.entries (if_there principal) }
     requires applied { AreApplied cx.old.entries declarations.now (if_there principal) }
-    ensures grew { Grew cx.old cx.new }
+    ensures terms { GrewOrFull cx.old cx.new result }
     ensures held { IfOk result (λ v. TraitRefsHeld cx.new.entries v.items) }
     ensures are { IfOk result (λ v. references_in cx.new.entries v.items
         ≡ elaborate (written cx.old.entries declarations.now) (references_in cx.old.entries (if_there principal))) }
-    ensures full { IfErr result (FullAtLimit cx.new) }
 {
     match principal {
         Some(trait_ref) => declarations.elaborate(alloc, cx, &[trait_ref]),
@@ -137,7 +134,7 @@ pub(crate) fn elaborated_principal(
     requires self_held { Has cx.old.entries types self_ty.0 }
     requires bounds { Has cx.old.entries bounds_lists bounds.0 }
     requires applied { WithLifetime cx.old.entries bounds (λ b. Each (AreArgumentsOf declarations.now) (principal_with (trees_at cx.old.entries self_ty.0) b)) }
-    ensures grew { Grew cx.old cx.new }
+    ensures terms { GrewOrFull cx.old cx.new result }
     ensures principal_held { IfOk result (λ e. TraitRefsHeld cx.new.entries (if_there e.principal)) }
     ensures principal { IfOk result (λ e. WithLifetime cx.old.entries bounds (λ b. references_in cx.new.entries (if_there e.principal)
         ≡ principal_with (trees_at cx.old.entries self_ty.0) b)) }
@@ -145,7 +142,6 @@ pub(crate) fn elaborated_principal(
     ensures elaborated { let V = written cx.old.entries declarations.now in
         IfOk result (λ e. WithLifetime cx.old.entries bounds (λ b. references_in cx.new.entries e.elaborated.items
         ≡ elaborate V (principal_with (trees_at cx.old.entries self_ty.0) b))) }
-    ensures full { IfErr result (FullAtLimit cx.new) }
 {
     let principal = principal_with(alloc, cx, self_ty, bounds)?;
     let elaborated = elaborate_principal(alloc, cx, declarations, principal)?;

@@ -1,6 +1,6 @@
 //! Candidates by the bounds of the `dyn` that is the self type.
-ghost use Rattle.term_folds.specs.Growth.{Grew, FullAtLimit};
-ghost use Rattle.std.specs.Prelude.{◌≡◌, IfOk, IfSome, option_map, IfErr};
+ghost use Rattle.type_terms.specs.Growth.{GrewOrFull};
+ghost use Rattle.std.specs.Prelude.{◌≡◌, IfOk, IfSome, option_map};
 ghost use Rattle.std.specs.List.{slice_get};
 ghost use Rattle.type_terms.specs.Rules.{principal_with};
 ghost use Rattle.type_terms.specs.Terms.{Has, types, bounds_lists, trees_at};
@@ -46,11 +46,10 @@ fn bound_of_trait(
     requires self_held { Has cx.old.entries types self_ty.0 }
     requires bounds { Has cx.old.entries bounds_lists bounds.0 }
     requires elaborated { TraitRefsHeld cx.old.entries elaborated.now }
-    ensures grew { Grew cx.old cx.new }
+    ensures terms { GrewOrFull cx.old cx.new result }
     ensures held { IfOk result (λ o. IfSome o (λ x. ReferenceHeld cx.new.entries x.1)) }
     ensures is { IfOk result (λ o. WithLifetime cx.old.entries bounds (λ b. option_map (bound_in cx.new.entries) o
         ≡ slice_get (written_and_elaborated def_id.index (trees_at cx.old.entries self_ty.0) b (references_in cx.old.entries elaborated.now)) place)) }
-    ensures full { IfErr result (FullAtLimit cx.new) }
 {
     if def_id.index == SIZED {
         return Ok(None);
@@ -81,12 +80,11 @@ fn object_bound_at(
     requires self_held { Has cx.old.entries types self_ty.0 }
     requires bounds { Has cx.old.entries bounds_lists bounds.0 }
     requires applied { WithLifetime cx.old.entries bounds (λ b. Each (AreArgumentsOf declarations.now) (principal_with (trees_at cx.old.entries self_ty.0) b)) }
-    ensures grew { Grew cx.old cx.new }
+    ensures terms { GrewOrFull cx.old cx.new result }
     ensures held { IfOk result (λ o. IfSome o (λ x. ReferenceHeld cx.new.entries x.1)) }
     ensures is { let V = written cx.old.entries declarations.now in
         IfOk result (λ o. WithLifetime cx.old.entries bounds (λ b. option_map (bound_in cx.new.entries) o
         ≡ slice_get (object_bounds V def_id.index (trees_at cx.old.entries self_ty.0) b) place)) }
-    ensures full { IfErr result (FullAtLimit cx.new) }
 {
     let from = elaborated_principal(alloc, cx, declarations, self_ty, bounds)?;
     if is_dyn_compatible(declarations, from.principal, &from.elaborated) {
@@ -111,12 +109,11 @@ fn bound_candidate(
     requires traits { HaveBounds cx.old.entries declarations.now }
     requires applied { IsApplied cx.old.entries declarations.now goal.now.goal.predicate.trait_ref }
     requires bound { ReferenceHeld cx.old.entries bound }
-    ensures grew { Grew cx.old cx.new }
+    ensures terms { GrewOrFull cx.old cx.new result }
     ensures held { IfOk result (SpecHeld cx.new.entries) }
     ensures is { let V = written cx.old.entries declarations.now in let a = asked_of cx.old.entries goal.now in
         IfOk result (λ s. candidate_of V a.reference.trait cx.new.entries s
         ≡ by_rule V a (BuiltinImpl source) (all_equal a.reference.args (reference_in cx.old.entries bound).args) (supertraits V a.reference)) }
-    ensures full { IfErr result (FullAtLimit cx.new) }
 {
     let asked = goal.goal.predicate.trait_ref;
     let supertraits = declarations.supertraits(alloc, cx, asked)?;
@@ -141,11 +138,10 @@ pub fn consider_object_bound_candidate(
     requires bounds { HaveBounds cx.old.entries declarations.now }
     requires applied { IsApplied cx.old.entries declarations.now goal.now.goal.predicate.trait_ref }
     requires object { ObjectIsApplied declarations.now (trees_at cx.old.entries goal.now.goal.predicate.trait_ref.args.0) }
-    ensures grew { Grew cx.old cx.new }
+    ensures terms { GrewOrFull cx.old cx.new result }
     ensures held { IfOk result (λ o. IfSome o (SpecHeld cx.new.entries)) }
     ensures is { let V = written cx.old.entries declarations.now in let a = asked_of cx.old.entries goal.now in
         IfOk result (λ o. option_map (candidate_of V a.reference.trait cx.new.entries) o ≡ slice_get (by_objects V a) place) }
-    ensures full { IfErr result (FullAtLimit cx.new) }
 {
     let asked = goal.goal.predicate.trait_ref;
     let self_ty = asked.self_ty(cx);

@@ -1,5 +1,5 @@
 //! Equations between the arguments of references.
-ghost use Rattle.term_folds.specs.Growth.{Grew, FullAtLimit};
+ghost use Rattle.type_terms.specs.Growth.{GrewOrFull};
 ghost use Rattle.std.specs.Prelude.{◌≡◌, IfOk, IfErr, map};
 ghost use Rattle.type_terms.specs.Terms.{Has, args_lists, trees_at};
 ghost use Rattle.type_terms.specs.declared.Fault.TheVariants.{Memory};
@@ -46,10 +46,9 @@ fn paired_args(
 
 /// An equation that no terms meet: `bool` is `char`.
 fn never_met(cx: &mut Interner) -> Result<Equation, Fault>
-    ensures grew { Grew cx.old cx.new }
+    ensures terms { GrewOrFull cx.old cx.new result }
     ensures held { IfOk result (EquationHeld cx.new.entries) }
     ensures is { IfOk result (λ e. equation_read cx.new.entries e ≡ never_met) }
-    ensures full { IfErr result (FullAtLimit cx.new) }
 {
     let bool_ty = cx.mk_ty(TyKind::Bool)?;
     let char_ty = cx.mk_ty(TyKind::Char)?;
@@ -69,10 +68,9 @@ pub fn relate_args(
 ) -> Result<Vec<Equation>, Fault>
     requires left { Has cx.old.entries args_lists left.0 }
     requires right { Has cx.old.entries args_lists right.0 }
-    ensures grew { Grew cx.old cx.new }
+    ensures terms { GrewOrFull cx.old cx.new result }
     ensures held { IfOk result (λ v. Every (EquationHeld cx.new.entries) v.items) }
     ensures are { IfOk result (λ v. map (equation_read cx.new.entries) v.items ≡ all_equal (trees_at cx.old.entries left.0) (trees_at cx.old.entries right.0)) }
-    ensures full { IfErr result (FullAtLimit cx.new) }
 {
     cx.lawful();
     let (mut equations, is_longer) = paired_args(alloc, cx.args(left), cx.args(right))?;

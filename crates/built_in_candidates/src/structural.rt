@@ -1,5 +1,5 @@
 //! The types that a type is made of, as far as built-in rules ask for them (`structural_traits`).
-ghost use Rattle.term_folds.specs.Growth.{Grew, FullAtLimit};
+ghost use Rattle.type_terms.specs.Growth.{GrewOrFull};
 ghost use Rattle.std.specs.Prelude.{◌≡◌, ℕ, IfOk, IfErr, IfSome, None, map, if◌then◌else◌};
 ghost use Rattle.std.specs.List.{flat_map};
 ghost use Rattle.type_terms.specs.Label.{slice, uint};
@@ -47,10 +47,9 @@ pub(crate) fn field_with(
     requires args { Has cx.old.entries args_lists args.0 }
     requires closed { outer_binder (trees_at cx.old.entries args.0) ≡ 0 }
     requires fits { first_misfit (trees_at cx.old.entries args.0) (trees_at cx.old.entries field.0) ≡ None }
-    ensures grew { Grew cx.old cx.new }
+    ensures terms { GrewOrFull cx.old cx.new result }
     ensures held { IfOk result (λ r. Has cx.new.entries types r.0) }
     ensures is { IfOk result (λ r. trees_at cx.new.entries r.0 ≡ instantiate 0 (trees_at cx.old.entries args.0) (trees_at cx.old.entries field.0)) }
-    ensures full { IfErr result (FullAtLimit cx.new) }
 {
     closed_arguments_are_in_range();
     match EarlyBinder::bind(field).instantiate(alloc, cx, args) {
@@ -112,12 +111,11 @@ fn sized_constraint(
     requires fields { HaveFields cx.old.entries declarations.now }
     requires args { Has cx.old.entries args_lists args.0 }
     requires applied { AreArguments declarations.now def_id.index (trees_at cx.old.entries args.0) }
-    ensures grew { Grew cx.old cx.new }
+    ensures terms { GrewOrFull cx.old cx.new result }
     ensures are { IfOk result (AreConstituents (λ v. v.items) cx.new.entries sized
         (flat_map (λ x. row sized_struct (last_asked sized (fields_of x (trees_at cx.old.entries args.0))))
         (structs_named (written cx.old.entries declarations.now) def_id.index))) }
     ensures held { IfOk result (λ o. IfSome o (λ v. TypesHeld cx.new.entries v.items)) }
-    ensures full { IfErr result (FullAtLimit cx.new) }
 {
     match declarations.adt_def(def_id) {
         Some(def) => match def.fields.split_last() {
@@ -145,11 +143,10 @@ pub(crate) fn instantiate_constituent_tys_for_sized_trait(
     requires fields { HaveFields cx.old.entries declarations.now }
     requires self_held { Has cx.old.entries types self_ty.0 }
     requires applied { StructIsApplied declarations.now (trees_at cx.old.entries self_ty.0) }
-    ensures grew { Grew cx.old cx.new }
+    ensures terms { GrewOrFull cx.old cx.new result }
     ensures are { IfOk result (AreConstituents (λ v. v.items) cx.new.entries sized
         (sized_rules (written cx.old.entries declarations.now) (with_plain_head (trees_at cx.old.entries self_ty.0)))) }
     ensures held { IfOk result (λ o. IfSome o (λ v. TypesHeld cx.new.entries v.items)) }
-    ensures full { IfErr result (FullAtLimit cx.new) }
 {
     cx.lawful();
     match cx.kind(self_ty) {
@@ -252,11 +249,10 @@ fn fields_with(
     requires args { Has cx.old.entries args_lists args.0 }
     requires closed { outer_binder (trees_at cx.old.entries args.0) ≡ 0 }
     requires fits { Each (λ f. first_misfit (trees_at cx.old.entries args.0) (trees_at cx.old.entries f.0) ≡ None) fields.now }
-    ensures grew { Grew cx.old cx.new }
+    ensures terms { GrewOrFull cx.old cx.new result }
     ensures held { IfOk result (λ v. TypesHeld cx.new.entries v.items) }
     ensures are { IfOk result (λ v. field_trees cx.new.entries v.items
         ≡ map (instantiate 0 (trees_at cx.old.entries args.0)) (field_trees cx.old.entries fields.now)) }
-    ensures full { IfErr result (FullAtLimit cx.new) }
 {
     let mut found = Vec::new(alloc);
     let mut left = fields;
@@ -280,12 +276,11 @@ fn all_fields(
     requires fields { HaveFields cx.old.entries declarations.now }
     requires args { Has cx.old.entries args_lists args.0 }
     requires applied { AreArguments declarations.now def_id.index (trees_at cx.old.entries args.0) }
-    ensures grew { Grew cx.old cx.new }
+    ensures terms { GrewOrFull cx.old cx.new result }
     ensures are { IfOk result (λ o. (t : ℕ)
         → AreConstituents (λ v. v.items) cx.new.entries t (flat_map (λ x. row auto_struct (each_asked t (fields_of x (trees_at cx.old.entries args.0))))
         (structs_named (written cx.old.entries declarations.now) def_id.index)) o) }
     ensures held { IfOk result (λ o. IfSome o (λ v. TypesHeld cx.new.entries v.items)) }
-    ensures full { IfErr result (FullAtLimit cx.new) }
 {
     match declarations.adt_def(def_id) {
         Some(def) => {
@@ -299,10 +294,9 @@ fn all_fields(
 
 /// The type of a string's bytes: `[u8]`.
 fn str_bytes(cx: &mut Interner) -> Result<Ty, Fault>
-    ensures grew { Grew cx.old cx.new }
+    ensures terms { GrewOrFull cx.old cx.new result }
     ensures held { IfOk result (λ r. Has cx.new.entries types r.0) }
     ensures is { IfOk result (λ r. trees_at cx.new.entries r.0 ≡ tree slice (leaf (uint 0)) none) }
-    ensures full { IfErr result (FullAtLimit cx.new) }
 {
     let byte = cx.mk_ty(TyKind::Uint(UintTy::U8))?;
     let bytes = cx.mk_ty(TyKind::Slice(byte))?;
@@ -321,12 +315,11 @@ pub(crate) fn instantiate_constituent_tys_for_auto_trait(
     requires fields { HaveFields cx.old.entries declarations.now }
     requires self_held { Has cx.old.entries types self_ty.0 }
     requires applied { StructIsApplied declarations.now (trees_at cx.old.entries self_ty.0) }
-    ensures grew { Grew cx.old cx.new }
+    ensures terms { GrewOrFull cx.old cx.new result }
     ensures are { IfOk result (λ o. (t : ℕ)
         → AreConstituents (λ v. v.items) cx.new.entries t
         (auto_rules_plain (written cx.old.entries declarations.now) t (with_plain_head (trees_at cx.old.entries self_ty.0))) o) }
     ensures held { IfOk result (λ o. IfSome o (λ v. TypesHeld cx.new.entries v.items)) }
-    ensures full { IfErr result (FullAtLimit cx.new) }
 {
     cx.lawful();
     match cx.kind(self_ty) {

@@ -1,5 +1,5 @@
 //! Candidates by the built-in rules of `Unsize`: that of arrays, and all of them together.
-ghost use Rattle.term_folds.specs.Growth.{Grew, FullAtLimit};
+ghost use Rattle.type_terms.specs.Growth.{GrewOrFull};
 ghost use Rattle.std.specs.Prelude.{◌≡◌, ◌==◌, ℕ, true, List, [], IfOk, IfErr, IfSome, option_map};
 ghost use Rattle.std.specs.List.{slice_get};
 ghost use Rattle.type_terms.specs.Trees.{Trees, ◌+++◌};
@@ -176,12 +176,11 @@ fn unsize_to_no_dyn(
     requires applied { StructIsApplied declarations.now (trees_at cx.old.entries self_ty.0) }
     requires target_applied { StructIsApplied declarations.now (trees_at cx.old.entries target.0) }
     requires no_dyn { bounds_of (trees_at cx.old.entries target.0) ≡ None }
-    ensures grew { Grew cx.old cx.new }
+    ensures terms { GrewOrFull cx.old cx.new result }
     ensures held { IfOk result (λ o. IfSome o (SpecHeld cx.new.entries)) }
     ensures is { let V = written cx.old.entries declarations.now in let a = asked_of cx.old.entries goal.now in
         let types = with_plain_head (trees_at cx.old.entries self_ty.0) +++ trees_at cx.old.entries target.0 in
         IfOk result (λ o. option_map (candidate_of V a.reference.trait cx.new.entries) o ≡ slice_get (unsize_known V a types) place) }
-    ensures full { IfErr result (FullAtLimit cx.new) }
 {
     cx.lawful();
     let array = consider_array_to_slice_candidate(alloc, cx, goal, self_ty, target)?;
@@ -220,12 +219,11 @@ fn unsize_to(
     requires applied { StructIsApplied declarations.now (trees_at cx.old.entries self_ty.0) }
     requires object { ObjectIsApplied declarations.now (trees_at cx.old.entries self_ty.0) }
     requires target_applied { TargetIsApplied declarations.now (with_plain_head (trees_at cx.old.entries self_ty.0) +++ trees_at cx.old.entries target.0) }
-    ensures grew { Grew cx.old cx.new }
+    ensures terms { GrewOrFull cx.old cx.new result }
     ensures held { IfOk result (λ o. IfSome o (SpecHeld cx.new.entries)) }
     ensures is { let V = written cx.old.entries declarations.now in let a = asked_of cx.old.entries goal.now in
         let types = with_plain_head (trees_at cx.old.entries self_ty.0) +++ trees_at cx.old.entries target.0 in
         IfOk result (λ o. option_map (candidate_of V a.reference.trait cx.new.entries) o ≡ slice_get (unsize_known V a types) place) }
-    ensures full { IfErr result (FullAtLimit cx.new) }
 {
     cx.lawful();
     match (dyn_bounds(cx, self_ty), dyn_bounds(cx, target)) {
@@ -289,11 +287,10 @@ pub fn consider_builtin_unsize_candidate(
     requires object { ObjectIsApplied declarations.now (trees_at cx.old.entries goal.now.goal.predicate.trait_ref.args.0) }
     requires unsizing { (goal.now.goal.predicate.trait_ref.def_id.index == unsize) ≡ true
         → CanUnsize declarations.now (self_of (asked_of cx.old.entries goal.now)) }
-    ensures grew { Grew cx.old cx.new }
+    ensures terms { GrewOrFull cx.old cx.new result }
     ensures held { IfOk result (λ o. IfSome o (SpecHeld cx.new.entries)) }
     ensures is { let V = written cx.old.entries declarations.now in let a = asked_of cx.old.entries goal.now in
         IfOk result (λ o. option_map (candidate_of V a.reference.trait cx.new.entries) o ≡ slice_get (by_unsize V a) place) }
-    ensures full { IfErr result (FullAtLimit cx.new) }
 {
     cx.lawful();
     let def_id = goal.goal.predicate.trait_ref.def_id;

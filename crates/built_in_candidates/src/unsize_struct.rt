@@ -1,5 +1,5 @@
 //! The candidate by which a struct unsizes to itself with other arguments.
-ghost use Rattle.term_folds.specs.Growth.{Grew, FullAtLimit};
+ghost use Rattle.type_terms.specs.Growth.{GrewOrFull};
 ghost use Rattle.std.specs.Prelude.{◌≡◌, [], ◌∷◌, map, IfOk, IfErr, IfSome, None, if◌then◌else◌};
 ghost use Rattle.std.specs.List.{flat_map, list_any};
 ghost use Rattle.type_terms.specs.Trees.{◌+++◌, outer_binder};
@@ -95,12 +95,11 @@ fn unsizing_equations(
     requires target { Has cx.old.entries args_lists target.0 }
     requires fit { FitsStruct def.now (trees_at cx.old.entries args.0) }
     requires target_fits { FitsStruct def.now (trees_at cx.old.entries target.0) }
-    ensures grew { Grew cx.old cx.new }
+    ensures terms { GrewOrFull cx.old cx.new result }
     ensures held { IfOk result (λ v. Every (EquationHeld cx.new.entries) v.items) }
     ensures are { let fields = field_trees cx.old.entries def.now.fields.items in let b = trees_at cx.old.entries args.0 in
         let d = trees_at cx.old.entries target.0 in
         IfOk result (λ v. map (equation_read cx.new.entries) v.items ≡ all_equal (with_unsizing fields 0 b d) d) }
-    ensures full { IfErr result (FullAtLimit cx.new) }
 {
     cx.lawful();
     let list = with_unsizing(alloc, &def.unsizing_params, cx.args(args), cx.args(target))?;
@@ -112,11 +111,10 @@ fn unsizing_equations(
 fn unsizes(alloc: Global, cx: &mut Interner, source: Ty, target: Ty) -> Result<TraitRef, Fault>
     requires source { Has cx.old.entries types source.0 }
     requires target { Has cx.old.entries types target.0 }
-    ensures grew { Grew cx.old cx.new }
+    ensures terms { GrewOrFull cx.old cx.new result }
     ensures held { IfOk result (ReferenceHeld cx.new.entries) }
     ensures is { IfOk result (λ r. reference_in cx.new.entries r
         ≡ record { trait = unsize; args = trees_at cx.old.entries source.0 +++ trees_at cx.old.entries target.0 }) }
-    ensures full { IfErr result (FullAtLimit cx.new) }
 {
     let list = vec![in alloc; GenericArgKind::Ty(source), GenericArgKind::Ty(target)]?;
     let args = cx.mk_args(list)?;
@@ -141,11 +139,10 @@ fn tail_unsizes(
     requires target_closed { outer_binder (trees_at cx.old.entries target.0) ≡ 0 }
     requires fits { first_misfit (trees_at cx.old.entries args.0) (trees_at cx.old.entries tail.0) ≡ None }
     requires target_fits { first_misfit (trees_at cx.old.entries target.0) (trees_at cx.old.entries tail.0) ≡ None }
-    ensures grew { Grew cx.old cx.new }
+    ensures terms { GrewOrFull cx.old cx.new result }
     ensures held { IfOk result (ReferenceHeld cx.new.entries) }
     ensures is { IfOk result (λ r. reference_in cx.new.entries r
         ≡ tail_asked (trees_at cx.old.entries args.0) (trees_at cx.old.entries target.0) (trees_at cx.old.entries tail.0)) }
-    ensures full { IfErr result (FullAtLimit cx.new) }
 {
     let source = field_with(alloc, cx, tail, args)?;
     let goal = field_with(alloc, cx, tail, target)?;
@@ -171,13 +168,12 @@ fn struct_candidate(
     requires target_fit { FitsStruct def.now (trees_at cx.old.entries target.0) }
     requires tail_fits { first_misfit (trees_at cx.old.entries args.0) (trees_at cx.old.entries tail.0) ≡ None }
     requires target_tail_fits { first_misfit (trees_at cx.old.entries target.0) (trees_at cx.old.entries tail.0) ≡ None }
-    ensures grew { Grew cx.old cx.new }
+    ensures terms { GrewOrFull cx.old cx.new result }
     ensures held { IfOk result (SpecHeld cx.new.entries) }
     ensures is { let fields = field_trees cx.old.entries def.now.fields.items in let b = trees_at cx.old.entries args.0 in
         let d = trees_at cx.old.entries target.0 in
         IfOk result (λ s. (V : World) → candidate_of V goal.now.goal.predicate.trait_ref.def_id.index cx.new.entries s
         ≡ by_rule V (asked_of cx.old.entries goal.now) misc (all_equal (with_unsizing fields 0 b d) d) (tail_asked b d (trees_at cx.old.entries tail.0) ∷ [])) }
-    ensures full { IfErr result (FullAtLimit cx.new) }
 {
     let equations = unsizing_equations(alloc, cx, def, args, target)?;
     let premise = tail_unsizes(alloc, cx, tail, args, target)?;
@@ -202,12 +198,11 @@ fn unsize_struct(
     requires target_fit { FitsStruct def.now (trees_at cx.old.entries target.0) }
     requires fields_fit { Each (λ f. first_misfit (trees_at cx.old.entries args.0) (trees_at cx.old.entries f.0) ≡ None) def.now.fields.items }
     requires target_fields_fit { Each (λ f. first_misfit (trees_at cx.old.entries target.0) (trees_at cx.old.entries f.0) ≡ None) def.now.fields.items }
-    ensures grew { Grew cx.old cx.new }
+    ensures terms { GrewOrFull cx.old cx.new result }
     ensures held { IfOk result (λ o. IfSome o (SpecHeld cx.new.entries)) }
     ensures is { IfOk result (λ o. (V : World) (x : StructDecl) → x.fields ≡ field_trees cx.old.entries def.now.fields.items
         → candidates_of V goal.now.goal.predicate.trait_ref.def_id.index cx.new.entries o
         ≡ unsize_by_struct V (asked_of cx.old.entries goal.now) (trees_at cx.old.entries args.0) (trees_at cx.old.entries target.0) x) }
-    ensures full { IfErr result (FullAtLimit cx.new) }
 {
     match def.fields.split_last() {
         Some((tail, _)) => {
@@ -239,12 +234,11 @@ fn unsize_adt(
     requires target { Has cx.old.entries args_lists target.0 }
     requires applied { AreArguments declarations.now def_id.index (trees_at cx.old.entries args.0) }
     requires target_applied { AreArguments declarations.now def_id.index (trees_at cx.old.entries target.0) }
-    ensures grew { Grew cx.old cx.new }
+    ensures terms { GrewOrFull cx.old cx.new result }
     ensures held { IfOk result (λ o. IfSome o (SpecHeld cx.new.entries)) }
     ensures is { let V = written cx.old.entries declarations.now in let b = trees_at cx.old.entries args.0 in let d = trees_at cx.old.entries target.0 in
         IfOk result (λ o. candidates_of V goal.now.goal.predicate.trait_ref.def_id.index cx.new.entries o
         ≡ flat_map (unsize_by_struct V (asked_of cx.old.entries goal.now) b d) (structs_named V def_id.index)) }
-    ensures full { IfErr result (FullAtLimit cx.new) }
 {
     match declarations.adt_def(def_id) {
         Some(def) => unsize_struct(alloc, cx, goal, def, args, target),
@@ -297,13 +291,12 @@ pub fn consider_builtin_struct_unsize_candidate(
     requires target { Has cx.old.entries types target.0 }
     requires applied { StructIsApplied declarations.now (trees_at cx.old.entries self_ty.0) }
     requires target_applied { StructIsApplied declarations.now (trees_at cx.old.entries target.0) }
-    ensures grew { Grew cx.old cx.new }
+    ensures terms { GrewOrFull cx.old cx.new result }
     ensures held { IfOk result (λ o. IfSome o (SpecHeld cx.new.entries)) }
     ensures is { let V = written cx.old.entries declarations.now in
         let types = trees_at cx.old.entries self_ty.0 +++ trees_at cx.old.entries target.0 in
         IfOk result (λ o. candidates_of V goal.now.goal.predicate.trait_ref.def_id.index cx.new.entries o
         ≡ unsize_struct_of V (asked_of cx.old.entries goal.now) types) }
-    ensures full { IfErr result (FullAtLimit cx.new) }
 {
     cx.lawful();
     match (struct_with(cx, self_ty), struct_with(cx, target)) {

@@ -1,5 +1,5 @@
 //! The candidate by which a type unsizes to a `dyn`.
-ghost use Rattle.term_folds.specs.Growth.{Grew, FullAtLimit};
+ghost use Rattle.type_terms.specs.Growth.{GrewOrFull};
 ghost use Rattle.std.specs.Prelude.{◌≡◌, [], ◌∷◌, ◌++◌, IfOk, IfErr, IfSome};
 ghost use Rattle.type_terms.specs.Trees.{◌+++◌};
 ghost use Rattle.type_terms.specs.Rules.{asked, sized, principal_with, autos_with, unsize_to_dyn_rules};
@@ -34,10 +34,9 @@ use type_terms::{Fault, TraitId};
 /// The type up to lifetimes at its head: of a `fn` pointer it is not told how many lifetimes it binds.
 fn with_plain_head(cx: &mut Interner, ty: Ty) -> Result<Ty, Fault>
     requires { Has cx.old.entries types ty.0 }
-    ensures grew { Grew cx.old cx.new }
+    ensures terms { GrewOrFull cx.old cx.new result }
     ensures held { IfOk result (λ r. Has cx.new.entries types r.0) }
     ensures is { IfOk result (λ r. trees_at cx.new.entries r.0 ≡ with_plain_head (trees_at cx.old.entries ty.0)) }
-    ensures full { IfErr result (FullAtLimit cx.new) }
 {
     match cx.kind(ty) {
         TyKind::FnPtr(_, inputs_and_output) => {
@@ -85,11 +84,10 @@ fn with_traits_asked(
 ) -> Result<Vec<TraitRef>, Fault>
     requires first { TraitRefsHeld cx.old.entries (if_there first) }
     requires ty { Has cx.old.entries types ty.0 }
-    ensures grew { Grew cx.old cx.new }
+    ensures terms { GrewOrFull cx.old cx.new result }
     ensures held { IfOk result (λ v. TraitRefsHeld cx.new.entries v.items) }
     ensures are { IfOk result (λ v. references_in cx.new.entries v.items
         ≡ references_in cx.old.entries (if_there first) ++ traits_asked def_ids.now (trees_at cx.old.entries ty.0)) }
-    ensures full { IfErr result (FullAtLimit cx.new) }
 {
     let mut found = if_there(alloc, first)?;
     let mut left = def_ids;
@@ -113,12 +111,11 @@ fn unsizing_obligations(
     requires self_held { Has cx.old.entries types self_ty.0 }
     requires principal { TraitRefsHeld cx.old.entries (if_there principal) }
     requires bounds { Has cx.old.entries bounds_lists bounds.0 }
-    ensures grew { Grew cx.old cx.new }
+    ensures terms { GrewOrFull cx.old cx.new result }
     ensures held { IfOk result (λ v. TraitRefsHeld cx.new.entries v.items) }
     ensures are { let S = trees_at cx.old.entries self_ty.0 in
         IfOk result (λ v. WithLifetime cx.old.entries bounds (λ b. references_in cx.new.entries v.items
         ≡ references_in cx.old.entries (if_there principal) ++ (autos_with S b ++ asked sized S ∷ []))) }
-    ensures full { IfErr result (FullAtLimit cx.new) }
 {
     let autos = Vec::from_slice(alloc, &cx.bounds(bounds).autos)?;
     let mut premises = with_traits_asked(alloc, cx, principal, &autos, self_ty)?;
@@ -142,12 +139,11 @@ fn to_dyn_candidate(
     requires self_held { Has cx.old.entries types self_ty.0 }
     requires bounds { Has cx.old.entries bounds_lists bounds.0 }
     requires applied { WithLifetime cx.old.entries bounds (λ b. Each (AreArgumentsOf declarations.now) (principal_with (trees_at cx.old.entries self_ty.0) b)) }
-    ensures grew { Grew cx.old cx.new }
+    ensures terms { GrewOrFull cx.old cx.new result }
     ensures held { IfOk result (λ o. IfSome o (SpecHeld cx.new.entries)) }
     ensures is { let V = written cx.old.entries declarations.now in
         IfOk result (λ o. WithLifetime cx.old.entries bounds (λ b. candidates_of V goal.now.goal.predicate.trait_ref.def_id.index cx.new.entries o
         ≡ to_dyn V (asked_of cx.old.entries goal.now) (trees_at cx.old.entries self_ty.0) b)) }
-    ensures full { IfErr result (FullAtLimit cx.new) }
 {
     let from = elaborated_principal(alloc, cx, declarations, self_ty, bounds)?;
     if is_dyn_compatible(declarations, from.principal, &from.elaborated) {
@@ -177,13 +173,12 @@ pub fn consider_builtin_unsize_to_dyn_candidate(
     requires self_held { Has cx.old.entries types self_ty.0 }
     requires target { Has cx.old.entries types target.0 }
     requires applied { TargetIsApplied declarations.now (with_plain_head (trees_at cx.old.entries self_ty.0) +++ trees_at cx.old.entries target.0) }
-    ensures grew { Grew cx.old cx.new }
+    ensures terms { GrewOrFull cx.old cx.new result }
     ensures held { IfOk result (λ o. IfSome o (SpecHeld cx.new.entries)) }
     ensures is { let V = written cx.old.entries declarations.now in
         let types = with_plain_head (trees_at cx.old.entries self_ty.0) +++ trees_at cx.old.entries target.0 in
         IfOk result (λ o. candidates_of V goal.now.goal.predicate.trait_ref.def_id.index cx.new.entries o
         ≡ as_written V (asked_of cx.old.entries goal.now) misc (unsize_to_dyn_rules V types)) }
-    ensures full { IfErr result (FullAtLimit cx.new) }
 {
     cx.lawful();
     match (dyn_bounds(cx, self_ty), dyn_bounds(cx, target)) {

@@ -1,5 +1,5 @@
 //! Candidates by upcasts of a `dyn` to a `dyn`.
-ghost use Rattle.term_folds.specs.Growth.{Grew, FullAtLimit};
+ghost use Rattle.type_terms.specs.Growth.{GrewOrFull};
 ghost use Rattle.std.specs.Prelude.{◌≡◌, ◌==◌, ◌||◌, ◌&&◌, ◌∷◌, [], List, IfOk, IfSome, IfErr, option_map};
 ghost use Rattle.std.specs.List.{slice_get, list_all, list_any};
 ghost use Rattle.type_terms.specs.Trees.{Trees, ◌+++◌};
@@ -124,12 +124,11 @@ fn equated_candidate(
     requires goal { GoalHeld cx.old.entries goal.now.goal }
     requires left { Has cx.old.entries args_lists left.0 }
     requires right { Has cx.old.entries args_lists right.0 }
-    ensures grew { Grew cx.old cx.new }
+    ensures terms { GrewOrFull cx.old cx.new result }
     ensures held { IfOk result (SpecHeld cx.new.entries) }
     ensures is { let equations = all_equal (trees_at cx.old.entries left.0) (trees_at cx.old.entries right.0) in
         IfOk result (λ s. (V : World) → candidate_of V goal.now.goal.predicate.trait_ref.def_id.index cx.new.entries s
         ≡ by_rule V (asked_of cx.old.entries goal.now) (BuiltinImpl source) equations []) }
-    ensures full { IfErr result (FullAtLimit cx.new) }
 {
     let equations = relate_args(alloc, cx, left, right)?;
     let source = CandidateSource::BuiltinImpl(source);
@@ -168,12 +167,11 @@ fn upcast_candidate(
     requires principal { TraitRefsHeld cx.old.entries (if_there from.now.principal) }
     requires elaborated { TraitRefsHeld cx.old.entries from.now.elaborated.items }
     requires to { TraitRefsHeld cx.old.entries (if_there to) }
-    ensures grew { Grew cx.old cx.new }
+    ensures terms { GrewOrFull cx.old cx.new result }
     ensures held { IfOk result (λ o. IfSome o (SpecHeld cx.new.entries)) }
     ensures is { let a = asked_of cx.old.entries goal.now in let ps = references_in cx.old.entries (if_there from.now.principal) in
         IfOk result (λ o. (V : World) → references_in cx.old.entries from.now.elaborated.items ≡ elaborate V ps
         → option_map (candidate_of V a.reference.trait cx.new.entries) o ≡ slice_get (upcasts_to V a ps (references_in cx.old.entries (if_there to))) place) }
-    ensures full { IfErr result (FullAtLimit cx.new) }
 {
     match to {
         Some(to) => match upcast_bound(from, to.def_id, place) {
@@ -209,7 +207,7 @@ fn upcast_ends(
     requires source { Has cx.old.entries bounds_lists source.0 }
     requires target { Has cx.old.entries bounds_lists target.0 }
     requires applied { WithLifetime cx.old.entries source (λ b. Each (AreArgumentsOf declarations.now) (principal_with (trees_at cx.old.entries self_ty.0) b)) }
-    ensures grew { Grew cx.old cx.new }
+    ensures terms { GrewOrFull cx.old cx.new result }
     ensures principal_held { IfOk result (λ e. TraitRefsHeld cx.new.entries (if_there e.from.principal)) }
     ensures principal { IfOk result (λ e. WithLifetime cx.old.entries source (λ b. references_in cx.new.entries (if_there e.from.principal)
         ≡ principal_with (trees_at cx.old.entries self_ty.0) b)) }
@@ -220,7 +218,6 @@ fn upcast_ends(
     ensures to_held { IfOk result (λ e. TraitRefsHeld cx.new.entries (if_there e.to)) }
     ensures to { IfOk result
         (λ e. WithLifetime cx.old.entries target (λ b. references_in cx.new.entries (if_there e.to) ≡ principal_with (trees_at cx.old.entries self_ty.0) b)) }
-    ensures full { IfErr result (FullAtLimit cx.new) }
 {
     let from = elaborated_principal(alloc, cx, declarations, self_ty, source)?;
     let to = principal_with(alloc, cx, self_ty, target)?;
@@ -245,12 +242,11 @@ fn consider_upcast(
     requires source { Has cx.old.entries bounds_lists source.0 }
     requires target { Has cx.old.entries bounds_lists target.0 }
     requires applied { WithLifetime cx.old.entries source (λ b. Each (AreArgumentsOf declarations.now) (principal_with (trees_at cx.old.entries self_ty.0) b)) }
-    ensures grew { Grew cx.old cx.new }
+    ensures terms { GrewOrFull cx.old cx.new result }
     ensures held { IfOk result (λ o. IfSome o (SpecHeld cx.new.entries)) }
     ensures is { let V = written cx.old.entries declarations.now in let a = asked_of cx.old.entries goal.now in
         IfOk result (λ o. WithLifetime cx.old.entries source (λ b. WithLifetime cx.old.entries target (λ d.
         option_map (candidate_of V a.reference.trait cx.new.entries) o ≡ slice_get (upcasts_between V a (trees_at cx.old.entries self_ty.0) b d) place))) }
-    ensures full { IfErr result (FullAtLimit cx.new) }
 {
     let ends = upcast_ends(alloc, cx, declarations, self_ty, source, target)?;
     if can_upcast(cx, declarations, &ends.from, source, target) {
@@ -278,12 +274,11 @@ pub fn consider_builtin_dyn_upcast_candidates(
     requires declared { AreHeld cx.old.entries declarations.now }
     requires bounds { HaveBounds cx.old.entries declarations.now }
     requires object { ObjectIsApplied declarations.now (trees_at cx.old.entries self_ty.0) }
-    ensures grew { Grew cx.old cx.new }
+    ensures terms { GrewOrFull cx.old cx.new result }
     ensures held { IfOk result (λ o. IfSome o (SpecHeld cx.new.entries)) }
     ensures is { let V = written cx.old.entries declarations.now in let a = asked_of cx.old.entries goal.now in
         let args = trees_at cx.old.entries self_ty.0 +++ trees_at cx.old.entries target.0 in
         IfOk result (λ o. option_map (candidate_of V a.reference.trait cx.new.entries) o ≡ slice_get (upcasts_of V a args) place) }
-    ensures full { IfErr result (FullAtLimit cx.new) }
 {
     match (dyn_bounds(cx, self_ty), dyn_bounds(cx, target)) {
         (Some(from), Some(to)) => {

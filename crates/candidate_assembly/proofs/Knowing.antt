@@ -35,7 +35,7 @@ structs-erased p h s (x ∷ xs) = by (x.name == s) (structs-erased p h s xs)
     by true e = ap (λ b. b || list_any p (filter (λ x. x.name == s) (map erased_struct xs))) (h x) ∙ ap (λ b. p x || b) e
     by false e = e
 
-traits-erased : (p : TraitDecl → Bool) → ((x : TraitDecl) → p (erased_trait x) ≡ p x) → (t : ℕ) (xs : List TraitDecl)
+pub traits-erased : (p : TraitDecl → Bool) → ((x : TraitDecl) → p (erased_trait x) ≡ p x) → (t : ℕ) (xs : List TraitDecl)
     → list_any p (filter (λ x. x.name == t) (map erased_trait xs)) ≡ list_any p (filter (λ x. x.name == t) xs)
 traits-erased p h t [] = refl
 traits-erased p h t (x ∷ xs) = by (x.name == t) (traits-erased p h t xs)

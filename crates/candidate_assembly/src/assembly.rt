@@ -1,7 +1,7 @@
 //! How the candidates of a goal are assembled: one after the other, each told by those that were considered.
 
-ghost use Rattle.term_folds.specs.Growth.{Grew, FullAtLimit};
-ghost use Rattle.std.specs.Prelude.{◌≡◌, ◌==◌, ℕ, None, true, false, map, IfOk, IfSome, option_map, IfErr};
+ghost use Rattle.type_terms.specs.Growth.{GrewOrFull};
+ghost use Rattle.std.specs.Prelude.{◌≡◌, ◌==◌, ℕ, None, true, false, map, IfOk, IfSome, option_map};
 ghost use Rattle.std.specs.List.{slice_get};
 ghost use Rattle.type_terms.specs.Worlds.{World};
 ghost use Rattle.type_terms.specs.Rules.{unsize};
@@ -123,12 +123,11 @@ pub fn assemble_param_env_candidates(
     done: &[Considered],
 ) -> Result<Option<CandidateSpec>, Fault>
     requires { GoalHeld cx.old.entries goal.now.goal }
-    ensures grew { Grew cx.old cx.new }
+    ensures terms { GrewOrFull cx.old cx.new result }
     ensures held { IfOk result (λ o. IfSome o (SpecHeld cx.new.entries)) }
     ensures is { let a = asked_of cx.old.entries goal.now in
         IfOk result (λ o. (V : World) → ForEachPast cx.old.entries done.now (λ seen. option_map (candidate_of V a.reference.trait cx.new.entries) o
         ≡ slice_get (by_clauses V a (clauses a)) (considered_from is_clause seen))) }
-    ensures full { IfErr result (FullAtLimit cx.new) }
 {
     let place = considered_from(done, Section::WhereClauses, false);
     consider_param_env_candidate(alloc, cx, goal, place)
@@ -162,12 +161,11 @@ pub fn assemble_builtin_impl_candidates(
     requires object { ObjectIsApplied declarations.now (trees_at cx.old.entries goal.now.goal.predicate.trait_ref.args.0) }
     requires unsizing { (goal.now.goal.predicate.trait_ref.def_id.index == unsize) ≡ true
         → CanUnsize declarations.now (self_of (asked_of cx.old.entries goal.now)) }
-    ensures grew { Grew cx.old cx.new }
+    ensures terms { GrewOrFull cx.old cx.new result }
     ensures held { IfOk result (λ o. IfSome o (SpecHeld cx.new.entries)) }
     ensures is { let V = written cx.old.entries declarations.now in let a = asked_of cx.old.entries goal.now in
         IfOk result (λ o. ForEachPast cx.old.entries done.now (λ seen. option_map (candidate_of V a.reference.trait cx.new.entries) o
         ≡ slice_get (built_in V a) (considered_from (is_built_in (misc_is_bound a)) seen))) }
-    ensures full { IfErr result (FullAtLimit cx.new) }
 {
     let place = considered_from(done, Section::BuiltInRules, misc_is_bound(cx, goal));
     consider_builtin_candidate(alloc, cx, declarations, goal, place)
@@ -186,13 +184,12 @@ pub fn assemble_impl_candidates(
     requires first { StartsWithType (trees_at cx.old.entries goal.now.goal.predicate.trait_ref.args.0) }
     requires declared { AreHeld cx.old.entries declarations.now }
     requires impls { HaveCandidates cx.old.entries declarations.now }
-    ensures grew { Grew cx.old cx.new }
+    ensures terms { GrewOrFull cx.old cx.new result }
     ensures held { IfOk result (λ o. IfSome o (SpecHeld cx.new.entries)) }
     ensures is { let V = written cx.old.entries declarations.now in let a = asked_of cx.old.entries goal.now in
         IfOk result (λ o. ForEachPast cx.old.entries done.now (λ seen. option_map (candidate_of V a.reference.trait cx.new.entries) o
         ≡ slice_get (by_impls V a (impls_above (last_impl seen) V.impls)) 0)) }
     ensures rises { Rises (map (λ i. i.id) declarations.now.impls) }
-    ensures full { IfErr result (FullAtLimit cx.new) }
 {
     let last = last_impl(done);
     next_impl_candidate(alloc, cx, declarations, goal, last)

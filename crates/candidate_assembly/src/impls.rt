@@ -1,6 +1,6 @@
 //! Candidates by impls.
-ghost use Rattle.term_folds.specs.Growth.{Grew, FullAtLimit};
-ghost use Rattle.std.specs.Prelude.{◌≡◌, map, IfOk, IfSome, option_map, IfErr};
+ghost use Rattle.type_terms.specs.Growth.{GrewOrFull};
+ghost use Rattle.std.specs.Prelude.{◌≡◌, map, IfOk, IfSome, option_map};
 ghost use Rattle.std.specs.List.{slice_get};
 ghost use Rattle.type_terms.specs.Worlds.{World};
 ghost use Rattle.type_terms.specs.Terms.{trees_at};
@@ -46,14 +46,13 @@ fn instance_behind(
 ) -> Result<Instance, Fault>
     requires held { ImplHeld cx.old.entries def.now }
     requires speaks { SpeaksOfParameters cx.old.entries def.now }
-    ensures grew { Grew cx.old cx.new }
+    ensures terms { GrewOrFull cx.old cx.new result }
     ensures header_held { IfOk result (λ n. ReferenceHeld cx.new.entries n.header) }
     ensures clauses_held { IfOk result (λ n. TraitRefsHeld cx.new.entries n.clauses.items) }
     ensures variables { IfOk result (λ n. n.variables.items ≡ map var_kind def.now.params.items) }
     ensures header { IfOk result (λ n. reference_in cx.new.entries n.header ≡ rules_behind others (reference_in cx.old.entries def.now.header)) }
     ensures clauses { IfOk result (λ n. references_in cx.new.entries n.clauses.items
         ≡ map (rules_behind others) (references_in cx.old.entries def.now.clauses.items)) }
-    ensures full { IfErr result (FullAtLimit cx.new) }
 {
     let variables = variable_kinds(alloc, &def.params)?;
     let values = variables_behind(alloc, cx, others, &variables)?;
@@ -80,12 +79,11 @@ pub fn consider_impl_candidate(
     requires held { ImplHeld cx.old.entries def.now }
     requires params { StandInHeader cx.old.entries def.now }
     requires speaks { SpeaksOfParameters cx.old.entries def.now }
-    ensures grew { Grew cx.old cx.new }
+    ensures terms { GrewOrFull cx.old cx.new result }
     ensures held { IfOk result (SpecHeld cx.new.entries) }
     ensures is { IfOk result (λ s. (V : World)
         → candidate_of V goal.now.goal.predicate.trait_ref.def_id.index cx.new.entries s
         ≡ by_the_impl V (asked_of cx.old.entries goal.now) (impl_in cx.old.entries id def.now)) }
-    ensures full { IfErr result (FullAtLimit cx.new) }
 {
     let instance = instance_behind(alloc, cx, goal.variables.len(), def)?;
     let asked = goal.goal.predicate.trait_ref.args;
@@ -132,13 +130,12 @@ pub fn next_impl_candidate(
     requires first { StartsWithType (trees_at cx.old.entries goal.now.goal.predicate.trait_ref.args.0) }
     requires declared { AreHeld cx.old.entries declarations.now }
     requires impls { HaveCandidates cx.old.entries declarations.now }
-    ensures grew { Grew cx.old cx.new }
+    ensures terms { GrewOrFull cx.old cx.new result }
     ensures held { IfOk result (λ o. IfSome o (SpecHeld cx.new.entries)) }
     ensures is { let V = written cx.old.entries declarations.now in
         IfOk result (λ o. option_map (candidate_of V goal.now.goal.predicate.trait_ref.def_id.index cx.new.entries) o
         ≡ slice_get (by_impls V (asked_of cx.old.entries goal.now) (impls_above last V.impls)) 0) }
     ensures rises { Rises (map (λ i. i.id) declarations.now.impls) }
-    ensures full { IfErr result (FullAtLimit cx.new) }
 {
     match next_matching_impl(cx, declarations, goal, last) {
         Some(id) => match declarations.impl_def(id) {

@@ -1,5 +1,5 @@
 //! The variables that stand for an impl's parameters, and its references with these in their places.
-ghost use Rattle.term_folds.specs.Growth.{Grew, FullAtLimit};
+ghost use Rattle.type_terms.specs.Growth.{GrewOrFull};
 ghost use Rattle.std.specs.Prelude.{◌≡◌, map, IfOk, IfErr, None};
 ghost use Rattle.type_terms.specs.Trees.{outer_binder};
 ghost use Rattle.type_terms.specs.Worlds.{with_args, all_with_args};
@@ -63,10 +63,9 @@ pub(crate) fn variables_behind(
     others: usize,
     kinds: &[CanonicalVarKind],
 ) -> Result<Vec<GenericArgKind>, Fault>
-    ensures grew { Grew cx.old cx.new }
+    ensures terms { GrewOrFull cx.old cx.new result }
     ensures held { IfOk result (λ r. ArgsHeld cx.new.entries r.items) }
     ensures values { IfOk result (λ r. values_of cx.new.entries r.items ≡ variables_from others kinds.now) }
-    ensures full { IfErr result (FullAtLimit cx.new) }
 {
     let mut values = Vec::new(alloc);
     for (place, kind) in kinds.iter().enumerate() {
@@ -93,10 +92,9 @@ pub(crate) fn with_arguments(
     requires args { Has cx.old.entries args_lists args.0 }
     requires closed { outer_binder (trees_at cx.old.entries args.0) ≡ 0 }
     requires fits { first_misfit (trees_at cx.old.entries args.0) (trees_at cx.old.entries trait_ref.args.0) ≡ None }
-    ensures grew { Grew cx.old cx.new }
+    ensures terms { GrewOrFull cx.old cx.new result }
     ensures held { IfOk result (ReferenceHeld cx.new.entries) }
     ensures is { IfOk result (λ r. reference_in cx.new.entries r ≡ with_args (trees_at cx.old.entries args.0) (reference_in cx.old.entries trait_ref)) }
-    ensures full { IfErr result (FullAtLimit cx.new) }
 {
     closed_arguments_are_in_range();
     match EarlyBinder::bind(trait_ref).instantiate(alloc, cx, args) {
@@ -118,11 +116,10 @@ pub(crate) fn all_with_arguments(
     requires args { Has cx.old.entries args_lists args.0 }
     requires closed { outer_binder (trees_at cx.old.entries args.0) ≡ 0 }
     requires fits { Each (λ b. first_misfit (trees_at cx.old.entries args.0) (trees_at cx.old.entries b.args.0) ≡ None) references.now }
-    ensures grew { Grew cx.old cx.new }
+    ensures terms { GrewOrFull cx.old cx.new result }
     ensures held { IfOk result (λ v. TraitRefsHeld cx.new.entries v.items) }
     ensures are { IfOk result (λ v. references_in cx.new.entries v.items
         ≡ all_with_args (trees_at cx.old.entries args.0) (references_in cx.old.entries references.now)) }
-    ensures full { IfErr result (FullAtLimit cx.new) }
 {
     let mut found = Vec::new(alloc);
     let mut left = references;

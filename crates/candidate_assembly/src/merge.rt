@@ -1,7 +1,7 @@
 //! How the candidates that were considered become the answer of a trait goal.
 
-ghost use Rattle.term_folds.specs.Growth.{Grew, FullAtLimit};
-ghost use Rattle.std.specs.Prelude.{◌≡◌, List, ◌&&◌, false, IfOk, IfSome, map, reverse, option_map, is_some, IfErr};
+ghost use Rattle.type_terms.specs.Growth.{GrewOrFull};
+ghost use Rattle.std.specs.Prelude.{◌≡◌, List, ◌&&◌, false, IfOk, IfSome, map, reverse, option_map, is_some};
 ghost use Rattle.std.specs.List.{list_any};
 ghost use Rattle.type_terms.specs.Terms.{Entry};
 ghost use Rattle.infer_table.specs.declared.certainty.TypingMode.TheVariants.{PostAnalysis};
@@ -178,11 +178,10 @@ fn merge_from(
 ) -> Result<HandlerStep, Fault>
     requires held { ConsideredHeld cx.old.entries done.now }
     requires fits { ConsideredFits cx.old.entries done.now }
-    ensures grew { Grew cx.old cx.new }
+    ensures terms { GrewOrFull cx.old cx.new result }
     ensures held { IfOk result (HandlerStepHeld cx.new.entries) }
     ensures fits { IfOk result (StepFits variables.now cx.new.entries) }
     ensures is { IfOk result (MergesFrom sources variables.now cx.old.entries done.now cx.new.entries) }
-    ensures full { IfErr result (FullAtLimit cx.new) }
 {
     let responses = responses_from(alloc, done, sources)?;
     match merged(alloc, cx, variables, &responses)? {
@@ -201,11 +200,10 @@ fn take_clause(
 ) -> Result<HandlerStep, Fault>
     requires held { ConsideredHeld cx.old.entries done.now }
     requires fits { ConsideredFits cx.old.entries done.now }
-    ensures grew { Grew cx.old cx.new }
+    ensures terms { GrewOrFull cx.old cx.new result }
     ensures held { IfOk result (HandlerStepHeld cx.new.entries) }
     ensures fits { IfOk result (StepFits variables.now cx.new.entries) }
     ensures is { IfOk result (IsEnd (clause_taken variables.now) cx.old.entries done.now cx.new.entries) }
-    ensures full { IfErr result (FullAtLimit cx.new) }
 {
     match first_applicable_clause(cx, done) {
         Some((response, number)) => {
@@ -244,11 +242,10 @@ fn merge_preferred(
 ) -> Result<HandlerStep, Fault>
     requires held { ConsideredHeld cx.old.entries done.now }
     requires fits { ConsideredFits cx.old.entries done.now }
-    ensures grew { Grew cx.old cx.new }
+    ensures terms { GrewOrFull cx.old cx.new result }
     ensures held { IfOk result (HandlerStepHeld cx.new.entries) }
     ensures fits { IfOk result (StepFits variables.now cx.new.entries) }
     ensures is { IfOk result (IsEnd (end_in PostAnalysis variables.now) cx.old.entries done.now cx.new.entries) }
-    ensures full { IfErr result (FullAtLimit cx.new) }
 {
     if holds_from(done, Sources::Trivial) {
         return merge_from(alloc, cx, variables, done, Sources::Trivial);
@@ -277,11 +274,10 @@ pub fn merge_trait_candidates(
 ) -> Result<HandlerStep, Fault>
     requires held { ConsideredHeld cx.old.entries done.now }
     requires fits { ConsideredFits cx.old.entries done.now }
-    ensures grew { Grew cx.old cx.new }
+    ensures terms { GrewOrFull cx.old cx.new result }
     ensures held { IfOk result (HandlerStepHeld cx.new.entries) }
     ensures fits { IfOk result (StepFits variables.now cx.new.entries) }
     ensures is { IfOk result (IsEnd (end_in mode variables.now) cx.old.entries done.now cx.new.entries) }
-    ensures full { IfErr result (FullAtLimit cx.new) }
 {
     match mode {
         TypingMode::Coherence => merge_from(alloc, cx, variables, done, Sources::All),

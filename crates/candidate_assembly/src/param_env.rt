@@ -1,6 +1,6 @@
 //! Candidates by where-clauses.
-ghost use Rattle.term_folds.specs.Growth.{Grew, FullAtLimit};
-ghost use Rattle.std.specs.Prelude.{◌≡◌, IfOk, IfSome, option_map, IfErr};
+ghost use Rattle.type_terms.specs.Growth.{GrewOrFull};
+ghost use Rattle.std.specs.Prelude.{◌≡◌, IfOk, IfSome, option_map};
 ghost use Rattle.std.specs.List.{slice_get};
 ghost use Rattle.type_terms.specs.Worlds.{World};
 ghost use Rattle.infer_table.specs.Goals.{GoalHeld};
@@ -81,11 +81,10 @@ pub fn consider_param_env_candidate(
     place: usize,
 ) -> Result<Option<CandidateSpec>, Fault>
     requires { GoalHeld cx.old.entries goal.now.goal }
-    ensures grew { Grew cx.old cx.new }
+    ensures terms { GrewOrFull cx.old cx.new result }
     ensures held { IfOk result (λ o. IfSome o (SpecHeld cx.new.entries)) }
     ensures is { IfOk result (λ o. (V : World) → option_map (candidate_of V goal.now.goal.predicate.trait_ref.def_id.index cx.new.entries) o
         ≡ slice_get (by_clauses V (asked_of cx.old.entries goal.now) (clauses (asked_of cx.old.entries goal.now))) place) }
-    ensures full { IfErr result (FullAtLimit cx.new) }
 {
     let asked = goal.goal.predicate.trait_ref;
     match reference_at(&goal.goal.param_env, asked.def_id, place) {

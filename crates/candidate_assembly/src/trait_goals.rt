@@ -1,5 +1,5 @@
 //! What comes next for a trait goal: a candidate, or the answer.
-ghost use Rattle.term_folds.specs.Growth.{Grew, FullAtLimit};
+ghost use Rattle.type_terms.specs.Growth.{GrewOrFull};
 ghost use Rattle.std.specs.Prelude.{◌≡◌, ◌==◌, ◌&&◌, not, length, map, Some, Bool, List, IfErr, IfOk, IfSome, is_some, option_map};
 ghost use Rattle.std.specs.List.{list_any, slice_get};
 ghost use Rattle.type_terms.specs.Terms.{Entry};
@@ -130,12 +130,11 @@ fn assemble_object_bound_candidates(
     done: &[Considered],
 ) -> Result<Option<CandidateSpec>, Fault>
     requires { IsWellPosedGoal cx.old.entries declarations.now goal.now }
-    ensures grew { Grew cx.old cx.new }
+    ensures terms { GrewOrFull cx.old cx.new result }
     ensures held { IfOk result (λ o. IfSome o (SpecHeld cx.new.entries)) }
     ensures is { let V = written cx.old.entries declarations.now in let a = asked_of cx.old.entries goal.now in
         IfOk result (λ o. ForEachPast cx.old.entries done.now (λ seen. option_map (candidate_of V a.reference.trait cx.new.entries) o
         ≡ slice_get (by_objects V a) (considered_from (is_bound (misc_is_bound a)) seen))) }
-    ensures full { IfErr result (FullAtLimit cx.new) }
 {
     let place = considered_from(done, Section::ObjectBounds, misc_is_bound(cx, goal));
     consider_object_bound_candidate(alloc, cx, declarations, goal, place)
@@ -151,10 +150,9 @@ fn early_candidate(
 ) -> Result<Option<CandidateSpec>, Fault>
     requires decided { IsWellPosedGoal cx.old.entries declarations.now goal.now }
     requires done { ConsideredHeld cx.old.entries done.now }
-    ensures grew { Grew cx.old cx.new }
+    ensures terms { GrewOrFull cx.old cx.new result }
     ensures held { IfOk result (λ o. IfSome o (SpecHeld cx.new.entries)) }
     ensures is { IfOk result (IsNextBy (early_in cx.old.entries declarations.now goal.now) cx.old.entries declarations.now goal.now done.now cx.new.entries) }
-    ensures full { IfErr result (FullAtLimit cx.new) }
 {
     match assemble_param_env_candidates(alloc, cx, goal, done)? {
         Some(candidate) => Ok(Some(candidate)),
@@ -172,10 +170,9 @@ fn late_candidate(
 ) -> Result<Option<CandidateSpec>, Fault>
     requires decided { IsWellPosedGoal cx.old.entries declarations.now goal.now }
     requires done { ConsideredHeld cx.old.entries done.now }
-    ensures grew { Grew cx.old cx.new }
+    ensures terms { GrewOrFull cx.old cx.new result }
     ensures held { IfOk result (λ o. IfSome o (SpecHeld cx.new.entries)) }
     ensures is { IfOk result (IsNextBy (late_in cx.old.entries declarations.now goal.now) cx.old.entries declarations.now goal.now done.now cx.new.entries) }
-    ensures full { IfErr result (FullAtLimit cx.new) }
 {
     match assemble_impl_candidates(alloc, cx, declarations, goal, done)? {
         Some(candidate) => Ok(Some(candidate)),
@@ -194,11 +191,10 @@ fn late_candidate_unless(
 ) -> Result<Option<CandidateSpec>, Fault>
     requires decided { IsWellPosedGoal cx.old.entries declarations.now goal.now }
     requires done { ConsideredHeld cx.old.entries done.now }
-    ensures grew { Grew cx.old cx.new }
+    ensures terms { GrewOrFull cx.old cx.new result }
     ensures held { IfOk result (λ o. IfSome o (SpecHeld cx.new.entries)) }
     ensures is { IfOk result
         (IsNextBy (late_unless stops cx.old.entries declarations.now goal.now) cx.old.entries declarations.now goal.now done.now cx.new.entries) }
-    ensures full { IfErr result (FullAtLimit cx.new) }
 {
     if stops {
         Ok(None)
@@ -218,11 +214,10 @@ fn candidate_until(
 ) -> Result<Option<CandidateSpec>, Fault>
     requires decided { IsWellPosedGoal cx.old.entries declarations.now goal.now }
     requires done { ConsideredHeld cx.old.entries done.now }
-    ensures grew { Grew cx.old cx.new }
+    ensures terms { GrewOrFull cx.old cx.new result }
     ensures held { IfOk result (λ o. IfSome o (SpecHeld cx.new.entries)) }
     ensures is { IfOk result
         (IsNextBy (until stops cx.old.entries declarations.now goal.now) cx.old.entries declarations.now goal.now done.now cx.new.entries) }
-    ensures full { IfErr result (FullAtLimit cx.new) }
 {
     match early_candidate(alloc, cx, declarations, goal, done)? {
         Some(candidate) => Ok(Some(candidate)),
@@ -241,11 +236,10 @@ fn candidate_in_coherence(
 ) -> Result<Option<CandidateSpec>, Fault>
     requires decided { IsWellPosedGoal cx.old.entries declarations.now goal.now }
     requires done { ConsideredHeld cx.old.entries done.now }
-    ensures grew { Grew cx.old cx.new }
+    ensures terms { GrewOrFull cx.old cx.new result }
     ensures held { IfOk result (λ o. IfSome o (SpecHeld cx.new.entries)) }
     ensures is { IfOk result
         (IsNextBy (next_inside_in cx.old.entries declarations.now goal.now) cx.old.entries declarations.now goal.now done.now cx.new.entries) }
-    ensures full { IfErr result (FullAtLimit cx.new) }
 {
     if begins_unknowable(alloc, cx, declarations, goal, done)? {
         let candidate = consider_coherence_unknowable_candidate(alloc, cx, declarations, goal)?;
@@ -268,11 +262,10 @@ fn candidate_outside_coherence(
     requires decided { IsWellPosedGoal cx.old.entries declarations.now goal.now }
     requires done { ConsideredHeld cx.old.entries done.now }
     requires fits { ConsideredFits cx.old.entries done.now }
-    ensures grew { Grew cx.old cx.new }
+    ensures terms { GrewOrFull cx.old cx.new result }
     ensures held { IfOk result (λ o. IfSome o (SpecHeld cx.new.entries)) }
     ensures is { IfOk result
         (IsNextBy (next_outside_in cx.old.entries declarations.now goal.now) cx.old.entries declarations.now goal.now done.now cx.new.entries) }
-    ensures full { IfErr result (FullAtLimit cx.new) }
 {
     let settled = is_settled(cx, done);
     candidate_until(alloc, cx, declarations, goal, done, settled)
@@ -290,11 +283,10 @@ fn decided_candidate(
     requires decided { IsWellPosedGoal cx.old.entries declarations.now goal.now }
     requires done { ConsideredHeld cx.old.entries done.now }
     requires fits { ConsideredFits cx.old.entries done.now }
-    ensures grew { Grew cx.old cx.new }
+    ensures terms { GrewOrFull cx.old cx.new result }
     ensures held { IfOk result (λ o. IfSome o (SpecHeld cx.new.entries)) }
     ensures is { IfOk result
         (IsNextBy (next_decided cx.old.entries declarations.now goal.now) cx.old.entries declarations.now goal.now done.now cx.new.entries) }
-    ensures full { IfErr result (FullAtLimit cx.new) }
 {
     if ends_by_impl(done) {
         return late_candidate(alloc, cx, declarations, goal, done);
@@ -341,10 +333,9 @@ pub fn assemble_and_evaluate_candidates(
     requires decides { Decides cx.old.entries declarations.now goal.now decided }
     requires done { ConsideredHeld cx.old.entries done.now }
     requires fits { ConsideredFits cx.old.entries done.now }
-    ensures grew { Grew cx.old cx.new }
+    ensures terms { GrewOrFull cx.old cx.new result }
     ensures held { IfOk result (λ o. IfSome o (SpecHeld cx.new.entries)) }
     ensures is { IfOk result (IsNextBy (next_for cx.old.entries declarations.now goal.now) cx.old.entries declarations.now goal.now done.now cx.new.entries) }
-    ensures full { IfErr result (FullAtLimit cx.new) }
 {
     if decided {
         decided_candidate(alloc, cx, declarations, goal, done)
@@ -396,11 +387,10 @@ pub fn compute_trait_goal(
     requires done { ConsideredHeld cx.old.entries done.now }
     requires fits { ConsideredFits cx.old.entries done.now }
     requires history { HasHistory cx.old.entries (handled_in cx.old.entries declarations.now goal.now) done.now }
-    ensures grew { Grew cx.old cx.new }
+    ensures terms { GrewOrFull cx.old cx.new result }
     ensures held { IfOk result (HandlerStepHeld cx.new.entries) }
     ensures fits { IfOk result (StepFits goal.now.variables.items cx.new.entries) }
     ensures next { IfOk result (IsNextAfter cx.old.entries (handled_in cx.old.entries declarations.now goal.now) done.now cx.new.entries) }
-    ensures full { IfErr result (FullAtLimit cx.new) }
 {
     let decided = stays_decided(cx, declarations, goal, done);
     match assemble_and_evaluate_candidates(alloc, cx, declarations, goal, decided, done)? {

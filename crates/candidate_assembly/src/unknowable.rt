@@ -1,6 +1,6 @@
 //! The candidate for what crates that are not seen may say.
-ghost use Rattle.term_folds.specs.Growth.{Grew, FullAtLimit};
-ghost use Rattle.std.specs.Prelude.{◌≡◌, IfOk, IfErr};
+ghost use Rattle.type_terms.specs.Growth.{GrewOrFull};
+ghost use Rattle.std.specs.Prelude.{◌≡◌, IfOk};
 ghost use Rattle.infer_table.specs.Goals.{GoalHeld};
 ghost use Rattle.evaluation.specs.Readings.{SpecHeld};
 ghost use Rattle.declarations.specs.Items.{written};
@@ -29,11 +29,10 @@ pub fn consider_coherence_unknowable_candidate(
     requires declared { AreHeld cx.old.entries declarations.now }
     requires bounds { HaveBounds cx.old.entries declarations.now }
     requires applied { IsApplied cx.old.entries declarations.now goal.now.goal.predicate.trait_ref }
-    ensures grew { Grew cx.old cx.new }
+    ensures terms { GrewOrFull cx.old cx.new result }
     ensures held { IfOk result (SpecHeld cx.new.entries) }
     ensures is { IfOk result (λ s. candidate_of (written cx.old.entries declarations.now) goal.now.goal.predicate.trait_ref.def_id.index cx.new.entries s
         ≡ unknowable (written cx.old.entries declarations.now) (asked_of cx.old.entries goal.now)) }
-    ensures full { IfErr result (FullAtLimit cx.new) }
 {
     let supertraits = declarations.supertraits(alloc, cx, goal.goal.predicate.trait_ref)?;
     let nested_goals = nested_goals(alloc, goal, GoalSource::Misc, &supertraits)?;

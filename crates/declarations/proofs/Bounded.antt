@@ -53,8 +53,3 @@ pub one-more : (now new : List Entry) → Keeps now new → (rs : List TraitRef)
     → reference_in new r ≡ y → references_in now rs ++ y ∷ ys ≡ all → references_in new (rs ++ r ∷ []) ++ ys ≡ all
 one-more now new k rs r y ys all h e f =
     one-behind new rs r ys ∙ ap (λ x. references_in new rs ++ x ∷ ys) e ∙ ap (λ l. l ++ y ∷ ys) (all-same now new k rs h) ∙ f
-
--- a fault that a `?` hands on
-pub at-limit : {T A : Type 0} (r : Result T Fault) {x : Fault} → IsErrAnd r (λ y. y ≡ x) → (x ≡ Full → A) → IfErr r (λ y. y ≡ Full → A)
-at-limit (Ok y) h f = tt
-at-limit (Err y) h f = λ q. f (sym h ∙ q)

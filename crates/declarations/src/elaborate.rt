@@ -7,7 +7,7 @@ ghost use Rattle.type_terms.specs.Rules.{written_supertraits};
 ghost use Rattle.type_terms.specs.Terms.{Has, args_lists, trees_at};
 ghost use Rattle.type_terms.specs.declared.Fault.TheVariants.{Memory};
 ghost use Rattle.term_folds.specs.Arguments.{first_misfit};
-ghost use Rattle.term_folds.specs.Growth.{Grew, FullAtLimit};
+ghost use Rattle.type_terms.specs.Growth.{GrewOrFull};
 ghost use Rattle.declarations.specs.Items.{reference_in, written};
 ghost use Rattle.declarations.specs.Held.{ReferenceHeld, AreHeld};
 ghost use Rattle.declarations.specs.Elaboration.{elaborate, supertraits};
@@ -36,10 +36,9 @@ fn with_arguments(
     requires args { Has cx.old.entries args_lists args.0 }
     requires closed { outer_binder (trees_at cx.old.entries args.0) ≡ 0 }
     requires fits { first_misfit (trees_at cx.old.entries args.0) (trees_at cx.old.entries bound.args.0) ≡ None }
-    ensures grew { Grew cx.old cx.new }
+    ensures terms { GrewOrFull cx.old cx.new result }
     ensures held { IfOk result (ReferenceHeld cx.new.entries) }
     ensures is { IfOk result (λ r. reference_in cx.new.entries r ≡ with_args (trees_at cx.old.entries args.0) (reference_in cx.old.entries bound)) }
-    ensures full { IfErr result (FullAtLimit cx.new) }
 {
     closed_arguments_are_in_range();
     match EarlyBinder::bind(bound).instantiate(alloc, cx, args) {
@@ -71,11 +70,10 @@ fn instantiate_bounds(
     requires args { Has cx.old.entries args_lists args.0 }
     requires closed { outer_binder (trees_at cx.old.entries args.0) ≡ 0 }
     requires fits { Each (λ b. first_misfit (trees_at cx.old.entries args.0) (trees_at cx.old.entries b.args.0) ≡ None) bounds.now }
-    ensures grew { Grew cx.old cx.new }
+    ensures terms { GrewOrFull cx.old cx.new result }
     ensures held { IfOk result (λ v. TraitRefsHeld cx.new.entries v.items) }
     ensures are { IfOk result (λ v. references_in cx.new.entries v.items
         ≡ all_with_args (trees_at cx.old.entries args.0) (references_in cx.old.entries bounds.now)) }
-    ensures full { IfErr result (FullAtLimit cx.new) }
 {
     let mut found = Vec::new(alloc);
     let mut left = bounds;
@@ -135,12 +133,11 @@ impl Declarations {
         requires bounds { HaveBounds cx.old.entries self.now }
         requires reference { ReferenceHeld cx.old.entries trait_ref }
         requires applied { IsApplied cx.old.entries self.now trait_ref }
-        ensures grew { Grew cx.old cx.new }
+        ensures terms { GrewOrFull cx.old cx.new result }
         ensures held { IfOk result (λ v. TraitRefsHeld cx.new.entries v.items) }
         ensures applied { IfOk result (λ v. AreApplied cx.new.entries self.now v.items) }
         ensures are { IfOk result (λ v. references_in cx.new.entries v.items
             ≡ written_supertraits (written cx.old.entries self.now) (reference_in cx.old.entries trait_ref)) }
-        ensures full { IfErr result (FullAtLimit cx.new) }
     {
         match self.trait_def(trait_ref.def_id) {
             Some(def) => instantiate_bounds(alloc, cx, &def.bounds, trait_ref.args),
@@ -162,12 +159,11 @@ impl Declarations {
         requires bounds { HaveBounds cx.old.entries self.now }
         requires references { TraitRefsHeld cx.old.entries references.now }
         requires applied { AreApplied cx.old.entries self.now references.now }
-        ensures grew { Grew cx.old cx.new }
+        ensures terms { GrewOrFull cx.old cx.new result }
         ensures held { IfOk result (λ v. TraitRefsHeld cx.new.entries v.items) }
         ensures applied { IfOk result (λ v. AreApplied cx.new.entries self.now v.items) }
         ensures are { IfOk result (λ v. references_in cx.new.entries v.items
             ≡ elaborate (written cx.old.entries self.now) (references_in cx.old.entries references.now)) }
-        ensures full { IfErr result (FullAtLimit cx.new) }
     {
         let mut elaborator = Elaborator {
             stack: Vec::new(alloc),
@@ -194,12 +190,11 @@ impl Declarations {
         requires bounds { HaveBounds cx.old.entries self.now }
         requires reference { ReferenceHeld cx.old.entries trait_ref }
         requires applied { IsApplied cx.old.entries self.now trait_ref }
-        ensures grew { Grew cx.old cx.new }
+        ensures terms { GrewOrFull cx.old cx.new result }
         ensures held { IfOk result (λ v. TraitRefsHeld cx.new.entries v.items) }
         ensures applied { IfOk result (λ v. AreApplied cx.new.entries self.now v.items) }
         ensures are { IfOk result (λ v. references_in cx.new.entries v.items
             ≡ supertraits (written cx.old.entries self.now) (reference_in cx.old.entries trait_ref)) }
-        ensures full { IfErr result (FullAtLimit cx.new) }
     {
         let mut found = self.elaborate(alloc, cx, &[trait_ref])?;
         let _ = found.remove(0);

@@ -1,9 +1,9 @@
 -- Where an evaluation ends for want of room.
-use Rattle.std.proofs.Common.{◌≡◌, ℕ, arith, List, ap, inl, inr, Result, Ok, Err}
+use Rattle.std.proofs.Common.{◌≡◌, ℕ, arith, List, ap, sym, ◌∙◌, inl, inr, Result, Ok, Err}
 use Rattle.std.specs.Prelude.{IsErrAnd, IfErr}
 use Rattle.type_terms.specs.Terms.{Entry, types, consts}
 use Rattle.type_terms.specs.declared.Fault.{Fault}
-use Rattle.type_terms.specs.declared.Fault.TheVariants.{Full}
+use Rattle.type_terms.specs.declared.Fault.TheVariants.{Full, Memory}
 use Rattle.type_terms.specs.Failures.{SomeKindIsFull, full}
 use Rattle.infer_table.specs.Raw.{IsFull}
 use Rattle.infer_table.specs.declared.certainty.EqError.{EqError}
@@ -17,6 +17,15 @@ use Rattle.evaluation.specs.declared.error.EvalError.TheVariants as Eval
 pub eval-at-limit : {T A : Type 0} (r : Result T EvalError) {x : Fault} → IsErrAnd r (λ y. y ≡ Eval.Fault x) → (x ≡ Full → A) → IfErr r (λ e. e ≡ Eval.Fault Full → A)
 eval-at-limit (Ok y) h f = tt
 eval-at-limit (Err y) h f = λ q. f cc
+
+-- an error of an evaluation that is handed on
+pub again-at-limit : {T A : Type 0} (r : Result T EvalError) {x : EvalError} → IsErrAnd r (λ y. y ≡ x) → (x ≡ Eval.Fault Full → A) → IfErr r (λ e. e ≡ Eval.Fault Full → A)
+again-at-limit (Ok y) h f = tt
+again-at-limit (Err y) h f = λ q. f (sym h ∙ q)
+
+-- what fails for want of memory alone
+pub never-full : {A : Type 0} {x : Fault} → x ≡ Memory → x ≡ Full → A
+never-full m q = cc
 
 -- an error that is handed on
 pub handed-as : {T A : Type 0} (r : Result T EvalError) {e x : EvalError} → IsErrAnd r (λ y. y ≡ e) → (e ≡ x → A) → r ≡ Err x → A

@@ -1,5 +1,5 @@
 //! Answers applied to the goal that was asked.
-ghost use Rattle.term_folds.specs.Growth.{Grew, FullAtLimit};
+ghost use Rattle.type_terms.specs.Growth.{GrewOrFull};
 ghost use Rattle.std.specs.Prelude.{◌≡◌, ℕ, ◌<◌, ◌≤◌, List, ◌++◌, length, get_or, IfOk, IfErr, IfSome, OnOk, OnErr, Err, Some, None, unwrap_or, ◌==◌, if◌then◌else◌};
 ghost use Rattle.std.specs.Option.{option_or};
 ghost use Rattle.indexmap.specs.IndexSet.{insert_all};
@@ -14,7 +14,7 @@ ghost use Rattle.infer_table.specs.Values.{value_of, values_of, filled};
 ghost use Rattle.infer_table.specs.Constraints.{constraints_trees};
 ghost use Rattle.infer_table.specs.Responses.{ResponseHeld, Records};
 ghost use Rattle.infer_table.specs.Applying.{root_labels, canonical_number, original_of, next_unknown, with_unknown, unknowns_of, table_after};
-ghost use Rattle.infer_table.specs.Shortages.{EqFullAtLimit};
+ghost use Rattle.infer_table.specs.Shortages.{EqGrewOrFull};
 ghost use Rattle.infer_table.specs.Covers.{IsOfKnown, IsWellPosed};
 ghost use Rattle.infer_table.specs.Equated.{MakesEqual};
 ghost use Rattle.infer_table.specs.AnswersApplied.{known_in, values_put_in, with_unknowns_put_in, answered_constraints, left_by_answer, equated_in_turn, EquatesAnswer, RulesOutAnswer, AgreesWithNone, AgreedGoOn};
@@ -103,7 +103,7 @@ fn new_unknown(
 ) -> Result<GenericArgKind, Fault>
     requires ready { Ready cx.old.entries table.old }
     ensures ready { Ready cx.new.entries table.new }
-    ensures grew { Grew cx.old cx.new }
+    ensures terms { GrewOrFull cx.old cx.new result }
     ensures is { IfOk result (λ a. (es : List Entry) → value_of cx.new.entries a ≡ next_unknown (table_trees es table.old) kind) }
     ensures held { IfOk result (λ a. ArgHeld cx.new.entries a) }
     ensures made { OnOk result ((es : List Entry) → table_trees es table.new ≡ with_unknown (table_trees es table.old) kind) }
@@ -111,7 +111,6 @@ fn new_unknown(
     ensures constraints { table.new.constraints ≡ table.old.constraints }
     ensures grows { Grows table.old table.new }
     ensures refused { OnErr result (table.new ≡ table.old) }
-    ensures full { IfErr result (FullAtLimit cx.new) }
 {
     match kind {
         CanonicalVarKind::Ty | CanonicalVarKind::PlaceholderTy => {
@@ -139,7 +138,7 @@ fn value_or_unknown(
     requires ready { Ready cx.old.entries table.old }
     requires known { IfSome known (λ a. ArgHeld cx.old.entries a) }
     ensures ready { Ready cx.new.entries table.new }
-    ensures grew { Grew cx.old cx.new }
+    ensures terms { GrewOrFull cx.old cx.new result }
     ensures is { IfOk result (λ a. (es : List Entry)
         → value_of cx.new.entries a ≡ unwrap_or (known_in cx.old.entries known) (next_unknown (table_trees es table.old) kind)) }
     ensures held { IfOk result (λ a. ArgHeld cx.new.entries a) }
@@ -148,7 +147,6 @@ fn value_or_unknown(
     ensures constraints { table.new.constraints ≡ table.old.constraints }
     ensures grows { Grows table.old table.new }
     ensures refused { OnErr result (table.new ≡ table.old) }
-    ensures full { IfErr result (FullAtLimit cx.new) }
 {
     match known {
         Some(value) => Ok(value),
@@ -169,14 +167,13 @@ fn values_to_apply(
     requires response { ResponseHeld cx.old.entries response.now }
     requires ready { Ready cx.old.entries table.old }
     ensures ready { Ready cx.new.entries table.new }
-    ensures grew { Grew cx.old cx.new }
+    ensures terms { GrewOrFull cx.old cx.new result }
     ensures bindings { table.new.values ≡ table.old.values }
     ensures constraints { table.new.constraints ≡ table.old.constraints }
     ensures grows { Grows table.old table.new }
     ensures made { OnOk result (table_trees cx.old.entries table.new ≡ with_unknowns_put_in cx.old.entries table.old original_values.now response.now) }
     ensures held { IfOk result (λ r. ArgsHeld cx.new.entries r.items) }
     ensures values { IfOk result (λ r. values_of cx.new.entries r.items ≡ values_put_in cx.old.entries table.old original_values.now response.now) }
-    ensures full { IfErr result (FullAtLimit cx.new) }
 {
     let count = response.variables.len();
     let known = known_values(alloc, cx, count, &response.var_values, original_values)?;
@@ -197,10 +194,9 @@ fn fill_values(
 ) -> Result<Vec<GenericArgKind>, Fault>
     requires values { ArgsHeld cx.old.entries values.now }
     requires terms { ArgsHeld cx.old.entries terms.now }
-    ensures grew { Grew cx.old cx.new }
+    ensures terms { GrewOrFull cx.old cx.new result }
     ensures held { IfOk result (λ r. ArgsHeld cx.new.entries r.items) }
     ensures filled { IfOk result (λ r. args_trees cx.new.entries r.items ≡ filled (values_of cx.old.entries values.now) (args_trees cx.old.entries terms.now)) }
-    ensures full { IfErr result (FullAtLimit cx.new) }
 {
     let terms = cx.mk_args(Vec::from_slice(alloc, terms)?)?;
     let filled = terms.fold_with(alloc, cx, &CanonicalInstantiator { values })?;
@@ -223,14 +219,13 @@ fn fill_response(
 ) -> Result<FilledResponse, Fault>
     requires values { ArgsHeld cx.old.entries values.now }
     requires response { ResponseHeld cx.old.entries response.now }
-    ensures grew { Grew cx.old cx.new }
+    ensures terms { GrewOrFull cx.old cx.new result }
     ensures values_held { IfOk result (λ r. ArgsHeld cx.new.entries r.var_values.items) }
     ensures constraints_held { IfOk result (λ r. AllConstraintsHeld cx.new.entries r.region_constraints.items) }
     ensures values { IfOk result (λ r. args_trees cx.new.entries r.var_values.items
         ≡ filled (values_of cx.old.entries values.now) (args_trees cx.old.entries response.now.var_values.items)) }
     ensures constraints { IfOk result (λ r. constraints_trees cx.new.entries r.region_constraints.items
         ≡ filled (values_of cx.old.entries values.now) (constraints_trees cx.old.entries response.now.region_constraints.items)) }
-    ensures full { IfErr result (FullAtLimit cx.new) }
 {
     let var_values = fill_values(alloc, cx, values, &response.var_values)?;
     let folder = CanonicalInstantiator { values };
@@ -253,14 +248,13 @@ fn equate_values(
     requires ready { Ready cx.old.entries table.old }
     ensures ready { Ready cx.new.entries table.new }
     ensures grows { Grows table.old table.new }
-    ensures grew { Grew cx.old cx.new }
+    ensures terms { EqGrewOrFull cx.old cx.new result }
     ensures equates { OnOk result
         (MakesEqual cx.old.entries table.old cx.new.entries table.new (args_trees cx.old.entries left.now) (args_trees cx.old.entries right.now)) }
     ensures never { result ≡ Err EqError.NoSolution
         → HasNoSolution (content cx.old.entries table.old.values) (args_trees cx.old.entries left.now) (args_trees cx.old.entries right.now) }
     ensures exact { OnOk result (equated_in_turn cx.old.entries table.old left.now right.now ≡ Some (table_trees cx.new.entries table.new)) }
     ensures refusal { result ≡ Err EqError.NoSolution → equated_in_turn cx.old.entries table.old left.now right.now ≡ None }
-    ensures full { IfErr result (EqFullAtLimit cx.new) }
 {
     cx.lawful();
     if left.len() != right.len() {
@@ -302,14 +296,13 @@ fn apply(
     ensures grows { Grows table.old table.new }
     ensures unknowns { OnOk result ((k : Sort)
         → unknowns_of (with_unknowns_put_in cx.old.entries table.old original_values.now response.now) k ≤ variables_of table.new k) }
-    ensures grew { Grew cx.old cx.new }
+    ensures terms { EqGrewOrFull cx.old cx.new result }
     ensures equates { OnOk result (EquatesAnswer cx.old.entries table.old original_values.now response.now (content cx.new.entries table.new.values)) }
     ensures never { result ≡ Err EqError.NoSolution → RulesOutAnswer cx.old.entries table.old original_values.now response.now }
     ensures exact { OnOk result (left_by_answer cx.old.entries table.old original_values.now response.now ≡ Some (table_trees cx.new.entries table.new)) }
     ensures refusal { result ≡ Err EqError.NoSolution → left_by_answer cx.old.entries table.old original_values.now response.now ≡ None }
     ensures constraints { OnOk result (Records cx.new.entries table.old.constraints table.new.constraints
         (answered_constraints cx.old.entries table.old original_values.now response.now)) }
-    ensures full { IfErr result (EqFullAtLimit cx.new) }
 {
     let values = values_to_apply(alloc, cx, table, original_values, response)?;
     let filled = fill_response(alloc, cx, &values, response)?;
@@ -349,7 +342,7 @@ pub fn instantiate_and_apply_query_response(
     requires ready { Ready cx.old.entries table.old }
     ensures ready { Ready cx.new.entries table.new }
     ensures grows { Grows table.old table.new }
-    ensures grew { Grew cx.old cx.new }
+    ensures terms { EqGrewOrFull cx.old cx.new result }
 
     // The new unknowns are variables of the table.
     ensures unknowns { OnOk result ((k : Sort)
@@ -375,8 +368,7 @@ pub fn instantiate_and_apply_query_response(
         (answered_constraints cx.old.entries table.old original_values.now response.now)) }
     ensures refused { OnErr result (table.new ≡ table.old) }
 
-    // A full table names the error only where some kind of term has reached its limit.
-    ensures full { IfErr result (EqFullAtLimit cx.new) }
+// A full table names the error only where some kind of term has reached its limit.
 {
     cx.lawful();
     let place = table.snapshot();

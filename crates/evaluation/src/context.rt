@@ -1,5 +1,5 @@
 //! The context of an evaluation: the table, and the goals that are still to be asked.
-ghost use Rattle.term_folds.specs.Growth.{Grew, FullAtLimit};
+ghost use Rattle.type_terms.specs.Growth.{Grew, GrewOrFull};
 ghost use Rattle.std.specs.Prelude.{◌≡◌, List, [], ◌∷◌, ◌++◌, map, take, length, OnOk, OnErr, IfOk, IfErr, Err};
 ghost use Rattle.type_terms.specs.Terms.{Entry};
 ghost use Rattle.type_terms.specs.Kinds.{ArgHeld, ArgsHeld, arg_trees};
@@ -14,7 +14,7 @@ ghost use Rattle.evaluation.specs.Context.{Context, IsReadyContext, nested_goal}
 ghost use Rattle.evaluation.specs.OwnAnswers.{SaysWhatIsKnown, OwnAnswerSaysNothing, OwnAnswerSays, known_answer};
 ghost use Rattle.infer_table.specs.Unification.{table_trees};
 ghost use Rattle.evaluation.specs.declared.TheConstants.{FIXPOINT_STEP_LIMIT};
-ghost use Rattle.evaluation.specs.Shortages.{EvalFullAtLimit};
+ghost use Rattle.evaluation.specs.Shortages.{EvalGrewOrFull};
 ghost use Rattle.infer_table.specs.Equated.{MakesEqual, LeavesTheOlder};
 ghost use Rattle.evaluation.specs.Runs.{own_rounds, own_answer};
 ghost use Rattle.evaluation.specs.Ends.{CallEnds, AnswerEnds, AnswerHeld};
@@ -186,7 +186,7 @@ impl EvalCtxt {
         requires ready { IsReadyContext cx.old.entries self.old }
         ensures ready { IsReadyContext cx.new.entries self.new }
         ensures grows { Grows self.old.table self.new.table }
-        ensures grew { Grew cx.old cx.new }
+        ensures terms { EvalGrewOrFull cx.old cx.new result }
 
         // Nothing but the table changes.
         ensures rest { self.new ≡ record self.old { table = self.new.table } }
@@ -197,7 +197,6 @@ impl EvalCtxt {
         ensures never { result ≡ Err EvalError.NoSolution
             → HasNoSolution (content cx.old.entries self.old.table.values) (arg_trees cx.old.entries left) (arg_trees cx.old.entries right) }
         ensures refused { OnErr result (self.new ≡ self.old) }
-        ensures full { IfErr result (EvalFullAtLimit cx.new) }
     {
         match self.table.eq(cx, left, right) {
             Ok(()) => Ok(()),
@@ -219,7 +218,7 @@ impl EvalCtxt {
         requires ready { IsReadyContext cx.old.entries self.old }
         ensures ready { IsReadyContext cx.new.entries self.new }
         ensures grows { Grows self.old.table self.new.table }
-        ensures grew { Grew cx.old cx.new }
+        ensures terms { EvalGrewOrFull cx.old cx.new result }
         ensures rest { self.new ≡ record self.old { table = self.new.table } }
         ensures equates { OnOk result
             (MakesEqual cx.old.entries self.old.table cx.new.entries self.new.table (arg_trees cx.old.entries left) (arg_trees cx.old.entries right)) }
@@ -228,7 +227,6 @@ impl EvalCtxt {
         ensures never { result ≡ Err EvalError.NoSolution
             → HasNoSolution (content cx.old.entries self.old.table.values) (arg_trees cx.old.entries left) (arg_trees cx.old.entries right) }
         ensures refused { OnErr result (self.new ≡ self.old) }
-        ensures full { IfErr result (EvalFullAtLimit cx.new) }
     {
         self.eq(cx, left, right)
     }
@@ -255,12 +253,11 @@ impl EvalCtxt {
         cause: MaybeCause,
     ) -> Result<CanonicalResponse, Fault>
         requires ready { IsReadyContext cx.old.entries self.now }
-        ensures grew { Grew cx.old cx.new }
+        ensures terms { GrewOrFull cx.old cx.new result }
         ensures certainty { IfOk result (λ r. r.certainty ≡ Certainty.Maybe cause) }
         ensures says { IfOk result (λ r. OwnAnswerSays cx.old.entries cx.new.entries self.now r (Certainty.Maybe cause)) }
         ensures held { IfOk result (λ r. ResponseHeld cx.new.entries r) }
         ensures is { IfOk result (λ r. answer_trees cx.new.entries r ≡ own_answer cx.old.entries self.now (Certainty.Maybe cause)) }
-        ensures full { IfErr result (FullAtLimit cx.new) }
         ensures overflow { cause ≡ MaybeCause.Overflow → result ≡ Err Fault.Full → IsFull cx.new.entries cx.new.limit }
     {
         self.answer(cx, Certainty::Maybe(cause))
@@ -273,12 +270,11 @@ impl EvalCtxt {
         certainty: Certainty,
     ) -> Result<CanonicalResponse, Fault>
         requires ready { IsReadyContext cx.old.entries self.now }
-        ensures grew { Grew cx.old cx.new }
+        ensures terms { GrewOrFull cx.old cx.new result }
         ensures certainty { IfOk result (λ r. r.certainty ≡ certainty) }
         ensures says { IfOk result (λ r. OwnAnswerSays cx.old.entries cx.new.entries self.now r certainty) }
         ensures held { IfOk result (λ r. ResponseHeld cx.new.entries r) }
         ensures is { IfOk result (λ r. answer_trees cx.new.entries r ≡ own_answer cx.old.entries self.now certainty) }
-        ensures full { IfErr result (FullAtLimit cx.new) }
         ensures overflow { certainty ≡ Certainty.Maybe MaybeCause.Overflow → result ≡ Err Fault.Full → IsFull cx.new.entries cx.new.limit }
     {
         match certainty {
@@ -295,13 +291,12 @@ impl EvalCtxt {
         certainty: Certainty,
     ) -> Result<CanonicalResponse, Fault>
         requires ready { IsReadyContext cx.old.entries self.now }
-        ensures grew { Grew cx.old cx.new }
+        ensures terms { GrewOrFull cx.old cx.new result }
         ensures certainty { IfOk result (λ r. r.certainty ≡ certainty) }
         ensures says { IfOk result (λ r. SaysWhatIsKnown cx.old.entries cx.new.entries self.now r) }
         ensures held { IfOk result (λ r. ResponseHeld cx.new.entries r) }
         ensures is { IfOk result (λ r. answer_trees cx.new.entries r
             ≡ known_answer (values_of cx.old.entries self.now.values) (table_trees cx.old.entries self.now.table) certainty) }
-        ensures full { IfErr result (FullAtLimit cx.new) }
     {
         let alloc = *self.values.allocator();
         let answer = canonicalize_response(alloc, cx, &self.table, certainty, &self.values)?;
@@ -343,9 +338,8 @@ impl EvalCtxt {
         requires ready { IsReadyContext cx.old.entries self.old }
         ensures ready { IsReadyContext cx.new.entries self.new }
         ensures grows { Grows self.old.table self.new.table }
-        ensures grew { Grew cx.old cx.new }
+        ensures terms { EvalGrewOrFull cx.old cx.new result }
         ensures runs { CallEnds self.old.mode cx.new.entries self.old self.new (own_rounds cx.old.entries self.old) result }
-        ensures full { IfErr result (EvalFullAtLimit cx.new) }
     {
         let evaluated = self.evaluate_nested_goals(cx)?;
         match evaluated {
@@ -367,10 +361,9 @@ impl EvalCtxt {
         requires ready { IsReadyContext cx.old.entries self.old }
         ensures ready { IsReadyContext cx.new.entries self.new }
         ensures grows { Grows self.old.table self.new.table }
-        ensures grew { Grew cx.old cx.new }
+        ensures terms { EvalGrewOrFull cx.old cx.new result }
         ensures held { IfOk result (λ s. AnswerHeld cx.new.entries s) }
         ensures runs { AnswerEnds self.old.mode cx.new.entries self.old self.new certainty (own_rounds cx.old.entries self.old) result }
-        ensures full { IfErr result (EvalFullAtLimit cx.new) }
     {
         let before = self.table.snapshot();
         let evaluated = self.evaluate_nested_goals(cx)?;
@@ -396,12 +389,11 @@ impl EvalCtxt {
         requires ready { IsReadyContext cx.old.entries self.old }
         ensures ready { IsReadyContext cx.new.entries self.new }
         ensures grows { Grows self.old.table self.new.table }
-        ensures grew { Grew cx.old cx.new }
+        ensures terms { EvalGrewOrFull cx.old cx.new result }
         ensures held { IfOk result (λ e. RoundsHeld cx.new.entries e) }
         ensures rest { self.new ≡ record self.old { table = self.new.table } }
         ensures undone { IsUndone self.old self.new result }
         ensures runs { RoundsEnd self.old.mode cx.new.entries self.new.table (own_rounds cx.old.entries self.old) result }
-        ensures full { IfErr result (EvalFullAtLimit cx.new) }
     {
         let before = self.table.snapshot();
         match self.run_rounds(cx) {
@@ -422,11 +414,10 @@ impl EvalCtxt {
         requires ready { IsReadyContext cx.old.entries self.old }
         ensures ready { IsReadyContext cx.new.entries self.new }
         ensures grows { Grows self.old.table self.new.table }
-        ensures grew { Grew cx.old cx.new }
+        ensures terms { EvalGrewOrFull cx.old cx.new result }
         ensures held { IfOk result (λ e. RoundsHeld cx.new.entries e) }
         ensures rest { self.new ≡ record self.old { table = self.new.table } }
         ensures runs { RoundsEnd self.old.mode cx.new.entries self.new.table (own_rounds cx.old.entries self.old) result }
-        ensures full { IfErr result (EvalFullAtLimit cx.new) }
     {
         let alloc = *self.values.allocator();
         let goals = self.nested_goals.clone()?;

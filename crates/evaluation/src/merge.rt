@@ -1,6 +1,6 @@
 //! The merge of the responses of candidates.
 
-ghost use Rattle.term_folds.specs.Growth.{Grew};
+ghost use Rattle.type_terms.specs.Growth.{Grew};
 ghost use Rattle.std.specs.Prelude.{◌≡◌, Bool, List, [], None, Err, map, position, IfOk, IfErr, IfSome, option_map, ◌↔◌};
 ghost use Rattle.std.specs.List.{list_all, All};
 ghost use Rattle.infer_table.specs.declared.certainty.Certainty.{Certainty};

@@ -1,5 +1,4 @@
 //! Candidates whose evaluation goes on where it stopped.
-ghost use Rattle.term_folds.specs.Growth.{Grew};
 ghost use Rattle.std.specs.Prelude.{◌≡◌, ℕ, ◌+◌, ◌*◌, length, ◌∷◌, ◌++◌, [], ◌||◌, true, false, map, option_map, IfOk, IfErr, Some, Err};
 ghost use Rattle.type_terms.specs.Kinds.{ArgsHeld};
 ghost use Rattle.infer_table.specs.Certainties.{joined};
@@ -8,7 +7,7 @@ ghost use Rattle.evaluation.specs.Context.{NestedHeld, GoalIsHeld, nested_goal};
 ghost use Rattle.evaluation.specs.Evaluating.{certainty_with};
 ghost use Rattle.evaluation.specs.declared.TheConstants.{FIXPOINT_STEP_LIMIT};
 ghost use Rattle.evaluation.specs.Readings.{ResultHeld};
-ghost use Rattle.evaluation.specs.Shortages.{EvalFullAtLimit};
+ghost use Rattle.evaluation.specs.Shortages.{EvalGrewOrFull};
 ghost use Rattle.evaluation.specs.Script.{done};
 ghost use Rattle.evaluation.specs.OpenCandidates.{answer_with, rest_script, rounds_script, after_reply, StandsAt, EvaluationHeld, OpenHeld, CandidateHeld, CandidateIsOver, brings_values, is_definite, most_questions, questions_left, AsksAtMost};
 ghost use Rattle.evaluation.specs.Replayed.{BeginningReplays, ResumingReplays};
@@ -170,11 +169,10 @@ impl Evaluation {
         requires left { NestedHeld cx.old.entries (map nested_goal round.left.items) }
         requires goal { GoalIsHeld cx.old.entries (nested_goal goal) }
         requires goals { NestedHeld cx.old.entries (map nested_goal goals.items) }
-        ensures grew { Grew cx.old cx.new }
+        ensures terms { EvalGrewOrFull cx.old cx.new result }
         ensures held { IfOk result (λ s. CandidateHeld cx.new.entries s) }
         ensures stands { StandsAt cx.new.entries (rest_script cx.old.entries self rounds_left round (goal ∷ goals.items)) result }
         ensures most { IfOk result (AsksAtMost (most_questions rounds_left (length round.left.items) (length goals.items + 1))) }
-        ensures full { IfErr result (EvalFullAtLimit cx.new) }
     {
         let asked = question_for(alloc, cx, self.mode, &self.table, &goal)?;
         let Canonicalized { input, values } = asked;
@@ -193,11 +191,10 @@ impl Evaluation {
     /// The answer, as sure as the candidate and its goals together.
     fn answer(self, cx: &mut Interner, of_goals: Certainty) -> Result<CandidateStep, EvalError>
         requires evaluation { EvaluationHeld cx.old.entries self }
-        ensures grew { Grew cx.old cx.new }
+        ensures terms { EvalGrewOrFull cx.old cx.new result }
         ensures held { IfOk result (λ s. CandidateHeld cx.new.entries s) }
         ensures stands { StandsAt cx.new.entries (done (Some (answer_with cx.old.entries self of_goals))) result }
         ensures over { IfOk result CandidateIsOver }
-        ensures full { IfErr result (EvalFullAtLimit cx.new) }
     {
         let Evaluation {
             mode,
@@ -223,11 +220,10 @@ impl Evaluation {
         requires evaluation { EvaluationHeld cx.old.entries self }
         requires left { NestedHeld cx.old.entries (map nested_goal round.left.items) }
         requires goals { NestedHeld cx.old.entries (map nested_goal goals.items) }
-        ensures grew { Grew cx.old cx.new }
+        ensures terms { EvalGrewOrFull cx.old cx.new result }
         ensures held { IfOk result (λ s. CandidateHeld cx.new.entries s) }
         ensures stands { StandsAt cx.new.entries (rest_script cx.old.entries self rounds_left round goals.items) result }
         ensures most { IfOk result (AsksAtMost (most_questions rounds_left (length round.left.items) (length goals.items))) }
-        ensures full { IfErr result (EvalFullAtLimit cx.new) }
     {
         if let Some(goal) = goals.pop_front() {
             return self.ask(alloc, cx, rounds_left, round, goal, goals);
@@ -252,11 +248,10 @@ impl Evaluation {
     ) -> Result<CandidateStep, EvalError>
         requires evaluation { EvaluationHeld cx.old.entries self }
         requires goals { NestedHeld cx.old.entries (map nested_goal goals.items) }
-        ensures grew { Grew cx.old cx.new }
+        ensures terms { EvalGrewOrFull cx.old cx.new result }
         ensures held { IfOk result (λ s. CandidateHeld cx.new.entries s) }
         ensures stands { StandsAt cx.new.entries (rounds_script cx.old.entries self goals.items) result }
         ensures most { IfOk result (AsksAtMost (FIXPOINT_STEP_LIMIT * length goals.items)) }
-        ensures full { IfErr result (EvalFullAtLimit cx.new) }
     {
         let round = OpenRound::new(alloc);
         self.go_on(alloc, cx, FIXPOINT_STEP_LIMIT - 1, round, goals)
@@ -277,13 +272,12 @@ impl OpenCandidate {
     ) -> Result<CandidateStep, EvalError>
         requires held { OpenHeld cx.old.entries self }
         requires reply { ResultHeld cx.old.entries reply }
-        ensures grew { Grew cx.old cx.new }
+        ensures terms { EvalGrewOrFull cx.old cx.new result }
         ensures held { IfOk result (λ s. CandidateHeld cx.new.entries s) }
         ensures stands { StandsAt cx.new.entries (after_reply cx.old.entries self (option_map (answer_trees cx.old.entries) reply)) result }
 
         // It asks fewer questions than it could before.
         ensures fewer { IfOk result (λ s. (n : ℕ) → n + 1 ≡ questions_left self → AsksAtMost n s) }
-        ensures full { IfErr result (EvalFullAtLimit cx.new) }
     {
         let OpenCandidate {
             mut evaluation,

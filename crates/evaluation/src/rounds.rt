@@ -1,6 +1,6 @@
 //! The rounds in which the nested goals of a context are asked, over the replies that are there.
-ghost use Rattle.term_folds.specs.Growth.{Grew, FullAtLimit};
-ghost use Rattle.std.specs.Prelude.{◌≡◌, not, List, map, OnOk, IfOk, IfErr, Ok, Err, Some, None};
+ghost use Rattle.type_terms.specs.Growth.{GrewOrFull};
+ghost use Rattle.std.specs.Prelude.{◌≡◌, not, List, map, OnOk, IfOk, Ok, Err, Some, None};
 ghost use Rattle.type_terms.specs.Trees.{is_sort};
 ghost use Rattle.type_terms.specs.Terms.{Entry};
 ghost use Rattle.type_terms.specs.Kinds.{ArgsHeld};
@@ -15,7 +15,7 @@ ghost use Rattle.infer_table.specs.Goals.{GoalHeld};
 ghost use Rattle.infer_table.specs.Responses.{ResponseHeld, answer_trees};
 ghost use Rattle.infer_table.specs.Answers.{have_same_sorts, is_answer_to};
 ghost use Rattle.evaluation.specs.Context.{GoalIsHeld, NestedHeld, nested_goal};
-ghost use Rattle.evaluation.specs.Shortages.{EvalFullAtLimit};
+ghost use Rattle.evaluation.specs.Shortages.{EvalGrewOrFull};
 ghost use Rattle.evaluation.specs.Evaluating.{IsAskedBy, values_asked, certainty_with};
 ghost use Rattle.evaluation.specs.Steps.{RoundEnds, RoundsEnd, RoundHeld, RoundsHeld};
 ghost use Rattle.infer_table.specs.Values.{sort_of_arg, values_of};
@@ -64,12 +64,11 @@ pub(crate) fn question_for(
     requires held { GoalIsHeld cx.old.entries (nested_goal nested.now) }
     requires ready { Ready cx.old.entries table.now }
     ensures ready { Ready cx.new.entries table.now }
-    ensures grew { Grew cx.old cx.new }
+    ensures terms { GrewOrFull cx.old cx.new result }
     ensures held { IfOk result (λ r. ArgsHeld cx.new.entries r.values.items) }
     ensures asked { IfOk result (λ r. GoalHeld cx.new.entries r.input.goal) }
     ensures question { IfOk result (λ r. IsAskedBy mode cx.old.entries table.now (nested_goal nested.now) cx.new.entries r.input) }
     ensures values { IfOk result (λ r. values_of cx.new.entries r.values.items ≡ values_asked cx.old.entries table.now (nested_goal nested.now)) }
-    ensures full { IfErr result (FullAtLimit cx.new) }
 {
     let asked = canonicalize_goal(alloc, cx, table, mode, &nested.1)?;
     cx.lawful();
@@ -123,10 +122,9 @@ pub(crate) fn apply_response(
     requires ready { Ready cx.old.entries table.old }
     ensures ready { Ready cx.new.entries table.new }
     ensures grows { Grows table.old table.new }
-    ensures grew { Grew cx.old cx.new }
+    ensures terms { EvalGrewOrFull cx.old cx.new result }
     ensures applied { OnOk result (with_response cx.old.entries table.old values.now response.now ≡ Some (table_trees cx.new.entries table.new)) }
     ensures refused { result ≡ Err EvalError.NoSolution → with_response cx.old.entries table.old values.now response.now ≡ None }
-    ensures full { IfErr result (EvalFullAtLimit cx.new) }
 {
     if !is_answer_to(values, response) {
         return Ok(());
@@ -172,12 +170,11 @@ pub(crate) fn round<'a>(
     requires left { NestedHeld cx.old.entries (map nested_goal left.old.items) }
     ensures ready { Ready cx.new.entries table.new }
     ensures grows { Grows table.old table.new }
-    ensures grew { Grew cx.old cx.new }
+    ensures terms { EvalGrewOrFull cx.old cx.new result }
     ensures left { OnOk result (NestedHeld cx.new.entries (map nested_goal left.new.items)) }
     ensures held { IfOk result (λ e. RoundHeld cx.new.entries e) }
     ensures runs { RoundEnds mode cx.new.entries table.new (map nested_goal left.old.items)
         (map nested_goal left.new.items) (round_of mode cx.old.entries goals.now table.old replies.now) result }
-    ensures full { IfErr result (EvalFullAtLimit cx.new) }
 {
     let [goal, goals @ ..] = goals else {
         return Ok(RoundStep::Ended(false, Certainty::Yes, replies));
@@ -223,10 +220,9 @@ pub(crate) fn rounds(
     requires replies { Every (ResultHeld cx.old.entries) replies.now }
     ensures ready { Ready cx.new.entries table.new }
     ensures grows { Grows table.old table.new }
-    ensures grew { Grew cx.old cx.new }
+    ensures terms { EvalGrewOrFull cx.old cx.new result }
     ensures held { IfOk result (λ e. RoundsHeld cx.new.entries e) }
     ensures runs { RoundsEnd mode cx.new.entries table.new (rounds_of mode limit cx.old.entries goals.items table.old replies.now) result }
-    ensures full { IfErr result (EvalFullAtLimit cx.new) }
 {
     if limit == 0 {
         return Ok(RoundsStep::Ended(goals, Certainty::Maybe(MaybeCause::Overflow)));

@@ -1,5 +1,5 @@
 //! Candidates: how their evaluation begins, and evaluated anew over the replies that are there.
-ghost use Rattle.term_folds.specs.Growth.{Grew, FullAtLimit};
+ghost use Rattle.type_terms.specs.Growth.{GrewOrFull};
 ghost use Rattle.std.specs.Prelude.{◌≡◌, ◌*◌, length, map, List, [], ◌∷◌, ◌++◌, OnOk, IfOk, IfErr, Option, Some, None, option_map, Err};
 ghost use Rattle.type_terms.specs.Terms.{Entry};
 ghost use Rattle.type_terms.specs.Kinds.{ArgHeld, ArgsHeld, arg_trees};
@@ -16,7 +16,7 @@ ghost use Rattle.evaluation.specs.Context.{IsReadyContext};
 ghost use Rattle.evaluation.specs.Ends.{AnswerHeld};
 ghost use Rattle.evaluation.specs.Evaluating.{goals_trees, replies_trees};
 ghost use Rattle.evaluation.specs.Frames.{begun, fresh, equate, unknowns, with_unknowns, solved};
-ghost use Rattle.evaluation.specs.Shortages.{EvalFullAtLimit};
+ghost use Rattle.evaluation.specs.Shortages.{EvalGrewOrFull};
 ghost use Rattle.evaluation.specs.Runs.{candidate_of, nested_of, equations_filled, equation_filled, constraints_filled, premises_filled};
 ghost use Rattle.evaluation.specs.Trial.{asked, candidate, equations_trees, premises_trees, spec_trees};
 ghost use Rattle.evaluation.specs.TrialEnds.{trial_trees, IsTried, CandidateEnds};
@@ -73,10 +73,9 @@ pub fn evaluate_candidate(
 ) -> Result<EvalStep<CanonicalResponse>, EvalError>
     requires spec { SpecHeld cx.old.entries spec.now }
     requires replies { Every (ResultHeld cx.old.entries) replies.now }
-    ensures grew { Grew cx.old cx.new }
+    ensures terms { EvalGrewOrFull cx.old cx.new result }
     ensures held { IfOk result (λ s. AnswerHeld cx.new.entries s) }
     ensures runs { CandidateEnds cx.new.entries (candidate_of cx.old.entries input.now spec.now replies.now) result }
-    ensures full { IfErr result (EvalFullAtLimit cx.new) }
 {
     let trial = try_candidate(alloc, cx, input, spec)?;
     evaluate_nested(alloc, cx, trial, input, spec, replies)
@@ -90,7 +89,7 @@ fn try_candidate(
     spec: &CandidateSpec,
 ) -> Result<Trial, EvalError>
     requires spec { SpecHeld cx.old.entries spec.now }
-    ensures grew { Grew cx.old cx.new }
+    ensures terms { EvalGrewOrFull cx.old cx.new result }
     ensures ready { IfOk result (λ t. Ready cx.new.entries t.table) }
     ensures own { IfOk result (λ t. ArgsHeld cx.new.entries t.own.items) }
     ensures values { IfOk result (λ t. ArgsHeld cx.new.entries t.values.items) }
@@ -98,7 +97,6 @@ fn try_candidate(
         (λ t. IsTried input.now.variables.items (spec_trees cx.old.entries spec.now) (trial_trees cx.new.entries input.now.variables.items t)) }
     ensures refused { result ≡ Err EvalError.NoSolution →
         equate (fresh (begun input.now.variables.items) spec.now.variables.items) (equations_trees cx.old.entries spec.now.equations.items) ≡ None }
-    ensures full { IfErr result (EvalFullAtLimit cx.new) }
 {
     let mut trial = begin(alloc, cx, input, &spec.variables)?;
     equate_all(alloc, cx, &mut trial.table, &trial.values, &spec.equations)?;
@@ -119,12 +117,11 @@ fn begin(
     input: &CanonicalInput,
     variables: &[CanonicalVarKind],
 ) -> Result<Trial, Fault>
-    ensures grew { Grew cx.old cx.new }
+    ensures terms { GrewOrFull cx.old cx.new result }
     ensures ready { IfOk result (λ t. Ready cx.new.entries t.table) }
     ensures own { IfOk result (λ t. ArgsHeld cx.new.entries t.own.items) }
     ensures values { IfOk result (λ t. ArgsHeld cx.new.entries t.values.items) }
     ensures is { IfOk result (λ t. trial_trees cx.new.entries input.now.variables.items t ≡ fresh (begun input.now.variables.items) variables.now) }
-    ensures full { IfErr result (FullAtLimit cx.new) }
 {
     let mut table = InferCtxt::new(alloc);
     let own = next_values(alloc, cx, &mut table, &input.variables)?;
@@ -144,12 +141,11 @@ fn add_unknowns(
     requires ready { Ready cx.old.entries table.old }
     requires held { ArgsHeld cx.old.entries values.old.items }
     ensures ready { Ready cx.new.entries table.new }
-    ensures grew { Grew cx.old cx.new }
+    ensures terms { GrewOrFull cx.old cx.new result }
     ensures held { OnOk result (ArgsHeld cx.new.entries values.new.items) }
     ensures values { OnOk result (values_of cx.new.entries values.new.items
         ≡ values_of cx.old.entries values.old.items ++ unknowns (table_trees cx.old.entries table.old) kinds.now) }
     ensures made { OnOk result (table_trees cx.new.entries table.new ≡ with_unknowns (table_trees cx.old.entries table.old) kinds.now) }
-    ensures full { IfErr result (FullAtLimit cx.new) }
 {
     for kind in kinds {
         let unknown = new_unknown(cx, table, *kind)?;
@@ -166,11 +162,10 @@ fn new_unknown(
 ) -> Result<GenericArgKind, Fault>
     requires ready { Ready cx.old.entries table.old }
     ensures ready { Ready cx.new.entries table.new }
-    ensures grew { Grew cx.old cx.new }
+    ensures terms { GrewOrFull cx.old cx.new result }
     ensures is { IfOk result (λ a. (es : List Entry) → value_of cx.new.entries a ≡ next_unknown (table_trees es table.old) kind) }
     ensures held { IfOk result (λ a. ArgHeld cx.new.entries a) }
     ensures made { OnOk result ((es : List Entry) → table_trees es table.new ≡ with_unknown (table_trees es table.old) kind) }
-    ensures full { IfErr result (FullAtLimit cx.new) }
 {
     match kind {
         CanonicalVarKind::Ty | CanonicalVarKind::PlaceholderTy => {
@@ -200,12 +195,11 @@ fn equate_all(
     requires values { ArgsHeld cx.old.entries values.now }
     requires equations { Every (EquationHeld cx.old.entries) equations.now }
     ensures ready { Ready cx.new.entries table.new }
-    ensures grew { Grew cx.old cx.new }
+    ensures terms { EvalGrewOrFull cx.old cx.new result }
     ensures solved { OnOk result (solved (table_trees cx.old.entries table.old) (equations_filled cx.old.entries values.now equations.now)
         ≡ Some (table_trees cx.new.entries table.new)) }
     ensures refused { result ≡ Err EvalError.NoSolution
         → solved (table_trees cx.old.entries table.old) (equations_filled cx.old.entries values.now equations.now) ≡ None }
-    ensures full { IfErr result (EvalFullAtLimit cx.new) }
 {
     for equation in equations {
         equate(alloc, cx, table, values, equation)?;
@@ -225,12 +219,11 @@ fn equate(
     requires values { ArgsHeld cx.old.entries values.now }
     requires equation { EquationHeld cx.old.entries equation.now }
     ensures ready { Ready cx.new.entries table.new }
-    ensures grew { Grew cx.old cx.new }
+    ensures terms { EvalGrewOrFull cx.old cx.new result }
     ensures solved { OnOk result (unified (table_trees cx.old.entries table.old) (equation_filled cx.old.entries values.now equation.now)
         ≡ Some (table_trees cx.new.entries table.new)) }
     ensures refused { result ≡ Err EvalError.NoSolution
         → unified (table_trees cx.old.entries table.old) (equation_filled cx.old.entries values.now equation.now) ≡ None }
-    ensures full { IfErr result (EvalFullAtLimit cx.new) }
 {
     let left = fill(alloc, cx, values, equation.left)?;
     let right = fill(alloc, cx, values, equation.right)?;
@@ -249,10 +242,9 @@ fn fill(
 ) -> Result<GenericArgKind, Fault>
     requires values { ArgsHeld cx.old.entries values.now }
     requires term { ArgHeld cx.old.entries term }
-    ensures grew { Grew cx.old cx.new }
+    ensures terms { GrewOrFull cx.old cx.new result }
     ensures held { IfOk result (λ a. ArgHeld cx.new.entries a) }
     ensures filled { IfOk result (λ a. arg_trees cx.new.entries a ≡ filled (values_of cx.old.entries values.now) (arg_trees cx.old.entries term)) }
-    ensures full { IfErr result (FullAtLimit cx.new) }
 {
     term.fold_with(alloc, cx, &CanonicalInstantiator { values })
 }
@@ -269,10 +261,9 @@ fn record_constraints(
     requires values { ArgsHeld cx.old.entries values.now }
     requires constraints { AllConstraintsHeld cx.old.entries constraints.now }
     ensures ready { Ready cx.new.entries table.new }
-    ensures grew { Grew cx.old cx.new }
+    ensures terms { GrewOrFull cx.old cx.new result }
     ensures recorded { OnOk result (table_trees cx.new.entries table.new
         ≡ with_constraints (constraints_filled cx.old.entries values.now constraints.now) (table_trees cx.old.entries table.old)) }
-    ensures full { IfErr result (FullAtLimit cx.new) }
 {
     for constraint in constraints {
         record_constraint(alloc, cx, table, values, *constraint)?;
@@ -292,10 +283,9 @@ fn record_constraint(
     requires values { ArgsHeld cx.old.entries values.now }
     requires constraint { IsHeldConstraint cx.old.entries constraint }
     ensures ready { Ready cx.new.entries table.new }
-    ensures grew { Grew cx.old cx.new }
+    ensures terms { GrewOrFull cx.old cx.new result }
     ensures recorded { OnOk result (table_trees cx.new.entries table.new
         ≡ with_constraints (constraints_filled cx.old.entries values.now (constraint ∷ [])) (table_trees cx.old.entries table.old)) }
-    ensures full { IfErr result (FullAtLimit cx.new) }
 {
     let constraint = constraint.fold_with(alloc, cx, &CanonicalInstantiator { values })?;
     cx.lawful();
@@ -316,10 +306,9 @@ fn evaluate_nested(
     requires values { ArgsHeld cx.old.entries trial.values.items }
     requires goals { Every (λ n. GoalHeld cx.old.entries n.1) spec.now.nested_goals.items }
     requires replies { Every (ResultHeld cx.old.entries) replies.now }
-    ensures grew { Grew cx.old cx.new }
+    ensures terms { EvalGrewOrFull cx.old cx.new result }
     ensures held { IfOk result (λ s. AnswerHeld cx.new.entries s) }
     ensures runs { CandidateEnds cx.new.entries (nested_of cx.old.entries input.now spec.now trial replies.now) result }
-    ensures full { IfErr result (EvalFullAtLimit cx.new) }
 {
     let Trial { table, own, values } = trial;
     let variables = Vec::from_slice(alloc, &input.variables)?;
@@ -340,12 +329,11 @@ fn add_goals(
     requires ready { IsReadyContext cx.old.entries context.old }
     requires values { ArgsHeld cx.old.entries values.now }
     requires goals { Every (λ n. GoalHeld cx.old.entries n.1) goals.now }
-    ensures grew { Grew cx.old cx.new }
+    ensures terms { GrewOrFull cx.old cx.new result }
     ensures ready { OnOk result (IsReadyContext cx.new.entries context.new) }
     ensures rest { OnOk result (context.new ≡ record context.old { nested = context.new.nested }) }
     ensures added { OnOk result (goals_trees cx.new.entries context.new.nested
         ≡ goals_trees cx.old.entries context.old.nested ++ premises_filled cx.old.entries values.now goals.now) }
-    ensures full { IfErr result (FullAtLimit cx.new) }
 {
     for nested in goals {
         let goal = instantiate_with_values(alloc, cx, &nested.1, values)?;
@@ -410,11 +398,10 @@ pub fn begin_candidate(
     spec: &CandidateSpec,
 ) -> Result<CandidateStep, EvalError>
     requires spec { SpecHeld cx.old.entries spec.now }
-    ensures grew { Grew cx.old cx.new }
+    ensures terms { EvalGrewOrFull cx.old cx.new result }
     ensures held { IfOk result (λ s. CandidateHeld cx.new.entries s) }
     ensures stands { StandsAt cx.new.entries (candidate input.now.mode (begun input.now.variables.items) (spec_trees cx.old.entries spec.now)) result }
     ensures most { IfOk result (AsksAtMost (FIXPOINT_STEP_LIMIT * length spec.now.nested_goals.items)) }
-    ensures full { IfErr result (EvalFullAtLimit cx.new) }
 {
     let trial = try_candidate(alloc, cx, input, spec)?;
     open_nested(alloc, cx, trial, input, spec)
@@ -432,12 +419,11 @@ fn open_nested(
     requires own { ArgsHeld cx.old.entries trial.own.items }
     requires values { ArgsHeld cx.old.entries trial.values.items }
     requires goals { Every (λ n. GoalHeld cx.old.entries n.1) spec.now.nested_goals.items }
-    ensures grew { Grew cx.old cx.new }
+    ensures terms { EvalGrewOrFull cx.old cx.new result }
     ensures held { IfOk result (λ s. CandidateHeld cx.new.entries s) }
     ensures stands { StandsAt cx.new.entries (asked input.now.mode (premises_trees cx.old.entries spec.now.nested_goals.items) spec.now.certainty
         (trial_trees cx.old.entries input.now.variables.items trial)) result }
     ensures most { IfOk result (AsksAtMost (FIXPOINT_STEP_LIMIT * length spec.now.nested_goals.items)) }
-    ensures full { IfErr result (EvalFullAtLimit cx.new) }
 {
     let Trial { table, own, values } = trial;
     let variables = Vec::from_slice(alloc, &input.variables)?;
@@ -461,10 +447,9 @@ fn fill_goals(
 ) -> Result<VecDeque<(GoalSource, Goal)>, Fault>
     requires values { ArgsHeld cx.old.entries values.now }
     requires goals { Every (λ n. GoalHeld cx.old.entries n.1) goals.now }
-    ensures grew { Grew cx.old cx.new }
+    ensures terms { GrewOrFull cx.old cx.new result }
     ensures held { IfOk result (λ gs. NestedHeld cx.new.entries (map nested_goal gs.items)) }
     ensures filled { IfOk result (λ gs. premises_trees cx.new.entries gs.items ≡ premises_filled cx.old.entries values.now goals.now) }
-    ensures full { IfErr result (FullAtLimit cx.new) }
 {
     let mut filled = VecDeque::new(alloc);
     for premise in goals {

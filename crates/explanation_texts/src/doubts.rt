@@ -4,6 +4,7 @@ ghost use Rattle.std.specs.Prelude.{◌≡◌, ◌<◌, ◌≤◌, ◌⊎◌, If
 
 use crate::items::{Texts, impl_line, push_header_marks};
 use crate::links::{last_of, push_links, push_supertrait};
+use crate::open_questions::chance;
 use crate::sentences::{
     Piece, Sentence, plain, tell_at, tell_help, tell_note, told_note, with_one, with_three,
 };
@@ -177,14 +178,15 @@ fn said_at<'s>(story: &'s Story<'_>, doubt: Doubt, leaf: usize, depth: u32) -> S
     }
 }
 
-/// A way that is left: a candidate that may apply.
+/// A way that is left: a candidate that may apply, and where that was not checked, this too.
 fn way_note(
     alloc: Global,
     texts: Texts<'_>,
     source: CandidateSource,
+    may_apply: bool,
 ) -> Result<Subdiagnostic, AllocError> {
     let name = source_piece(texts, source);
-    let mut told = told_note(alloc, with_one("the {} may apply", name))?;
+    let mut told = told_note(alloc, with_one(chance(may_apply), name))?;
     if let CandidateSource::Impl(id) = source {
         if let Some(found) = impl_line(texts, id) {
             push_header_marks(alloc, found, &mut told.spans)?;
@@ -205,7 +207,8 @@ fn push_ways(
         if index == LIST_LIMIT {
             return tell_note(alloc, plain("others may apply too"), children);
         }
-        let told = way_note(alloc, texts, candidate.source)?;
+        let may_apply = story.may_apply(place, index);
+        let told = way_note(alloc, texts, candidate.source, may_apply)?;
         children.push(told)?;
     }
     Ok(())

@@ -36,4 +36,4 @@ pub use orphans::orphan;
 pub use refutations::{NothingFits, refuted};
 pub use sources::source_name;
 pub use spoken::{Spoken, conflict_text, speak};
-pub use story::{Story, tell};
+pub use story::{Checked, Story, tell};

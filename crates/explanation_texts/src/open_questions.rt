@@ -37,15 +37,25 @@ fn is_left(candidate: &CandidateNode) -> bool {
     candidate.certainty.is_some() && candidate.source != CandidateSource::CoherenceUnknowable
 }
 
-/// What is said of a candidate that is left: that it applies, where the goal holds by it, and where that was not checked, this too.
+/// What is said of a candidate that may apply: this, and where it was not checked, that too.
+pub(crate) fn chance(may_apply: bool) -> &'static str {
+    if may_apply {
+        "the {} may apply"
+    } else {
+        "the {} may apply, not checked"
+    }
+}
+
+/// What is said of a candidate that is left: that it applies, where the goal holds by it, or may, and where that was not checked, this too.
 fn way_said(
     texts: Texts<'_>,
     candidate: &CandidateNode,
     holds: bool,
     is_rule: bool,
+    may_apply: bool,
 ) -> Sentence<'static> {
     let template = if !holds || candidate.certainty != Some(Certainty::Yes) {
-        "the {} may apply"
+        chance(may_apply)
     } else if is_rule {
         "the {} applies"
     } else {
@@ -72,7 +82,9 @@ fn push_ways(
                 return tell_note(alloc, plain("others may apply too"), children);
             }
             count = count.saturating_add(1);
-            let said = way_said(texts, candidate, holds, story.is_rule(0, number));
+            let is_rule = story.is_rule(0, number);
+            let may_apply = story.may_apply(0, number);
+            let said = way_said(texts, candidate, holds, is_rule, may_apply);
             tell_note(alloc, said, children)?;
         }
     }

@@ -9,13 +9,21 @@ use std::alloc::{AllocError, Global};
 use term_folds::predicate::TraitRef;
 use type_terms::interner::Interner;
 
+/// The candidates of a walk that were checked, each by the place of its goal and its number among the candidates there.
+#[derive(Clone, Copy)]
+pub struct Checked<'w> {
+    /// Those that are rules of their goals.
+    pub rules: &'w [(usize, usize)],
+    /// Those that may apply.
+    pub chances: &'w [(usize, usize)],
+}
+
 /// A walk with its references as texts. Its goals are named by their places.
 #[derive(Drop)]
 pub struct Story<'w> {
     spoken: Vec<Spoken>,
     walk: &'w GoalWalk,
-    /// Candidates that were checked, each by the place of its goal and its number among the candidates there.
-    rules: &'w [(usize, usize)],
+    checked: Checked<'w>,
 }
 
 /// The references as texts.
@@ -35,14 +43,13 @@ fn speak_all(
     Ok(spoken)
 }
 
-/// A walk over the terms of an interner, told. Of its candidates by impls these were checked: each by the place of its goal and its number
-/// among the candidates there. Of others it is said where they are told.
+/// A walk over the terms of an interner, told. Of its candidates these were checked. Of others it is said where they are told.
 pub fn tell<'w>(
     alloc: Global,
     cx: &Interner,
     names: &ShownNames<'_>,
     walk: &'w GoalWalk,
-    rules: &'w [(usize, usize)],
+    checked: Checked<'w>,
 ) -> Result<Story<'w>, AllocError>
     requires { ReferencesHeld cx.now.entries walk.now.references.items }
 {
@@ -50,8 +57,18 @@ pub fn tell<'w>(
     Ok(Story {
         spoken,
         walk,
-        rules,
+        checked,
     })
+}
+
+/// Whether the candidate of a goal with a number is among these.
+fn is_among(candidates: &[(usize, usize)], place: usize, number: usize) -> bool {
+    for candidate in candidates {
+        if candidate.0 == place && candidate.1 == number {
+            return true;
+        }
+    }
+    false
 }
 
 impl Story<'_> {
@@ -163,15 +180,14 @@ impl Story<'_> {
         }
     }
 
-    /// Whether the candidate of a goal with a number was checked.
+    /// Whether the candidate of a goal with a number was checked to be a rule.
     pub(crate) fn is_rule(&self, place: usize, number: usize) -> bool {
-        let place = self.shown_at(place);
-        for rule in self.rules {
-            if rule.0 == place && rule.1 == number {
-                return true;
-            }
-        }
-        false
+        is_among(self.checked.rules, self.shown_at(place), number)
+    }
+
+    /// Whether it was checked that the candidate of a goal with a number may apply.
+    pub(crate) fn may_apply(&self, place: usize, number: usize) -> bool {
+        is_among(self.checked.chances, self.shown_at(place), number)
     }
 
     /// The candidate of a goal, if there is just one.

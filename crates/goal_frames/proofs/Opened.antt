@@ -3,7 +3,7 @@ use Rattle.std.proofs.Common.{◌≡◌, ◌∙◌, ℕ, ◌+◌, ◌-◌, ◌*�
 use Rattle.std.specs.Prelude.{IfOk, IfErr}
 use Rattle.type_terms.specs.Terms.{Terms, Entry, Keeps}
 use Rattle.type_terms.specs.declared.Fault.{Fault}
-use Rattle.term_folds.specs.Growth.{FullAtLimit}
+use Rattle.type_terms.specs.Growth.{FullAtLimit}
 use Rattle.infer_table.specs.declared.input.CanonicalInput.{CanonicalInput}
 use Rattle.infer_table.specs.declared.response.CanonicalResponse.{CanonicalResponse}
 use Rattle.infer_table.specs.Responses.{AnswerTrees, answer_trees}

@@ -1,7 +1,7 @@
 //! The frame of a goal.
 
-ghost use Rattle.term_folds.specs.Growth.{Grew, FullAtLimit};
-ghost use Rattle.std.specs.Prelude.{◌≡◌, [], Err, IfOk, IfErr, IfSome, drop, option_map, List};
+ghost use Rattle.type_terms.specs.Growth.{GrewOrFull};
+ghost use Rattle.std.specs.Prelude.{◌≡◌, [], Err, IfOk, IfSome, drop, option_map, List};
 ghost use Rattle.type_terms.specs.Terms.{Entry};
 ghost use Rattle.infer_table.specs.Goals.{GoalHeld};
 ghost use Rattle.infer_table.specs.Canonical.{CanonicalForm};
@@ -133,13 +133,12 @@ impl GoalFrame {
         requires reply { ReplyIsMade cx.old.entries reply }
         requires due { ReplyIsDue cx.old.entries (goal_meaning H.meaning handler.now cx.old.entries self.old.goal) self.old (reply_read cx.old.entries reply) }
         ensures goal { self.new.goal ≡ self.old.goal }
-        ensures grew { Grew cx.old cx.new }
+        ensures terms { GrewOrFull cx.old cx.new result }
         ensures held { IfOk result (RequestHeld cx.new.entries) }
         ensures steps { IfOk result (let h = goal_meaning H.meaning handler.now cx.old.entries self.old.goal in
             FrameSteps cx.old.entries h self.old (reply_read cx.old.entries reply) cx.new.entries self.new) }
 
         // `Full` comes only where some kind of term has reached the interner's limit.
-        ensures full { IfErr result (FullAtLimit cx.new) }
 
         // The open candidate has fewer questions left.
         ensures fewer { IfOk result (λ _. AsksFewer self.old.place self.new.place) }
@@ -180,11 +179,10 @@ impl GoalFrame {
         requires held { FrameHeld cx.old.entries self.old }
         requires between { (p : FrameStanding) × AsksHandler cx.old.entries (goal_meaning H.meaning handler.now cx.old.entries self.old.goal) self.old p }
         ensures goal { self.new.goal ≡ self.old.goal }
-        ensures grew { Grew cx.old cx.new }
+        ensures terms { GrewOrFull cx.old cx.new result }
         ensures held { IfOk result (λ q. FrameHeld cx.new.entries self.new × RequestHeld cx.new.entries q) }
         ensures asks { IfOk result (λ q. let h = goal_meaning H.meaning handler.now cx.old.entries self.old.goal in
             (p : FrameStanding) → AsksHandler cx.old.entries h self.old p → AsksAt self.old.goal.mode cx.new.entries h self.new q p) }
-        ensures full { IfErr result (FullAtLimit cx.new) }
     {
         match handler.step(alloc, cx, &self.goal, &self.considered)? {
             HandlerStep::Consider(spec) => {

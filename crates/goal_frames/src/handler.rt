@@ -1,7 +1,7 @@
 //! Handlers of goals: what the rules of goals are, for the frames that evaluate them.
 
-ghost use Rattle.term_folds.specs.Growth.{Grew, FullAtLimit};
-ghost use Rattle.std.specs.Prelude.{◌≡◌, List, IfOk, IfErr};
+ghost use Rattle.type_terms.specs.Growth.{GrewOrFull};
+ghost use Rattle.std.specs.Prelude.{◌≡◌, List, IfOk};
 ghost use Rattle.type_terms.specs.Terms.{Entry};
 ghost use Rattle.infer_table.specs.declared.certainty.TypingMode.{TypingMode};
 ghost use Rattle.infer_table.specs.Canonical.{CanonicalForm};
@@ -47,15 +47,13 @@ pub trait GoalHandler {
         requires done { ConsideredHeld cx.old.entries done.now }
         requires fits { ConsideredFits cx.old.entries done.now }
         requires history { HasHistory cx.old.entries (goal_meaning meaning self.now cx.old.entries goal.now) done.now }
-        ensures grew { Grew cx.old cx.new }
+        // `Full` comes only where some kind of term has reached the interner's limit.
+        ensures terms { GrewOrFull cx.old cx.new result }
         ensures held { IfOk result (HandlerStepHeld cx.new.entries) }
         ensures fits { IfOk result (StepFits goal.now.variables.items cx.new.entries) }
 
         // It is what comes next in each history that the candidates show.
-        ensures next { IfOk result (IsNextAfter cx.old.entries (goal_meaning meaning self.now cx.old.entries goal.now) done.now cx.new.entries) }
-
-        // `Full` comes only where some kind of term has reached the interner's limit.
-        ensures full { IfErr result (FullAtLimit cx.new) };
+        ensures next { IfOk result (IsNextAfter cx.old.entries (goal_meaning meaning self.now cx.old.entries goal.now) done.now cx.new.entries) };
 
     /// Whether the trait is coinductive: a goal of it holds if it needs nothing but itself.
     fn trait_is_coinductive(&self, def_id: TraitId) -> bool

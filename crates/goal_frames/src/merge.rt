@@ -1,7 +1,7 @@
 //! The merge of responses, as handlers answer with it.
 
-ghost use Rattle.term_folds.specs.Growth.{Grew, FullAtLimit};
-ghost use Rattle.std.specs.Prelude.{◌≡◌, IfOk, IfErr};
+ghost use Rattle.type_terms.specs.Growth.{GrewOrFull};
+ghost use Rattle.std.specs.Prelude.{◌≡◌, IfOk};
 ghost use Rattle.infer_table.specs.Responses.{ResponseHeld, answer_trees};
 ghost use Rattle.evaluation.specs.Lists.{Every};
 ghost use Rattle.evaluation.specs.Readings.{ResultHeld};
@@ -29,10 +29,9 @@ pub fn merged(
 ) -> Result<Option<CanonicalResponse>, Fault>
     requires held { Every (ResponseHeld cx.old.entries) responses.now }
     requires fits { Every (λ r. IsWellFormed (answer_trees cx.old.entries r)) responses.now }
-    ensures grew { Grew cx.old cx.new }
+    ensures terms { GrewOrFull cx.old cx.new result }
     ensures held { IfOk result (ResultHeld cx.new.entries) }
     ensures is { IfOk result (λ r. result_read cx.new.entries r ≡ merge_of cx.old.entries variables.now responses.now) }
-    ensures full { IfErr result (FullAtLimit cx.new) }
 {
     cx.lawful();
     let merged = try_merge_candidates(alloc, cx, responses)?;

@@ -1,6 +1,6 @@
 //! A candidate, opened over the table of the one who asks.
 
-ghost use Rattle.term_folds.specs.Growth.{Grew};
+ghost use Rattle.type_terms.specs.Growth.{Grew};
 ghost use Rattle.std.specs.Prelude.{IfOk, IfSome};
 ghost use Rattle.type_terms.specs.Kinds.{ArgHeld, ArgsHeld};
 ghost use Rattle.infer_table.specs.Content.{Ready, Grows};

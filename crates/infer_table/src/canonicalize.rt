@@ -1,5 +1,5 @@
 //! Answers put into canonical form.
-ghost use Rattle.term_folds.specs.Growth.{Grew, FullAtLimit};
+ghost use Rattle.type_terms.specs.Growth.{GrewOrFull};
 ghost use Rattle.std.specs.Prelude.{◌≡◌, ℕ, List, [], IfOk, IfErr, map, Some};
 ghost use Rattle.type_terms.specs.Trees.{◌+++◌};
 ghost use Rattle.type_terms.specs.Terms.{Has, args_lists, trees_at};
@@ -72,7 +72,7 @@ pub fn canonicalize_response(
 ) -> Result<CanonicalResponse, Fault>
     requires ready { Ready cx.old.entries table.now }
     requires held { ArgsHeld cx.old.entries values.now }
-    ensures grew { Grew cx.old cx.new }
+    ensures terms { GrewOrFull cx.old cx.new result }
     ensures certainty { IfOk result (λ r. r.certainty ≡ certainty) }
     ensures held { IfOk result (λ r. ResponseHeld cx.new.entries r) }
 
@@ -90,8 +90,7 @@ pub fn canonicalize_response(
     ensures numbered { IfOk result (λ r. HasNoCanonical (values_resolved cx.old.entries table.now values.now)
         → AreNumbered r.variables.items (args_trees cx.new.entries r.var_values.items)) }
 
-    // A full table names the error only where some kind of term has reached its limit.
-    ensures full { IfErr result (FullAtLimit cx.new) }
+// A full table names the error only where some kind of term has reached its limit.
 {
     let given = cx.mk_args(Vec::from_slice(alloc, values)?)?;
     let resolved = table.eager_resolve_vars(cx, given)?;

@@ -1,6 +1,6 @@
 //! Lists of constraints on lifetimes, resolved and folded.
-ghost use Rattle.term_folds.specs.Growth.{Grew, FullAtLimit};
-ghost use Rattle.std.specs.Prelude.{◌≡◌, ℕ, List, [], ◌∷◌, ◌++◌, IfOk, OnOk, OnErr, IfErr, Err, ◌⊎◌};
+ghost use Rattle.type_terms.specs.Growth.{Grew, GrewOrFull};
+ghost use Rattle.std.specs.Prelude.{◌≡◌, ℕ, List, [], ◌∷◌, ◌++◌, IfOk, OnOk, OnErr, Err, ◌⊎◌};
 ghost use Rattle.type_terms.specs.Failures.{SomeKindIsFull};
 ghost use Rattle.infer_table.specs.Solutions.{resolved};
 ghost use Rattle.infer_table.specs.Content.{content, Ready, AllConstraintsHeld};
@@ -24,11 +24,10 @@ pub(crate) fn resolve_constraints(
 ) -> Result<Vec<RegionConstraint>, Fault>
     requires ready { Ready cx.old.entries table.now }
     requires held { AllConstraintsHeld cx.old.entries constraints.now }
-    ensures grew { Grew cx.old cx.new }
+    ensures terms { GrewOrFull cx.old cx.new result }
     ensures held { IfOk result (λ r. AllConstraintsHeld cx.new.entries r.items) }
     ensures resolved { IfOk result (λ r. constraints_trees cx.new.entries r.items
         ≡ resolved (content cx.old.entries table.now.values) (constraints_trees cx.old.entries constraints.now)) }
-    ensures full { IfErr result (FullAtLimit cx.new) }
 {
     let mut resolved = Vec::new(alloc);
     for constraint in constraints {

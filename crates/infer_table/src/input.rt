@@ -1,5 +1,5 @@
 //! Canonical goals.
-ghost use Rattle.term_folds.specs.Growth.{Grew, FullAtLimit};
+ghost use Rattle.type_terms.specs.Growth.{GrewOrFull};
 ghost use Rattle.std.specs.Prelude.{◌≡◌, ◌↔◌, ℕ, List, IfOk, IfErr, IsTrue, IsSome, map, Some};
 ghost use Rattle.type_terms.specs.Kinds.{ArgsHeld};
 ghost use Rattle.infer_table.specs.Content.{Ready};
@@ -92,7 +92,7 @@ pub fn canonicalize_goal(
     requires held { GoalHeld cx.old.entries goal.now }
     requires ready { Ready cx.old.entries table.now }
     ensures ready { Ready cx.new.entries table.now }
-    ensures grew { Grew cx.old cx.new }
+    ensures terms { GrewOrFull cx.old cx.new result }
     ensures mode { IfOk result (λ r. r.input.mode ≡ mode) }
 
     // The form is that of the resolved goal's trees.
@@ -109,8 +109,7 @@ pub fn canonicalize_goal(
     // Put in for the variables, they give the resolved goal back.
     ensures back { IfOk result (λ r. GivesBack cx.new.entries r (resolved_goal cx.old.entries table.now goal.now)) }
 
-    // A full table names the error only where some kind of term has reached its limit.
-    ensures full { IfErr result (FullAtLimit cx.new) }
+// A full table names the error only where some kind of term has reached its limit.
 {
     if is_closed_goal(cx, goal) {
         return own_form(alloc, mode, goal);
@@ -163,7 +162,7 @@ fn canonicalize_resolved(
     goal: &Goal,
 ) -> Result<Canonicalized, Fault>
     requires { GoalHeld cx.old.entries goal.now }
-    ensures grew { Grew cx.old cx.new }
+    ensures terms { GrewOrFull cx.old cx.new result }
     ensures mode { IfOk result (λ r. r.input.mode ≡ mode) }
 
     // The form is that of the goal's trees.
@@ -177,8 +176,7 @@ fn canonicalize_resolved(
     // Put in for the variables, they give the goal back.
     ensures back { IfOk result (λ r. GivesBack cx.new.entries r (goal_trees cx.old.entries goal.now)) }
 
-    // A full table names the error only where some kind of term has reached its limit.
-    ensures full { IfErr result (FullAtLimit cx.new) }
+// A full table names the error only where some kind of term has reached its limit.
 {
     cx.lawful();
     let collected = collect_leaves(alloc, cx, goal)?;
@@ -262,11 +260,10 @@ fn number_leaves(
 ) -> Result<Goal, Fault>
     requires goal { GoalHeld cx.old.entries goal.now }
     requires listed { AreLeaves cx.old.entries leaves.now.keys }
-    ensures grew { Grew cx.old cx.new }
+    ensures terms { GrewOrFull cx.old cx.new result }
     ensures held { IfOk result (λ r. GoalHeld cx.new.entries r) }
     ensures numbered { IfOk result (λ r. goal_trees cx.new.entries r
         ≡ renamed (canonical_label (labels cx.old.entries leaves.now.keys)) (goal_trees cx.old.entries goal.now)) }
-    ensures full { IfErr result (FullAtLimit cx.new) }
 {
     let predicate = number_predicate(alloc, cx, leaves, goal.predicate)?;
     let in_clauses = Canonicalizer {
@@ -289,11 +286,10 @@ fn number_predicate(
 ) -> Result<TraitPredicate, Fault>
     requires held { PredicateHeld cx.old.entries predicate }
     requires listed { AreLeaves cx.old.entries leaves.now.keys }
-    ensures grew { Grew cx.old cx.new }
+    ensures terms { GrewOrFull cx.old cx.new result }
     ensures held { IfOk result (λ r. PredicateHeld cx.new.entries r) }
     ensures numbered { IfOk result (λ r. predicate_trees cx.new.entries r
         ≡ numbered_by (labels cx.old.entries leaves.now.keys) (predicate_trees cx.old.entries predicate)) }
-    ensures full { IfErr result (FullAtLimit cx.new) }
 {
     if is_closed(predicate.flags(cx), false) {
         return Ok(predicate);

@@ -1,6 +1,6 @@
 //! Canonical variables replaced by values.
-ghost use Rattle.term_folds.specs.Growth.{Grew, FullAtLimit};
-ghost use Rattle.std.specs.Prelude.{◌≡◌, ℕ, List, IfOk, IfErr, IfSome, option_map};
+ghost use Rattle.type_terms.specs.Growth.{GrewOrFull};
+ghost use Rattle.std.specs.Prelude.{◌≡◌, ℕ, List, IfOk, IfSome, option_map};
 ghost use Rattle.std.specs.List.{slice_get};
 ghost use Rattle.type_terms.specs.Label.{of_type, of_const, of_lifetime, canonical};
 ghost use Rattle.type_terms.specs.Terms.{Entry, Has, types, consts, trees_at};
@@ -193,10 +193,9 @@ pub fn instantiate_with_values(
 ) -> Result<Goal, Fault>
     requires goal { GoalHeld cx.old.entries goal.now }
     requires values { ArgsHeld cx.old.entries values.now }
-    ensures grew { Grew cx.old cx.new }
+    ensures terms { GrewOrFull cx.old cx.new result }
     ensures held { IfOk result (λ r. GoalHeld cx.new.entries r) }
     ensures filled { IfOk result (λ r. goal_trees cx.new.entries r ≡ goal_filled (values_of cx.old.entries values.now) (goal_trees cx.old.entries goal.now)) }
-    ensures full { IfErr result (FullAtLimit cx.new) }
 {
     goal.fold_with(alloc, cx, &CanonicalInstantiator { values })
 }

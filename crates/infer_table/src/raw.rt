@@ -1,5 +1,5 @@
 //! The answer that says nothing.
-ghost use Rattle.term_folds.specs.Growth.{Grew};
+ghost use Rattle.type_terms.specs.Growth.{Grew};
 ghost use Rattle.std.specs.Prelude.{◌≡◌, ℕ, ◌<◌, List, [], IfOk, OnErr, Err};
 ghost use Rattle.type_terms.specs.Terms.{types, consts, held};
 ghost use Rattle.type_terms.specs.Kinds.{ArgHeld, ArgsHeld, args_trees};

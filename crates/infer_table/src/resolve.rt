@@ -1,6 +1,6 @@
 //! Variables replaced by their values, all the way.
-ghost use Rattle.term_folds.specs.Growth.{Grew, FullAtLimit};
-ghost use Rattle.std.specs.Prelude.{◌≡◌, List, IfOk, IfErr};
+ghost use Rattle.type_terms.specs.Growth.{GrewOrFull};
+ghost use Rattle.std.specs.Prelude.{◌≡◌, List, IfOk};
 ghost use Rattle.type_terms.specs.Pieces.{each_piece};
 ghost use Rattle.infer_table.specs.Solutions.{resolved};
 ghost use Rattle.infer_table.specs.Content.{content, Ready};
@@ -122,13 +122,12 @@ impl InferCtxt {
         requires held { T.held value cx.old.entries }
         requires ready { Ready cx.old.entries self.now }
         ensures ready { Ready cx.new.entries self.now }
-        ensures grew { Grew cx.old cx.new }
+        ensures terms { GrewOrFull cx.old cx.new result }
         ensures held { IfOk result (λ r. T.held r cx.new.entries) }
         ensures outline { IfOk result (λ r. T.outline r ≡ T.outline value) }
         // Each part is the part as it was, with the values in the place of variables.
         ensures resolved { IfOk result (λ r. T.pieces r cx.new.entries
             ≡ each_piece (λ d t. resolved (content cx.old.entries self.now.values) t) (T.pieces value cx.old.entries)) }
-        ensures full { IfErr result (FullAtLimit cx.new) }
     {
         value.fold_with(self.alloc, cx, &EagerResolver { table: self })
     }

@@ -1,6 +1,6 @@
 //! Goals resolved by a table.
-ghost use Rattle.term_folds.specs.Growth.{Grew, FullAtLimit};
-ghost use Rattle.std.specs.Prelude.{◌≡◌, IfOk, IfErr};
+ghost use Rattle.type_terms.specs.Growth.{GrewOrFull};
+ghost use Rattle.std.specs.Prelude.{◌≡◌, IfOk};
 ghost use Rattle.infer_table.specs.Content.{content, Ready};
 ghost use Rattle.infer_table.specs.Goals.{GoalHeld, ClausesHeld, goal_trees, environment_trees, goal_resolved};
 ghost use Rattle.infer_table.specs.Solutions.{resolved};
@@ -25,11 +25,10 @@ pub fn resolve_goal(
     requires held { GoalHeld cx.old.entries goal.now }
     requires ready { Ready cx.old.entries table.now }
     ensures ready { Ready cx.new.entries table.now }
-    ensures grew { Grew cx.old cx.new }
+    ensures terms { GrewOrFull cx.old cx.new result }
     ensures held { IfOk result (λ r. GoalHeld cx.new.entries r) }
     ensures resolved { IfOk result (λ r. goal_trees cx.new.entries r
         ≡ goal_resolved (content cx.old.entries table.now.values) (goal_trees cx.old.entries goal.now)) }
-    ensures full { IfErr result (FullAtLimit cx.new) }
 {
     let param_env = resolve_clauses(alloc, cx, table, &goal.param_env)?;
     let predicate = table.eager_resolve_vars(cx, goal.predicate)?;
@@ -49,11 +48,10 @@ fn resolve_clauses(
     requires held { ClausesHeld cx.old.entries clauses.now }
     requires ready { Ready cx.old.entries table.now }
     ensures ready { Ready cx.new.entries table.now }
-    ensures grew { Grew cx.old cx.new }
+    ensures terms { GrewOrFull cx.old cx.new result }
     ensures held { IfOk result (λ r. ClausesHeld cx.new.entries r.items) }
     ensures resolved { IfOk result (λ r. environment_trees cx.new.entries r.items
         ≡ resolved (content cx.old.entries table.now.values) (environment_trees cx.old.entries clauses.now)) }
-    ensures full { IfErr result (FullAtLimit cx.new) }
 {
     let mut resolved = Vec::new(alloc);
     for clause in clauses {

@@ -1,5 +1,5 @@
 //! Canonical variables replaced by new unknowns.
-ghost use Rattle.term_folds.specs.Growth.{Grew, FullAtLimit};
+ghost use Rattle.type_terms.specs.Growth.{GrewOrFull};
 ghost use Rattle.std.specs.Prelude.{◌≡◌, IfOk, OnOk, OnErr, IsErr, IfErr, Err, ◌↔◌, ◌≤◌};
 ghost use Rattle.type_terms.specs.Kinds.{ArgsHeld};
 ghost use Rattle.type_terms.specs.declared.TheConstants.{MAX_INDEX};
@@ -42,7 +42,7 @@ pub fn instantiate_canonical(
     requires held { GoalHeld cx.old.entries input.now.goal }
     requires ready { Ready cx.old.entries table.old }
     ensures ready { Ready cx.new.entries table.new }
-    ensures grew { Grew cx.old cx.new }
+    ensures terms { GrewOrFull cx.old cx.new result }
 
     // The values are new unknowns, in the order of the variables.
     ensures held { IfOk result (λ r. AreLeaves cx.new.entries r.values.items) }
@@ -57,8 +57,7 @@ pub fn instantiate_canonical(
     ensures filled { IfOk result (λ r. goal_trees cx.new.entries r.goal
         ≡ goal_filled (values_of cx.new.entries r.values.items) (goal_trees cx.old.entries input.now.goal)) }
 
-    // A full table names the error only where some kind of term has reached its limit.
-    ensures full { IfErr result (FullAtLimit cx.new) }
+// A full table names the error only where some kind of term has reached its limit.
 {
     let place = table.snapshot();
     match instantiate_in(alloc, cx, table, input) {
@@ -80,7 +79,7 @@ fn instantiate_in(
     requires held { GoalHeld cx.old.entries input.now.goal }
     requires ready { Ready cx.old.entries table.old }
     ensures ready { Ready cx.new.entries table.new }
-    ensures grew { Grew cx.old cx.new }
+    ensures terms { GrewOrFull cx.old cx.new result }
     ensures held { IfOk result (λ r. AreLeaves cx.new.entries r.values.items) }
     ensures args { IfOk result (λ r. ArgsHeld cx.new.entries r.values.items) }
     ensures unknowns { IfOk result (λ r. labels cx.new.entries r.values.items ≡ next_labels table.old 0 input.now.variables.items) }
@@ -89,7 +88,6 @@ fn instantiate_in(
     ensures goal { IfOk result (λ r. GoalHeld cx.new.entries r.goal) }
     ensures filled { IfOk result (λ r. goal_trees cx.new.entries r.goal
         ≡ goal_filled (values_of cx.new.entries r.values.items) (goal_trees cx.old.entries input.now.goal)) }
-    ensures full { IfErr result (FullAtLimit cx.new) }
 {
     let values = next_values(alloc, cx, table, &input.variables)?;
     let goal = instantiate_with_values(alloc, cx, &input.goal, &values)?;
@@ -109,13 +107,12 @@ pub fn next_values(
 ) -> Result<Vec<GenericArgKind>, Fault>
     requires { Ready cx.old.entries table.old }
     ensures ready { Ready cx.new.entries table.new }
-    ensures grew { Grew cx.old cx.new }
+    ensures terms { GrewOrFull cx.old cx.new result }
     ensures held { IfOk result (λ xs. AreLeaves cx.new.entries xs.items) }
     ensures args { IfOk result (λ xs. ArgsHeld cx.new.entries xs.items) }
     ensures unknowns { IfOk result (λ xs. labels cx.new.entries xs.items ≡ next_labels table.old 0 variables.now) }
     ensures made { OnOk result (table.new ≡ with_each table.old variables.now) }
     ensures grows { Grows table.old table.new }
-    ensures full { IfErr result (FullAtLimit cx.new) }
 {
     let mut values = Vec::new(alloc);
     'variables: for (place, kind) in variables.iter().enumerate() {
@@ -134,12 +131,11 @@ fn next_value(
 ) -> Result<GenericArgKind, Fault>
     requires { Ready cx.old.entries table.old }
     ensures ready { Ready cx.new.entries table.new }
-    ensures grew { Grew cx.old cx.new }
+    ensures terms { GrewOrFull cx.old cx.new result }
     ensures leaf { IfOk result (λ x. IsLeaf cx.new.entries x) }
     ensures label { IfOk result (λ x. leaf_label cx.new.entries x ≡ next_label table.old place kind) }
     ensures made { OnOk result (table.new ≡ with_next table.old kind) }
     ensures refused { OnErr result (table.new ≡ table.old) }
-    ensures full { IfErr result (FullAtLimit cx.new) }
 {
     match kind {
         CanonicalVarKind::Ty => Ok(GenericArgKind::Ty(table.next_ty_var(cx)?)),

@@ -73,7 +73,7 @@ fresh-own t (k ∷ ks) =
 opens : (v : ℕ) → is_numbered (infer of_lifetime v) ≡ true
 opens v = refl
 
-made : (es : List Entry) → Lawful es → (i : ℕ) → Has es args_lists i → AreTrees is_numbered in_terms (trees_at es i)
+pub made : (es : List Entry) → Lawful es → (i : ℕ) → Has es args_lists i → AreTrees is_numbered in_terms (trees_at es i)
 made es lawful i h =
     trees-of is_numbered terms (trees_at es i)
     (made-weaker is_in_range is_numbered numbered terms (trees_at es i) (subst (λ t. is_made is_in_range terms t ≡ true) (sym (is-trees es args_lists i h.0 h.1)) ((lawful.made i _ h.1).as_terms (λ e. cc))))

@@ -59,7 +59,7 @@ shut-erased l h = by (is_open (erase_label l)) refl
     by false e = refl
 
 -- to read trees without their lifetimes is a way of reading
-erased-reads : (f : ℕ → Trees → Trees) → Reads f → Reads (λ d t. f d (erase t))
+pub erased-reads : (f : ℕ → Trees → Trees) → Reads f → Reads (λ d t. f d (erase t))
 erased-reads f F = record { nothing = F.nothing; node = at }
   where
     at : (d : ℕ) (l : Label) (c o : Trees) → ReadNode (λ e t. f e (erase t)) d l c o

@@ -1,11 +1,10 @@
 //! Headers made equal.
-ghost use Rattle.std.specs.Prelude.{◌≡◌, ◌≢◌, ◌⊎◌, OnOk, OnErr, Err, Some, IfErr};
+ghost use Rattle.std.specs.Prelude.{◌≡◌, ◌≢◌, ◌⊎◌, OnOk, OnErr, Err, Some};
 ghost use Rattle.type_terms.specs.Kinds.{ArgsHeld, args_trees};
-ghost use Rattle.term_folds.specs.Growth.{Grew};
 ghost use Rattle.infer_table.specs.Applied.{solved_in_turn};
 ghost use Rattle.infer_table.specs.Content.{Ready, Grows, content};
 ghost use Rattle.infer_table.specs.Equated.{MakesEqual};
-ghost use Rattle.infer_table.specs.Shortages.{EqFullAtLimit};
+ghost use Rattle.infer_table.specs.Shortages.{EqGrewOrFull};
 ghost use Rattle.infer_table.specs.Solutions.{HasNoSolution};
 ghost use Rattle.infer_table.specs.Unification.{table_trees};
 ghost use Rattle.declarations.specs.Held.{ReferenceHeld};
@@ -30,14 +29,13 @@ fn equate_args(
     requires ready { Ready cx.old.entries table.old }
     ensures ready { Ready cx.new.entries table.new }
     ensures grows { Grows table.old table.new }
-    ensures grew { Grew cx.old cx.new }
+    ensures terms { EqGrewOrFull cx.old cx.new result }
     ensures equates { OnOk result
         (MakesEqual cx.old.entries table.old cx.new.entries table.new (args_trees cx.old.entries left.now) (args_trees cx.old.entries right.now)) }
     ensures never { result ≡ Err EqError.NoSolution
         → HasNoSolution (content cx.old.entries table.old.values) (args_trees cx.old.entries left.now) (args_trees cx.old.entries right.now) }
     ensures exact { OnOk result (solved_in_turn (table_trees cx.old.entries table.old)
         (args_trees cx.old.entries left.now) (args_trees cx.old.entries right.now) ≡ Some (table_trees cx.new.entries table.new)) }
-    ensures full { IfErr result (EqFullAtLimit cx.new) }
 {
     cx.lawful();
     let mut left_rest = left;
@@ -74,7 +72,7 @@ pub fn equate_impl_headers(
     requires ready { Ready cx.old.entries table.old }
     ensures ready { Ready cx.new.entries table.new }
     ensures grows { Grows table.old table.new }
-    ensures grew { Grew cx.old cx.new }
+    ensures terms { EqGrewOrFull cx.old cx.new result }
     ensures one_trait { OnOk result (left.trait_ref.def_id.index ≡ right.trait_ref.def_id.index) }
     ensures equates { OnOk result (MakesEqual cx.old.entries table.old cx.new.entries table.new (args_at cx.old.entries left) (args_at cx.old.entries right)) }
     ensures never { result ≡ Err EqError.NoSolution → (left.trait_ref.def_id.index ≢ right.trait_ref.def_id.index)
@@ -82,7 +80,6 @@ pub fn equate_impl_headers(
     ensures exact { OnOk result (solved_in_turn (table_trees cx.old.entries table.old) (args_at cx.old.entries left) (args_at cx.old.entries right)
         ≡ Some (table_trees cx.new.entries table.new)) }
     ensures refused { OnErr result (table.new ≡ table.old) }
-    ensures full { IfErr result (EqFullAtLimit cx.new) }
 {
     cx.lawful();
     if left.trait_ref.def_id != right.trait_ref.def_id {

@@ -1,10 +1,10 @@
 //! Fresh unknowns for the parameters of impls.
-ghost use Rattle.std.specs.Prelude.{◌≡◌, map, IfOk, OnOk, IfErr};
+ghost use Rattle.std.specs.Prelude.{◌≡◌, map, IfOk, OnOk};
 ghost use Rattle.type_terms.specs.Label.{infer};
 ghost use Rattle.type_terms.specs.Trees.{leaf};
 ghost use Rattle.type_terms.specs.Terms.{Has, args_lists, trees_at};
 ghost use Rattle.type_terms.specs.Kinds.{ArgHeld, arg_trees};
-ghost use Rattle.term_folds.specs.Growth.{Grew, FullAtLimit};
+ghost use Rattle.type_terms.specs.Growth.{GrewOrFull};
 ghost use Rattle.infer_table.specs.Content.{Ready, variables_of};
 ghost use Rattle.declarations.specs.Applied.{sort_of_param};
 ghost use Rattle.overlap_check.specs.Fresh.{with_unknown, with_unknowns, fresh_unknowns};
@@ -24,11 +24,10 @@ fn var_for_param(
 ) -> Result<GenericArgKind, Fault>
     requires { Ready cx.old.entries table.old }
     ensures ready { Ready cx.new.entries table.new }
-    ensures grew { Grew cx.old cx.new }
+    ensures terms { GrewOrFull cx.old cx.new result }
     ensures held { IfOk result (λ arg. ArgHeld cx.new.entries arg) }
     ensures is { IfOk result (λ arg. arg_trees cx.new.entries arg ≡ leaf (infer (sort_of_param kind) (variables_of table.old (sort_of_param kind)))) }
     ensures made { OnOk result (table.new ≡ with_unknown table.old (sort_of_param kind)) }
-    ensures full { IfErr result (FullAtLimit cx.new) }
 {
     match kind {
         GenericParamKind::Lifetime => {
@@ -58,11 +57,10 @@ pub fn fresh_args_for_item(
 ) -> Result<GenericArgs, Fault>
     requires { Ready cx.old.entries table.old }
     ensures ready { Ready cx.new.entries table.new }
-    ensures grew { Grew cx.old cx.new }
+    ensures terms { GrewOrFull cx.old cx.new result }
     ensures held { IfOk result (λ args. Has cx.new.entries args_lists args.0) }
     ensures are { IfOk result (λ args. trees_at cx.new.entries args.0 ≡ fresh_unknowns table.old (map sort_of_param params.now)) }
     ensures made { OnOk result (table.new ≡ with_unknowns table.old (map sort_of_param params.now)) }
-    ensures full { IfErr result (FullAtLimit cx.new) }
 {
     let mut unknowns = Vec::new(alloc);
     let mut left = params;

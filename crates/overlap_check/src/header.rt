@@ -1,10 +1,10 @@
 //! Headers and where-clauses of impls over fresh unknowns.
-ghost use Rattle.std.specs.Prelude.{◌≡◌, IfOk, OnOk, None, IfErr};
+ghost use Rattle.std.specs.Prelude.{◌≡◌, IfOk, OnOk, None};
 ghost use Rattle.type_terms.specs.Trees.{outer_binder};
 ghost use Rattle.type_terms.specs.Worlds.{with_args, all_with_args};
 ghost use Rattle.type_terms.specs.Terms.{Has, args_lists, trees_at};
 ghost use Rattle.term_folds.specs.Arguments.{first_misfit};
-ghost use Rattle.term_folds.specs.Growth.{Grew, FullAtLimit};
+ghost use Rattle.type_terms.specs.Growth.{GrewOrFull};
 ghost use Rattle.infer_table.specs.Content.{Ready};
 ghost use Rattle.declarations.specs.Applied.{references_in, TraitRefsHeld};
 ghost use Rattle.declarations.specs.Held.{ReferenceHeld, ImplHeld};
@@ -45,10 +45,9 @@ pub fn instantiate_trait_ref(
     requires args { Has cx.old.entries args_lists args.0 }
     requires closed { outer_binder (trees_at cx.old.entries args.0) ≡ 0 }
     requires fits { first_misfit (trees_at cx.old.entries args.0) (trees_at cx.old.entries trait_ref.args.0) ≡ None }
-    ensures grew { Grew cx.old cx.new }
+    ensures terms { GrewOrFull cx.old cx.new result }
     ensures held { IfOk result (ReferenceHeld cx.new.entries) }
     ensures is { IfOk result (λ r. reference_in cx.new.entries r ≡ with_args (trees_at cx.old.entries args.0) (reference_in cx.old.entries trait_ref)) }
-    ensures full { IfErr result (FullAtLimit cx.new) }
 {
     closed_arguments_are_in_range();
     match EarlyBinder::bind(trait_ref).instantiate(alloc, cx, args) {
@@ -71,11 +70,10 @@ pub fn instantiate_clauses(
     requires args { Has cx.old.entries args_lists args.0 }
     requires closed { outer_binder (trees_at cx.old.entries args.0) ≡ 0 }
     requires fits { Each (λ k. first_misfit (trees_at cx.old.entries args.0) (trees_at cx.old.entries k.args.0) ≡ None) clauses.now }
-    ensures grew { Grew cx.old cx.new }
+    ensures terms { GrewOrFull cx.old cx.new result }
     ensures held { IfOk result (λ v. TraitRefsHeld cx.new.entries v.items) }
     ensures are { IfOk result (λ v. references_in cx.new.entries v.items
         ≡ all_with_args (trees_at cx.old.entries args.0) (references_in cx.old.entries clauses.now)) }
-    ensures full { IfErr result (FullAtLimit cx.new) }
 {
     let mut found = Vec::new(alloc);
     let mut left = clauses;
@@ -101,10 +99,9 @@ pub fn fresh_impl_header(
     requires held { ImplHeld cx.old.entries def.now }
     requires written { IsWrittenWell cx.old.entries def.now }
     ensures ready { Ready cx.new.entries table.new }
-    ensures grew { Grew cx.old cx.new }
+    ensures terms { GrewOrFull cx.old cx.new result }
     ensures header { IfOk result (IsHeaderOver cx.old.entries table.old def.now cx.new.entries) }
     ensures made { OnOk result (table.new ≡ with_unknowns_for table.old def.now) }
-    ensures full { IfErr result (FullAtLimit cx.new) }
 {
     let impl_args = fresh_args_for_item(alloc, cx, table, &def.params)?;
     let trait_ref = instantiate_trait_ref(alloc, cx, def.header, impl_args)?;

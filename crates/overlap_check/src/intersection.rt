@@ -1,8 +1,8 @@
 //! What two impls have in common: their headers made equal, and what is left to ask.
-ghost use Rattle.std.specs.Prelude.{◌≡◌, IfOk, IfSome, Ok, None, IfErr};
+ghost use Rattle.std.specs.Prelude.{◌≡◌, IfOk, IfSome, Ok, None};
 ghost use Rattle.type_terms.specs.Worlds.{all_with_args};
 ghost use Rattle.type_terms.specs.Terms.{trees_at};
-ghost use Rattle.term_folds.specs.Growth.{Grew, FullAtLimit};
+ghost use Rattle.type_terms.specs.Growth.{GrewOrFull};
 ghost use Rattle.infer_table.specs.Content.{Table};
 ghost use Rattle.declarations.specs.Applied.{references_in, TraitRefsHeld};
 ghost use Rattle.declarations.specs.Held.{ImplHeld};
@@ -59,7 +59,7 @@ pub fn impl_intersection(
     requires right_held { ImplHeld cx.old.entries right.now }
     requires left_written { IsWrittenWell cx.old.entries left.now }
     requires right_written { IsWrittenWell cx.old.entries right.now }
-    ensures grew { Grew cx.old cx.new }
+    ensures terms { GrewOrFull cx.old cx.new result }
 
     // Without an intersection the impls have no common instance.
     ensures apart { result ≡ Ok None → AreDisjointImpls cx.old.entries left.now right.now }
@@ -73,7 +73,6 @@ pub fn impl_intersection(
     // Where the impls speak of no unknowns, the goals speak of the table's own.
     ensures posed { IsWithoutVariables cx.old.entries left.now → IsWithoutVariables cx.old.entries right.now
         → IfOk result (λ found. IfSome found (IsPosed cx.new.entries)) }
-    ensures full { IfErr result (FullAtLimit cx.new) }
 {
     cx.lawful();
     let mut table = InferCtxt::new(alloc);
@@ -98,10 +97,9 @@ fn equate_fresh_headers(
     requires right_held { ImplHeld cx.old.entries right.now }
     requires left_written { IsWrittenWell cx.old.entries left.now }
     requires right_written { IsWrittenWell cx.old.entries right.now }
-    ensures grew { Grew cx.old cx.new }
+    ensures terms { GrewOrFull cx.old cx.new result }
     ensures apart { result ≡ Ok None → AreDisjointImpls cx.old.entries left.now right.now }
     ensures equal { IfOk result (λ found. IfSome found (λ h. AreEqualHeaders cx.old.entries left.now right.now cx.new.entries table.new h.0 h.1)) }
-    ensures full { IfErr result (FullAtLimit cx.new) }
 {
     cx.lawful();
     let left_header = fresh_impl_header(alloc, cx, table, left)?;
@@ -128,14 +126,13 @@ fn instantiate_both(
     requires right_written { IsWrittenWell cx.old.entries right.now }
     requires left_args { (t : Table) × IsUnknownsFor cx.old.entries t left.now left_header }
     requires right_args { (t : Table) × IsUnknownsFor cx.old.entries t right.now right_header }
-    ensures grew { Grew cx.old cx.new }
+    ensures terms { GrewOrFull cx.old cx.new result }
     ensures left_held { IfOk result (λ v. TraitRefsHeld cx.new.entries v.0.items) }
     ensures right_held { IfOk result (λ v. TraitRefsHeld cx.new.entries v.1.items) }
     ensures left { IfOk result (λ v. references_in cx.new.entries v.0.items
         ≡ all_with_args (trees_at cx.old.entries left_header.impl_args.0) (references_in cx.old.entries left.now.clauses.items)) }
     ensures right { IfOk result (λ v. references_in cx.new.entries v.1.items
         ≡ all_with_args (trees_at cx.old.entries right_header.impl_args.0) (references_in cx.old.entries right.now.clauses.items)) }
-    ensures full { IfErr result (FullAtLimit cx.new) }
 {
     let left_clauses = instantiate_clauses(alloc, cx, &left.clauses, left_header.impl_args)?;
     let right_clauses = instantiate_clauses(alloc, cx, &right.clauses, right_header.impl_args)?;

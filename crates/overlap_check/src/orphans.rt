@@ -5,7 +5,7 @@ ghost use Rattle.type_terms.specs.Walks.{trait_is};
 ghost use Rattle.type_terms.specs.Terms.{Entry, trees_at};
 ghost use Rattle.type_terms.specs.declared.Fault.TheVariants.{Memory};
 ghost use Rattle.type_terms.specs.declared.TheConstants.{MAX_INDEX};
-ghost use Rattle.term_folds.specs.Growth.{Grew, FullAtLimit};
+ghost use Rattle.type_terms.specs.Growth.{GrewOrFull};
 ghost use Rattle.infer_table.specs.Content.{Ready};
 ghost use Rattle.declarations.specs.Held.{AreHeld, ImplHeld, ReferenceHeld};
 ghost use Rattle.declarations.specs.Items.{IsAbove, declared, reference_in};
@@ -95,12 +95,11 @@ fn fresh_header_error(
     requires impl_held { ImplHeld cx.old.entries def.now }
     requires written { IsWrittenWell cx.old.entries def.now }
     requires params { HeaderHoldsParams cx.old.entries def.now }
-    ensures grew { Grew cx.old cx.new }
+    ensures terms { GrewOrFull cx.old cx.new result }
     ensures held { IfOk result (λ found. IfSome found (ErrorHeld cx.new.entries)) }
     ensures found { trait_is (λ x. x.home == declarations.now.local) (declared cx.old.entries declarations.now) def.now.header.def_id.index ≡ false
         → IfOk result (IsHeaderError (declared cx.old.entries declarations.now) declarations.now.local
         (erased_reference (reference_in cx.old.entries def.now.header)) cx.new.entries) }
-    ensures full { IfErr result (FullAtLimit cx.new) }
 {
     cx.lawful();
     let header = fresh_impl_header(alloc, cx, table, def)?;
@@ -123,11 +122,10 @@ pub fn header_error(
     requires impl_held { ImplHeld cx.old.entries def.now }
     requires written { IsWrittenWell cx.old.entries def.now }
     requires params { HeaderHoldsParams cx.old.entries def.now }
-    ensures grew { Grew cx.old cx.new }
+    ensures terms { GrewOrFull cx.old cx.new result }
     ensures held { IfOk result (λ found. IfSome found (ErrorHeld cx.new.entries)) }
     ensures found { IfOk result (IsHeaderError (declared cx.old.entries declarations.now) declarations.now.local
         (erased_reference (reference_in cx.old.entries def.now.header)) cx.new.entries) }
-    ensures full { IfErr result (FullAtLimit cx.new) }
 {
     if trait_is_local(declarations, def.header.def_id) {
         return Ok(None);
@@ -145,10 +143,9 @@ fn impl_error(
 ) -> Result<Option<OrphanCheckErr<Ty>>, Fault>
     requires held { AreHeld cx.old.entries declarations.now }
     requires written { AreWrittenWell cx.old.entries declarations.now }
-    ensures grew { Grew cx.old cx.new }
+    ensures terms { GrewOrFull cx.old cx.new result }
     ensures held { IfOk result (λ found. IfSome found (ErrorHeld cx.new.entries)) }
     ensures found { IfOk result (IsErrorOf (declared cx.old.entries declarations.now) declarations.now.local id.index cx.new.entries) }
-    ensures full { IfErr result (FullAtLimit cx.new) }
 {
     let Some(def) = declarations.impl_def(id) else {
         return Ok(None);
@@ -175,10 +172,9 @@ pub fn first_orphan(
     requires written { AreWrittenWell cx.old.entries declarations.now }
     requires numbered { IsAbove end declarations.now }
     requires in_range { end ≤ MAX_INDEX + 1 }
-    ensures grew { Grew cx.old cx.new }
+    ensures terms { GrewOrFull cx.old cx.new result }
     ensures held { IfOk result (λ found. IfSome found (λ x. ErrorHeld cx.new.entries x.1)) }
     ensures first { IfOk result (IsFirstError (declared cx.old.entries declarations.now) declarations.now.local cx.new.entries) }
-    ensures full { IfErr result (FullAtLimit cx.new) }
 {
     for index in 0..end {
         let id = ImplId { index };

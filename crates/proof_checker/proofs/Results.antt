@@ -1,6 +1,8 @@
 -- What is known of a result, made of what is known of it.
 use Rattle.std.specs.Prelude.{◌≡◌, true, false, List, [], ◌∷◌, Option, Some, None, Result, Ok, Err, IfOk, IfErr, IsErrAnd, IfSome}
-use Rattle.std.proofs.Common.{ap}
+use Rattle.type_terms.specs.declared.Fault.{Fault}
+use Rattle.type_terms.specs.declared.Fault.TheVariants.{Full, Memory}
+use Rattle.type_terms.proofs.FailFacts.{at-limit}
 use Rattle.declarations.specs.Merges.{Each}
 
 pub mapped : {A F : Type 0} (P Q : A → Type 0) (r : Result A F) → ((v : A) → P v → Q v) → IfOk r P → IfOk r Q
@@ -25,11 +27,6 @@ mapped-some P Q (Ok (Some v)) f p = f v p
 mapped-some P Q (Ok None) f p = tt
 mapped-some P Q (Err e) f p = tt
 
--- of the error itself
-pub of-error : {A F G : Type 0} (x : F) (r : Result A F) → (r ≡ Err x → G) → IfErr r (λ e. e ≡ x → G)
-of-error x (Ok v) f = tt
-of-error x (Err e) f = λ q. f (ap Err q)
-
 -- nothing is said of what was found where an error is handed on
 pub not-ok : {A F : Type 0} (P : A → Type 0) (Q : F → Type 0) (r : Result A F) → IsErrAnd r Q → IfOk r P
 not-ok P Q (Ok v) h = absurd h
@@ -41,3 +38,7 @@ never q = absurd cc
 pub none-each : {A : Type 0} (P : A → Type 0) (xs : List A) → xs ≡ [] → Each P xs
 none-each P [] e = tt
 none-each P (x ∷ xs) e = absurd cc
+
+-- a `?` behind a call that fails for want of memory alone
+pub memory-at-limit : {T : Type 0} (A : Type 0) (r : Result T Fault) {x : Fault} → IsErrAnd r (λ y. y ≡ x) → x ≡ Memory → IfErr r (λ e. e ≡ Full → A)
+memory-at-limit A r h m = at-limit r h (λ q. cc)

@@ -1,10 +1,10 @@
 //! Whether steps are a proof.
-ghost use Rattle.std.specs.Prelude.{◌≡◌, true, take, ◌++◌, [], List, IfOk, Some, IfErr};
+ghost use Rattle.std.specs.Prelude.{◌≡◌, true, take, ◌++◌, [], List, IfOk, Some};
 ghost use Rattle.std.specs.List.{slice_get};
 ghost use Rattle.type_terms.specs.Proofs.{In, Every};
 ghost use Rattle.type_terms.specs.Rules.{is_coinductive};
 ghost use Rattle.type_terms.specs.Terms.{Entry};
-ghost use Rattle.term_folds.specs.Growth.{Grew, FullAtLimit};
+ghost use Rattle.type_terms.specs.Growth.{GrewOrFull};
 ghost use Rattle.declarations.specs.Applied.{TraitRefsHeld, HaveBounds};
 ghost use Rattle.declarations.specs.Held.{AreHeld, ReferenceHeld};
 ghost use Rattle.declarations.specs.Items.{declared};
@@ -48,10 +48,9 @@ fn premises_stand(
 ) -> Result<bool, Fault>
     requires steps { Each (StepHeld cx.old.entries) steps.now }
     requires premises { TraitRefsHeld cx.old.entries premises.now }
-    ensures grew { Grew cx.old cx.new }
+    ensures terms { GrewOrFull cx.old cx.new result }
     ensures are { IfOk result (λ b. b ≡ true → at_places (steps_say cx.old.entries steps.now) places.now ≡ terms_of cx.old.entries premises.now) }
     ensures stand { IfOk result (λ b. b ≡ true → Every (λ p. In p (take allowed (steps_say cx.old.entries steps.now))) (terms_of cx.old.entries premises.now)) }
-    ensures full { IfErr result (FullAtLimit cx.new) }
 {
     let mut left = premises;
     let mut left_places = places;
@@ -96,12 +95,11 @@ fn is_step(
     requires clauses { TraitRefsHeld cx.old.entries clauses.now }
     requires steps { Each (StepHeld cx.old.entries) steps.now }
     requires step { slice_get steps.now place ≡ Some step.now }
-    ensures grew { Grew cx.old cx.new }
+    ensures terms { GrewOrFull cx.old cx.new result }
     ensures rule { IfOk result (λ b. b ≡ true → StepHasRule (declared cx.old.entries declarations.now)
         (terms_of cx.old.entries clauses.now ++ assumed_in cx.old.entries steps.now) cx.old.entries (steps_say cx.old.entries steps.now) step.now) }
     ensures stand { IfOk result (λ b. b ≡ true → PremisesStand (declared cx.old.entries declarations.now)
         (steps_say cx.old.entries steps.now) place step.now.reference.def_id.index (at_places (steps_say cx.old.entries steps.now) step.now.premises.items)) }
-    ensures full { IfErr result (FullAtLimit cx.new) }
 {
     let allowed = if is_coinductive(declarations, step.reference.def_id) {
         steps.len()
@@ -147,10 +145,9 @@ fn is_proof(
     requires bounds { HaveBounds cx.old.entries declarations.now }
     requires clauses { TraitRefsHeld cx.old.entries clauses.now }
     requires steps { Each (StepHeld cx.old.entries) steps.now }
-    ensures grew { Grew cx.old cx.new }
+    ensures terms { GrewOrFull cx.old cx.new result }
     ensures proof { IfOk result (λ b. b ≡ true
         → AreProof cx.old.entries (declared cx.old.entries declarations.now) (terms_of cx.old.entries clauses.now) steps.now) }
-    ensures full { IfErr result (FullAtLimit cx.new) }
 {
     declarations_are_kept();
     'steps: for (place, step) in steps.iter().enumerate() {
@@ -182,10 +179,9 @@ pub fn is_proof_of(
     requires clauses { TraitRefsHeld cx.old.entries clauses.now }
     requires asked { ReferenceHeld cx.old.entries asked }
     requires steps { Each (StepHeld cx.old.entries) steps.now }
-    ensures grew { Grew cx.old cx.new }
+    ensures terms { GrewOrFull cx.old cx.new result }
     ensures proof { IfOk result (λ b. b ≡ true → AreProofOf cx.old.entries (declared cx.old.entries declarations.now)
         (terms_of cx.old.entries clauses.now) (term_of cx.old.entries asked) steps.now) }
-    ensures full { IfErr result (FullAtLimit cx.new) }
 {
     if !is_proof(alloc, cx, declarations, clauses, steps)? {
         return Ok(false);

@@ -1,10 +1,10 @@
 //! The fields of structs, with arguments in the place of parameters.
-ghost use Rattle.std.specs.Prelude.{◌≡◌, map, IfOk, IfSome, None, IfErr};
+ghost use Rattle.std.specs.Prelude.{◌≡◌, map, IfOk, IfSome, None};
 ghost use Rattle.type_terms.specs.Kinds.{TysHeld, tys_trees};
 ghost use Rattle.type_terms.specs.Terms.{Has, types, args_lists, trees_at};
 ghost use Rattle.type_terms.specs.Trees.{erase, instantiate, outer_binder};
 ghost use Rattle.term_folds.specs.Arguments.{first_misfit};
-ghost use Rattle.term_folds.specs.Growth.{Grew, FullAtLimit};
+ghost use Rattle.type_terms.specs.Growth.{GrewOrFull};
 ghost use Rattle.declarations.specs.Held.{AreHeld};
 ghost use Rattle.declarations.specs.Items.{declared};
 ghost use Rattle.declarations.specs.Merges.{Each};
@@ -30,12 +30,11 @@ fn field_with(
     requires field { Has cx.old.entries types field.0 }
     requires args { Has cx.old.entries args_lists args.0 }
     requires closed { outer_binder (trees_at cx.old.entries args.0) ≡ 0 }
-    ensures grew { Grew cx.old cx.new }
+    ensures terms { GrewOrFull cx.old cx.new result }
     ensures held { IfOk result (λ o. IfSome o (λ r. Has cx.new.entries types r.0)) }
     ensures is { IfOk result
         (λ o. IfSome o (λ r. trees_at cx.new.entries r.0 ≡ instantiate 0 (trees_at cx.old.entries args.0) (trees_at cx.old.entries field.0))) }
     ensures fits { IfOk result (λ o. IfSome o (λ _. first_misfit (trees_at cx.old.entries args.0) (trees_at cx.old.entries field.0) ≡ None)) }
-    ensures full { IfErr result (FullAtLimit cx.new) }
 {
     closed_arguments_are_in_range();
     match EarlyBinder::bind(field).instantiate(alloc, cx, args) {
@@ -56,13 +55,12 @@ fn fields_with(
     requires fields { TysHeld cx.old.entries fields.now }
     requires args { Has cx.old.entries args_lists args.0 }
     requires closed { outer_binder (trees_at cx.old.entries args.0) ≡ 0 }
-    ensures grew { Grew cx.old cx.new }
+    ensures terms { GrewOrFull cx.old cx.new result }
     ensures held { IfOk result (λ o. IfSome o (λ v. TysHeld cx.new.entries v.items)) }
     ensures are { IfOk result (λ o. IfSome o (λ v. field_trees cx.new.entries v.items
         ≡ map (instantiate 0 (trees_at cx.old.entries args.0)) (field_trees cx.old.entries fields.now))) }
     ensures fits { IfOk result
         (λ o. IfSome o (λ _. Each (λ f. first_misfit (trees_at cx.old.entries args.0) (trees_at cx.old.entries f.0) ≡ None) fields.now)) }
-    ensures full { IfErr result (FullAtLimit cx.new) }
 {
     let mut found = Vec::new(alloc);
     let mut left = fields;
@@ -88,11 +86,10 @@ pub(crate) fn struct_fields(
 ) -> Result<Option<Vec<Ty>>, Fault>
     requires declared { AreHeld cx.old.entries declarations.now }
     requires args { Has cx.old.entries args_lists args.0 }
-    ensures grew { Grew cx.old cx.new }
+    ensures terms { GrewOrFull cx.old cx.new result }
     ensures held { IfOk result (λ o. IfSome o (λ v. TysHeld cx.new.entries v.items)) }
     ensures are { IfOk result (λ o. IfSome o (λ v. AreFieldsOf (declared cx.old.entries declarations.now) def_id.index
         (erase (trees_at cx.old.entries args.0)) (erase (tys_trees cx.new.entries v.items)))) }
-    ensures full { IfErr result (FullAtLimit cx.new) }
 {
     cx.lawful();
     let def = match declarations.adt_def(def_id) {

@@ -1,6 +1,6 @@
 //! References compared up to lifetimes.
-ghost use Rattle.std.specs.Prelude.{◌≡◌, true, IfOk, IfErr};
-ghost use Rattle.term_folds.specs.Growth.{Grew, FullAtLimit};
+ghost use Rattle.std.specs.Prelude.{◌≡◌, true, IfOk};
+ghost use Rattle.type_terms.specs.Growth.{GrewOrFull};
 ghost use Rattle.declarations.specs.Held.{ReferenceHeld};
 ghost use Rattle.proof_checker.specs.Steps.{term_of};
 
@@ -33,10 +33,9 @@ fn without_lifetimes(
     reference: TraitRef,
 ) -> Result<TraitRef, Fault>
     requires { ReferenceHeld cx.old.entries reference }
-    ensures grew { Grew cx.old cx.new }
+    ensures terms { GrewOrFull cx.old cx.new result }
     ensures held { IfOk result (ReferenceHeld cx.new.entries) }
     ensures is { IfOk result (λ r. term_of cx.new.entries r ≡ term_of cx.old.entries reference) }
-    ensures full { IfErr result (FullAtLimit cx.new) }
 {
     fold_regions(alloc, cx, reference, &AllStatic)
 }
@@ -50,9 +49,8 @@ pub(crate) fn are_one(
 ) -> Result<bool, Fault>
     requires one { ReferenceHeld cx.old.entries one }
     requires other { ReferenceHeld cx.old.entries other }
-    ensures grew { Grew cx.old cx.new }
+    ensures terms { GrewOrFull cx.old cx.new result }
     ensures one { IfOk result (λ b. b ≡ true → term_of cx.old.entries one ≡ term_of cx.old.entries other) }
-    ensures full { IfErr result (FullAtLimit cx.new) }
 {
     if one.def_id.index != other.def_id.index {
         return Ok(false);

@@ -1,9 +1,9 @@
 //! Whether an impl, or a built-in rule, is asked for a reference, and asks for others.
-ghost use Rattle.std.specs.Prelude.{◌≡◌, true, List, IfOk, IfErr};
+ghost use Rattle.std.specs.Prelude.{◌≡◌, true, List, IfOk};
 ghost use Rattle.type_terms.specs.Rules.{by_impl};
 ghost use Rattle.type_terms.specs.Terms.{Has, args_lists};
 ghost use Rattle.type_terms.specs.Worlds.{Reference};
-ghost use Rattle.term_folds.specs.Growth.{Grew, FullAtLimit};
+ghost use Rattle.type_terms.specs.Growth.{GrewOrFull};
 ghost use Rattle.declarations.specs.Applied.{TraitRefsHeld};
 ghost use Rattle.declarations.specs.Held.{ReferenceHeld, AreHeld};
 ghost use Rattle.declarations.specs.Items.{declared};
@@ -29,9 +29,8 @@ fn are_first(
 ) -> Result<bool, Fault>
     requires asked { TraitRefsHeld cx.old.entries asked.now }
     requires premises { TraitRefsHeld cx.old.entries premises.now }
-    ensures grew { Grew cx.old cx.new }
+    ensures terms { GrewOrFull cx.old cx.new result }
     ensures first { IfOk result (λ b. b ≡ true → AreFirstOf (terms_of cx.old.entries asked.now) (terms_of cx.old.entries premises.now)) }
-    ensures full { IfErr result (FullAtLimit cx.new) }
 {
     let mut left = premises;
     let mut left_asked = asked;
@@ -68,10 +67,9 @@ pub fn follows_by_impl(
     requires reference { ReferenceHeld cx.old.entries reference }
     requires args { Has cx.old.entries args_lists args.0 }
     requires premises { TraitRefsHeld cx.old.entries premises.now }
-    ensures grew { Grew cx.old cx.new }
+    ensures terms { GrewOrFull cx.old cx.new result }
     ensures follows { IfOk result (λ b. b ≡ true → (E : List Reference) → IsConcludedFrom (declared cx.old.entries declarations.now) E
         (term_of cx.old.entries reference) (by_impl id.index) (terms_of cx.old.entries premises.now)) }
-    ensures full { IfErr result (FullAtLimit cx.new) }
 {
     match by_impl(alloc, cx, declarations, reference, id, args)? {
         Some(asked) => are_first(alloc, cx, &asked, premises),
@@ -93,10 +91,9 @@ pub fn follows_by_built_in(
     requires declared { AreHeld cx.old.entries declarations.now }
     requires reference { ReferenceHeld cx.old.entries reference }
     requires premises { TraitRefsHeld cx.old.entries premises.now }
-    ensures grew { Grew cx.old cx.new }
+    ensures terms { GrewOrFull cx.old cx.new result }
     ensures follows { IfOk result (λ b. b ≡ true → (E : List Reference)
         → IsBuiltInConclusion (declared cx.old.entries declarations.now) E (term_of cx.old.entries reference) (terms_of cx.old.entries premises.now)) }
-    ensures full { IfErr result (FullAtLimit cx.new) }
 {
     match by_built_in(alloc, cx, declarations, reference)? {
         Some(asked) => are_first(alloc, cx, &asked, premises),

@@ -1,11 +1,11 @@
 //! The types that a type is made of, as the rules that read declarations ask for them: those of auto traits, and `Sized` for structs.
-ghost use Rattle.std.specs.Prelude.{◌≡◌, ℕ, true, IfOk, IfSome, IfErr};
+ghost use Rattle.std.specs.Prelude.{◌≡◌, ℕ, true, IfOk, IfSome};
 ghost use Rattle.type_terms.specs.Kinds.{TysHeld};
 ghost use Rattle.type_terms.specs.Label.{slice, uint};
 ghost use Rattle.type_terms.specs.Rules.{auto_rules_plain, sized, sized_rules};
 ghost use Rattle.type_terms.specs.Terms.{Has, types, trees_at};
 ghost use Rattle.type_terms.specs.Trees.{erase, leaf, none, tree};
-ghost use Rattle.term_folds.specs.Growth.{Grew, FullAtLimit};
+ghost use Rattle.type_terms.specs.Growth.{GrewOrFull};
 ghost use Rattle.declarations.specs.Held.{AreHeld};
 ghost use Rattle.declarations.specs.Items.{declared};
 ghost use Rattle.proof_checker.specs.Rows.{HasOwnRule, HasRow, IsOneRow, each_asked_of};
@@ -30,11 +30,10 @@ fn sized_part(
 ) -> Result<Option<Vec<Ty>>, Fault>
     requires declared { AreHeld cx.old.entries declarations.now }
     requires self_held { Has cx.old.entries types self_ty.0 }
-    ensures grew { Grew cx.old cx.new }
+    ensures terms { GrewOrFull cx.old cx.new result }
     ensures asks { IfOk result (λ o. IfSome o (λ v. IsOneRow
         (sized_rules (declared cx.old.entries declarations.now) (erase (trees_at cx.old.entries self_ty.0))) (each_asked_of cx.new.entries sized v.items))) }
     ensures held { IfOk result (λ o. IfSome o (λ v. TysHeld cx.new.entries v.items)) }
-    ensures full { IfErr result (FullAtLimit cx.new) }
 {
     let TyKind::Adt(def_id, args) = cx.kind(self_ty) else {
         return Ok(None);
@@ -52,10 +51,9 @@ fn sized_part(
 
 /// The type of a string's bytes: `[u8]`.
 fn str_bytes(cx: &mut Interner) -> Result<Ty, Fault>
-    ensures grew { Grew cx.old cx.new }
+    ensures terms { GrewOrFull cx.old cx.new result }
     ensures held { IfOk result (λ r. Has cx.new.entries types r.0) }
     ensures is { IfOk result (λ r. trees_at cx.new.entries r.0 ≡ tree slice (leaf (uint 0)) none) }
-    ensures full { IfErr result (FullAtLimit cx.new) }
 {
     let byte = cx.mk_ty(TyKind::Uint(UintTy::U8))?;
     let bytes = cx.mk_ty(TyKind::Slice(byte))?;
@@ -71,12 +69,11 @@ fn auto_parts(
 ) -> Result<Option<Vec<Ty>>, Fault>
     requires declared { AreHeld cx.old.entries declarations.now }
     requires self_held { Has cx.old.entries types self_ty.0 }
-    ensures grew { Grew cx.old cx.new }
+    ensures terms { GrewOrFull cx.old cx.new result }
     ensures asks { IfOk result (λ o. IfSome o (λ v. (t : ℕ)
         → IsOneRow (auto_rules_plain (declared cx.old.entries declarations.now) t (erase (trees_at cx.old.entries self_ty.0)))
         (each_asked_of cx.new.entries t v.items))) }
     ensures held { IfOk result (λ o. IfSome o (λ v. TysHeld cx.new.entries v.items)) }
-    ensures full { IfErr result (FullAtLimit cx.new) }
 {
     cx.lawful();
     match cx.kind(self_ty) {
@@ -151,11 +148,10 @@ pub(crate) fn parts_asked(
 ) -> Result<Option<Vec<Ty>>, Fault>
     requires declared { AreHeld cx.old.entries declarations.now }
     requires self_held { Has cx.old.entries types self_ty.0 }
-    ensures grew { Grew cx.old cx.new }
+    ensures terms { GrewOrFull cx.old cx.new result }
     ensures row { IfOk result (λ o. IfSome o (λ v. HasRow (declared cx.old.entries declarations.now) id.index
         (erase (trees_at cx.old.entries self_ty.0)) (each_asked_of cx.new.entries id.index v.items))) }
     ensures held { IfOk result (λ o. IfSome o (λ v. TysHeld cx.new.entries v.items)) }
-    ensures full { IfErr result (FullAtLimit cx.new) }
 {
     if id.index == SIZED {
         return sized_part(alloc, cx, declarations, self_ty);

@@ -6,7 +6,7 @@ ghost use Rattle.type_terms.specs.Terms.{Has, types, args_lists, trees_at};
 ghost use Rattle.type_terms.specs.Trees.{erase};
 ghost use Rattle.type_terms.specs.Worlds.{World, Reference};
 ghost use Rattle.type_terms.specs.declared.Fault.TheVariants.{Memory};
-ghost use Rattle.term_folds.specs.Growth.{Grew, FullAtLimit};
+ghost use Rattle.type_terms.specs.Growth.{GrewOrFull};
 ghost use Rattle.declarations.specs.Applied.{TraitRefsHeld};
 ghost use Rattle.declarations.specs.Held.{AreHeld, ReferenceHeld};
 ghost use Rattle.declarations.specs.Items.{declared};
@@ -175,10 +175,9 @@ fn types_asked(
 /// A type asked for a trait without further parameters.
 fn type_asked(alloc: Global, cx: &mut Interner, def_id: TraitId, ty: Ty) -> Result<TraitRef, Fault>
     requires { Has cx.old.entries types ty.0 }
-    ensures grew { Grew cx.old cx.new }
+    ensures terms { GrewOrFull cx.old cx.new result }
     ensures held { IfOk result (ReferenceHeld cx.new.entries) }
     ensures is { IfOk result (λ r. term_of cx.new.entries r ≡ asked def_id.index (erase (trees_at cx.old.entries ty.0))) }
-    ensures full { IfErr result (FullAtLimit cx.new) }
 {
     let list = vec![in alloc; GenericArgKind::Ty(ty)]?;
     let args = cx.mk_args(list)?;
@@ -193,10 +192,9 @@ fn all_asked(
     tys: &[Ty],
 ) -> Result<Vec<TraitRef>, Fault>
     requires { TysHeld cx.old.entries tys.now }
-    ensures grew { Grew cx.old cx.new }
+    ensures terms { GrewOrFull cx.old cx.new result }
     ensures held { IfOk result (λ v. TraitRefsHeld cx.new.entries v.items) }
     ensures are { IfOk result (λ v. terms_of cx.new.entries v.items ≡ each_asked_of cx.old.entries def_id.index tys.now) }
-    ensures full { IfErr result (FullAtLimit cx.new) }
 {
     let mut found = Vec::new(alloc);
     let mut left = tys;
@@ -237,12 +235,11 @@ fn by_parts(
 ) -> Result<Option<Vec<TraitRef>>, Fault>
     requires declared { AreHeld cx.old.entries declarations.now }
     requires self_held { Has cx.old.entries types self_ty.0 }
-    ensures grew { Grew cx.old cx.new }
+    ensures terms { GrewOrFull cx.old cx.new result }
     ensures held { IfOk result (λ o. IfSome o (λ v. TraitRefsHeld cx.new.entries v.items)) }
     ensures rule { IfOk result (λ o. IfSome o (λ v. (E : List Reference)
         → IsBuiltInRule (declared cx.old.entries declarations.now) E
         (asked id.index (erase (trees_at cx.old.entries self_ty.0))) (terms_of cx.new.entries v.items))) }
-    ensures full { IfErr result (FullAtLimit cx.new) }
 {
     match parts_asked(alloc, cx, declarations, id, self_ty)? {
         Some(tys) => {
@@ -263,11 +260,10 @@ pub fn by_built_in(
 ) -> Result<Option<Vec<TraitRef>>, Fault>
     requires declared { AreHeld cx.old.entries declarations.now }
     requires reference { ReferenceHeld cx.old.entries reference }
-    ensures grew { Grew cx.old cx.new }
+    ensures terms { GrewOrFull cx.old cx.new result }
     ensures held { IfOk result (λ o. IfSome o (λ v. TraitRefsHeld cx.new.entries v.items)) }
     ensures rule { IfOk result (λ o. IfSome o (λ v. (E : List Reference)
         → IsBuiltInRule (declared cx.old.entries declarations.now) E (term_of cx.old.entries reference) (terms_of cx.new.entries v.items))) }
-    ensures full { IfErr result (FullAtLimit cx.new) }
 {
     let Some(self_ty) = only_type(cx, reference.args) else {
         return Ok(None);

@@ -1,11 +1,11 @@
 //! The premises by which one way concludes a reference.
-ghost use Rattle.std.specs.Prelude.{◌≡◌, true, [], List, IfOk, IfSome, None, IfErr};
+ghost use Rattle.std.specs.Prelude.{◌≡◌, true, [], List, IfOk, IfSome, None};
 ghost use Rattle.type_terms.specs.Rules.{by_impl, by_clause};
 ghost use Rattle.type_terms.specs.Terms.{Has, args_lists, trees_at};
 ghost use Rattle.type_terms.specs.Trees.{outer_binder};
 ghost use Rattle.type_terms.specs.Worlds.{World, Reference, with_args, all_with_args};
 ghost use Rattle.term_folds.specs.Arguments.{first_misfit};
-ghost use Rattle.term_folds.specs.Growth.{Grew, FullAtLimit};
+ghost use Rattle.type_terms.specs.Growth.{GrewOrFull};
 ghost use Rattle.declarations.specs.Applied.{references_in, TraitRefsHeld};
 ghost use Rattle.declarations.specs.Held.{ReferenceHeld, AreHeld};
 ghost use Rattle.declarations.specs.Items.{reference_in, declared};
@@ -34,12 +34,11 @@ fn with_arguments(
     requires held { ReferenceHeld cx.old.entries reference }
     requires args { Has cx.old.entries args_lists args.0 }
     requires closed { outer_binder (trees_at cx.old.entries args.0) ≡ 0 }
-    ensures grew { Grew cx.old cx.new }
+    ensures terms { GrewOrFull cx.old cx.new result }
     ensures held { IfOk result (λ o. IfSome o (ReferenceHeld cx.new.entries)) }
     ensures is { IfOk result
         (λ o. IfSome o (λ r. reference_in cx.new.entries r ≡ with_args (trees_at cx.old.entries args.0) (reference_in cx.old.entries reference))) }
     ensures fits { IfOk result (λ o. IfSome o (λ _. first_misfit (trees_at cx.old.entries args.0) (trees_at cx.old.entries reference.args.0) ≡ None)) }
-    ensures full { IfErr result (FullAtLimit cx.new) }
 {
     closed_arguments_are_in_range();
     match EarlyBinder::bind(reference).instantiate(alloc, cx, args) {
@@ -60,13 +59,12 @@ pub(crate) fn all_with_arguments(
     requires held { TraitRefsHeld cx.old.entries references.now }
     requires args { Has cx.old.entries args_lists args.0 }
     requires closed { outer_binder (trees_at cx.old.entries args.0) ≡ 0 }
-    ensures grew { Grew cx.old cx.new }
+    ensures terms { GrewOrFull cx.old cx.new result }
     ensures held { IfOk result (λ o. IfSome o (λ v. TraitRefsHeld cx.new.entries v.items)) }
     ensures are { IfOk result (λ o. IfSome o (λ v. references_in cx.new.entries v.items
         ≡ all_with_args (trees_at cx.old.entries args.0) (references_in cx.old.entries references.now))) }
     ensures fits { IfOk result
         (λ o. IfSome o (λ _. Each (λ b. first_misfit (trees_at cx.old.entries args.0) (trees_at cx.old.entries b.args.0) ≡ None) references.now)) }
-    ensures full { IfErr result (FullAtLimit cx.new) }
 {
     let mut found = Vec::new(alloc);
     let mut left = references;
@@ -96,11 +94,10 @@ pub(crate) fn by_impl(
     requires covered { ParametersAreCovered cx.old.entries declarations.now }
     requires reference { ReferenceHeld cx.old.entries reference }
     requires args { Has cx.old.entries args_lists args.0 }
-    ensures grew { Grew cx.old cx.new }
+    ensures terms { GrewOrFull cx.old cx.new result }
     ensures held { IfOk result (λ o. IfSome o (λ v. TraitRefsHeld cx.new.entries v.items)) }
     ensures rule { IfOk result (λ o. IfSome o (λ v. (E : List Reference)
         → IsRuleByWay (declared cx.old.entries declarations.now) E (term_of cx.old.entries reference) (by_impl id.index) (terms_of cx.new.entries v.items))) }
-    ensures full { IfErr result (FullAtLimit cx.new) }
 {
     cx.lawful();
     let def = match declarations.impl_def(id) {
@@ -131,10 +128,9 @@ pub fn by_clause(
 ) -> Result<bool, Fault>
     requires clauses { TraitRefsHeld cx.old.entries clauses.now }
     requires reference { ReferenceHeld cx.old.entries reference }
-    ensures grew { Grew cx.old cx.new }
+    ensures terms { GrewOrFull cx.old cx.new result }
     ensures rule { IfOk result (λ b. b ≡ true
         → (W : World) → IsRuleByWay W (terms_of cx.old.entries clauses.now) (term_of cx.old.entries reference) (by_clause place) []) }
-    ensures full { IfErr result (FullAtLimit cx.new) }
 {
     if place < clauses.len() {
         are_one(alloc, cx, clauses[place], reference)

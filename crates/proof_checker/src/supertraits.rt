@@ -3,7 +3,7 @@ ghost use Rattle.std.specs.Prelude.{◌≡◌, ◌++◌, true, IfOk, IfErr, OnOk
 ghost use Rattle.type_terms.specs.Proofs.{In};
 ghost use Rattle.type_terms.specs.Rules.{written_supertraits, strict_supertraits};
 ghost use Rattle.type_terms.specs.declared.Fault.TheVariants.{Memory};
-ghost use Rattle.term_folds.specs.Growth.{Grew, FullAtLimit};
+ghost use Rattle.type_terms.specs.Growth.{GrewOrFull};
 ghost use Rattle.declarations.specs.Applied.{TraitRefsHeld, HaveBounds};
 ghost use Rattle.declarations.specs.Held.{ReferenceHeld, AreHeld};
 ghost use Rattle.declarations.specs.Items.{declared};
@@ -32,11 +32,10 @@ fn written_supertraits(
 ) -> Result<Vec<TraitRef>, Fault>
     requires declared { AreHeld cx.old.entries declarations.now }
     requires reference { ReferenceHeld cx.old.entries reference }
-    ensures grew { Grew cx.old cx.new }
+    ensures terms { GrewOrFull cx.old cx.new result }
     ensures held { IfOk result (λ v. TraitRefsHeld cx.new.entries v.items) }
     ensures are { IfOk result (λ v. Each (λ s. In (term_of cx.new.entries s)
         (written_supertraits (declared cx.old.entries declarations.now) (term_of cx.old.entries reference))) v.items) }
-    ensures full { IfErr result (FullAtLimit cx.new) }
 {
     cx.lawful();
     let def = match declarations.trait_def(reference.def_id) {
@@ -73,10 +72,9 @@ fn is_supertrait_of(
     requires bounds { HaveBounds cx.old.entries declarations.now }
     requires reference { ReferenceHeld cx.old.entries reference }
     requires below { ReferenceHeld cx.old.entries below }
-    ensures grew { Grew cx.old cx.new }
+    ensures terms { GrewOrFull cx.old cx.new result }
     ensures above { IfOk result (λ b. b ≡ true
         → In (term_of cx.old.entries reference) (strict_supertraits (declared cx.old.entries declarations.now) (term_of cx.old.entries below))) }
-    ensures full { IfErr result (FullAtLimit cx.new) }
 {
     declarations_are_kept();
     let mut waiting = written_supertraits(alloc, cx, declarations, below)?;
@@ -108,10 +106,9 @@ pub fn by_supertrait(
     requires bounds { HaveBounds cx.old.entries declarations.now }
     requires clauses { TraitRefsHeld cx.old.entries clauses.now }
     requires reference { ReferenceHeld cx.old.entries reference }
-    ensures grew { Grew cx.old cx.new }
+    ensures terms { GrewOrFull cx.old cx.new result }
     ensures rule { IfOk result (λ b. b ≡ true
         → IsSuperRule (declared cx.old.entries declarations.now) (terms_of cx.old.entries clauses.now) (term_of cx.old.entries reference) place) }
-    ensures full { IfErr result (FullAtLimit cx.new) }
 {
     if place < clauses.len() {
         is_supertrait_of(alloc, cx, declarations, reference, clauses[place])

@@ -7,3 +7,4 @@ mod Staying
 mod UnseenCrates
 mod Unmatched
 mod Rowless
+mod InstanceFacts

@@ -1,19 +1,19 @@
--- References that no built-in row concludes.
-use Rattle.std.proofs.Common.{◌≡◌, ◌==◌, ◌++◌, ℕ, Bool, true, false, ◌||◌, List, [], ◌∷◌, map, cond, Some, None, refl, sym, ap, ◌∙◌, subst, if◌then◌else◌}
-use Rattle.type_terms.specs.Label.{Label, tuple, fn_ptr, dynamic}
+-- References that no built-in row concludes, whatever their unknowns stand for.
+use Rattle.std.proofs.Common.{◌≡◌, ◌==◌, ◌++◌, ℕ, Bool, true, false, ◌||◌, List, [], Some, None, refl, sym, ap, ◌∙◌, subst, if◌then◌else◌}
+use Rattle.type_terms.specs.Label.{Label, tuple, fn_ptr, dynamic, infer}
 use Rattle.type_terms.specs.Trees.{Trees, none, tree, erase, erase_label}
-use Rattle.type_terms.specs.Rules.{Rule, sized, copy, clone, tuple_trait, fn_ptr_trait, is_fn_trait, unsize, is_auto, copy_rules, tuple_rules, fn_ptr_rules, call_rules, sized_rules, auto_rules, unsize_rules, object_rules}
-use Rattle.std.specs.Prelude.{filter}
-use Rattle.std.specs.List.{list_any}
-use Rattle.type_terms.specs.Erased.{erased_trait}
+use Rattle.type_terms.specs.Rules.{Rule, sized, copy, clone, tuple_trait, fn_ptr_trait, is_fn_trait, unsize, is_auto, copy_rules, tuple_rules, fn_ptr_rules, call_rules, sized_rules, auto_rules, unsize_rules, object_rules, built_in_rules}
 use Rattle.type_terms.specs.Terms.{Entry, trees_at}
-use Rattle.type_terms.specs.Worlds.{World, Reference, TraitDecl, CrateDecl}
+use Rattle.type_terms.specs.Worlds.{World, Reference, CrateDecl}
 use Rattle.type_terms.proofs.Members.{same-number}
 use Rattle.term_folds.specs.declared.predicate.TraitRef.{TraitRef}
 use Rattle.type_terms.proofs.Made.{false-true}
+use Rattle.infer_table.specs.Solutions.{Assignment, instance}
+use Rattle.infer_table.proofs.SolutionLaws.{instance-erase}
 use Rattle.declarations.specs.Heads.{head_of, label_of, is_rigid}
 use Rattle.declarations.specs.Items.{Items, declared, written}
 use Rattle.declarations.specs.declared.simplify.SimplifiedType.{SimplifiedType}
+use Rattle.candidate_assembly.proofs.Knowing.{traits-erased}
 use Rattle.proof_checker.specs.Steps.{term_of}
 use Rattle.session_walks.specs.Rules.{HasNoRow, is_bare}
 
@@ -56,7 +56,7 @@ joined : (us vs : List Rule) → us ≡ [] → vs ≡ [] → us ++ vs ≡ []
 joined us vs e f = ap (λ z. z ++ vs) e ∙ f
 
 no-rows : (W : World) (t : ℕ) (l : Label) (c o : Trees) → is_bare l ≡ true → is_auto W t ≡ false → (t == unsize) ≡ false → ((t == sized) ≡ true → sized_rules W (tree l c o) ≡ [])
-    → HasNoRow W (record { trait = t; args = tree l c o })
+    → built_in_rules W (record { trait = t; args = tree l c o }) ≡ []
 no-rows W t l c o bare auto uns siz =
     joined _ _
     (joined _ _ (left-out ((t == copy) || (t == clone)) (copy_rules t (tree l c o)) (bare-copy t l c o bare))
@@ -75,35 +75,31 @@ some-not-none l e = cc
 same-some : (l m : Label) → Some l ≡ Some m → l ≡ m
 same-some l m e = cc
 
-pub by-head : (W : World) (t : ℕ) (args : Trees) (l : Label) → head_of args ≡ Some l → is_bare l ≡ true → is_auto W t ≡ false → (t == unsize) ≡ false
+-- a rigid label stays, but for lifetimes, whatever unknowns stand for
+rigid-instance : (s : Assignment) (m : Label) (c o : Trees) → is_rigid m ≡ true → instance s (tree m c o) ≡ tree (erase_label m) (instance s c) (instance s o)
+rigid-instance s (infer k v) c o h = absurd (false-true h)
+rigid-instance s m c o h = refl
+
+by-head : (W : World) (t : ℕ) (args : Trees) (l : Label) → head_of args ≡ Some l → is_bare l ≡ true → is_auto W t ≡ false → (t == unsize) ≡ false
     → ((t == sized) ≡ true → (c o : Trees) → sized_rules W (tree l c o) ≡ []) → HasNoRow W (record { trait = t; args = erase args })
 by-head W t none l e bare auto uns siz = absurd (some-not-none l (sym e))
-by-head W t (tree m c o) l e bare auto uns siz = by (is_rigid m) refl e
+by-head W t (tree m c o) l e bare auto uns siz = λ s. by s (is_rigid m) refl e
   where
-    by : (b : Bool) → is_rigid m ≡ b → (if b then Some (erase_label m) else None) ≡ Some l → HasNoRow W (record { trait = t; args = tree (erase_label m) (erase c) (erase o) })
-    by false r f = absurd (some-not-none l (sym f))
-    by true r f =
-        let same = same-some (erase_label m) l f in
-        subst (λ k. HasNoRow W (record { trait = t; args = tree k (erase c) (erase o) })) (sym same) (no-rows W t l (erase c) (erase o) bare auto uns (λ q. siz q (erase c) (erase o)))
+    by : (s : Assignment) (b : Bool) → is_rigid m ≡ b → (if b then Some (erase_label m) else None) ≡ Some l → built_in_rules W (record { trait = t; args = instance s (erase (tree m c o)) }) ≡ []
+    by s false r f = absurd (some-not-none l (sym f))
+    by s true r f =
+        let at : instance s (erase (tree m c o)) ≡ tree l (instance s c) (instance s o) =
+        instance-erase s (tree m c o) ∙ rigid-instance s m c o r ∙ ap (λ k. tree k (instance s c) (instance s o)) (same-some (erase_label m) l f) in
+        subst (λ x. built_in_rules W (record { trait = t; args = x }) ≡ []) (sym at) (no-rows W t l (instance s c) (instance s o) bare auto uns (λ q. siz q (instance s c) (instance s o)))
 
--- ---- auto traits, with lifetimes and without
-autos-erased : (t : ℕ) (ts : List TraitDecl) → list_any (λ x. x.is_auto) (filter (λ x. x.name == t) (map erased_trait ts)) ≡ list_any (λ x. x.is_auto) (filter (λ x. x.name == t) ts)
-autos-erased t [] = refl
-autos-erased t (x ∷ ts) = by (x.name == t) (autos-erased t ts)
-  where
-    by : (b : Bool) → list_any (λ z. z.is_auto) (filter (λ z. z.name == t) (map erased_trait ts)) ≡ list_any (λ z. z.is_auto) (filter (λ z. z.name == t) ts)
-        → list_any (λ z. z.is_auto) (cond b (erased_trait x ∷ filter (λ z. z.name == t) (map erased_trait ts)) (filter (λ z. z.name == t) (map erased_trait ts)))
-        ≡ list_any (λ z. z.is_auto) (cond b (x ∷ filter (λ z. z.name == t) ts) (filter (λ z. z.name == t) ts))
-    by true e = ap (λ z. x.is_auto || z) e
-    by false e = e
-
+-- ---- by what a crate sees
 -- the head of a self type tells that no row concludes a reference over declarations
 pub rowless : (es : List Entry) (d : Items) (cs : List CrateDecl) (r : TraitRef) (s : SimplifiedType) (ty : Trees) → head_of (trees_at es r.args.0) ≡ head_of ty → Some (label_of s) ≡ head_of ty → is_bare (label_of s) ≡ true
     → is_auto (written es d) r.def_id.index ≡ false → (r.def_id.index ≡ 8 → ⊥) → ((r.def_id.index == sized) ≡ true → (c o : Trees) → sized_rules (record (declared es d) { crates = cs }) (tree (label_of s) c o) ≡ [])
     → HasNoRow (record (declared es d) { crates = cs }) (term_of es r)
 rowless es d cs r s ty e f bare auto uns siz =
     by-head (record (declared es d) { crates = cs }) r.def_id.index (trees_at es r.args.0) (label_of s) (e ∙ sym f) bare
-    (autos-erased r.def_id.index (written es d).traits ∙ auto) (differs r.def_id.index 8 uns) siz
+    (traits-erased (λ x. x.is_auto) (λ x. refl) r.def_id.index (written es d).traits ∙ auto) (differs r.def_id.index 8 uns) siz
   where
     differs : (m n : ℕ) → (m ≡ n → ⊥) → (m == n) ≡ false
     differs m n h = by (m == n) refl

@@ -1,5 +1,5 @@
 -- Candidates that are rules, while the interner grows.
-use Rattle.std.proofs.Common.{◌≡◌, ◌+◌, ℕ, zero, suc, List, [], ◌∷◌, ◌++◌, take, sym, subst, Some, arith}
+use Rattle.std.proofs.Common.{◌≡◌, ◌+◌, ℕ, zero, suc, Bool, true, false, if◌then◌else◌, List, [], ◌∷◌, ◌++◌, take, refl, sym, subst, Some, arith}
 use Rattle.std.specs.List.{AllZip, slice_get}
 use Rattle.type_terms.specs.Rules.{by_impl}
 use Rattle.type_terms.specs.Rules as rule
@@ -18,7 +18,8 @@ use Rattle.proof_checker.specs.Checked.{IsConcludedFrom}
 use Rattle.proof_checker.specs.Steps.{term_of, terms_of}
 use Rattle.proof_checker.proofs.Later.{term-same, terms-same}
 use Rattle.sessions.proofs.ProofsAside.{rules-aside}
-use Rattle.session_walks.specs.Rules.{Concludes, IsRuleCandidate, IsRuleAt, HasRulesByBoth}
+use Rattle.session_walks.specs.Rules.{AreChecked, Concludes, IsRuleCandidate, IsRuleAt, MayApplyAt, MayHaveRule, HasRulesByBoth}
+use Rattle.session_walks.specs.declared.walks.CheckedCandidates.{CheckedCandidates}
 use Rattle.session_walks.proofs.ShownSteps.{every-there}
 
 -- one more item stands beside its own
@@ -36,6 +37,10 @@ zip-push R (z ∷ xs) (suc i) (suc j) x (w ∷ ys) y q h e p = (h.0, zip-push R 
 pub each-put : {A : Type 0} (P : A → Type 0) (xs : List A) (x : A) → Each P xs → P x → Each P (xs ++ x ∷ [])
 each-put P [] x h p = (p, tt)
 each-put P (y ∷ xs) x h p = (h.0, each-put P xs x h.1 p)
+
+pub put-if : {A : Type 0} (P : A → Type 0) (xs : List A) (x : A) (b : Bool) → Each P xs → (b ≡ true → P x) → Each P (if b then xs ++ x ∷ [] else xs)
+put-if P xs x true h p = each-put P xs x h (p refl)
+put-if P xs x false h p = h
 
 -- references of a walk are the interner's
 pub there-held : (es : List Entry) (rs : List TraitRef) (k : ℕ) (r : TraitRef) → ReferencesHeld es rs → slice_get rs k ≡ Some r → ReferenceHeld es r
@@ -71,6 +76,25 @@ rule-before es now k V W e rs h p c x = record {
 pub at-before : (es now : List Entry) → Keeps es now → (V W : World) → V ≡ W → (w : GoalWalk) → ReferencesHeld es w.references.items → (x : ℕ × ℕ) → IsRuleAt now V w x → IsRuleAt es W w x
 at-before es now k V W e w h x i = (i.0, i.1, i.2, i.3, rule-before es now k V W e w.references.items h x.0 i.2 i.4)
 
+-- what may apply later might before
+pub may-have-before : (V W : World) → V ≡ W → (r s : Reference) → r ≡ s → (i : ℕ) → MayHaveRule V r i → MayHaveRule W s i
+may-have-before V W e r s q i x = subst (λ (U : World). MayHaveRule U s i) e (subst (λ (t : Reference). MayHaveRule V t i) q x)
+
+pub may-before : (es now : List Entry) → Keeps es now → (V W : World) → V ≡ W → (w : GoalWalk) → ReferencesHeld es w.references.items → (x : ℕ × ℕ) → MayApplyAt now V w x → MayApplyAt es W w x
+may-before es now k V W e w h x i = (
+  i.0,
+  i.1,
+  i.2,
+  i.3,
+  (let m = i.4 in record {
+    reference = m.reference;
+    goal = m.goal;
+    number = m.number;
+    source = m.source;
+    rule = may-have-before V W e (term_of now m.reference) (term_of es m.reference) (term-same es now k m.reference (there-held es w.references.items x.0 m.reference h m.goal)) m.number.index m.rule;
+  }),
+)
+
 -- Which crates a world lists makes no difference.
 pub concluded-aside : (V : World) (cs : List CrateDecl) (E : List Reference) (r : Reference) (w : rule.Way) (ps : List Reference) → IsConcludedFrom V E r w ps → IsConcludedFrom (record V { crates = cs }) E r w ps
 concluded-aside V cs E r w ps f = (f.0, subst (In (let u : rule.Rule = record { way = w; premises = ps ++ f.0 } in u)) (sym (rules-aside V cs E r)) f.1)
@@ -90,9 +114,31 @@ at-aside V cs es w x i = (
   }),
 )
 
-pub each-at-aside : (V : World) (cs : List CrateDecl) (es : List Entry) (w : GoalWalk) (xs : List (ℕ × ℕ)) → Each (IsRuleAt es V w) xs → Each (IsRuleAt es (record V { crates = cs }) w) xs
+each-at-aside : (V : World) (cs : List CrateDecl) (es : List Entry) (w : GoalWalk) (xs : List (ℕ × ℕ)) → Each (IsRuleAt es V w) xs → Each (IsRuleAt es (record V { crates = cs }) w) xs
 each-at-aside V cs es w [] h = tt
 each-at-aside V cs es w (x ∷ xs) h = (at-aside V cs es w x h.0, each-at-aside V cs es w xs h.1)
+
+may-aside : (V : World) (cs : List CrateDecl) (es : List Entry) (w : GoalWalk) (x : ℕ × ℕ) → MayApplyAt es V w x → MayApplyAt es (record V { crates = cs }) w x
+may-aside V cs es w x i = (
+  i.0,
+  i.1,
+  i.2,
+  i.3,
+  (let m = i.4 in record {
+    reference = m.reference;
+    goal = m.goal;
+    number = m.number;
+    source = m.source;
+    rule = (m.rule.0, m.rule.1, λ E. concluded-aside V cs E m.rule.0 (by_impl m.number.index) [] (m.rule.2 E));
+  }),
+)
+
+each-may-aside : (V : World) (cs : List CrateDecl) (es : List Entry) (w : GoalWalk) (xs : List (ℕ × ℕ)) → Each (MayApplyAt es V w) xs → Each (MayApplyAt es (record V { crates = cs }) w) xs
+each-may-aside V cs es w [] h = tt
+each-may-aside V cs es w (x ∷ xs) h = (may-aside V cs es w x h.0, each-may-aside V cs es w xs h.1)
+
+pub checked-aside : (V : World) (cs : List CrateDecl) (es : List Entry) (w : GoalWalk) (c : CheckedCandidates) → AreChecked es V w c → AreChecked es (record V { crates = cs }) w c
+checked-aside V cs es w c h = record { rules = each-at-aside V cs es w c.rules.items h.rules; chances = each-may-aside V cs es w c.chances.items h.chances }
 
 -- ---- what two impls have in common
 pub both-aside : (V : World) (cs : List CrateDecl) (r : Reference) (i j : ℕ) → HasRulesByBoth V r i j → HasRulesByBoth (record V { crates = cs }) r i j

@@ -1,10 +1,9 @@
--- An impl that cannot match a reference has no rule for it.
+-- An impl that cannot match a reference has no rule for it, whatever its unknowns stand for.
 use Rattle.std.proofs.Common.{◌≡◌, ◌==◌, ℕ, zero, Bool, true, false, not, List, [], ◌∷◌, map, cond, Option, Some, None, refl, sym, ap, ◌∙◌, subst, ◌⊎◌, inl, inr}
 use Rattle.std.specs.Prelude.{filter}
-use Rattle.type_terms.specs.Label.{Label, of_type, param}
-use Rattle.type_terms.specs.Trees.{Trees, none, tree, ◌+++◌, IsA, Fits, erase, erase_label, instantiate}
+use Rattle.type_terms.specs.Label.{Label, Sort, of_type, of_const, of_lifetime, param, placeholder, infer, canonical, bound}
+use Rattle.type_terms.specs.Trees.{Trees, none, tree, ◌+++◌, IsA, Fits, erase, erase_label, instantiate, flags, label_flags}
 use Rattle.type_terms.specs.Codes.{same_label}
-use Rattle.type_terms.specs.Answers.{is_open}
 use Rattle.type_terms.specs.Rules.{by_impl, impl_rules}
 use Rattle.type_terms.specs.Proofs.{In}
 use Rattle.type_terms.specs.Terms.{Entry, Lawful, Has, Is, trees_at, types, args_lists}
@@ -29,76 +28,90 @@ use Rattle.declarations.specs.Apart.{levels, are_apart}
 use Rattle.declarations.specs.Heads.{head_of}
 use Rattle.declarations.specs.Items.{Items, declared, written}
 use Rattle.declarations.specs.Relevant.{is_relevant_to, is_match, matches_in, next_above}
-use Rattle.declarations.proofs.Fixed.{no-flags, fixed-erased, fixed-instance}
-use Rattle.declarations.proofs.MeetingLaws.{Reads, ReadNode, parts-erased, erased-again, open-erased, instantiate-reads, meet, not-apart}
+use Rattle.declarations.proofs.Fixed.{no-flags, top, child, next, three, fixed-label, fixed-erased, fixed-instance}
+use Rattle.declarations.proofs.MeetingLaws.{Reads, ReadNode, erased-again, instantiate-reads, meet, not-apart}
+use Rattle.infer_table.specs.Solutions.{Assignment, instance}
+use Rattle.overlap_check.proofs.Tops.{erased-reads}
+use Rattle.session_walks.specs.Rules.{HasNoImpl, with_unknowns, begins_known}
 
 -- ---- what is apart
--- to read trees without their lifetimes is a way of reading, before another one or alone
-shut-erased : (l : Label) → is_open l ≡ false → is_open (erase_label l) ≡ false
-shut-erased l h = by (is_open (erase_label l)) refl
+-- an unknown is a variable of types, constants or lifetimes
+no-unknown : (k : Sort) (v : ℕ) → label_flags (infer k v) ≡ 0 → ⊥
+no-unknown of_type v h = cc
+no-unknown of_const v h = cc
+no-unknown of_lifetime v h = cc
+
+-- what is fixed has none
+instance-fixed : (s : Assignment) (t : Trees) → flags t ≡ 0 → instance s t ≡ t
+instance-fixed s none h = refl
+instance-fixed s (tree (infer of_type v) c o) h = absurd (no-unknown of_type v (top (infer of_type v) c o h))
+instance-fixed s (tree (infer of_const v) c o) h = absurd (no-unknown of_const v (top (infer of_const v) c o h))
+instance-fixed s (tree l c o) h = three (fixed-label l (top l c o h)) (instance-fixed s c (child l c o h)) (instance-fixed s o (next l c o h))
+
+-- to put trees in the place of unknowns is a way of reading
+assigned-reads : (s : Assignment) → Reads (λ d. instance s)
+assigned-reads s = record { nothing = λ d. refl; node = at }
   where
-    by : (b : Bool) → is_open (erase_label l) ≡ b → b ≡ false
-    by true e = absurd (false-true (sym h ∙ open-erased l e))
-    by false e = refl
+    at : (d : ℕ) (l : Label) (c o : Trees) → ReadNode (λ e. instance s) d l c o
+    at d (infer of_type v) c o = record { label = (s of_type v).0; children = (s of_type v).1; is = refl; labelled = λ h. absurd (false-true (sym h)); within = d; parts = λ h g. absurd (false-true (sym h)) }
+    at d (infer of_const v) c o = record { label = (s of_const v).0; children = (s of_const v).1; is = refl; labelled = λ h. absurd (false-true (sym h)); within = d; parts = λ h g. absurd (false-true (sym h)) }
+    at d l c o = record { label = erase_label l; children = instance s c; is = refl; labelled = λ h. erased-again l; within = d; parts = λ h g. refl }
 
-erased-reads : (f : ℕ → Trees → Trees) → Reads f → Reads (λ d t. f d (erase t))
-erased-reads f F = record { nothing = F.nothing; node = at }
-  where
-    at : (d : ℕ) (l : Label) (c o : Trees) → ReadNode (λ e t. f e (erase t)) d l c o
-    at d l c o =
-        let x = F.node d (erase_label l) (erase c) (erase o) in
-        record {
-          label = x.label;
-          children = x.children;
-          is = x.is;
-          labelled = λ h. x.labelled (shut-erased l h) ∙ erased-again l;
-          within = x.within;
-          parts = λ h g. x.parts (shut-erased l h) (parts-erased l ∙ g);
-        }
-
-bare-reads : Reads (λ d t. t)
-bare-reads = record { nothing = λ d. refl; node = λ d l c o. record { label = l; children = c; is = refl; labelled = λ h. refl; within = d; parts = λ h g. refl } }
-
-apart-no-instance : (A x y : Trees) → instantiate zero A (erase y) ≡ erase x → are_apart x y ≡ false
-apart-no-instance A x y e = not-apart x y record {
-  one = λ f g. same-complete x y (sym (fixed-erased x (no-flags x f)) ∙ sym e ∙ ap (instantiate zero A) (fixed-erased y (no-flags y g)) ∙ fixed-instance zero A y (no-flags y g));
-  levels_meet = meet (λ d t. erase t) (λ d t. instantiate d A (erase t)) (erased-reads (λ d t. t) bare-reads) (erased-reads (λ d. instantiate d A) (instantiate-reads A)) levels zero zero x y (sym e);
+apart-no-instance : (s : Assignment) (A x y : Trees) → instantiate zero A (erase y) ≡ instance s (erase x) → are_apart x y ≡ false
+apart-no-instance s A x y e = not-apart x y record {
+  one = λ f g. same-complete x y (sym (ap (instance s) (fixed-erased x (no-flags x f)) ∙ instance-fixed s x (no-flags x f)) ∙ sym e
+      ∙ ap (instantiate zero A) (fixed-erased y (no-flags y g)) ∙ fixed-instance zero A y (no-flags y g));
+  levels_meet =
+      meet (λ d t. instance s (erase t)) (λ d t. instantiate d A (erase t)) (erased-reads (λ d. instance s) (assigned-reads s)) (erased-reads (λ d. instantiate d A) (instantiate-reads A))
+      levels zero zero x y (sym e);
 }
 
 -- ---- heads
 same-first : (l m : Label) (c d o p : Trees) → tree l c o ≡ tree m d p → l ≡ m
 same-first l m c d o p e = cc
 
-instance-relevant : (A t x : Trees) → instantiate zero A t ≡ x → (x ≡ none → ⊥) → is_relevant_to x t ≡ true
-instance-relevant A t none e n = absurd (n refl)
-instance-relevant A none (tree k p q) e n = cc
-instance-relevant A (tree (param s i) d o) (tree k p q) e n = refl
-instance-relevant A (tree l d o) (tree k p q) e n = ap (same_label k) (same-first l k _ p _ q e) ∙ same-label-itself k
+-- what stands first and is no unknown stays, but for lifetimes
+known-first : (s : Assignment) (k : Label) (p q : Trees) → begins_known (tree k p q) ≡ true → instance s (tree k p q) ≡ tree (erase_label k) (instance s p) (instance s q)
+known-first s (infer k v) p q h = absurd (false-true h)
+known-first s k p q h = refl
+
+known-erased : (k : Label) (p q : Trees) → begins_known (tree k p q) ≡ true → begins_known (tree (erase_label k) (erase p) (erase q)) ≡ true
+known-erased (infer k v) p q h = absurd (false-true h)
+known-erased (param of_lifetime v) p q h = refl
+known-erased (placeholder of_lifetime v) p q h = refl
+known-erased (canonical of_lifetime v) p q h = refl
+known-erased (bound of_lifetime j v) p q h = refl
+known-erased k p q h = refl
+
+relevant-by : (s : Assignment) (A t : Trees) (k : Label) (p q x : Trees) → instantiate zero A t ≡ tree k p q → is_relevant_to (tree k x x) t ≡ true
+relevant-by s A none k p q x e = cc
+relevant-by s A (tree (param j i) d o) k p q x e = refl
+relevant-by s A (tree l d o) k p q x e = ap (same_label k) (same-first l k _ p _ q e) ∙ same-label-itself k
+
+instance-relevant : (s : Assignment) (A t x : Trees) → begins_known x ≡ true → instantiate zero A t ≡ instance s (erase x) → is_relevant_to (erase x) t ≡ true
+instance-relevant s A t none b e = absurd (false-true b)
+instance-relevant s A t (tree k p q) b e =
+    relevant-by s A t (erase_label k) (instance s (erase p)) (instance s (erase q)) (erase p)
+    (e ∙ known-first s (erase_label k) (erase p) (erase q) (known-erased k p q b) ∙ ap (λ l. tree l (instance s (erase p)) (instance s (erase q))) (erased-again k))
 
 -- ---- one impl
 -- what is said of an impl's rules: it has none, or its header is the reference
 abbrev pub HasInstance : Reference → ImplDecl → Type 0
 HasInstance r i = (impl_rules r i ≡ []) ⊎ ((A : Trees) × (with_args A i.header ≡ r))
 
-kept : (l : Label) (c o : Trees) → erase (tree l c o) ≡ none → ⊥
-kept l c o e = cc
-
-unmatched : (r : Reference) → (r.args ≡ none → ⊥) → (i : ImplDecl) → HasInstance (erased_reference r) (erased_impl i) → is_match r.trait r.args i ≡ false → impl_rules (erased_reference r) (erased_impl i) ≡ []
-unmatched r n i (inl e) m = e
-unmatched r n i (inr x) m = absurd (false-true (sym m ∙ matches))
+unmatched : (s : Assignment) (r : Reference) → begins_known r.args ≡ true → (i : ImplDecl) → HasInstance (with_unknowns s (erased_reference r)) (erased_impl i) → is_match r.trait r.args i ≡ false
+    → impl_rules (with_unknowns s (erased_reference r)) (erased_impl i) ≡ []
+unmatched s r n i (inl e) m = e
+unmatched s r n i (inr x) m = absurd (false-true (sym m ∙ matches))
   where
-    args : instantiate zero x.0 (erase i.header.args) ≡ erase r.args
+    args : instantiate zero x.0 (erase i.header.args) ≡ instance s (erase r.args)
     args = ap (λ (z : Reference). z.args) x.1
-
-    there : (t : Trees) → (t ≡ none → ⊥) → erase t ≡ none → ⊥
-    there none g e = g refl
-    there (tree l c o) g e = kept l c o e
 
     matches : is_match r.trait r.args i ≡ true
     matches =
         both (i.header.trait == r.trait) _ (subst (λ k. (i.header.trait == k) ≡ true) (ap (λ (z : Reference). z.trait) x.1) (self-number i.header.trait))
-        (both (is_relevant_to (erase r.args) (erase i.header.args)) _ (instance-relevant x.0 (erase i.header.args) (erase r.args) args (there r.args n))
-        (ap not (apart-no-instance x.0 r.args i.header.args args)))
+        (both (is_relevant_to (erase r.args) (erase i.header.args)) _ (instance-relevant s x.0 (erase i.header.args) r.args n args)
+        (ap not (apart-no-instance s x.0 r.args i.header.args args)))
 
 -- ---- all of them
 passes-none : (p : ImplDecl → Bool) (is : List ImplDecl) → None ≡ next_above None (map (λ (i : ImplDecl). i.name) (filter p is)) → (i : ImplDecl) → In i is → p i ≡ false
@@ -114,12 +127,12 @@ passes-none p (x ∷ is) e i j = by (p x) refl e (in-cases i x is j) (passes-non
     by false q f (inl s) go = subst (λ z. p z ≡ false) s q
     by false q f (inr k) go = go f i k
 
-pub none-fits : (es : List Entry) (d : Items) (r : Reference) → (r.args ≡ none → ⊥) → ((i : ImplDecl) → HasInstance (erased_reference r) i)
-    → None ≡ next_above None (matches_in es d r) → (i : ImplDecl) → In i (declared es d).impls → impl_rules (erased_reference r) i ≡ []
-none-fits es d r n law e i j =
+pub none-fits : (es : List Entry) (d : Items) (r : Reference) → begins_known r.args ≡ true → ((q : Reference) (i : ImplDecl) → HasInstance q i)
+    → None ≡ next_above None (matches_in es d r) → HasNoImpl (declared es d) (erased_reference r)
+none-fits es d r n law e s i j =
     let x = map-in erased_impl (written es d).impls i j in
-    subst (λ z. impl_rules (erased_reference r) z ≡ []) x.2
-    (unmatched r n x.0 (law (erased_impl x.0)) (passes-none (is_match r.trait r.args) (written es d).impls e x.0 x.1))
+    subst (λ z. impl_rules (with_unknowns s (erased_reference r)) z ≡ []) x.2
+    (unmatched s r n x.0 (law (with_unknowns s (erased_reference r)) (erased_impl x.0)) (passes-none (is_match r.trait r.args) (written es d).impls e x.0 x.1))
 
 -- ---- self types
 begins : (t u : Trees) → IsA of_type t → StartsWithType (t +++ u)
@@ -153,6 +166,17 @@ starts-with-type es law i xs t at held e =
     let b = begins-with es i xs t at e in
     subst StartsWithType (sym b.1) (begins (trees_at es t.0) b.0 (type-is es law t.0 (held-type es xs t held e)))
 
+knowns-first : (t u : Trees) → IsA of_type t → begins_known (t +++ u) ≡ begins_known t
+knowns-first none u h = absurd h
+knowns-first (tree (infer s i) c o) u h = refl
+knowns-first (tree l c o) u h = refl
+
+pub known-of-first : (es : List Entry) → Lawful es → (i : ℕ) (xs : List GenericArgKind) (t : Ty) → Is es args_lists i (args_trees es xs) → ArgsHeld es xs → slice_get xs 0 ≡ Some (AType t)
+    → begins_known (trees_at es i) ≡ begins_known (trees_at es t.0)
+known-of-first es law i xs t at held e =
+    let b = begins-with es i xs t at e in
+    ap begins_known b.1 ∙ knowns-first (trees_at es t.0) b.0 (type-is es law t.0 (held-type es xs t held e))
+
 pub head-of-first : (es : List Entry) → Lawful es → (i : ℕ) (xs : List GenericArgKind) (t : Ty) → Is es args_lists i (args_trees es xs) → ArgsHeld es xs → slice_get xs 0 ≡ Some (AType t)
     → head_of (trees_at es i) ≡ head_of (trees_at es t.0)
 head-of-first es law i xs t at held e =
@@ -160,10 +184,6 @@ head-of-first es law i xs t at held e =
     ap head_of b.1 ∙ heads-first (trees_at es t.0) b.0 (type-is es law t.0 (held-type es xs t held e))
 
 -- ---- what a look at the impls tells
-pub no-arguments : (t : Trees) → StartsWithType t → t ≡ none → ⊥
-no-arguments none h e = absurd h
-no-arguments (tree l c o) h e = cc
-
 pub nothing-next : (o : Option ImplId) (b : Bool) → is_some o ≡ not b → b ≡ true → None ≡ option_map (λ (i : ImplId). i.index) o
 nothing-next None b h q = refl
 nothing-next (Some i) true h q = cc

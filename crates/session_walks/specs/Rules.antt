@@ -1,19 +1,24 @@
--- What is checked of walks: which candidates are rules, which goals no impl has, and what two impls have in common.
+-- What is checked of walks: which candidates are rules, which goals no impl and no built-in row has, and what two impls have in common.
 use Rattle.std.specs.Prelude.{◌≡◌, ℕ, Bool, true, false, List, [], Some}
 use Rattle.std.specs.List.{AllZip, slice_get}
-use Rattle.type_terms.specs.Label.{Label, tuple, fn_ptr, dynamic}
+use Rattle.type_terms.specs.Label.{Label, tuple, fn_ptr, dynamic, infer}
+use Rattle.type_terms.specs.Trees.{Trees, none, tree}
 use Rattle.type_terms.specs.Proofs.{In}
 use Rattle.type_terms.specs.Rules.{Way, BuiltIn, by_impl, built_in, built_in_rules, impl_rules}
 use Rattle.type_terms.specs.Terms.{Entry}
 use Rattle.type_terms.specs.Worlds.{World, Reference, ImplDecl}
+use Rattle.type_terms.specs.declared.ImplId.{ImplId}
 use Rattle.term_folds.specs.declared.predicate.TraitRef.{TraitRef}
+use Rattle.infer_table.specs.Solutions.{Assignment, instance}
 use Rattle.evaluation.specs.declared.candidate.CandidateSource.{CandidateSource}
 use Rattle.evaluation.specs.declared.candidate.CandidateSource.TheVariants.{Impl, BuiltinImpl}
 use Rattle.goal_walk.specs.declared.nodes.CandidateNode.{CandidateNode}
 use Rattle.goal_walk.specs.declared.nodes.Node.{Node}
 use Rattle.goal_walk.specs.declared.nodes.GoalWalk.{GoalWalk}
+use Rattle.declarations.specs.Merges.{Each}
 use Rattle.proof_checker.specs.Checked.{IsConcludedFrom}
 use Rattle.proof_checker.specs.Steps.{term_of, terms_of}
+use Rattle.session_walks.specs.declared.walks.CheckedCandidates.{CheckedCandidates}
 
 -- The source is this way of a rule. It does not say which built-in row it is.
 abbrev pub IsSourceOf : CandidateSource → Way → Type 0
@@ -40,21 +45,35 @@ IsRuleAt es W w x =
     (n : Node) × (slice_get w.nodes.items x.0 ≡ Some n) × (c : CandidateNode) × (slice_get n.candidates.items x.1 ≡ Some c)
     × IsRuleCandidate es W w.references.items x.0 c
 
--- No impl of W has a rule for r.
+-- The reference with trees in place of its type and const unknowns.
+abbrev pub with_unknowns : Assignment → Reference → Reference
+with_unknowns s r = record r { args = instance s r.args }
+
+-- It is the reference with some trees in the place of its unknowns.
+abbrev pub IsInstanceOf : Reference → Reference → Type 0
+IsInstanceOf r q = (s : Assignment) × (with_unknowns s r ≡ q)
+
+-- Whatever its unknowns stand for, no impl of W has a rule for r.
 abbrev pub HasNoImpl : World → Reference → Type 0
-HasNoImpl W r = (i : ImplDecl) → In i W.impls → impl_rules r i ≡ []
+HasNoImpl W r = (s : Assignment) (i : ImplDecl) → In i W.impls → impl_rules (with_unknowns s r) i ≡ []
 
 -- None has one for the goal at place p of rs.
 abbrev pub HasNoImplAt : List Entry → World → List TraitRef → ℕ → Type 0
 HasNoImplAt es W rs p = (r : TraitRef) × (slice_get rs p ≡ Some r) × HasNoImpl W (term_of es r)
 
--- No built-in row of W concludes r.
+-- Whatever its unknowns stand for, no built-in row of W concludes r.
 abbrev pub HasNoRow : World → Reference → Type 0
-HasNoRow W r = built_in_rules W r ≡ []
+HasNoRow W r = (s : Assignment) → built_in_rules W (with_unknowns s r) ≡ []
 
 -- None concludes the goal at place p of rs.
 abbrev pub HasNoRowAt : List Entry → World → List TraitRef → ℕ → Type 0
 HasNoRowAt es W rs p = (r : TraitRef) × (slice_get rs p ≡ Some r) × HasNoRow W (term_of es r)
+
+-- The first type is no unknown.
+abbrev pub begins_known : Trees → Bool
+begins_known none = false
+begins_known (tree (infer s i) c o) = false
+begins_known (tree l c o) = true
 
 -- A type with this label is no tuple, no fn pointer and no `dyn`.
 abbrev pub is_bare : Label → Bool
@@ -70,3 +89,25 @@ HasRuleByImpl W r i = (E : List Reference) → IsConcludedFrom W E r (by_impl i)
 -- So have both.
 abbrev pub HasRulesByBoth : World → Reference → ℕ → ℕ → Type 0
 HasRulesByBoth W r i j = HasRuleByImpl W r i × HasRuleByImpl W r j
+
+-- The impl of W with this number has a rule for an instance of r, whatever it asks.
+abbrev pub MayHaveRule : World → Reference → ℕ → Type 0
+MayHaveRule W r i = (q : Reference) × IsInstanceOf r q × HasRuleByImpl W q i
+
+-- The candidate is by an impl that has one for an instance of the goal at place p of rs.
+pub record MayApply (es : List Entry) (W : World) (rs : List TraitRef) (p : ℕ) (c : CandidateNode) : Type 0 where
+  pub reference : TraitRef
+  pub goal : slice_get rs p ≡ Some reference
+  pub number : ImplId
+  pub source : c.source ≡ Impl number
+  pub rule : MayHaveRule W (term_of es reference) number.index
+
+-- So is the candidate with this number, from 0, of the goal at this place.
+abbrev pub MayApplyAt : List Entry → World → GoalWalk → ℕ × ℕ → Type 0
+MayApplyAt es W w x =
+    (n : Node) × (slice_get w.nodes.items x.0 ≡ Some n) × (c : CandidateNode) × (slice_get n.candidates.items x.1 ≡ Some c) × MayApply es W w.references.items x.0 c
+
+-- Each candidate that is named as a rule is one, and each that is named as a chance may apply.
+pub record AreChecked (es : List Entry) (W : World) (w : GoalWalk) (c : CheckedCandidates) : Type 0 where
+  pub rules : Each (IsRuleAt es W w) c.rules.items
+  pub chances : Each (MayApplyAt es W w) c.chances.items

@@ -9,7 +9,7 @@ ghost use Rattle.declarations.specs.Held.{AreHeld, ReferenceHeld};
 ghost use Rattle.declarations.specs.Items.{declared};
 ghost use Rattle.proof_checker.specs.Steps.{term_of};
 ghost use Rattle.sessions.specs.Promises.{view_in};
-ghost use Rattle.session_walks.specs.Rules.{HasNoImpl, HasNoImplAt, HasNoRow, HasNoRowAt, is_bare};
+ghost use Rattle.session_walks.specs.Rules.{HasNoImpl, HasNoImplAt, HasNoRow, HasNoRowAt, begins_known, is_bare};
 ghost use Rattle.session_walks.specs.Walked.{WalkHeld};
 
 use crate::places::reference_at;
@@ -23,7 +23,7 @@ use overlap_check::impl_rules_are_instances;
 use sessions::Session;
 use term_folds::predicate::TraitRef;
 use type_terms::interner::Interner;
-use type_terms::kinds::{GenericArgKind, Ty};
+use type_terms::kinds::{GenericArgKind, Ty, TyKind};
 
 /// The self type of a reference, if it has one.
 fn self_type(cx: &Interner, reference: TraitRef) -> Option<Ty>
@@ -31,6 +31,7 @@ fn self_type(cx: &Interner, reference: TraitRef) -> Option<Ty>
     ensures held { IfSome result (λ ty. Has cx.now.entries types ty.0) }
     ensures first { IfSome result (λ _. StartsWithType (trees_at cx.now.entries reference.args.0)) }
     ensures head { IfSome result (λ ty. head_of (trees_at cx.now.entries reference.args.0) ≡ head_of (trees_at cx.now.entries ty.0)) }
+    ensures known { IfSome result (λ ty. begins_known (trees_at cx.now.entries reference.args.0) ≡ begins_known (trees_at cx.now.entries ty.0)) }
 {
     cx.lawful();
     match cx.args(reference.args).first().copied() {
@@ -39,7 +40,34 @@ fn self_type(cx: &Interner, reference: TraitRef) -> Option<Ty>
     }
 }
 
-/// Whether heads, and the first levels of the arguments, tell that no impl has a rule for a reference.
+/// Whether a type is no unknown.
+fn is_known(cx: &Interner, ty: Ty) -> bool
+    requires { Has cx.now.entries types ty.0 }
+    ensures { result ≡ begins_known (trees_at cx.now.entries ty.0) }
+{
+    match cx.kind(ty) {
+        TyKind::Infer(_) => false,
+        TyKind::Bool
+        | TyKind::Char
+        | TyKind::Int(_)
+        | TyKind::Uint(_)
+        | TyKind::Str
+        | TyKind::Never
+        | TyKind::Adt(_, _)
+        | TyKind::Ref(_, _, _)
+        | TyKind::RawPtr(_, _)
+        | TyKind::Array(_, _)
+        | TyKind::Slice(_)
+        | TyKind::Tuple(_)
+        | TyKind::FnPtr(_, _)
+        | TyKind::Dynamic(_, _)
+        | TyKind::Param(_)
+        | TyKind::Placeholder(_)
+        | TyKind::Bound(_, _) => true,
+    }
+}
+
+/// Whether heads, and the first levels of the arguments, tell that no impl has a rule for a reference, whatever its unknowns stand for.
 fn has_no_impl(cx: &Interner, declarations: &Declarations, reference: TraitRef) -> bool
     requires held { AreHeld cx.now.entries declarations.now }
     requires reference { ReferenceHeld cx.now.entries reference }
@@ -47,9 +75,12 @@ fn has_no_impl(cx: &Interner, declarations: &Declarations, reference: TraitRef) 
 {
     impl_rules_are_instances();
     match self_type(cx, reference) {
-        Some(_) => declarations
-            .next_matching_impl(cx, reference, None)
-            .is_none(),
+        Some(ty) => {
+            is_known(cx, ty)
+                && declarations
+                    .next_matching_impl(cx, reference, None)
+                    .is_none()
+        }
         None => false,
     }
 }
@@ -76,7 +107,7 @@ fn is_bare(head: SimplifiedType) -> bool
     }
 }
 
-/// Whether the trait and the head of the self type tell that no built-in row concludes a reference.
+/// Whether the trait and the head of the self type tell that no built-in row concludes a reference, whatever its unknowns stand for.
 fn has_no_row(cx: &Interner, declarations: &Declarations, reference: TraitRef) -> bool
     requires { ReferenceHeld cx.now.entries reference }
     ensures { result ≡ true → (cs : List CrateDecl)
@@ -99,7 +130,8 @@ fn has_no_row(cx: &Interner, declarations: &Declarations, reference: TraitRef) -
     }
 }
 
-/// Whether no impl that the session's crate sees has a rule for the goal at a place of a walk. Its unknowns stand for themselves.
+/// Whether no impl that the session's crate sees has a rule for the goal at a place of a walk, whatever types, lifetimes and constants its
+/// unknowns stand for.
 ///
 /// `false` says nothing: heads and the first levels of the arguments are compared, and no more; and the walk may have no such place.
 pub fn no_impl_fits(session: &Session<'_>, walk: &GoalWalk, place: usize) -> bool
@@ -119,7 +151,7 @@ pub fn no_impl_fits(session: &Session<'_>, walk: &GoalWalk, place: usize) -> boo
     }
 }
 
-/// Whether no built-in rule concludes the goal at a place of a walk, by what the session's crate sees.
+/// Whether no built-in rule concludes the goal at a place of a walk, by what the session's crate sees and whatever its unknowns stand for.
 ///
 /// `false` says nothing: it is told of types that are no tuples, no `fn` pointers and no `dyn`, and of other traits than `Unsize` and auto
 /// traits; of `Sized` only for `str` and slices. And the walk may have no such place.

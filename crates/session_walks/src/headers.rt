@@ -2,7 +2,7 @@
 
 ghost use Rattle.std.specs.Prelude.{IfOk, IfSome};
 ghost use Rattle.type_terms.specs.Terms.{Has, args_lists};
-ghost use Rattle.term_folds.specs.Growth.{Grew};
+ghost use Rattle.type_terms.specs.Growth.{Grew};
 ghost use Rattle.declarations.specs.Held.{ReferenceHeld};
 ghost use Rattle.infer_table.specs.Content.{Ready};
 

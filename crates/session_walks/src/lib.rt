@@ -2,7 +2,7 @@
 //!
 //! What a walk shows is how the search answers each goal, and no more is proved of it than that its terms are the session's. But the
 //! steps of a proof that it finds go through the checker (`Session::is_proof_of`), so what is shown as checked is a proof; and so do
-//! candidates (`checked_rules`), and what two overlapping impls have in common. That no impl and no built-in rule fits a
+//! candidates (`checked_candidates`), and what two overlapping impls have in common. That no impl and no built-in rule fits a
 //! goal is looked up (`no_impl_fits`, `no_built_in_rule_fits`).
 #![tactic(auto)]
 
@@ -10,6 +10,7 @@ mod breaking;
 mod explained;
 mod fitting;
 mod headers;
+mod instances;
 mod pairs;
 mod places;
 mod questions;
@@ -27,9 +28,9 @@ pub use explained::{
     explain_supertrait,
 };
 pub use fitting::{no_built_in_rule_fits, no_impl_fits};
-pub use rules::checked_rules;
+pub use rules::checked_candidates;
 pub use unseen::{impl_header, unseen_at, unseen_crates};
-pub use walks::{PairWalk, ProofWalk, ShownStep};
+pub use walks::{CheckedCandidates, PairWalk, ProofWalk, ShownStep};
 
 // What walks are made of, so that who reads one names no crate below.
 pub use goal_walk::{Answer, GoalWalk};

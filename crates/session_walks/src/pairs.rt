@@ -1,7 +1,7 @@
 //! The where-clauses of two impls, walked where their headers are equal.
 
 ghost use Rattle.std.specs.Prelude.{◌≡◌, true, IfOk, IfSome};
-ghost use Rattle.term_folds.specs.Growth.{Grew};
+ghost use Rattle.type_terms.specs.Growth.{Grew};
 ghost use Rattle.declarations.specs.Applied.{TraitRefsHeld};
 ghost use Rattle.declarations.specs.Held.{ImplHeld, ReferenceHeld};
 ghost use Rattle.declarations.specs.Items.{declared};

@@ -1,14 +1,14 @@
-//! Which candidates of a walk are rules: their goals follow by their impls, or by built-in rules, from the goals that they ask.
+//! Which candidates of a walk are rules: their goals follow by their impls, or by built-in rules, from the goals that they ask. And which may
+//! apply: instances of their goals do.
 
-ghost use Rattle.std.specs.Prelude.{◌≡◌, true, List, Some, IfOk, IfSome};
+ghost use Rattle.std.specs.Prelude.{◌≡◌, true, List, [], ◌∷◌, ◌++◌, if◌then◌else◌, Some, IfOk, IfSome, OnOk};
 ghost use Rattle.std.specs.List.{AllZip, slice_get};
 ghost use Rattle.type_terms.specs.Rules.{by_impl};
 ghost use Rattle.type_terms.specs.Worlds.{Reference};
-ghost use Rattle.term_folds.specs.Growth.{Grew};
+ghost use Rattle.type_terms.specs.Growth.{Grew};
 ghost use Rattle.declarations.specs.Applied.{TraitRefsHeld};
 ghost use Rattle.declarations.specs.Held.{ReferenceHeld};
 ghost use Rattle.declarations.specs.Items.{declared};
-ghost use Rattle.declarations.specs.Merges.{Each};
 ghost use Rattle.infer_table.specs.Content.{Ready};
 ghost use Rattle.candidate_assembly.specs.Ready.{AreReadyDeclarations};
 ghost use Rattle.goal_walk.specs.Walking.{ReferencesHeld};
@@ -18,11 +18,13 @@ ghost use Rattle.sessions.specs.Checking.{rules_in};
 ghost use Rattle.sessions.specs.Promises.{view_in};
 ghost use Rattle.sessions.specs.Proving.{SolverAdvances, SolverIsReady};
 ghost use Rattle.sessions.specs.Subjects.{StaysOn};
-ghost use Rattle.session_walks.specs.Rules.{Concludes, IsRuleAt, IsRuleCandidate};
+ghost use Rattle.session_walks.specs.Rules.{AreChecked, Concludes, IsRuleAt, IsRuleCandidate, MayApplyAt};
 ghost use Rattle.session_walks.specs.Walked.{WalkHeld};
 
+use crate::instances::may_follow;
 use crate::places::reference_at;
 use crate::steps::impl_args;
+use crate::walks::CheckedCandidates;
 use candidate_assembly::solver::Solver;
 use declarations::declarations::Declarations;
 use declarations::laws::declarations_are_kept;
@@ -176,6 +178,37 @@ fn is_rule_at(
     is_rule(alloc, cx, declarations, table, walk, at.0, candidate)
 }
 
+/// Whether the candidate with a number, of the goal at a place, may apply: it is by an impl that was not passed over, and by that an instance
+/// of the goal follows.
+fn may_apply_at(
+    alloc: Global,
+    cx: &mut Interner,
+    declarations: &Declarations,
+    walk: &GoalWalk,
+    at: (usize, usize),
+) -> Result<bool, Fault>
+    requires ready { AreReadyDeclarations cx.old.entries declarations.now }
+    requires walked { ReferencesHeld cx.old.entries walk.now.references.items }
+    ensures grew { Grew cx.old cx.new }
+    ensures may { IfOk result (λ b. b ≡ true → MayApplyAt cx.old.entries (declared cx.old.entries declarations.now) walk.now at) }
+{
+    let Some(node) = walk.nodes.get(at.0) else {
+        return Ok(false);
+    };
+    let Some(candidate) = node.candidates.get(at.1) else {
+        return Ok(false);
+    };
+    let Some(reference) = reference_at(&walk.references, at.0) else {
+        return Ok(false);
+    };
+    match candidate.source {
+        CandidateSource::Impl(id) => may_follow(alloc, cx, declarations, reference, id),
+        CandidateSource::BuiltinImpl(_) => Ok(false),
+        CandidateSource::ParamEnv(_) => Ok(false),
+        CandidateSource::CoherenceUnknowable => Ok(false),
+    }
+}
+
 /// The candidates of a walk, by the places of their goals and their numbers there.
 fn candidates_of(alloc: Global, walk: &GoalWalk) -> Result<Vec<(usize, usize)>, AllocError> {
     let mut found = Vec::new(alloc);
@@ -187,42 +220,58 @@ fn candidates_of(alloc: Global, walk: &GoalWalk) -> Result<Vec<(usize, usize)>, 
     Ok(found)
 }
 
-/// Those of these candidates that are rules.
-fn rules_among(
+/// Puts a candidate behind others, if it is to stand there.
+fn push_if(
+    list: &mut Vec<(usize, usize)>,
+    at: (usize, usize),
+    stands: bool,
+) -> Result<(), AllocError>
+    ensures { OnOk result (list.new.items ≡ if stands then list.old.items ++ at ∷ [] else list.old.items) }
+{
+    if stands {
+        list.push(at)?;
+    }
+    Ok(())
+}
+
+/// Those of these candidates that are rules, and of the others those that may apply.
+fn checked_among(
     alloc: Global,
     cx: &mut Interner,
     declarations: &Declarations,
     table: &mut InferCtxt,
     walk: &GoalWalk,
     candidates: &[(usize, usize)],
-) -> Result<Vec<(usize, usize)>, Fault>
+) -> Result<CheckedCandidates, Fault>
     requires ready { AreReadyDeclarations cx.old.entries declarations.now }
     requires table { Ready cx.old.entries table.old }
     requires walked { ReferencesHeld cx.old.entries walk.now.references.items }
     ensures grew { Grew cx.old cx.new }
-    ensures rules { IfOk result (λ v. Each (IsRuleAt cx.old.entries (declared cx.old.entries declarations.now) walk.now) v.items) }
+    ensures checked { IfOk result (AreChecked cx.old.entries (declared cx.old.entries declarations.now) walk.now) }
 {
     declarations_are_kept();
     let mut rules = Vec::new(alloc);
+    let mut chances = Vec::new(alloc);
     for at in candidates {
-        if is_rule_at(alloc, cx, declarations, table, walk, *at)? {
-            rules.push(*at)?;
-        }
+        let is_rule = is_rule_at(alloc, cx, declarations, table, walk, *at)?;
+        push_if(&mut rules, *at, is_rule)?;
+        let may_apply = may_apply_at(alloc, cx, declarations, walk, *at)?;
+        push_if(&mut chances, *at, may_apply)?;
     }
-    Ok(rules)
+    Ok(CheckedCandidates { rules, chances })
 }
 
 /// The same over the interner of a context, of all candidates of a walk.
-fn rules_in(cx: &mut SolverCx<Solver>, walk: &GoalWalk) -> Result<Vec<(usize, usize)>, Fault>
+fn checked_in(cx: &mut SolverCx<Solver>, walk: &GoalWalk) -> Result<CheckedCandidates, Fault>
     requires ready { SolverIsReady cx.old }
     requires walked { ReferencesHeld cx.old.interner.entries walk.now.references.items }
     ensures advances { SolverAdvances cx.old cx.new }
-    ensures rules { IfOk result (λ v. Each (IsRuleAt cx.old.interner.entries (rules_in cx.old) walk.now) v.items) }
+    ensures checked { IfOk result (AreChecked cx.old.interner.entries (rules_in cx.old) walk.now) }
 {
     let candidates = candidates_of(cx.alloc, walk)?;
     let mut table = InferCtxt::new(cx.alloc);
     let declarations = &cx.handler.declarations;
-    let rules = rules_among(
+    let checked = checked_among(
         cx.alloc,
         &mut cx.interner,
         declarations,
@@ -231,24 +280,26 @@ fn rules_in(cx: &mut SolverCx<Solver>, walk: &GoalWalk) -> Result<Vec<(usize, us
         &candidates,
     );
     cx.interner.lawful();
-    rules
+    checked
 }
 
-/// Which candidates of a walk are rules by what the session's crate sees: the goal of each follows by its impl, or by a built-in rule, from the
-/// goals that it asks, and maybe further ones behind them. Each is named by the place of its goal and its number among the candidates there,
-/// from 0.
+/// Which candidates of a walk are rules by what the session's crate sees, and which may apply.
+///
+/// Of a rule the goal follows by the candidate's impl, or by a built-in rule, from the goals that it asks, and maybe further ones behind them. A
+/// candidate by an impl may apply where an instance of its goal follows by that impl, whatever it asks: the goal with some types, lifetimes
+/// and constants in the place of its unknowns.
 ///
 /// One that is not named may be a rule too, as where its goal has unknowns for which the impl needs values, or the built-in rule is not
 /// checked. The fault is `Memory` where memory is refused, or `Full` where a table of the session is full.
-pub fn checked_rules(
+pub fn checked_candidates(
     session: &mut Session<'_>,
     walk: &GoalWalk,
-) -> Result<Vec<(usize, usize)>, Fault>
+) -> Result<CheckedCandidates, Fault>
     requires { WalkHeld session.old.terms walk.now }
-    ensures rules { IfOk result
-        (λ v. Each (IsRuleAt session.old.terms (view_in session.old.declarations session.old.of_crate) walk.now) v.items) }
+    ensures checked { IfOk result
+        (AreChecked session.old.terms (view_in session.old.declarations session.old.of_crate) walk.now) }
     ensures held { WalkHeld session.new.terms walk.now }
     ensures stays { StaysOn session.old session.new }
 {
-    rules_in(&mut session.cx, walk)
+    checked_in(&mut session.cx, walk)
 }

@@ -38,6 +38,24 @@ impl Drop for ProofWalk {
     }
 }
 
+/// The candidates of a walk that are checked, each by the place of its goal and its number among the candidates there, from 0.
+pub struct CheckedCandidates {
+    /// Those that are rules of their goals.
+    pub rules: Vec<(usize, usize)>,
+    /// Those that may apply: their impls have rules for instances of their goals.
+    pub chances: Vec<(usize, usize)>,
+}
+
+// Written, so that what owns one drops it by one call at each way out, and not field by field.
+impl Drop for CheckedCandidates {
+    fn drop(self) {
+        let CheckedCandidates {
+            rules: _,
+            chances: _,
+        } = self;
+    }
+}
+
 /// Two impls whose headers have a common instance, and their where-clauses there, each asked alone in coherence.
 pub struct PairWalk {
     /// What both headers are where they are equal. Its unknowns stand for any terms.

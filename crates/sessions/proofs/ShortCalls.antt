@@ -6,7 +6,7 @@ use Rattle.std.proofs.lemmas.Result.{IfErr-weaker}
 use Rattle.type_terms.specs.Terms.{Entry}
 use Rattle.type_terms.specs.Failures.{SomeKindIsFull, full}
 use Rattle.type_terms.specs.declared.Fault.{Fault}
-use Rattle.term_folds.specs.Growth.{FullAtLimit}
+use Rattle.type_terms.specs.Growth.{FullAtLimit}
 use Rattle.goal_frames.specs.Stores.{kept_inputs, kept_responses}
 use Rattle.solver_context.specs.Contexts.{entries_of}
 use Rattle.solver_context.specs.Shortages.{ContextIsFull, ContextFullAtLimit, RootFullAtLimit, interner, store}

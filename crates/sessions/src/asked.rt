@@ -1,7 +1,7 @@
 //! Questions in a context of the solver.
 
 ghost use Rattle.std.specs.Prelude.{◌≡◌, IfOk, IfErr};
-ghost use Rattle.term_folds.specs.Growth.{FullAtLimit};
+ghost use Rattle.type_terms.specs.Growth.{FullAtLimit};
 ghost use Rattle.text_definitions.specs.Declarations.{Question};
 ghost use Rattle.view_lowering.specs.Questions.{IsQuestion, IsLowered};
 ghost use Rattle.solver_context.specs.Contexts.{IsReady, InternerGrows, Advances};

@@ -6,7 +6,7 @@ ghost use Rattle.type_terms.specs.Erased.{erased_reference};
 ghost use Rattle.type_terms.specs.Versions.{is_addable};
 ghost use Rattle.type_terms.specs.Walks.{trait_is};
 ghost use Rattle.type_terms.specs.Terms.{Entry};
-ghost use Rattle.term_folds.specs.Growth.{FullAtLimit};
+ghost use Rattle.type_terms.specs.Growth.{FullAtLimit};
 ghost use Rattle.declarations.specs.Held.{ImplHeld, ReferenceHeld};
 ghost use Rattle.declarations.specs.Items.{declared, reference_in};
 ghost use Rattle.declarations.specs.Merges.{Each};

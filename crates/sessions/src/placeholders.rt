@@ -6,7 +6,7 @@ ghost use Rattle.type_terms.specs.Trees.{leaf};
 ghost use Rattle.type_terms.specs.Kinds.{ArgHeld, arg_trees};
 ghost use Rattle.type_terms.specs.Terms.{Has, args_lists, trees_at};
 ghost use Rattle.type_terms.specs.declared.TheConstants.{MAX_INDEX};
-ghost use Rattle.term_folds.specs.Growth.{Grew, FullAtLimit};
+ghost use Rattle.type_terms.specs.Growth.{GrewOrFull};
 ghost use Rattle.declarations.specs.Applied.{sort_of_param};
 ghost use Rattle.declarations.specs.Held.{ImplHeld};
 ghost use Rattle.overlap_check.specs.Written.{IsWrittenWell};
@@ -38,10 +38,9 @@ fn placeholder_for_param(
     kind: GenericParamKind,
     place: u32,
 ) -> Result<GenericArgKind, Fault>
-    ensures grew { Grew cx.old cx.new }
+    ensures terms { GrewOrFull cx.old cx.new result }
     ensures held { IfOk result (λ arg. ArgHeld cx.new.entries arg) }
     ensures is { IfOk result (λ arg. arg_trees cx.new.entries arg ≡ leaf (placeholder (sort_of_param kind) place)) }
-    ensures full { IfErr result (FullAtLimit cx.new) }
 {
     match kind {
         GenericParamKind::Lifetime => Ok(GenericArgKind::Lifetime(Region {
@@ -64,10 +63,9 @@ fn placeholders_for_item(
     cx: &mut Interner,
     params: &[GenericParamKind],
 ) -> Result<GenericArgs, Fault>
-    ensures grew { Grew cx.old cx.new }
+    ensures terms { GrewOrFull cx.old cx.new result }
     ensures held { IfOk result (λ args. Has cx.new.entries args_lists args.0) }
     ensures are { IfOk result (λ args. trees_at cx.new.entries args.0 ≡ placeholders_from 0 (map sort_of_param params.now)) }
-    ensures full { IfErr result (FullAtLimit cx.new) }
 {
     let mut placeholders = Vec::new(alloc);
     let mut place = 0;
@@ -99,9 +97,8 @@ pub(crate) fn opaque_impl(
 ) -> Result<OpaqueImpl, Fault>
     requires held { ImplHeld cx.old.entries def.now }
     requires written { IsWrittenWell cx.old.entries def.now }
-    ensures grew { Grew cx.old cx.new }
+    ensures terms { GrewOrFull cx.old cx.new result }
     ensures is { IfOk result (IsOpaqueOf cx.old.entries def.now cx.new.entries) }
-    ensures full { IfErr result (FullAtLimit cx.new) }
 {
     cx.lawful();
     let args = placeholders_for_item(alloc, cx, &def.params)?;

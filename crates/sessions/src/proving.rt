@@ -5,7 +5,7 @@ ghost use Rattle.type_terms.specs.Trees.{some_node};
 ghost use Rattle.type_terms.specs.Kinds.{ArgsHeld, arg_trees};
 ghost use Rattle.type_terms.specs.Terms.{Has, Keeps, args_lists, trees_at};
 ghost use Rattle.term_folds.specs.Arguments.{arg_sort};
-ghost use Rattle.term_folds.specs.Growth.{Grew, FullAtLimit};
+ghost use Rattle.type_terms.specs.Growth.{FullAtLimit, GrewOrFull};
 ghost use Rattle.declarations.specs.Applied.{TraitRefsHeld, AreApplied, references_in};
 ghost use Rattle.declarations.specs.Elaboration.{elaborate};
 ghost use Rattle.declarations.specs.Held.{ReferenceHeld};
@@ -84,10 +84,9 @@ fn read_values(
     requires ready { Ready cx.old.entries table.now }
     requires asked { Has cx.old.entries args_lists asked.args.0 }
     requires unknowns { ArgsHeld cx.old.entries unknowns.now }
-    ensures grew { Grew cx.old cx.new }
+    ensures terms { GrewOrFull cx.old cx.new result }
     ensures held { IfOk result (AnswerValuesHeld cx.new.entries) }
     ensures read { IfOk result (AreReadOff cx.old.entries table.now (trees_at cx.old.entries asked.args.0) unknowns.now cx.new.entries) }
-    ensures full { IfErr result (FullAtLimit cx.new) }
 {
     let proved = table.eager_resolve_vars(cx, asked.args)?;
     if has_bound_terms(cx, proved) {

@@ -3,7 +3,7 @@
 ghost use Rattle.std.specs.Prelude.{◌≡◌, true, map, IfOk};
 ghost use Rattle.type_terms.specs.Erased.{erased_reference};
 ghost use Rattle.type_terms.specs.Kinds.{ArgHeld, ArgsHeld};
-ghost use Rattle.term_folds.specs.Growth.{Grew};
+ghost use Rattle.type_terms.specs.Growth.{Grew};
 ghost use Rattle.declarations.specs.Applied.{TraitRefsHeld};
 ghost use Rattle.declarations.specs.Held.{ReferenceHeld};
 ghost use Rattle.declarations.specs.Items.{reference_in};

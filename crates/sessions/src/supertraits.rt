@@ -2,7 +2,7 @@
 
 ghost use Rattle.std.specs.Prelude.{ℕ, IfOk, IfErr};
 ghost use Rattle.type_terms.specs.Terms.{Keeps};
-ghost use Rattle.term_folds.specs.Growth.{Grew, FullAtLimit};
+ghost use Rattle.type_terms.specs.Growth.{FullAtLimit, GrewOrFull};
 ghost use Rattle.declarations.specs.Applied.{TraitRefsHeld, references_in};
 ghost use Rattle.declarations.specs.Held.{ImplHeld, ReferenceHeld};
 ghost use Rattle.declarations.specs.Items.{reference_in, written};
@@ -63,10 +63,9 @@ fn goals_of(
     requires held { ImplHeld cx.old.entries def.now }
     requires written { IsWrittenWell cx.old.entries def.now }
     requires applied { HasApplied declarations.now (reference_in cx.old.entries def.now.header) (references_in cx.old.entries def.now.clauses.items) }
-    ensures grew { Grew cx.old cx.new }
+    ensures terms { GrewOrFull cx.old cx.new result }
     ensures are { IfOk result (AreGoalsFor (written cx.old.entries declarations.now)
         (reference_in cx.old.entries def.now.header) (references_in cx.old.entries def.now.clauses.items) cx.new.entries) }
-    ensures full { IfErr result (FullAtLimit cx.new) }
 {
     let opaque = opaque_impl(alloc, cx, def)?;
     let supertraits = declarations.supertraits(alloc, cx, opaque.header)?;
@@ -86,9 +85,8 @@ fn own_goals(
 ) -> Result<Option<SupertraitGoals>, Fault>
     requires ready { AreReadyDeclarations cx.old.entries declarations.now }
     requires applied { ImplsApply declarations.now (written cx.old.entries declarations.now) }
-    ensures grew { Grew cx.old cx.new }
+    ensures terms { GrewOrFull cx.old cx.new result }
     ensures goals { IfOk result (AreOfOwn (written cx.old.entries declarations.now) declarations.now.local id.index cx.new.entries) }
-    ensures full { IfErr result (FullAtLimit cx.new) }
 {
     ready_impls_are_written_well();
     let Some(def) = declarations.impl_def(id) else {

@@ -1,9 +1,9 @@
 //! The table of a question.
 
-ghost use Rattle.std.specs.Prelude.{◌≡◌, ◌∷◌, ◌++◌, [], List, map, IfOk, IfErr, OnOk};
+ghost use Rattle.std.specs.Prelude.{◌≡◌, ◌∷◌, ◌++◌, [], List, map, IfOk, OnOk};
 ghost use Rattle.type_terms.specs.Label.{Sort};
 ghost use Rattle.term_folds.specs.Arguments.{arg_sort};
-ghost use Rattle.term_folds.specs.Growth.{Grew, FullAtLimit};
+ghost use Rattle.type_terms.specs.Growth.{GrewOrFull};
 ghost use Rattle.infer_table.specs.Content.{Ready};
 ghost use Rattle.sessions.specs.Tables.{table_of};
 
@@ -17,9 +17,8 @@ use type_terms::kinds::GenericArgKind;
 fn add_unknown(cx: &mut Interner, table: &mut InferCtxt, like: GenericArgKind) -> Result<(), Fault>
     requires { Ready cx.old.entries table.old }
     ensures ready { Ready cx.new.entries table.new }
-    ensures grew { Grew cx.old cx.new }
+    ensures terms { GrewOrFull cx.old cx.new result }
     ensures made { OnOk result ((ks : List Sort) → table.old ≡ table_of ks → table.new ≡ table_of (ks ++ arg_sort like ∷ [])) }
-    ensures full { IfErr result (FullAtLimit cx.new) }
 {
     match like {
         GenericArgKind::Lifetime(_) => {
@@ -45,9 +44,8 @@ pub fn question_table(
     unknowns: &[GenericArgKind],
 ) -> Result<InferCtxt, Fault>
     ensures ready { IfOk result (λ table. Ready cx.new.entries table) }
-    ensures grew { Grew cx.old cx.new }
+    ensures terms { GrewOrFull cx.old cx.new result }
     ensures is { IfOk result (λ table. table ≡ table_of (map arg_sort unknowns.now)) }
-    ensures full { IfErr result (FullAtLimit cx.new) }
 {
     let mut table = InferCtxt::new(alloc);
     for unknown in unknowns {

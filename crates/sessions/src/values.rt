@@ -1,8 +1,8 @@
 //! The values of a question's unknowns.
 
-ghost use Rattle.std.specs.Prelude.{◌≡◌, map, IfOk, IfErr};
+ghost use Rattle.std.specs.Prelude.{◌≡◌, map, IfOk};
 ghost use Rattle.type_terms.specs.Kinds.{ArgsHeld, arg_trees};
-ghost use Rattle.term_folds.specs.Growth.{Grew, FullAtLimit};
+ghost use Rattle.type_terms.specs.Growth.{GrewOrFull};
 ghost use Rattle.infer_table.specs.Content.{Ready, content};
 ghost use Rattle.infer_table.specs.Solutions.{resolved};
 
@@ -25,11 +25,10 @@ pub fn values_of(
     requires held { ArgsHeld cx.old.entries unknowns.now }
     requires ready { Ready cx.old.entries table.now }
     ensures ready { Ready cx.new.entries table.now }
-    ensures grew { Grew cx.old cx.new }
+    ensures terms { GrewOrFull cx.old cx.new result }
     ensures held { IfOk result (λ r. ArgsHeld cx.new.entries r.items) }
     ensures are { IfOk result (λ r. map (arg_trees cx.new.entries) r.items
         ≡ map (λ u. resolved (content cx.old.entries table.now.values) (arg_trees cx.old.entries u)) unknowns.now) }
-    ensures full { IfErr result (FullAtLimit cx.new) }
 {
     let mut values = Vec::new(alloc);
     for unknown in unknowns {

@@ -1,7 +1,7 @@
 //! What a session's crate sees.
 
 ghost use Rattle.std.specs.Prelude.{◌≡◌, ◌+◌, ◌<◌, ◌≤◌, length, map, IfOk, IfErr};
-ghost use Rattle.term_folds.specs.Growth.{FullAtLimit};
+ghost use Rattle.type_terms.specs.Growth.{FullAtLimit};
 ghost use Rattle.declarations.specs.Items.{written, declared};
 ghost use Rattle.view_lowering.specs.MostTerms.{most_terms};
 ghost use Rattle.view_lowering.specs.Plain.{plainly_seen_from};

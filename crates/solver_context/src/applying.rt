@@ -1,14 +1,13 @@
 //! An answer put into the table of the goal that was asked.
 
-ghost use Rattle.term_folds.specs.Growth.{Grew};
-ghost use Rattle.std.specs.Prelude.{◌≡◌, Some, None, IfErr, OnOk, OnErr, Err};
+ghost use Rattle.std.specs.Prelude.{◌≡◌, Some, None, OnOk, OnErr, Err};
 ghost use Rattle.type_terms.specs.Terms.{Entry};
 ghost use Rattle.type_terms.specs.Kinds.{ArgsHeld};
 ghost use Rattle.infer_table.specs.Content.{Ready, Grows, content};
 ghost use Rattle.infer_table.specs.Solutions.{Assignment, Solves};
 ghost use Rattle.infer_table.specs.Unification.{table_trees};
 ghost use Rattle.infer_table.specs.Leaves.{AreLeaves};
-ghost use Rattle.infer_table.specs.Shortages.{EqFullAtLimit};
+ghost use Rattle.infer_table.specs.Shortages.{EqGrewOrFull};
 ghost use Rattle.infer_table.specs.Responses.{ResponseHeld, answer_trees};
 ghost use Rattle.evaluation.specs.TableAnswers.{has_values, IsWellFormed};
 ghost use Rattle.solver_context.specs.Roots.{left_by_answer, AtAgreeingSolutions, SolutionGoesOn};
@@ -43,7 +42,7 @@ pub(crate) fn apply_answer(
     requires ready { Ready cx.old.entries table.old }
     ensures ready { Ready cx.new.entries table.new }
     ensures grows { Grows table.old table.new }
-    ensures grew { Grew cx.old cx.new }
+    ensures terms { EqGrewOrFull cx.old cx.new result }
     ensures refused { OnErr result (table.new ≡ table.old) }
 
     // What is left, and whether it is refused, is a function of trees.
@@ -56,8 +55,7 @@ pub(crate) fn apply_answer(
     ensures kept { OnOk result (AtAgreeingSolutions cx.old.entries table.old values.now answer.now (λ s. SolutionGoesOn s table.old cx.new.entries table.new)) }
     ensures accepted { result ≡ Err EqError.NoSolution → AtAgreeingSolutions cx.old.entries table.old values.now answer.now (λ s. ⊥) }
 
-    // `Full` comes only where some kind of term has reached the interner's limit.
-    ensures full { IfErr result (EqFullAtLimit cx.new) }
+// `Full` comes only where some kind of term has reached the interner's limit.
 {
     cx.lawful();
     if !have_same_sorts(values, &answer.var_values) {

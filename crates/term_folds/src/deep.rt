@@ -3,8 +3,9 @@
 //! A walk recurses on the depth of a type, and finds in its memo what was folded before. So before it walks a deep type, the
 //! types in it are folded one by one, each after its own parts, by a list in memory: then no walk goes deep. What a walk gives
 //! does not rest on it.
+ghost use Rattle.type_terms.specs.Growth.{Grew};
 ghost use Rattle.std.specs.Prelude.{◌≡◌, OnOk, IfOk, IfErr};
-ghost use Rattle.type_terms.specs.Terms.{Has, Keeps, args_lists, type_lists, types};
+ghost use Rattle.type_terms.specs.Terms.{Has, args_lists, type_lists, types};
 ghost use Rattle.type_terms.specs.Kinds.{ArgHeld, KindHeld};
 ghost use Rattle.type_terms.specs.Failures.{FailsBy};
 ghost use Rattle.term_folds.specs.Memos.{Remembers};
@@ -40,8 +41,7 @@ pub(crate) fn begin<F: FallibleTypeFolder>(
 ) -> Result<Memo, F::Error>
     requires ready { F.ready folder.now cx.old.entries }
     requires held { KindHeld cx.old.entries parts }
-    ensures keeps { Keeps cx.old.entries cx.new.entries }
-    ensures limit { cx.new.limit ≡ cx.old.limit }
+    ensures grew { Grew cx.old cx.new }
     ensures known { IfOk result (λ memo. Remembers (F.action folder.now cx.new.entries) cx.new.entries memo) }
     ensures failed { IfErr result (λ e. FailsBy (F.fails folder.now) F.Error.from_gives cx.new.entries cx.new.limit e) }
 {
@@ -65,8 +65,7 @@ fn fold_parts<F: FallibleTypeFolder>(
     requires ready { F.ready folder.now cx.old.entries }
     requires known { Remembers (F.action folder.now cx.old.entries) cx.old.entries memo.old }
     requires todo { StepsHeld cx.old.entries todo.items }
-    ensures keeps { Keeps cx.old.entries cx.new.entries }
-    ensures limit { cx.new.limit ≡ cx.old.limit }
+    ensures grew { Grew cx.old cx.new }
     ensures known { OnOk result (Remembers (F.action folder.now cx.new.entries) cx.new.entries memo.new) }
     ensures failed { IfErr result (λ e. FailsBy (F.fails folder.now) F.Error.from_gives cx.new.entries cx.new.limit e) }
 {
@@ -92,8 +91,7 @@ fn take_step<F: FallibleTypeFolder>(
     requires known { Remembers (F.action folder.now cx.old.entries) cx.old.entries memo.old }
     requires held { Has cx.old.entries types step.ty.0 }
     requires todo { StepsHeld cx.old.entries todo.old.items }
-    ensures keeps { Keeps cx.old.entries cx.new.entries }
-    ensures limit { cx.new.limit ≡ cx.old.limit }
+    ensures grew { Grew cx.old cx.new }
     ensures known { OnOk result (Remembers (F.action folder.now cx.new.entries) cx.new.entries memo.new) }
     ensures todo { OnOk result (StepsHeld cx.new.entries todo.new.items) }
     ensures failed { IfErr result (λ e. FailsBy (F.fails folder.now) F.Error.from_gives cx.new.entries cx.new.limit e) }

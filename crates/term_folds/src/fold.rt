@@ -1,4 +1,5 @@
 //! Folders, and the fold of a term by one.
+ghost use Rattle.type_terms.specs.Growth.{Grew};
 ghost use Rattle.std.specs.Prelude.{◌≡◌, ℕ, ◌+◌, ◌*◌, ◌<◌, ◌≤◌, List, length, IfOk, IfErr};
 ghost use Rattle.type_terms.specs.Label.{Label};
 ghost use Rattle.type_terms.specs.Trees.{Trees, none, tree, ◌+++◌, is_no_tree};
@@ -59,8 +60,7 @@ pub trait FallibleTypeFolder {
     ) -> Result<Answer<Ty>, Self::Error>
         requires ready { ready self.now cx.old.entries }
         requires held { Has cx.old.entries types ty.0 }
-        ensures keeps { Keeps cx.old.entries cx.new.entries }
-        ensures limit { cx.new.limit ≡ cx.old.limit }
+        ensures grew { Grew cx.old cx.new }
         ensures answer { IfOk result (λ r. TyAnswer (action self.now cx.old.entries (counts_of binders.now) (trees_at cx.old.entries ty.0)) cx.new.entries r) }
         ensures failed { IfErr result (λ e. FailsBy (fails self.now) Self.Error.from_gives cx.new.entries cx.new.limit e) };
 
@@ -73,8 +73,7 @@ pub trait FallibleTypeFolder {
     ) -> Result<Answer<Const>, Self::Error>
         requires ready { ready self.now cx.old.entries }
         requires held { Has cx.old.entries consts ct.0 }
-        ensures keeps { Keeps cx.old.entries cx.new.entries }
-        ensures limit { cx.new.limit ≡ cx.old.limit }
+        ensures grew { Grew cx.old cx.new }
         ensures answer { IfOk result (λ r. ConstAnswer (action self.now cx.old.entries (counts_of binders.now) (trees_at cx.old.entries ct.0)) cx.new.entries r) }
         ensures failed { IfErr result (λ e. FailsBy (fails self.now) Self.Error.from_gives cx.new.entries cx.new.limit e) };
 
@@ -148,8 +147,7 @@ pub(crate) fn fold_const<F: FallibleTypeFolder>(
 ) -> Result<Const, F::Error>
     requires ready { F.ready folder.now cx.old.entries }
     requires held { Has cx.old.entries consts ct.0 }
-    ensures keeps { Keeps cx.old.entries cx.new.entries }
-    ensures limit { cx.new.limit ≡ cx.old.limit }
+    ensures grew { Grew cx.old cx.new }
     ensures folded { IfOk result (λ r. IsFold (F.action folder.now cx.old.entries) (counts_of binders.now) (trees_at cx.old.entries ct.0) cx.new.entries consts r.0) }
     ensures failed { IfErr result (λ e. FailsBy (F.fails folder.now) F.Error.from_gives cx.new.entries cx.new.limit e) }
 {
@@ -171,8 +169,7 @@ pub fn fold_ty<F: FallibleTypeFolder>(
 ) -> Result<Ty, F::Error>
     requires ready { F.ready folder.now cx.old.entries }
     requires held { Has cx.old.entries types ty.0 }
-    ensures keeps { Keeps cx.old.entries cx.new.entries }
-    ensures limit { cx.new.limit ≡ cx.old.limit }
+    ensures grew { Grew cx.old cx.new }
     ensures folded { IfOk result (λ r. IsFold (F.action folder.now cx.old.entries) (counts_of binders.now) (trees_at cx.old.entries ty.0) cx.new.entries types r.0) }
     ensures failed { IfErr result (λ e. FailsBy (F.fails folder.now) F.Error.from_gives cx.new.entries cx.new.limit e) }
 {
@@ -191,8 +188,7 @@ pub fn super_fold_ty<F: FallibleTypeFolder>(
 ) -> Result<Ty, F::Error>
     requires ready { F.ready folder.now cx.old.entries }
     requires held { Has cx.old.entries types ty.0 }
-    ensures keeps { Keeps cx.old.entries cx.new.entries }
-    ensures limit { cx.new.limit ≡ cx.old.limit }
+    ensures grew { Grew cx.old cx.new }
     ensures folded { IfOk result (λ r. IsFoldBelow (F.action folder.now cx.old.entries) (counts_of binders.now) (trees_at cx.old.entries ty.0) cx.new.entries types r.0) }
     ensures failed { IfErr result (λ e. FailsBy (F.fails folder.now) F.Error.from_gives cx.new.entries cx.new.limit e) }
 {
@@ -212,8 +208,7 @@ pub(crate) fn fold_tys<F: FallibleTypeFolder>(
 ) -> Result<Tys, F::Error>
     requires ready { F.ready folder.now cx.old.entries }
     requires held { Has cx.old.entries type_lists tys.0 }
-    ensures keeps { Keeps cx.old.entries cx.new.entries }
-    ensures limit { cx.new.limit ≡ cx.old.limit }
+    ensures grew { Grew cx.old cx.new }
     ensures folded { IfOk result (λ r. IsFold (F.action folder.now cx.old.entries) (counts_of binders.now) (trees_at cx.old.entries tys.0) cx.new.entries type_lists r.0) }
     ensures whole { IfOk result (λ r. is_no_tree (trees_at cx.new.entries r.0) ≡ is_no_tree (trees_at cx.old.entries tys.0)) }
     ensures failed { IfErr result (λ e. FailsBy (F.fails folder.now) F.Error.from_gives cx.new.entries cx.new.limit e) }
@@ -233,8 +228,7 @@ pub fn fold_args<F: FallibleTypeFolder>(
 ) -> Result<GenericArgs, F::Error>
     requires ready { F.ready folder.now cx.old.entries }
     requires held { Has cx.old.entries args_lists args.0 }
-    ensures keeps { Keeps cx.old.entries cx.new.entries }
-    ensures limit { cx.new.limit ≡ cx.old.limit }
+    ensures grew { Grew cx.old cx.new }
     ensures folded { IfOk result (λ r. IsFold (F.action folder.now cx.old.entries) (counts_of binders.now) (trees_at cx.old.entries args.0) cx.new.entries args_lists r.0) }
     ensures failed { IfErr result (λ e. FailsBy (F.fails folder.now) F.Error.from_gives cx.new.entries cx.new.limit e) }
 {
@@ -254,8 +248,7 @@ pub(crate) fn fold_arg<F: FallibleTypeFolder>(
 ) -> Result<GenericArgKind, F::Error>
     requires ready { F.ready folder.now cx.old.entries }
     requires held { ArgHeld cx.old.entries arg }
-    ensures keeps { Keeps cx.old.entries cx.new.entries }
-    ensures limit { cx.new.limit ≡ cx.old.limit }
+    ensures grew { Grew cx.old cx.new }
     ensures held { IfOk result (λ a. ArgHeld cx.new.entries a) }
     ensures folded { IfOk result (λ a. Folds (F.action folder.now cx.old.entries) (counts_of binders.now) (arg_trees cx.old.entries arg) (arg_trees cx.new.entries a)) }
     ensures failed { IfErr result (λ e. FailsBy (F.fails folder.now) F.Error.from_gives cx.new.entries cx.new.limit e) }
@@ -281,8 +274,7 @@ pub(crate) fn fold_bounds<F: FallibleTypeFolder>(
 ) -> Result<Bounds, F::Error>
     requires ready { F.ready folder.now cx.old.entries }
     requires held { Has cx.old.entries bounds_lists bounds.0 }
-    ensures keeps { Keeps cx.old.entries cx.new.entries }
-    ensures limit { cx.new.limit ≡ cx.old.limit }
+    ensures grew { Grew cx.old cx.new }
     ensures folded { IfOk result (λ r. IsFold (F.action folder.now cx.old.entries) (counts_of binders.now) (trees_at cx.old.entries bounds.0) cx.new.entries bounds_lists r.0) }
     ensures failed { IfErr result (λ e. FailsBy (F.fails folder.now) F.Error.from_gives cx.new.entries cx.new.limit e) }
 {

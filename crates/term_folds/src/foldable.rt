@@ -1,6 +1,7 @@
 //! Values that can be folded.
+ghost use Rattle.type_terms.specs.Growth.{Grew};
 ghost use Rattle.std.specs.Prelude.{◌≡◌, ℕ, ◌⊎◌, List, [], IfOk, IfErr, Err};
-ghost use Rattle.type_terms.specs.Terms.{Keeps, Has, types, consts, trees_at};
+ghost use Rattle.type_terms.specs.Terms.{Has, types, consts, trees_at};
 ghost use Rattle.type_terms.specs.Binders.{counts_of};
 ghost use Rattle.type_terms.specs.Failures.{FailsBy, SomeKindIsFull};
 ghost use Rattle.term_folds.specs.Folds.{IsFoldBelow, FoldsEach};
@@ -30,8 +31,7 @@ pub trait TypeFoldable: TypeVisitable {
     ) -> Result<Self, F::Error>
         requires ready { F.ready folder.now cx.old.entries }
         requires held { Self.held self cx.old.entries }
-        ensures keeps { Keeps cx.old.entries cx.new.entries }
-        ensures limit { cx.new.limit ≡ cx.old.limit }
+        ensures grew { Grew cx.old cx.new }
         ensures held { IfOk result (λ r. Self.held r cx.new.entries) }
         ensures outline { IfOk result (λ r. Self.outline r ≡ Self.outline self) }
         ensures folded { IfOk result (λ r. FoldsEach (F.action folder.now cx.old.entries) (counts_of binders.now) (Self.pieces self cx.old.entries) (Self.pieces r cx.new.entries)) }
@@ -46,8 +46,7 @@ pub trait TypeFoldable: TypeVisitable {
     ) -> Result<Self, F::Error>
         requires ready { F.ready folder.now cx.old.entries }
         requires held { Self.held self cx.old.entries }
-        ensures keeps { Keeps cx.old.entries cx.new.entries }
-        ensures limit { cx.new.limit ≡ cx.old.limit }
+        ensures grew { Grew cx.old cx.new }
         ensures held { IfOk result (λ r. Self.held r cx.new.entries) }
         ensures outline { IfOk result (λ r. Self.outline r ≡ Self.outline self) }
         ensures folded { IfOk result (λ r. FoldsEach (F.action folder.now cx.old.entries) [] (Self.pieces self cx.old.entries) (Self.pieces r cx.new.entries)) }
@@ -68,8 +67,7 @@ pub trait TypeFoldable: TypeVisitable {
     ) -> Result<Self, Fault>
         requires ready { F.ready folder.now cx.old.entries }
         requires held { Self.held self cx.old.entries }
-        ensures keeps { Keeps cx.old.entries cx.new.entries }
-        ensures limit { cx.new.limit ≡ cx.old.limit }
+        ensures grew { Grew cx.old cx.new }
         ensures held { IfOk result (λ r. Self.held r cx.new.entries) }
         ensures outline { IfOk result (λ r. Self.outline r ≡ Self.outline self) }
         ensures folded { IfOk result (λ r. FoldsEach (F.action folder.now cx.old.entries) [] (Self.pieces self cx.old.entries) (Self.pieces r cx.new.entries)) }

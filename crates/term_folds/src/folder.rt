@@ -1,4 +1,5 @@
 //! Folders that cannot fail but for want of room.
+ghost use Rattle.type_terms.specs.Growth.{Grew};
 ghost use Rattle.std.specs.Prelude.{◌≡◌, ℕ, ◌<◌, ◌≤◌, ◌⊎◌, List, length, IfOk, Err};
 ghost use Rattle.type_terms.specs.Label.{Label};
 ghost use Rattle.type_terms.specs.Trees.{Trees, none, tree, ◌+++◌};
@@ -37,8 +38,7 @@ pub trait TypeFolder {
     fn fold_ty(&self, cx: &mut Interner, ty: Ty, binders: &Binders) -> Result<Answer<Ty>, Fault>
         requires ready { ready self.now cx.old.entries }
         requires held { Has cx.old.entries types ty.0 }
-        ensures keeps { Keeps cx.old.entries cx.new.entries }
-        ensures limit { cx.new.limit ≡ cx.old.limit }
+        ensures grew { Grew cx.old cx.new }
         ensures answer { IfOk result (λ r. TyAnswer (action self.now cx.old.entries (counts_of binders.now) (trees_at cx.old.entries ty.0)) cx.new.entries r) }
         ensures full { result ≡ Err Fault.Full → SomeKindIsFull cx.new.entries cx.new.limit ⊎ refuses self.now };
 
@@ -51,8 +51,7 @@ pub trait TypeFolder {
     ) -> Result<Answer<Const>, Fault>
         requires ready { ready self.now cx.old.entries }
         requires held { Has cx.old.entries consts ct.0 }
-        ensures keeps { Keeps cx.old.entries cx.new.entries }
-        ensures limit { cx.new.limit ≡ cx.old.limit }
+        ensures grew { Grew cx.old cx.new }
         ensures answer { IfOk result (λ r. ConstAnswer (action self.now cx.old.entries (counts_of binders.now) (trees_at cx.old.entries ct.0)) cx.new.entries r) }
         ensures full { result ≡ Err Fault.Full → SomeKindIsFull cx.new.entries cx.new.limit ⊎ refuses self.now };
 

@@ -1,9 +1,8 @@
 //! Free lifetimes replaced.
+ghost use Rattle.type_terms.specs.Growth.{GrewOrFull};
 ghost use Rattle.std.specs.Prelude.{◌≡◌, ℕ, IfOk};
 ghost use Rattle.type_terms.specs.Label.{Label};
-ghost use Rattle.type_terms.specs.Terms.{Keeps};
 ghost use Rattle.type_terms.specs.Kinds.{RegionHeld, region_label};
-ghost use Rattle.type_terms.specs.Failures.{SomeKindIsFull};
 ghost use Rattle.type_terms.specs.Pieces.{each_piece};
 ghost use Rattle.term_folds.specs.Regions.{regions_replaced};
 
@@ -112,11 +111,9 @@ pub fn fold_regions<T: TypeFoldable, M: RegionMap>(
     map: &M,
 ) -> Result<T, Fault>
     requires { T.held value cx.old.entries }
-    ensures keeps { Keeps cx.old.entries cx.new.entries }
-    ensures limit { cx.new.limit ≡ cx.old.limit }
+    ensures terms { GrewOrFull cx.old cx.new result }
     ensures held { IfOk result (λ r. T.held r cx.new.entries) }
     ensures outline { IfOk result (λ r. T.outline r ≡ T.outline value) }
-    ensures full { result ≡ Err Fault.Full → SomeKindIsFull cx.new.entries cx.new.limit }
     ensures replaced { IfOk result (λ r. T.pieces r cx.new.entries ≡ each_piece (λ d t. regions_replaced (M.image map.now) d t) (T.pieces value cx.old.entries)) }
 {
     value.fold_with(alloc, cx, &RegionFolder { map })

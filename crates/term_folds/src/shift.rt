@@ -1,11 +1,10 @@
 //! Binder numbers shifted.
-ghost use Rattle.std.specs.Prelude.{◌≡◌, ℕ, ◌<◌, length, min, IfOk, Err};
+ghost use Rattle.type_terms.specs.Growth.{GrewOrFull};
+ghost use Rattle.std.specs.Prelude.{◌≡◌, ℕ, ◌<◌, length, min, IfOk};
 ghost use Rattle.type_terms.specs.Trees.{shift};
-ghost use Rattle.type_terms.specs.Terms.{Keeps};
 ghost use Rattle.type_terms.specs.Kinds.{RegionHeld, region_trees};
 ghost use Rattle.type_terms.specs.declared.TheConstants.{MAX_INDEX};
 ghost use Rattle.type_terms.specs.Binders.{counts_of};
-ghost use Rattle.type_terms.specs.Failures.{SomeKindIsFull};
 ghost use Rattle.type_terms.specs.Pieces.{each_piece};
 ghost use Rattle.term_folds.specs.Shifts.{EachInRange, moved, moved_number};
 
@@ -138,11 +137,9 @@ pub fn shift_vars<T: TypeFoldable>(
 ) -> Result<T, Fault>
     requires held { T.held value cx.old.entries }
     requires range { EachInRange amount (T.pieces value cx.old.entries) }
-    ensures keeps { Keeps cx.old.entries cx.new.entries }
-    ensures limit { cx.new.limit ≡ cx.old.limit }
+    ensures terms { GrewOrFull cx.old cx.new result }
     ensures held { IfOk result (λ r. T.held r cx.new.entries) }
     ensures outline { IfOk result (λ r. T.outline r ≡ T.outline value) }
-    ensures full { result ≡ Err Fault.Full → SomeKindIsFull cx.new.entries cx.new.limit }
     ensures shifted { IfOk result (λ r. T.pieces r cx.new.entries ≡ each_piece (λ d t. shift d amount t) (T.pieces value cx.old.entries)) }
 {
     value.fold_with(alloc, cx, &Shifter { amount })
@@ -157,10 +154,8 @@ pub(crate) fn moved_vars<T: TypeFoldable>(
     amount: u32,
 ) -> Result<T, Fault>
     requires { T.held value cx.old.entries }
-    ensures keeps { Keeps cx.old.entries cx.new.entries }
-    ensures limit { cx.new.limit ≡ cx.old.limit }
+    ensures terms { GrewOrFull cx.old cx.new result }
     ensures held { IfOk result (λ r. T.held r cx.new.entries) }
-    ensures full { result ≡ Err Fault.Full → SomeKindIsFull cx.new.entries cx.new.limit }
     ensures moved { IfOk result (λ r. T.pieces r cx.new.entries ≡ each_piece (λ d t. moved d amount t) (T.pieces value cx.old.entries)) }
 {
     let shifter = Shifter { amount };

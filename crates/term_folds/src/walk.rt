@@ -1,7 +1,8 @@
 //! The walk of a fold, which keeps what it has found.
+ghost use Rattle.type_terms.specs.Growth.{Grew};
 ghost use Rattle.std.specs.Prelude.{◌≡◌, ℕ, ◌++◌, ◌∷◌, [], IfOk, IfErr};
 ghost use Rattle.type_terms.specs.Trees.{Trees, ◌+++◌, is_no_tree};
-ghost use Rattle.type_terms.specs.Terms.{Entry, Is, Has, Keeps, types, consts, args_lists, type_lists, bounds_lists, trees_at};
+ghost use Rattle.type_terms.specs.Terms.{Entry, Is, Has, types, consts, args_lists, type_lists, bounds_lists, trees_at};
 ghost use Rattle.type_terms.specs.Kinds.{region_trees, kind_trees, KindHeld, KindOlder, RegionHeld, ArgHeld, arg_trees, PrincipalHeld, PrincipalOlder, principal_trees};
 ghost use Rattle.type_terms.specs.Binders.{counts_of};
 ghost use Rattle.type_terms.specs.Failures.{FailsBy};
@@ -32,8 +33,7 @@ pub(crate) fn walk_ty<F: FallibleTypeFolder>(
     requires ready { F.ready folder.now cx.old.entries }
     requires known { Remembers (F.action folder.now cx.old.entries) cx.old.entries memo.old }
     requires held { Has cx.old.entries types ty.0 }
-    ensures keeps { Keeps cx.old.entries cx.new.entries }
-    ensures limit { cx.new.limit ≡ cx.old.limit }
+    ensures grew { Grew cx.old cx.new }
     ensures folded { IfOk result (λ r. IsFold (F.action folder.now cx.old.entries) (counts_of binders.now) (trees_at cx.old.entries ty.0) cx.new.entries types r.0) }
     ensures known { IfOk result (λ _. Remembers (F.action folder.now cx.new.entries) cx.new.entries memo.new) }
     ensures failed { IfErr result (λ e. FailsBy (F.fails folder.now) F.Error.from_gives cx.new.entries cx.new.limit e) }
@@ -66,8 +66,7 @@ pub(crate) fn super_walk_ty<F: FallibleTypeFolder>(
     requires ready { F.ready folder.now cx.old.entries }
     requires known { Remembers (F.action folder.now cx.old.entries) cx.old.entries memo.old }
     requires held { Has cx.old.entries types ty.0 }
-    ensures keeps { Keeps cx.old.entries cx.new.entries }
-    ensures limit { cx.new.limit ≡ cx.old.limit }
+    ensures grew { Grew cx.old cx.new }
     ensures folded { IfOk result (λ r. IsFoldBelow (F.action folder.now cx.old.entries) (counts_of binders.now) (trees_at cx.old.entries ty.0) cx.new.entries types r.0) }
     ensures known { IfOk result (λ _. Remembers (F.action folder.now cx.new.entries) cx.new.entries memo.new) }
     ensures failed { IfErr result (λ e. FailsBy (F.fails folder.now) F.Error.from_gives cx.new.entries cx.new.limit e) }
@@ -93,8 +92,7 @@ fn walk_kind<F: FallibleTypeFolder>(
     requires is { Is cx.old.entries types ty.0 (kind_trees cx.old.entries kind) }
     requires held { KindHeld cx.old.entries kind }
     requires older { KindOlder ty.0 kind }
-    ensures keeps { Keeps cx.old.entries cx.new.entries }
-    ensures limit { cx.new.limit ≡ cx.old.limit }
+    ensures grew { Grew cx.old cx.new }
     ensures held { IfOk result (λ k. KindHeld cx.new.entries k) }
     ensures folded { IfOk result (λ k. FoldsBelow (F.action folder.now cx.old.entries) (counts_of binders.now) (kind_trees cx.old.entries kind) (kind_trees cx.new.entries k)) }
     ensures known { IfOk result (λ _. Remembers (F.action folder.now cx.new.entries) cx.new.entries memo.new) }
@@ -151,8 +149,7 @@ pub(crate) fn walk_tys<F: FallibleTypeFolder>(
     requires ready { F.ready folder.now cx.old.entries }
     requires known { Remembers (F.action folder.now cx.old.entries) cx.old.entries memo.old }
     requires held { Has cx.old.entries type_lists tys.0 }
-    ensures keeps { Keeps cx.old.entries cx.new.entries }
-    ensures limit { cx.new.limit ≡ cx.old.limit }
+    ensures grew { Grew cx.old cx.new }
     ensures folded { IfOk result (λ r. IsFold (F.action folder.now cx.old.entries) (counts_of binders.now) (trees_at cx.old.entries tys.0) cx.new.entries type_lists r.0) }
     ensures whole { IfOk result (λ r. is_no_tree (trees_at cx.new.entries r.0) ≡ is_no_tree (trees_at cx.old.entries tys.0)) }
     ensures known { IfOk result (λ _. Remembers (F.action folder.now cx.new.entries) cx.new.entries memo.new) }
@@ -182,8 +179,7 @@ pub(crate) fn walk_args<F: FallibleTypeFolder>(
     requires ready { F.ready folder.now cx.old.entries }
     requires known { Remembers (F.action folder.now cx.old.entries) cx.old.entries memo.old }
     requires held { Has cx.old.entries args_lists args.0 }
-    ensures keeps { Keeps cx.old.entries cx.new.entries }
-    ensures limit { cx.new.limit ≡ cx.old.limit }
+    ensures grew { Grew cx.old cx.new }
     ensures folded { IfOk result (λ r. IsFold (F.action folder.now cx.old.entries) (counts_of binders.now) (trees_at cx.old.entries args.0) cx.new.entries args_lists r.0) }
     ensures known { IfOk result (λ _. Remembers (F.action folder.now cx.new.entries) cx.new.entries memo.new) }
     ensures failed { IfErr result (λ e. FailsBy (F.fails folder.now) F.Error.from_gives cx.new.entries cx.new.limit e) }
@@ -210,8 +206,7 @@ pub(crate) fn walk_arg<F: FallibleTypeFolder>(
     requires ready { F.ready folder.now cx.old.entries }
     requires known { Remembers (F.action folder.now cx.old.entries) cx.old.entries memo.old }
     requires held { ArgHeld cx.old.entries arg }
-    ensures keeps { Keeps cx.old.entries cx.new.entries }
-    ensures limit { cx.new.limit ≡ cx.old.limit }
+    ensures grew { Grew cx.old cx.new }
     ensures held { IfOk result (λ a. ArgHeld cx.new.entries a) }
     ensures folded { IfOk result (λ a. Folds (F.action folder.now cx.old.entries) (counts_of binders.now) (arg_trees cx.old.entries arg) (arg_trees cx.new.entries a)) }
     ensures known { IfOk result (λ _. Remembers (F.action folder.now cx.new.entries) cx.new.entries memo.new) }
@@ -243,8 +238,7 @@ pub(crate) fn walk_bounds<F: FallibleTypeFolder>(
     requires ready { F.ready folder.now cx.old.entries }
     requires known { Remembers (F.action folder.now cx.old.entries) cx.old.entries memo.old }
     requires held { Has cx.old.entries bounds_lists bounds.0 }
-    ensures keeps { Keeps cx.old.entries cx.new.entries }
-    ensures limit { cx.new.limit ≡ cx.old.limit }
+    ensures grew { Grew cx.old cx.new }
     ensures folded { IfOk result (λ r. IsFold (F.action folder.now cx.old.entries) (counts_of binders.now) (trees_at cx.old.entries bounds.0) cx.new.entries bounds_lists r.0) }
     ensures known { IfOk result (λ _. Remembers (F.action folder.now cx.new.entries) cx.new.entries memo.new) }
     ensures failed { IfErr result (λ e. FailsBy (F.fails folder.now) F.Error.from_gives cx.new.entries cx.new.limit e) }
@@ -272,8 +266,7 @@ fn walk_principal<F: FallibleTypeFolder>(
     requires held { PrincipalHeld cx.old.entries principal }
     requires older { PrincipalOlder bounds.0 principal }
     requires part { (others : Trees) × (trees_at cx.old.entries bounds.0 ≡ principal_trees cx.old.entries principal +++ others) }
-    ensures keeps { Keeps cx.old.entries cx.new.entries }
-    ensures limit { cx.new.limit ≡ cx.old.limit }
+    ensures grew { Grew cx.old cx.new }
     ensures held { IfOk result (λ p. PrincipalHeld cx.new.entries p) }
     ensures folded { IfOk result (λ p. Folds (F.action folder.now cx.old.entries) (counts_of binders.now) (principal_trees cx.old.entries principal) (principal_trees cx.new.entries p)) }
     ensures known { IfOk result (λ _. Remembers (F.action folder.now cx.new.entries) cx.new.entries memo.new) }

@@ -3,7 +3,7 @@ use Rattle.std.specs.Prelude.{ℕ, ◌-◌, if◌then◌else◌, false, true, Bo
 use Rattle.type_terms.specs.Label.{of_type, param, placeholder}
 use Rattle.type_terms.specs.Trees.{leaf}
 use Rattle.text_definitions.specs.Syntax.{Params, Bound, Clause, Types, Line, crate_line, struct_line, trait_line, impl_line, prove_line, refute_line, later_line, supers_line}
-use Rattle.text_definitions.specs.Declarations.{Declarations, NamedCrate, NamedStruct, NamedTrait, NamedImpl, LaterImpl, of_later, of_supers, Question, known, kinds_of, names_of, sorted_names, last_crate, last_later, impl_owner}
+use Rattle.text_definitions.specs.Declarations.{Declarations, NamedCrate, NamedStruct, NamedTrait, NamedImpl, of_later, of_supers, Question, known, kinds_of, names_of, sorted_names, last_crate, last_later, impl_owner}
 use Rattle.text_definitions.specs.Uses.{asked_uses, params_of}
 use Rattle.text_definitions.specs.Faults.{with_own, variables_in, once}
 use Rattle.text_definitions.specs.Lowering.{Meanings, crate_number, field_trees, with_self, clause_reference}

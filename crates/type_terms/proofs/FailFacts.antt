@@ -49,3 +49,13 @@ faulted B (Err y) h f q = inl (f cc)
 pub only-tables : {A : Type 0} → A ⊎ ⊥ → A
 only-tables (inl a) = a
 only-tables (inr b) = absurd b
+
+-- ---- errors behind a `?`, where the interner is at its limit
+pub at-limit : {T A : Type 0} (r : Result T Fault) {x : Fault} → IsErrAnd r (λ y. y ≡ x) → (x ≡ Full → A) → IfErr r (λ e. e ≡ Full → A)
+at-limit (Ok y) h f = tt
+at-limit (Err y) h f = λ q. f (sym h ∙ q)
+
+-- a fold by a folder with no reason of its own
+pub fold-at-limit : {T A : Type 0} (r : Result T Fault) → (r ≡ Err Full → A ⊎ ⊥) → IfErr r (λ e. e ≡ Full → A)
+fold-at-limit (Ok y) f = tt
+fold-at-limit (Err y) f = λ q. only-tables (f (ap Err q))

@@ -1,3 +1,4 @@
+pub mod Grown
 pub mod WalkLists
 pub mod TreeLaws
 pub mod Matching

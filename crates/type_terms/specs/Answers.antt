@@ -3,7 +3,7 @@ use Rattle.std.specs.Prelude.{◌≡◌, ℕ, zero, suc, Bool, true, false, IsTr
 use Rattle.std.specs.List.{slice_get, flat_map, list_all, list_any}
 use Rattle.type_terms.specs.Label.{Label, param, placeholder, infer, canonical, bound, adt, principal, auto_trait, of_trait, predicate}
 use Rattle.type_terms.specs.Trees.{Trees, some_node, Fits}
-use Rattle.type_terms.specs.Worlds.{World, Reference, ImplDecl, view_of, with_args}
+use Rattle.type_terms.specs.Worlds.{World, Reference, ImplDecl, with_args}
 use Rattle.type_terms.specs.Rules.{Rule, rules, strict_supertraits}
 use Rattle.type_terms.specs.Proofs.{HasProof, In, Every}
 use Rattle.type_terms.specs.Walks.{is_known_in, struct_is, trait_is}

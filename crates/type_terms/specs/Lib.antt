@@ -30,6 +30,7 @@ pub mod Infos
 pub mod Counts
 pub mod Inner
 pub mod Failures
+pub mod Growth
 pub mod Binders
 pub mod Kept
 pub mod Pieces

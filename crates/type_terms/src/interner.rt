@@ -2,22 +2,23 @@
 //!
 //! A contract sees an interner as the list of its terms, in the order in which they were made: of each the kind
 //! of its handle and its tree. A handle is a number in this list. `Is es types ty.0 t` says that `ty` is the type
-//! `t` among the terms `es`, `Has es types ty.0` that it is some type of them, and `Keeps old new` that each
-//! handle of the first terms has the same tree among the second.
+//! `t` among the terms `es`, `Has es types ty.0` that it is some type of them, and `Grew old new` that each
+//! handle of the first interner has the same tree in the second, and that the limit is the same.
 //!
 //! **Handles of this interner.** Anyone can write `Ty(7)`, and no test at run time tells it from a handle, so
 //! each call on a handle requires that this interner has it. A caller keeps that condition by three facts:
 //! what `mk_ty` and the like answer is the interner's (`is`), the handles inside a term are (`held` of `kind`,
-//! `args`, `tys` and `bounds`), and no call ever takes a term away (`keeps`). A function that is lent the
+//! `args`, `tys` and `bounds`), and no call ever takes a term away (`grew`). A function that is lent the
 //! interner and given handles therefore requires `Has cx.old.entries ..` of these, and ensures
-//! `Keeps cx.old.entries cx.new.entries` to whoever holds others.
+//! `Grew cx.old cx.new` to whoever holds others, or `GrewOrFull`, which also says when it may refuse.
 //!
 //! It is the `Interner` of the original made one struct, whose calls take the place of `mk_ty_from_kind`,
 //! `mk_args` and their like; there building a term cannot fail.
 ghost use Rattle.std.specs.Prelude.{◌≡◌, ℕ, ◌+◌, ◌*◌, ◌≤◌, ◌<◌, ◌^◌, length, OnOk, OnErr, IfOk, Some, [], Err};
 ghost use Rattle.std.specs.List.{slice_get};
 ghost use Rattle.type_terms.specs.Trees.{flags, outer_binder, depth};
-ghost use Rattle.type_terms.specs.Terms.{term, Keeps, AddsAtMost, Absent, held, Is, Has, Lawful, trees_at, types, type_lists, consts, args_lists, bounds_lists};
+ghost use Rattle.type_terms.specs.Growth.{Grew};
+ghost use Rattle.type_terms.specs.Terms.{term, AddsAtMost, Absent, held, Is, Has, Lawful, trees_at, types, type_lists, consts, args_lists, bounds_lists};
 ghost use Rattle.type_terms.specs.Kinds.{region_trees, kind_trees, const_trees, arg_trees, args_trees, tys_trees, principal_trees, autos_trees, bounds_trees, RegionHeld, KindHeld, ConstHeld, ArgHeld, ArgsHeld, TysHeld, PrincipalHeld, BoundsHeld, KindOlder, ArgsOlder, TysOlder, PrincipalOlder};
 ghost use Rattle.type_terms.specs.Nodes.{Held, NodeOlder, kind_of, node_entry, node_trees};
 ghost use Rattle.type_terms.specs.Infos.{info_of};
@@ -165,9 +166,8 @@ impl Interner {
         requires held { Held self.old.entries node }
         requires info { info ≡ info_of (node_trees self.old.entries node) }
         ensures is { IfOk result (λ i. slice_get self.new.entries i ≡ Some (node_entry self.old.entries node)) }
-        ensures keeps { Keeps self.old.entries self.new.entries }
+        ensures grew { Grew self.old self.new }
         ensures adds { OnOk result (AddsAtMost self.old.entries (node_entry self.old.entries node) self.new.entries) }
-        ensures limit { self.new.limit ≡ self.old.limit }
         ensures refused { OnErr result (self.new.entries ≡ self.old.entries) }
         ensures full { result ≡ Err Fault.Full → held (kind_of node) self.old.entries ≡ self.old.limit }
         ensures memory { result ≡ Err Fault.Memory → self.old.room ≡ 0 }
@@ -198,9 +198,8 @@ impl Interner {
     pub fn mk_ty(&mut self, kind: TyKind) -> Result<Ty, Fault>
         requires { KindHeld self.old.entries kind }
         ensures is { IfOk result (λ handle. Is self.new.entries types handle.0 (kind_trees self.old.entries kind)) }
-        ensures keeps { Keeps self.old.entries self.new.entries }
+        ensures grew { Grew self.old self.new }
         ensures adds { OnOk result (AddsAtMost self.old.entries (term types (kind_trees self.old.entries kind)) self.new.entries) }
-        ensures limit { self.new.limit ≡ self.old.limit }
         ensures refused { OnErr result (self.new.entries ≡ self.old.entries) }
         ensures full { result ≡ Err Fault.Full → held types self.old.entries ≡ self.old.limit }
         ensures memory { result ≡ Err Fault.Memory → self.old.room ≡ 0 }
@@ -218,9 +217,8 @@ impl Interner {
     pub fn mk_const(&mut self, kind: ConstKind) -> Result<Const, Fault>
         requires { ConstHeld kind }
         ensures is { IfOk result (λ handle. Is self.new.entries consts handle.0 (const_trees kind)) }
-        ensures keeps { Keeps self.old.entries self.new.entries }
+        ensures grew { Grew self.old self.new }
         ensures adds { OnOk result (AddsAtMost self.old.entries (term consts (const_trees kind)) self.new.entries) }
-        ensures limit { self.new.limit ≡ self.old.limit }
         ensures refused { OnErr result (self.new.entries ≡ self.old.entries) }
         ensures full { result ≡ Err Fault.Full → held consts self.old.entries ≡ self.old.limit }
         ensures memory { result ≡ Err Fault.Memory → self.old.room ≡ 0 }
@@ -238,9 +236,8 @@ impl Interner {
     pub fn mk_args(&mut self, list: Vec<GenericArgKind>) -> Result<GenericArgs, Fault>
         requires { ArgsHeld self.old.entries list.items }
         ensures is { IfOk result (λ handle. Is self.new.entries args_lists handle.0 (args_trees self.old.entries list.items)) }
-        ensures keeps { Keeps self.old.entries self.new.entries }
+        ensures grew { Grew self.old self.new }
         ensures adds { OnOk result (AddsAtMost self.old.entries (term args_lists (args_trees self.old.entries list.items)) self.new.entries) }
-        ensures limit { self.new.limit ≡ self.old.limit }
         ensures refused { OnErr result (self.new.entries ≡ self.old.entries) }
         ensures full { result ≡ Err Fault.Full → held args_lists self.old.entries ≡ self.old.limit }
         ensures memory { result ≡ Err Fault.Memory → self.old.room ≡ 0 }
@@ -258,9 +255,8 @@ impl Interner {
     pub fn mk_tys(&mut self, list: Vec<Ty>) -> Result<Tys, Fault>
         requires { TysHeld self.old.entries list.items }
         ensures is { IfOk result (λ handle. Is self.new.entries type_lists handle.0 (tys_trees self.old.entries list.items)) }
-        ensures keeps { Keeps self.old.entries self.new.entries }
+        ensures grew { Grew self.old self.new }
         ensures adds { OnOk result (AddsAtMost self.old.entries (term type_lists (tys_trees self.old.entries list.items)) self.new.entries) }
-        ensures limit { self.new.limit ≡ self.old.limit }
         ensures refused { OnErr result (self.new.entries ≡ self.old.entries) }
         ensures full { result ≡ Err Fault.Full → held type_lists self.old.entries ≡ self.old.limit }
         ensures memory { result ≡ Err Fault.Memory → self.old.room ≡ 0 }
@@ -278,9 +274,8 @@ impl Interner {
     pub fn mk_bounds(&mut self, bounds: BoundsData) -> Result<Bounds, Fault>
         requires { BoundsHeld self.old.entries bounds }
         ensures is { IfOk result (λ handle. Is self.new.entries bounds_lists handle.0 (bounds_trees self.old.entries bounds)) }
-        ensures keeps { Keeps self.old.entries self.new.entries }
+        ensures grew { Grew self.old self.new }
         ensures adds { OnOk result (AddsAtMost self.old.entries (term bounds_lists (bounds_trees self.old.entries bounds)) self.new.entries) }
-        ensures limit { self.new.limit ≡ self.old.limit }
         ensures refused { OnErr result (self.new.entries ≡ self.old.entries) }
         ensures full { result ≡ Err Fault.Full → held bounds_lists self.old.entries ≡ self.old.limit }
         ensures memory { result ≡ Err Fault.Memory → self.old.room ≡ 0 }

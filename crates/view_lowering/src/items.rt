@@ -1,7 +1,7 @@
 //! A struct, a trait, an impl.
-ghost use Rattle.std.specs.Prelude.{◌≡◌, ◌+◌, ◌≤◌, ◌∷◌, true, length, map, IfOk, IfErr};
+ghost use Rattle.std.specs.Prelude.{◌≡◌, ◌+◌, ◌≤◌, ◌∷◌, true, length, map, IfOk};
 ghost use Rattle.type_terms.specs.Label.{of_type};
-ghost use Rattle.term_folds.specs.Growth.{Grew, FullAtLimit};
+ghost use Rattle.type_terms.specs.Growth.{GrewOrFull};
 ghost use Rattle.declarations.specs.Applied.{sort_of_param};
 ghost use Rattle.declarations.specs.Heads.{begins_declared};
 ghost use Rattle.declarations.specs.Items.{struct_in, trait_in, impl_in};
@@ -30,9 +30,8 @@ pub(crate) fn lower_struct(
     ensures is { IfOk result (λ def. struct_in cx.new.entries (entry.now.id, def) ≡ plain_struct (struct_of entry.now).item) }
     ensures sorts { IfOk result (λ def. struct_sorts (entry.now.id, def) ≡ (struct_of entry.now).kinds) }
     ensures held { IfOk result (λ def. StructHeld cx.new.entries def) }
-    ensures grew { Grew cx.old cx.new }
+    ensures terms { GrewOrFull cx.old cx.new result }
     ensures few { length cx.new.entries ≤ length cx.old.entries + struct_terms (struct_of entry.now).item }
-    ensures full { IfErr result (FullAtLimit cx.new) }
 {
     let mut params = Vec::new(alloc);
     push_params(&mut params, &entry.params)?;
@@ -61,9 +60,8 @@ pub(crate) fn lower_trait(
     ensures is { IfOk result (λ def. trait_in cx.new.entries (entry.now.id, def) ≡ plain_trait (trait_of entry.now).item) }
     ensures sorts { IfOk result (λ def. trait_sorts (entry.now.id, def) ≡ of_type ∷ (trait_of entry.now).kinds) }
     ensures held { IfOk result (λ def. TraitHeld cx.new.entries def) }
-    ensures grew { Grew cx.old cx.new }
+    ensures terms { GrewOrFull cx.old cx.new result }
     ensures few { length cx.new.entries ≤ length cx.old.entries + trait_terms (trait_of entry.now).item }
-    ensures full { IfErr result (FullAtLimit cx.new) }
 {
     let params = trait_params(alloc, &entry.params)?;
     let bounds = lower_references(alloc, cx, &entry.bounds, Kept::None)?;
@@ -99,9 +97,8 @@ pub(crate) fn lower_impl(
     ensures is { IfOk result (λ def. impl_in cx.new.entries entry.now.id def ≡ plain_impl (impl_of entry.now).item) }
     ensures sorts { IfOk result (λ def. map sort_of_param def.params.items ≡ param_sorts (impl_of entry.now)) }
     ensures held { IfOk result (λ def. ImplHeld cx.new.entries def) }
-    ensures grew { Grew cx.old cx.new }
+    ensures terms { GrewOrFull cx.old cx.new result }
     ensures few { length cx.new.entries ≤ length cx.old.entries + impl_terms (impl_of entry.now).item }
-    ensures full { IfErr result (FullAtLimit cx.new) }
 {
     let params = impl_params(alloc, &entry.params)?;
     let header = lower_reference(alloc, cx, &entry.header, Kept::All)?;

@@ -1,6 +1,6 @@
 //! The impls that a later version of a crate adds.
-ghost use Rattle.std.specs.Prelude.{◌≡◌, map, IfOk, IfErr};
-ghost use Rattle.term_folds.specs.Growth.{Grew, FullAtLimit};
+ghost use Rattle.std.specs.Prelude.{◌≡◌, map, IfOk};
+ghost use Rattle.type_terms.specs.Growth.{GrewOrFull};
 ghost use Rattle.declarations.specs.Held.{ImplHeld};
 ghost use Rattle.declarations.specs.Merges.{Each};
 ghost use Rattle.view_lowering.specs.Later.{added_impls, added_in, added_sorts, sorts_of_added};
@@ -27,8 +27,7 @@ pub fn lower_later(
     ensures impls { IfOk result (λ defs. map (added_in cx.new.entries) defs.items ≡ added_impls workspace.now section) }
     ensures sorts { IfOk result (λ defs. map sorts_of_added defs.items ≡ added_sorts workspace.now section) }
     ensures held { IfOk result (λ defs. Each (ImplHeld cx.new.entries) defs.items) }
-    ensures grew { Grew cx.old cx.new }
-    ensures full { IfErr result (FullAtLimit cx.new) }
+    ensures terms { GrewOrFull cx.old cx.new result }
 {
     let mut defs = Vec::new(alloc);
     let entries = workspace.later_impls_of(section);

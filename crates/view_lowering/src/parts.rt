@@ -1,6 +1,6 @@
 //! Parameters and references.
-ghost use Rattle.std.specs.Prelude.{◌≡◌, ◌+◌, ◌≤◌, ◌++◌, length, map, sum_by, IfOk, OnOk, IfErr};
-ghost use Rattle.term_folds.specs.Growth.{Grew, FullAtLimit};
+ghost use Rattle.std.specs.Prelude.{◌≡◌, ◌+◌, ◌≤◌, ◌++◌, length, map, sum_by, IfOk, OnOk};
+ghost use Rattle.type_terms.specs.Growth.{GrewOrFull};
 ghost use Rattle.declarations.specs.Applied.{sort_of_param, references_in};
 ghost use Rattle.declarations.specs.Held.{ReferenceHeld};
 ghost use Rattle.declarations.specs.Items.{reference_in};
@@ -52,9 +52,8 @@ fn lower_as_written(
     requires { ReferenceMade cells.now }
     ensures is { IfOk result (λ trait_ref. reference_in cx.new.entries trait_ref ≡ reference_of cells.now) }
     ensures held { IfOk result (λ trait_ref. ReferenceHeld cx.new.entries trait_ref) }
-    ensures grew { Grew cx.old cx.new }
+    ensures terms { GrewOrFull cx.old cx.new result }
     ensures few { length cx.new.entries ≤ length cx.old.entries + reference_terms (reference_of cells.now) }
-    ensures full { IfErr result (FullAtLimit cx.new) }
 {
     let args = lower_args(alloc, cx, &cells.args)?;
     Ok(TraitRef {
@@ -73,9 +72,8 @@ pub(crate) fn lower_reference(
     requires { ReferenceMade cells.now }
     ensures is { IfOk result (λ trait_ref. reference_in cx.new.entries trait_ref ≡ plain_reference (is_kept kept.entry) (reference_of cells.now)) }
     ensures held { IfOk result (λ trait_ref. ReferenceHeld cx.new.entries trait_ref) }
-    ensures grew { Grew cx.old cx.new }
+    ensures terms { GrewOrFull cx.old cx.new result }
     ensures few { length cx.new.entries ≤ length cx.old.entries + reference_terms (reference_of cells.now) }
-    ensures full { IfErr result (FullAtLimit cx.new) }
 {
     if are_without_lifetimes(&cells.args) {
         return lower_as_written(alloc, cx, cells);
@@ -94,9 +92,8 @@ pub(crate) fn lower_references(
     requires { ReferencesMade list.now }
     ensures are { IfOk result (λ refs. references_in cx.new.entries refs.items ≡ map (plain_reference (is_kept kept.entry)) (map reference_of list.now)) }
     ensures held { IfOk result (λ refs. Each (ReferenceHeld cx.new.entries) refs.items) }
-    ensures grew { Grew cx.old cx.new }
+    ensures terms { GrewOrFull cx.old cx.new result }
     ensures few { length cx.new.entries ≤ length cx.old.entries + sum_by reference_terms (map reference_of list.now) }
-    ensures full { IfErr result (FullAtLimit cx.new) }
 {
     let mut refs = Vec::new(alloc);
     for cells in list {

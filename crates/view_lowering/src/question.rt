@@ -1,9 +1,9 @@
 //! Questions.
-ghost use Rattle.std.specs.Prelude.{◌≡◌, map, IfOk, IfErr};
+ghost use Rattle.std.specs.Prelude.{◌≡◌, map, IfOk};
 ghost use Rattle.text_definitions.specs.Declarations.{Question};
 ghost use Rattle.text_definitions.specs.Names.{own_from};
 ghost use Rattle.type_terms.specs.Kinds.{arg_trees, ArgsHeld, ArgHeld};
-ghost use Rattle.term_folds.specs.Growth.{Grew, FullAtLimit};
+ghost use Rattle.type_terms.specs.Growth.{GrewOrFull};
 ghost use Rattle.workspace.specs.Made.{ReferenceMade, ReferencesMade};
 ghost use Rattle.workspace.specs.Views.{question_of, variable_of};
 ghost use Rattle.view_lowering.specs.Questions.{IsQuestion, IsLowered, IsNextUnknown};
@@ -46,8 +46,7 @@ fn next_unknown(
 ) -> Result<GenericArgKind, Fault>
     ensures is { IfOk result (λ arg. IsNextUnknown cx.new.entries kind counts.old arg counts.new) }
     ensures held { IfOk result (λ arg. ArgHeld cx.new.entries arg) }
-    ensures grew { Grew cx.old cx.new }
-    ensures full { IfErr result (FullAtLimit cx.new) }
+    ensures terms { GrewOrFull cx.old cx.new result }
 {
     match kind {
         ParamKind::Lifetime => Ok(GenericArgKind::Lifetime(Region {
@@ -84,8 +83,7 @@ fn own_unknowns(
 ) -> Result<Vec<GenericArgKind>, Fault>
     ensures are { IfOk result (λ args. map (arg_trees cx.new.entries) args.items ≡ own_from 0 0 (map variable_of variables.now)) }
     ensures held { IfOk result (λ args. ArgsHeld cx.new.entries args.items) }
-    ensures grew { Grew cx.old cx.new }
-    ensures full { IfErr result (FullAtLimit cx.new) }
+    ensures terms { GrewOrFull cx.old cx.new result }
 {
     let mut unknowns = Vec::new(alloc);
     let mut counts = Counts {
@@ -108,8 +106,7 @@ fn lower_entry(
     requires asked { ReferenceMade entry.now.asked }
     requires clauses { ReferencesMade entry.now.clauses.items }
     ensures lowered { IfOk result (λ lowered. IsLowered cx.new.entries (question_of entry.now) lowered) }
-    ensures grew { Grew cx.old cx.new }
-    ensures full { IfErr result (FullAtLimit cx.new) }
+    ensures terms { GrewOrFull cx.old cx.new result }
 {
     let asked = lower_reference(alloc, cx, &entry.asked, Kept::All)?;
     let clauses = lower_references(alloc, cx, &entry.clauses, Kept::All)?;
@@ -131,8 +128,7 @@ pub fn lower_question(
 ) -> Result<LoweredQuestion, Fault>
     requires { (q : Question) × IsQuestion workspace.now number q }
     ensures lowered { (q : Question) → IsQuestion workspace.now number q → IfOk result (λ lowered. IsLowered cx.new.entries q lowered) }
-    ensures grew { Grew cx.old cx.new }
-    ensures full { IfErr result (FullAtLimit cx.new) }
+    ensures terms { GrewOrFull cx.old cx.new result }
 {
     let entries = workspace.question_entries();
     lower_entry(alloc, cx, &entries[number as usize - 1])

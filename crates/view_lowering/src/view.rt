@@ -3,7 +3,7 @@ ghost use Rattle.std.specs.Prelude.{◌≡◌, ◌+◌, ◌<◌, ◌≤◌, ◌+
 ghost use Rattle.type_terms.specs.Worlds.{sees};
 ghost use Rattle.type_terms.specs.declared.Fault.TheVariants.{Memory};
 ghost use Rattle.text_definitions.specs.Declarations.{world_of};
-ghost use Rattle.term_folds.specs.Growth.{Grew, FullAtLimit};
+ghost use Rattle.type_terms.specs.Growth.{GrewOrFull};
 ghost use Rattle.declarations.specs.Held.{AreHeld};
 ghost use Rattle.declarations.specs.Items.{written, declared, struct_in, trait_in, impl_in};
 ghost use Rattle.view_lowering.specs.Behind.{BeginsWith, Continues, IsNextRow, IsOutOfTurn, AreBefore, is_new, new_structs, new_traits, new_impls, new_struct_sorts, new_trait_sorts, new_impl_sorts, new_struct_terms, new_trait_terms, new_impl_terms, most_new_terms};
@@ -85,9 +85,8 @@ fn lower_structs(
     ensures sorts { OnOk result (map struct_sorts decls.new.structs ≡ map struct_sorts decls.old.structs ++ new_struct_sorts workspace.now crate_id.index earlier) }
     ensures others { OnOk result (decls.new ≡ record decls.old { structs = decls.new.structs }) }
     ensures held { OnOk result (AreHeld cx.new.entries decls.new) }
-    ensures grew { Grew cx.old cx.new }
+    ensures terms { GrewOrFull cx.old cx.new result }
     ensures few { length cx.new.entries ≤ length cx.old.entries + sum_by (new_struct_terms workspace.now crate_id.index earlier) workspace.now.structs }
-    ensures full { IfErr result (FullAtLimit cx.new) }
 {
     let _ = workspace.crates();
     let entries = workspace.structs();
@@ -118,9 +117,8 @@ fn lower_traits(
     ensures sorts { OnOk result (map trait_sorts decls.new.traits ≡ map trait_sorts decls.old.traits ++ new_trait_sorts workspace.now crate_id.index earlier) }
     ensures others { OnOk result (decls.new ≡ record decls.old { traits = decls.new.traits }) }
     ensures held { OnOk result (AreHeld cx.new.entries decls.new) }
-    ensures grew { Grew cx.old cx.new }
+    ensures terms { GrewOrFull cx.old cx.new result }
     ensures few { length cx.new.entries ≤ length cx.old.entries + sum_by (new_trait_terms workspace.now crate_id.index earlier) workspace.now.traits }
-    ensures full { IfErr result (FullAtLimit cx.new) }
 {
     let _ = workspace.crates();
     let entries = workspace.traits();
@@ -152,9 +150,8 @@ fn lower_impls(
     ensures sorts { OnOk result (map impl_sorts decls.new.impls ≡ map impl_sorts decls.old.impls ++ new_impl_sorts workspace.now crate_id.index earlier) }
     ensures others { OnOk result (decls.new ≡ record decls.old { impls = decls.new.impls }) }
     ensures held { OnOk result (AreHeld cx.new.entries decls.new) }
-    ensures grew { Grew cx.old cx.new }
+    ensures terms { GrewOrFull cx.old cx.new result }
     ensures few { length cx.new.entries ≤ length cx.old.entries + sum_by (new_impl_terms workspace.now crate_id.index earlier) workspace.now.impls }
-    ensures full { IfErr result (FullAtLimit cx.new) }
 {
     let _ = workspace.crates();
     let entries = workspace.impls();
@@ -186,11 +183,10 @@ pub fn lower(
     ensures impl_sorts { IfOk result (λ decls. map impl_sorts decls.impls ≡ impl_sorts_seen workspace.now crate_id.index) }
     ensures local { IfOk result (λ decls. decls.local ≡ crate_id.index) }
     ensures held { IfOk result (λ decls. AreHeld cx.new.entries decls) }
-    ensures grew { Grew cx.old cx.new }
+    ensures terms { GrewOrFull cx.old cx.new result }
 
     // So many terms are made at most, after a fault too.
     ensures few { length cx.new.entries ≤ length cx.old.entries + most_terms workspace.now crate_id.index }
-    ensures full { IfErr result (FullAtLimit cx.new) }
 {
     let mut decls = Declarations::new(alloc, crate_id);
     reserve_seen(workspace, crate_id, &mut decls)?;
@@ -333,11 +329,10 @@ pub fn lower_behind(
     ensures impl_sorts { OnOk result (map impl_sorts decls.new.impls ≡ impl_sorts_seen workspace.now crate_id.index) }
     ensures local { OnOk result (decls.new.local ≡ crate_id.index) }
     ensures held { OnOk result (AreHeld cx.new.entries decls.new) }
-    ensures grew { Grew cx.old cx.new }
+    ensures terms { GrewOrFull cx.old cx.new result }
 
     // So many terms are made at most, after a fault too.
     ensures few { length cx.new.entries ≤ length cx.old.entries + most_new_terms workspace.now crate_id.index (Some earlier) }
-    ensures full { IfErr result (FullAtLimit cx.new) }
 {
     let _ = workspace.crates();
     decls.ask_in(crate_id);

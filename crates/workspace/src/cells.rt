@@ -1,7 +1,6 @@
 //! Cells, made terms one after the other.
-ghost use Rattle.std.specs.Prelude.{◌≡◌, ◌+◌, ◌≤◌, length, Err, IfOk};
-ghost use Rattle.type_terms.specs.Terms.{Keeps};
-ghost use Rattle.type_terms.specs.Failures.{SomeKindIsFull};
+ghost use Rattle.type_terms.specs.Growth.{GrewOrFull};
+ghost use Rattle.std.specs.Prelude.{◌≡◌, ◌+◌, ◌≤◌, length, IfOk};
 ghost use Rattle.workspace.specs.Stack.{stack_of};
 ghost use Rattle.workspace.specs.Lowers.{CellIsReady, Lowers, IsLeafOf};
 
@@ -24,10 +23,8 @@ fn lower_leaf(
     requires leaf { IsLeafOf cell kind }
     requires ready { CellIsReady cell cx.old.entries stack.now.items }
     ensures lowers { IfOk result (λ x. Lowers cell cx.old.entries cx.new.entries (stack_of stack.now.items) x (stack_of stack.now.items)) }
-    ensures keeps { Keeps cx.old.entries cx.new.entries }
-    ensures limit { cx.new.limit ≡ cx.old.limit }
+    ensures terms { GrewOrFull cx.old cx.new result }
     ensures few { length cx.new.entries ≤ length cx.old.entries + 2 }
-    ensures full { result ≡ Err Fault.Full → SomeKindIsFull cx.new.entries cx.new.limit }
 {
     let _at = stack;
     let _of = cell;
@@ -38,10 +35,8 @@ fn lower_leaf(
 fn lower_const(cx: &mut Interner, stack: &Vec<Lowered>, kind: ConstKind) -> Result<Lowered, Fault>
     requires { CellIsReady (TermCell.Const kind) cx.old.entries stack.now.items }
     ensures lowers { IfOk result (λ x. Lowers (TermCell.Const kind) cx.old.entries cx.new.entries (stack_of stack.now.items) x (stack_of stack.now.items)) }
-    ensures keeps { Keeps cx.old.entries cx.new.entries }
-    ensures limit { cx.new.limit ≡ cx.old.limit }
+    ensures terms { GrewOrFull cx.old cx.new result }
     ensures few { length cx.new.entries ≤ length cx.old.entries + 2 }
-    ensures full { result ≡ Err Fault.Full → SomeKindIsFull cx.new.entries cx.new.limit }
 {
     let _at = stack;
     let value = cx.mk_const(kind)?;
@@ -57,10 +52,8 @@ fn lower_adt(
 ) -> Result<Lowered, Fault>
     requires { CellIsReady (TermCell.Adt id args) cx.old.entries stack.old.items }
     ensures lowers { IfOk result (λ x. Lowers (TermCell.Adt id args) cx.old.entries cx.new.entries (stack_of stack.old.items) x (stack_of stack.new.items)) }
-    ensures keeps { Keeps cx.old.entries cx.new.entries }
-    ensures limit { cx.new.limit ≡ cx.old.limit }
+    ensures terms { GrewOrFull cx.old cx.new result }
     ensures few { length cx.new.entries ≤ length cx.old.entries + 2 }
-    ensures full { result ≡ Err Fault.Full → SomeKindIsFull cx.new.entries cx.new.limit }
 {
     let list = pop_args(alloc, stack, args)?;
     let args = cx.mk_args(list)?;
@@ -76,10 +69,8 @@ fn lower_ref(
 ) -> Result<Lowered, Fault>
     requires { CellIsReady (TermCell.Ref region mutability) cx.old.entries stack.old.items }
     ensures lowers { IfOk result (λ x. Lowers (TermCell.Ref region mutability) cx.old.entries cx.new.entries (stack_of stack.old.items) x (stack_of stack.new.items)) }
-    ensures keeps { Keeps cx.old.entries cx.new.entries }
-    ensures limit { cx.new.limit ≡ cx.old.limit }
+    ensures terms { GrewOrFull cx.old cx.new result }
     ensures few { length cx.new.entries ≤ length cx.old.entries + 2 }
-    ensures full { result ≡ Err Fault.Full → SomeKindIsFull cx.new.entries cx.new.limit }
 {
     let referred = pop_type(stack);
     let ty = cx.mk_ty(TyKind::Ref(region, referred, mutability))?;
@@ -93,10 +84,8 @@ fn lower_raw_ptr(
 ) -> Result<Lowered, Fault>
     requires { CellIsReady (TermCell.RawPtr mutability) cx.old.entries stack.old.items }
     ensures lowers { IfOk result (λ x. Lowers (TermCell.RawPtr mutability) cx.old.entries cx.new.entries (stack_of stack.old.items) x (stack_of stack.new.items)) }
-    ensures keeps { Keeps cx.old.entries cx.new.entries }
-    ensures limit { cx.new.limit ≡ cx.old.limit }
+    ensures terms { GrewOrFull cx.old cx.new result }
     ensures few { length cx.new.entries ≤ length cx.old.entries + 2 }
-    ensures full { result ≡ Err Fault.Full → SomeKindIsFull cx.new.entries cx.new.limit }
 {
     let pointed = pop_type(stack);
     let ty = cx.mk_ty(TyKind::RawPtr(pointed, mutability))?;
@@ -106,10 +95,8 @@ fn lower_raw_ptr(
 fn lower_slice(cx: &mut Interner, stack: &mut Vec<Lowered>) -> Result<Lowered, Fault>
     requires { CellIsReady TermCell.Slice cx.old.entries stack.old.items }
     ensures lowers { IfOk result (λ x. Lowers TermCell.Slice cx.old.entries cx.new.entries (stack_of stack.old.items) x (stack_of stack.new.items)) }
-    ensures keeps { Keeps cx.old.entries cx.new.entries }
-    ensures limit { cx.new.limit ≡ cx.old.limit }
+    ensures terms { GrewOrFull cx.old cx.new result }
     ensures few { length cx.new.entries ≤ length cx.old.entries + 2 }
-    ensures full { result ≡ Err Fault.Full → SomeKindIsFull cx.new.entries cx.new.limit }
 {
     let item = pop_type(stack);
     let ty = cx.mk_ty(TyKind::Slice(item))?;
@@ -119,10 +106,8 @@ fn lower_slice(cx: &mut Interner, stack: &mut Vec<Lowered>) -> Result<Lowered, F
 fn lower_array(cx: &mut Interner, stack: &mut Vec<Lowered>) -> Result<Lowered, Fault>
     requires { CellIsReady TermCell.Array cx.old.entries stack.old.items }
     ensures lowers { IfOk result (λ x. Lowers TermCell.Array cx.old.entries cx.new.entries (stack_of stack.old.items) x (stack_of stack.new.items)) }
-    ensures keeps { Keeps cx.old.entries cx.new.entries }
-    ensures limit { cx.new.limit ≡ cx.old.limit }
+    ensures terms { GrewOrFull cx.old cx.new result }
     ensures few { length cx.new.entries ≤ length cx.old.entries + 2 }
-    ensures full { result ≡ Err Fault.Full → SomeKindIsFull cx.new.entries cx.new.limit }
 {
     let len = pop_const(stack);
     let item = pop_type(stack);
@@ -138,10 +123,8 @@ fn lower_tuple(
 ) -> Result<Lowered, Fault>
     requires { CellIsReady (TermCell.Tuple items) cx.old.entries stack.old.items }
     ensures lowers { IfOk result (λ x. Lowers (TermCell.Tuple items) cx.old.entries cx.new.entries (stack_of stack.old.items) x (stack_of stack.new.items)) }
-    ensures keeps { Keeps cx.old.entries cx.new.entries }
-    ensures limit { cx.new.limit ≡ cx.old.limit }
+    ensures terms { GrewOrFull cx.old cx.new result }
     ensures few { length cx.new.entries ≤ length cx.old.entries + 2 }
-    ensures full { result ≡ Err Fault.Full → SomeKindIsFull cx.new.entries cx.new.limit }
 {
     let list = pop_types(alloc, stack, items)?;
     let tys = cx.mk_tys(list)?;
@@ -158,10 +141,8 @@ fn lower_fn_ptr(
 ) -> Result<Lowered, Fault>
     requires { CellIsReady (TermCell.FnPtr bound_vars types) cx.old.entries stack.old.items }
     ensures lowers { IfOk result (λ x. Lowers (TermCell.FnPtr bound_vars types) cx.old.entries cx.new.entries (stack_of stack.old.items) x (stack_of stack.new.items)) }
-    ensures keeps { Keeps cx.old.entries cx.new.entries }
-    ensures limit { cx.new.limit ≡ cx.old.limit }
+    ensures terms { GrewOrFull cx.old cx.new result }
     ensures few { length cx.new.entries ≤ length cx.old.entries + 2 }
-    ensures full { result ≡ Err Fault.Full → SomeKindIsFull cx.new.entries cx.new.limit }
 {
     cx.lawful();
     let list = pop_types(alloc, stack, types)?;
@@ -180,10 +161,8 @@ fn lower_principal(
 ) -> Result<Lowered, Fault>
     requires { CellIsReady (TermCell.Principal bound_vars def_id args) cx.old.entries stack.old.items }
     ensures lowers { IfOk result (λ x. Lowers (TermCell.Principal bound_vars def_id args) cx.old.entries cx.new.entries (stack_of stack.old.items) x (stack_of stack.new.items)) }
-    ensures keeps { Keeps cx.old.entries cx.new.entries }
-    ensures limit { cx.new.limit ≡ cx.old.limit }
+    ensures terms { GrewOrFull cx.old cx.new result }
     ensures few { length cx.new.entries ≤ length cx.old.entries + 2 }
-    ensures full { result ≡ Err Fault.Full → SomeKindIsFull cx.new.entries cx.new.limit }
 {
     let list = pop_args(alloc, stack, args)?;
     let args = cx.mk_args(list)?;
@@ -203,10 +182,8 @@ fn lower_dynamic(
 ) -> Result<Lowered, Fault>
     requires { CellIsReady (TermCell.Dynamic has_principal autos) cx.old.entries stack.old.items }
     ensures lowers { IfOk result (λ x. Lowers (TermCell.Dynamic has_principal autos) cx.old.entries cx.new.entries (stack_of stack.old.items) x (stack_of stack.new.items)) }
-    ensures keeps { Keeps cx.old.entries cx.new.entries }
-    ensures limit { cx.new.limit ≡ cx.old.limit }
+    ensures terms { GrewOrFull cx.old cx.new result }
     ensures few { length cx.new.entries ≤ length cx.old.entries + 2 }
-    ensures full { result ≡ Err Fault.Full → SomeKindIsFull cx.new.entries cx.new.limit }
 {
     let region = pop_lifetime(stack);
     let autos = pop_autos(alloc, stack, autos)?;
@@ -225,10 +202,8 @@ pub(crate) fn lower_cell(
 ) -> Result<Lowered, Fault>
     requires { CellIsReady cell cx.old.entries stack.old.items }
     ensures lowers { IfOk result (λ x. Lowers cell cx.old.entries cx.new.entries (stack_of stack.old.items) x (stack_of stack.new.items)) }
-    ensures keeps { Keeps cx.old.entries cx.new.entries }
-    ensures limit { cx.new.limit ≡ cx.old.limit }
+    ensures terms { GrewOrFull cx.old cx.new result }
     ensures few { length cx.new.entries ≤ length cx.old.entries + 2 }
-    ensures full { result ≡ Err Fault.Full → SomeKindIsFull cx.new.entries cx.new.limit }
 {
     match cell {
         TermCell::Bool => lower_leaf(cx, stack, cell, TyKind::Bool),

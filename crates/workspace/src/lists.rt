@@ -1,8 +1,8 @@
 //! Lists of cells: the fields of a struct, the arguments of a reference.
-ghost use Rattle.std.specs.Prelude.{◌≡◌, ◌+◌, ◌*◌, ◌≤◌, [], length, map, sum_by, Some, IsSome, Err, IfOk};
-ghost use Rattle.type_terms.specs.Terms.{Keeps, Is, args_lists, trees_at};
+ghost use Rattle.type_terms.specs.Growth.{GrewOrFull};
+ghost use Rattle.std.specs.Prelude.{◌≡◌, ◌+◌, ◌*◌, ◌≤◌, [], length, map, sum_by, Some, IsSome, IfOk};
+ghost use Rattle.type_terms.specs.Terms.{Is, args_lists, trees_at};
 ghost use Rattle.type_terms.specs.Kinds.{TysHeld};
-ghost use Rattle.type_terms.specs.Failures.{SomeKindIsFull};
 ghost use Rattle.workspace.specs.Made.{AreMade, CellsHeld, parts_of, is_type, is_arg};
 ghost use Rattle.workspace.specs.TermCounts.{parts};
 ghost use Rattle.workspace.specs.TermCells.{trees_of, joined, behind_cells};
@@ -24,10 +24,8 @@ fn lower_cells(alloc: Global, cx: &mut Interner, cells: &[TermCell]) -> Result<V
     ensures parts { IfOk result (λ stack. parts_of cells.now [] ≡ Some (parts_in stack.items)) }
     ensures trees { IfOk result (λ stack. behind_cells (cells_of cells.now) [] ≡ trees_of_stack cx.new.entries (stack_of stack.items)) }
     ensures held { IfOk result (λ stack. StackHeld cx.new.entries (stack_of stack.items)) }
-    ensures keeps { Keeps cx.old.entries cx.new.entries }
-    ensures limit { cx.new.limit ≡ cx.old.limit }
+    ensures terms { GrewOrFull cx.old cx.new result }
     ensures few { length cx.new.entries ≤ length cx.old.entries + 2 * length cells.now }
-    ensures full { result ≡ Err Fault.Full → SomeKindIsFull cx.new.entries cx.new.limit }
 {
     let mut stack = Vec::new(alloc);
     for cell in cells {
@@ -73,12 +71,10 @@ pub fn lower_types(alloc: Global, cx: &mut Interner, cells: &[TermCell]) -> Resu
     requires { AreMade is_type cells.now }
     ensures is { IfOk result (λ tys. map (λ t. trees_at cx.new.entries t.0) tys.items ≡ trees_of (cells_of cells.now)) }
     ensures held { IfOk result (λ tys. TysHeld cx.new.entries tys.items) }
-    ensures keeps { Keeps cx.old.entries cx.new.entries }
-    ensures limit { cx.new.limit ≡ cx.old.limit }
+    ensures terms { GrewOrFull cx.old cx.new result }
 
     // A part is made one term, and maybe the list of what stands in it.
     ensures few { length cx.new.entries ≤ length cx.old.entries + 2 * sum_by parts (trees_of (cells_of cells.now)) }
-    ensures full { result ≡ Err Fault.Full → SomeKindIsFull cx.new.entries cx.new.limit }
 {
     let stack = lower_cells(alloc, cx, cells)?;
     let tys = types_in(alloc, &stack)?;
@@ -93,10 +89,8 @@ pub fn lower_args(
 ) -> Result<GenericArgs, Fault>
     requires { AreMade is_arg cells.now }
     ensures is { IfOk result (λ args. Is cx.new.entries args_lists args.0 (joined (trees_of (cells_of cells.now)))) }
-    ensures keeps { Keeps cx.old.entries cx.new.entries }
-    ensures limit { cx.new.limit ≡ cx.old.limit }
+    ensures terms { GrewOrFull cx.old cx.new result }
     ensures few { length cx.new.entries ≤ length cx.old.entries + 2 * parts (joined (trees_of (cells_of cells.now))) + 1 }
-    ensures full { result ≡ Err Fault.Full → SomeKindIsFull cx.new.entries cx.new.limit }
 {
     let stack = lower_cells(alloc, cx, cells)?;
     let list = args_in(alloc, &stack)?;

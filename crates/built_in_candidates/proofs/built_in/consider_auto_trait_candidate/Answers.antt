@@ -31,7 +31,7 @@ returns-in-Some-clause-is c =
 
 pub for_constituent_tys-requires-clause-goal : goal.for_constituent_tys-requires-clause-goal
 for_constituent_tys-requires-clause-goal c =
-    goal-held-later c.args.cx.now.entries c.instantiate_constituent_tys_for_auto_trait.new.cx.entries c.instantiate_constituent_tys_for_auto_trait.ensures.grew.keeps c.args.goal.now.goal c.requires.considered.goal
+    goal-held-later c.args.cx.now.entries c.instantiate_constituent_tys_for_auto_trait.new.cx.entries c.instantiate_constituent_tys_for_auto_trait.ensures.terms.grew.keeps c.args.goal.now.goal c.requires.considered.goal
 
 pub returns-in_ok-tys-in-None-clause-is : goal.returns-in_ok-tys-in-None-clause-is
 returns-in_ok-tys-in-None-clause-is c =
@@ -53,6 +53,6 @@ returns-in_ok-tys-in-None-clause-is c =
     if-ok _ _ c.for_constituent_tys.result
     (λ o is.
     is V plain are
-    ∙ ap (λ b. as_written V b misc plain) (asked-later old mid c.instantiate_constituent_tys_for_auto_trait.ensures.grew.keeps g c.requires.considered.goal)
+    ∙ ap (λ b. as_written V b misc plain) (asked-later old mid c.instantiate_constituent_tys_for_auto_trait.ensures.terms.grew.keeps g c.requires.considered.goal)
     ∙ ap (as_written V a misc) (sym on))
     c.for_constituent_tys.ensures.is

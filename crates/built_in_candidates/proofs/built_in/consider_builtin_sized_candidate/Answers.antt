@@ -16,7 +16,7 @@ use Rattle.built_in_candidates.proofs.built_in.consider_builtin_sized_candidate.
 
 pub for_constituent_tys-requires-clause-goal : goal.for_constituent_tys-requires-clause-goal
 for_constituent_tys-requires-clause-goal c =
-    goal-held-later c.args.cx.now.entries c.instantiate_constituent_tys_for_sized_trait.new.cx.entries c.instantiate_constituent_tys_for_sized_trait.ensures.grew.keeps c.args.goal.now.goal c.requires.goal
+    goal-held-later c.args.cx.now.entries c.instantiate_constituent_tys_for_sized_trait.new.cx.entries c.instantiate_constituent_tys_for_sized_trait.ensures.terms.grew.keeps c.args.goal.now.goal c.requires.goal
 
 pub returns-clause-is : goal.returns-clause-is
 returns-clause-is c =
@@ -30,5 +30,5 @@ returns-clause-is c =
     if-ok _ _ c.for_constituent_tys.result
     (λ o is.
     is V (sized_rules V (with_plain_head T)) are
-    ∙ ap (λ a. as_written V a (BuiltinImpl Trivial) (sized_rules V (with_plain_head T))) (asked-later old mid c.instantiate_constituent_tys_for_sized_trait.ensures.grew.keeps c.args.goal.now c.requires.goal))
+    ∙ ap (λ a. as_written V a (BuiltinImpl Trivial) (sized_rules V (with_plain_head T))) (asked-later old mid c.instantiate_constituent_tys_for_sized_trait.ensures.terms.grew.keeps c.args.goal.now c.requires.goal))
     c.for_constituent_tys.ensures.is

@@ -14,7 +14,7 @@ pub returns-in_ok-candidate-in-Some-clause-held : goal.returns-in_ok-candidate-i
 returns-in_ok-candidate-in-Some-clause-held c =
     let old = c.args.cx.now.entries in
     let new = c.types_asked.new.cx.entries in
-    c.in_ok-candidate-in-Some.ensures.held new (goal-held-later old new c.types_asked.ensures.grew.keeps c.args.goal.now.goal c.requires.goal)
+    c.in_ok-candidate-in-Some.ensures.held new (goal-held-later old new c.types_asked.ensures.terms.grew.keeps c.args.goal.now.goal c.requires.goal)
     (subst (Every (EquationHeld new)) (sym c.new.ensures.items) tt) (subst (TraitRefsHeld new) (sym c.deref-in-Some.ensures.value) c.in_ok-premises-in-Some.ensures.held)
 
 pub returns-in_ok-candidate-in-Some-clause-is : goal.returns-in_ok-candidate-in-Some-clause-is
@@ -27,7 +27,7 @@ returns-in_ok-candidate-in-Some-clause-is c = λ V us h.
     let premises = c.deref-in-Some.result.now in
     let made = c.in_ok-candidate-in-Some.ensures.is new V
     ∙ ap (λ l. by_rule V (asked_of new g) c.args.source (map (equation_read new) l) (references_in new premises)) c.new.ensures.items
-    ∙ ap (λ a. by_rule V a c.args.source [] (references_in new premises)) (asked-later old new c.types_asked.ensures.grew.keeps g c.requires.goal)
+    ∙ ap (λ a. by_rule V a c.args.source [] (references_in new premises)) (asked-later old new c.types_asked.ensures.terms.grew.keeps g c.requires.goal)
     ∙ ap (λ ps. by_rule V (asked_of old g) c.args.source [] ps)
     (ap (references_in new) c.deref-in-Some.ensures.value ∙ c.in_ok-premises-in-Some.ensures.are ∙ ap (types_asked old t) c.deref.ensures.value) in
     ap (λ x. x ∷ []) made ∙ one-written V (asked_of old g) c.args.source us (types_asked old t c.in-Some.tys.items) given

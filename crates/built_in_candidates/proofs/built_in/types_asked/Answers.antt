@@ -4,7 +4,7 @@ use Rattle.type_terms.specs.Terms.{types, trees_at}
 use Rattle.type_terms.specs.Kept.{trees-later}
 use Rattle.declarations.specs.Applied.{references_in, TraitRefsHeld}
 use Rattle.declarations.proofs.Bounded.{held-more, one-more}
-use Rattle.term_folds.proofs.Grown.{grew-on}
+use Rattle.type_terms.proofs.Grown.{grew-on}
 use Rattle.built_in_candidates.specs.Constituents.{types_asked, TypesHeld}
 use Rattle.built_in_candidates.proofs.built_in.types_asked.Goals as goal
 
@@ -17,7 +17,7 @@ tys-preserved c =
     let t = c.args.def_id.index in
     let found = c.tys.found.items in
     let r = c.in_ok-trait_ref.trait_ref in
-    let k = c.type_asked.ensures.grew.keeps in
+    let k = c.type_asked.ensures.terms.grew.keeps in
     let back = c.in-Some.ensures.cases.0 in
     let x = c.in-Some.ty.now in
     let rest = c.in-Some.others.now in
@@ -28,7 +28,7 @@ tys-preserved c =
     let before = subst (λ l. references_in now found ++ types_asked es t l ≡ all) back inv.are in
     let put = c.in_ok-push.ensures.items in
     record {
-      grew = grew-on inv.grew c.type_asked.ensures.grew;
+      grew = grew-on inv.grew c.type_asked.ensures.terms.grew;
       left_held = held.1;
       found_held = subst (TraitRefsHeld next) (sym put) (held-more now next k found r inv.found_held c.in_ok-trait_ref.ensures.held);
       are = subst (λ l. references_in next l ++ ys ≡ all) (sym put) (one-more now next k found r (asked t (trees_at es x.0)) ys all inv.found_held is before);

@@ -1,5 +1,5 @@
 use Rattle.std.proofs.Common.{◌≡◌, ◌++◌, length}
-use Rattle.term_folds.specs.Growth.{Grew}
+use Rattle.type_terms.specs.Growth.{Grew}
 use Rattle.declarations.specs.Applied.{references_in, TraitRefsHeld}
 use Rattle.built_in_candidates.specs.Constituents.{types_asked, TypesHeld}
 use Rattle.built_in_candidates.proofs.built_in.types_asked.Given as goal

@@ -3,7 +3,7 @@ use Rattle.std.specs.List.{slice_get}
 use Rattle.declarations.specs.Items.{written}
 use Rattle.declarations.proofs.Elaborating.{have-bounds-later}
 use Rattle.evaluation.proofs.Handed.{if-ok}
-use Rattle.term_folds.proofs.Grown.{grew-on}
+use Rattle.type_terms.proofs.Grown.{grew-on}
 use Rattle.built_in_candidates.specs.Goals.{asked_of}
 use Rattle.built_in_candidates.specs.BuiltInRules.{by_rules}
 use Rattle.built_in_candidates.proofs.Later.{considered-later, plain-later, object-later, unsizing-later}
@@ -52,7 +52,7 @@ rules-preserved-in-Some-place_behind c =
     let others = c.in-Some.others.now in
     let is = rule-read old now next inv.grew.keeps d g c.requires.considered.declared c.requires.considered.goal o rule c.in_ok-candidate.ensures.is in
     record {
-      grew = grew-on inv.grew c.consider_rule.ensures.grew;
+      grew = grew-on inv.grew c.consider_rule.ensures.terms.grew;
       at = sym (c.in-Some-place_behind.ensures V t next (by_rules V a others)) ∙ ap (λ l. slice_get (l ++ by_rules V a others) c.rules.before) is
           ∙ ap (λ l. slice_get (by_rules V a l) c.rules.before) (sym c.in-Some.ensures.cases.0) ∙ inv.at;
     }
@@ -73,7 +73,7 @@ rules-preserved c =
     let others = c.in-Some.others.now in
     let is = rule-read old now next inv.grew.keeps d g c.requires.considered.declared c.requires.considered.goal o rule c.in_ok-candidate.ensures.is in
     record {
-      grew = grew-on inv.grew c.consider_rule.ensures.grew;
+      grew = grew-on inv.grew c.consider_rule.ensures.terms.grew;
       at = sym (c.in-Some-place_behind.ensures V t next (by_rules V a others)) ∙ ap (λ l. slice_get (l ++ by_rules V a others) c.rules.before) is
           ∙ ap (λ l. slice_get (by_rules V a l) c.rules.before) (sym c.in-Some.ensures.cases.0) ∙ inv.at;
     }

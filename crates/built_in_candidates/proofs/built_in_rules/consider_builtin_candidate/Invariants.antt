@@ -1,6 +1,6 @@
 use Rattle.std.proofs.Common.{◌≡◌, length}
 use Rattle.std.specs.List.{slice_get}
-use Rattle.term_folds.specs.Growth.{Grew}
+use Rattle.type_terms.specs.Growth.{Grew}
 use Rattle.declarations.specs.Items.{written}
 use Rattle.assembly_laws.specs.Candidates.{built_in}
 use Rattle.built_in_candidates.specs.Goals.{asked_of}

@@ -20,19 +20,19 @@ use Rattle.built_in_candidates.proofs.FnPointers.{equation-made}
 use Rattle.built_in_candidates.proofs.calls.call_candidate.Goals as goal
 
 pub output_is_sized-requires : goal.output_is_sized-requires
-output_is_sized-requires c = has-later c.args.cx.now.entries c.tupled_inputs.new.cx.entries c.tupled_inputs.ensures.grew.keeps type_lists c.args.inputs_and_output.0 c.requires.signature
+output_is_sized-requires c = has-later c.args.cx.now.entries c.tupled_inputs.new.cx.entries c.tupled_inputs.ensures.terms.grew.keeps type_lists c.args.inputs_and_output.0 c.requires.signature
 
 pub returns-clause-held : goal.returns-clause-held
 returns-clause-held c =
     let old = c.args.cx.now.entries in
     let mid = c.tupled_inputs.new.cx.entries in
     let new = c.output_is_sized.new.cx.entries in
-    let k : Keeps old new = λ i e h. c.output_is_sized.ensures.grew.keeps i e (c.tupled_inputs.ensures.grew.keeps i e h) in
+    let k : Keeps old new = λ i e h. c.output_is_sized.ensures.terms.grew.keeps i e (c.tupled_inputs.ensures.terms.grew.keeps i e h) in
     if-ok _ _ c.by_rule.result
     (λ s h.
     h new (goal-held-later old new k c.args.goal.now.goal c.requires.goal)
     (subst (Every (EquationHeld new)) (sym c.in_ok-equations.ensures.items)
-    ((has-later mid new c.output_is_sized.ensures.grew.keeps types c.in_ok-inputs.inputs.0 c.in_ok-inputs.ensures.held, arg-held-later old new k c.args.arguments c.requires.arguments), tt))
+    ((has-later mid new c.output_is_sized.ensures.terms.grew.keeps types c.in_ok-inputs.inputs.0 c.in_ok-inputs.ensures.held, arg-held-later old new k c.args.arguments c.requires.arguments), tt))
     (subst (TraitRefsHeld new) (sym c.deref.ensures.value) c.in_ok-premises.ensures.held))
     c.by_rule.ensures.held
 
@@ -41,19 +41,19 @@ returns-clause-is c =
     let old = c.args.cx.now.entries in
     let mid = c.tupled_inputs.new.cx.entries in
     let new = c.output_is_sized.new.cx.entries in
-    let k : Keeps old new = λ i e h. c.output_is_sized.ensures.grew.keeps i e (c.tupled_inputs.ensures.grew.keeps i e h) in
+    let k : Keeps old new = λ i e h. c.output_is_sized.ensures.terms.grew.keeps i e (c.tupled_inputs.ensures.terms.grew.keeps i e h) in
     let g = c.args.goal.now in
     let A = c.args.arguments in
     let ts = trees_at old c.args.inputs_and_output.0 in
     let X = but_last ts in
     let eqs = c.in_ok-equations.equations.items in
     let ps = c.deref.result.now in
-    let tupled = trees-later mid new c.output_is_sized.ensures.grew.keeps types c.in_ok-inputs.inputs.0 c.in_ok-inputs.ensures.held ∙ c.in_ok-inputs.ensures.is in
+    let tupled = trees-later mid new c.output_is_sized.ensures.terms.grew.keeps types c.in_ok-inputs.inputs.0 c.in_ok-inputs.ensures.held ∙ c.in_ok-inputs.ensures.is in
     let equations = ap (map (equation_read new)) c.in_ok-equations.ensures.items
     ∙ equation-made X (trees_at new c.in_ok-inputs.inputs.0) (sort_of_arg A) (arg_trees new A) tupled (arg-tree new c.lawful.ensures A (arg-held-later old new k A c.requires.arguments))
     ∙ ap (all_equal (tree tuple X none)) (arg-trees-later old new k A c.requires.arguments) in
     let premises = ap (references_in new) c.deref.ensures.value ∙ c.in_ok-premises.ensures.are
-    ∙ ap (last_asked sized) (trees-later old mid c.tupled_inputs.ensures.grew.keeps type_lists c.args.inputs_and_output.0 c.requires.signature) in
+    ∙ ap (last_asked sized) (trees-later old mid c.tupled_inputs.ensures.terms.grew.keeps type_lists c.args.inputs_and_output.0 c.requires.signature) in
     if-ok _ _ c.by_rule.result
     (λ s is. λ V.
     is new V

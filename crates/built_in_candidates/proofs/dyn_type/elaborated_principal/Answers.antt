@@ -12,10 +12,10 @@ use Rattle.built_in_candidates.proofs.Objects.{applied-in}
 use Rattle.built_in_candidates.proofs.dyn_type.elaborated_principal.Goals as goal
 
 pub elaborate_principal-requires-clause-declared : goal.elaborate_principal-requires-clause-declared
-elaborate_principal-requires-clause-declared c = all-held c.args.cx.now.entries c.principal_with.new.cx.entries c.principal_with.ensures.grew.keeps c.args.declarations.now c.requires.declared
+elaborate_principal-requires-clause-declared c = all-held c.args.cx.now.entries c.principal_with.new.cx.entries c.principal_with.ensures.terms.grew.keeps c.args.declarations.now c.requires.declared
 
 pub elaborate_principal-requires-clause-bounds : goal.elaborate_principal-requires-clause-bounds
-elaborate_principal-requires-clause-bounds c = have-bounds-later c.args.cx.now.entries c.principal_with.new.cx.entries c.principal_with.ensures.grew.keeps c.args.declarations.now c.requires.declared c.requires.traits
+elaborate_principal-requires-clause-bounds c = have-bounds-later c.args.cx.now.entries c.principal_with.new.cx.entries c.principal_with.ensures.terms.grew.keeps c.args.declarations.now c.requires.declared c.requires.traits
 
 pub elaborate_principal-requires-clause-applied : goal.elaborate_principal-requires-clause-applied
 elaborate_principal-requires-clause-applied c =
@@ -28,5 +28,5 @@ returns-clause-elaborated c = λ l h.
     let mid = c.principal_with.new.cx.entries in
     let d = c.args.declarations.now in
     c.in_ok-elaborated.ensures.are
-    ∙ ap (λ V. elaborate V (references_in mid (if_there c.in_ok-principal.principal))) (all-written old mid c.principal_with.ensures.grew.keeps d c.requires.declared)
+    ∙ ap (λ V. elaborate V (references_in mid (if_there c.in_ok-principal.principal))) (all-written old mid c.principal_with.ensures.terms.grew.keeps d c.requires.declared)
     ∙ ap (elaborate (written old d)) (c.in_ok-principal.ensures.is l h)

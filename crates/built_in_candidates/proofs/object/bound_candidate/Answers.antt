@@ -20,11 +20,11 @@ returns-clause-held c =
     let old = c.args.cx.now.entries in
     let mid = c.supertraits.new.cx.entries in
     let new = c.relate_args.new.cx.entries in
-    let kept : Keeps old new = keeps-trans old mid new c.supertraits.ensures.grew.keeps c.relate_args.ensures.grew.keeps in
+    let kept : Keeps old new = keeps-trans old mid new c.supertraits.ensures.terms.grew.keeps c.relate_args.ensures.terms.grew.keeps in
     if-ok _ _ c.by_rule.result
     (λ s h.
     h new (goal-held-later old new kept c.args.goal.now.goal c.requires.goal) c.in_ok-equations.ensures.held
-    (subst (TraitRefsHeld new) (sym c.deref.ensures.value) (references-kept mid new c.relate_args.ensures.grew.keeps c.in_ok-supertraits.supertraits.items c.in_ok-supertraits.ensures.held)))
+    (subst (TraitRefsHeld new) (sym c.deref.ensures.value) (references-kept mid new c.relate_args.ensures.terms.grew.keeps c.in_ok-supertraits.supertraits.items c.in_ok-supertraits.ensures.held)))
     c.by_rule.ensures.held
 
 pub returns-clause-is : goal.returns-clause-is
@@ -32,14 +32,14 @@ returns-clause-is c =
     let old = c.args.cx.now.entries in
     let mid = c.supertraits.new.cx.entries in
     let new = c.relate_args.new.cx.entries in
-    let kept : Keeps old new = keeps-trans old mid new c.supertraits.ensures.grew.keeps c.relate_args.ensures.grew.keeps in
+    let kept : Keeps old new = keeps-trans old mid new c.supertraits.ensures.terms.grew.keeps c.relate_args.ensures.terms.grew.keeps in
     let V = written old c.args.declarations.now in
     let g = c.args.goal.now in
     let a = asked_of old g in
     let source = BuiltinImpl c.args.source in
-    let asked = trees-later old mid c.supertraits.ensures.grew.keeps args_lists g.goal.predicate.trait_ref.args.0 c.requires.goal.predicate in
-    let bound = trees-later old mid c.supertraits.ensures.grew.keeps args_lists c.args.bound.args.0 c.requires.bound in
-    let supers = ap (references_in new) c.deref.ensures.value ∙ all-same mid new c.relate_args.ensures.grew.keeps c.in_ok-supertraits.supertraits.items c.in_ok-supertraits.ensures.held
+    let asked = trees-later old mid c.supertraits.ensures.terms.grew.keeps args_lists g.goal.predicate.trait_ref.args.0 c.requires.goal.predicate in
+    let bound = trees-later old mid c.supertraits.ensures.terms.grew.keeps args_lists c.args.bound.args.0 c.requires.bound in
+    let supers = ap (references_in new) c.deref.ensures.value ∙ all-same mid new c.relate_args.ensures.terms.grew.keeps c.in_ok-supertraits.supertraits.items c.in_ok-supertraits.ensures.held
     ∙ c.in_ok-supertraits.ensures.are in
     if-ok _ _ c.by_rule.result
     (λ s is.

@@ -30,20 +30,20 @@ object_bound_at-requires-clause-applied c = λ l h.
     subst (Each (AreArgumentsOf d)) (principal-any S b o.1 l o.2 h) (object-applied d S (b +++ leaf o.1) o.3 (object-first d T S c.requires.first first c.requires.object))
 
 pub bound_candidate-requires-clause-goal : goal.bound_candidate-requires-clause-goal
-bound_candidate-requires-clause-goal c = goal-held-later c.args.cx.now.entries c.object_bound_at.new.cx.entries c.object_bound_at.ensures.grew.keeps c.args.goal.now.goal c.requires.goal
+bound_candidate-requires-clause-goal c = goal-held-later c.args.cx.now.entries c.object_bound_at.new.cx.entries c.object_bound_at.ensures.terms.grew.keeps c.args.goal.now.goal c.requires.goal
 
 pub bound_candidate-requires-clause-declared : goal.bound_candidate-requires-clause-declared
-bound_candidate-requires-clause-declared c = all-held c.args.cx.now.entries c.object_bound_at.new.cx.entries c.object_bound_at.ensures.grew.keeps c.args.declarations.now c.requires.declared
+bound_candidate-requires-clause-declared c = all-held c.args.cx.now.entries c.object_bound_at.new.cx.entries c.object_bound_at.ensures.terms.grew.keeps c.args.declarations.now c.requires.declared
 
 pub bound_candidate-requires-clause-traits : goal.bound_candidate-requires-clause-traits
-bound_candidate-requires-clause-traits c = have-bounds-later c.args.cx.now.entries c.object_bound_at.new.cx.entries c.object_bound_at.ensures.grew.keeps c.args.declarations.now c.requires.declared c.requires.bounds
+bound_candidate-requires-clause-traits c = have-bounds-later c.args.cx.now.entries c.object_bound_at.new.cx.entries c.object_bound_at.ensures.terms.grew.keeps c.args.declarations.now c.requires.declared c.requires.bounds
 
 pub returns-in_ok-candidate-in-Some-2-clause-is : goal.returns-in_ok-candidate-in-Some-2-clause-is
 returns-in_ok-candidate-in-Some-2-clause-is c =
     let old = c.args.cx.now.entries in
     let mid = c.object_bound_at.new.cx.entries in
     let new = c.bound_candidate.new.cx.entries in
-    let keeps = c.object_bound_at.ensures.grew.keeps in
+    let keeps = c.object_bound_at.ensures.terms.grew.keeps in
     let d = c.args.declarations.now in
     let V = written old d in
     let g = c.args.goal.now in

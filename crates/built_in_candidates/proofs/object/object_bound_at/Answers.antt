@@ -16,7 +16,7 @@ pub returns-then-is_dyn_compatible-clause-is : goal.returns-then-is_dyn_compatib
 returns-then-is_dyn_compatible-clause-is c =
     let old = c.args.cx.now.entries in
     let mid = c.elaborated_principal.new.cx.entries in
-    let keeps = c.elaborated_principal.ensures.grew.keeps in
+    let keeps = c.elaborated_principal.ensures.terms.grew.keeps in
     let V = written old c.args.declarations.now in
     let t = c.args.def_id.index in
     let n = c.args.place in

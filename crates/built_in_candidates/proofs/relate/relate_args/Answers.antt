@@ -18,7 +18,7 @@ returns-then-is_longer-clause-held c =
     let new = c.never_met.new.cx.entries in
     let paired = c.in_ok-equations.ensures.are old c.lawful.ensures c.args-2.ensures.held c.args-3.ensures.held in
     subst (Every (EquationHeld new)) (sym c.in_ok-push.ensures.items)
-    (every-more (EquationHeld new) c.in_ok-equations.equations.items c.in_ok-never.never (equations-held-later old new c.never_met.ensures.grew.keeps c.in_ok-equations.equations.items paired.0) c.in_ok-never.ensures.held)
+    (every-more (EquationHeld new) c.in_ok-equations.equations.items c.in_ok-never.never (equations-held-later old new c.never_met.ensures.terms.grew.keeps c.in_ok-equations.equations.items paired.0) c.in_ok-never.ensures.held)
 
 pub returns-then-is_longer-clause-are : goal.returns-then-is_longer-clause-are
 returns-then-is_longer-clause-are c =
@@ -32,7 +32,7 @@ returns-then-is_longer-clause-are c =
     let all = subst (λ b. map (equation_read old) items ++ never_if b ≡ all_equal (args_trees old xs) (args_trees old ys)) c.if-is_longer.true paired.1 in
     ap (map (equation_read new)) c.in_ok-push.ensures.items
     ∙ sym (append-none (map (equation_read new) (items ++ never ∷ []))) ∙ map-push (equation_read new) items never []
-    ∙ ap (λ l. l ++ equation_read new never ∷ []) (equations-later old new c.never_met.ensures.grew.keeps items paired.0)
+    ∙ ap (λ l. l ++ equation_read new never ∷ []) (equations-later old new c.never_met.ensures.terms.grew.keeps items paired.0)
     ∙ ap (λ x. map (equation_read old) items ++ x ∷ []) c.in_ok-never.ensures.is
     ∙ all ∙ ap (λ t. all_equal t (args_trees old ys)) (sym (trees-is old args_lists c.args.left.0 _ c.args-2.ensures.is))
     ∙ ap (all_equal (trees_at old c.args.left.0)) (sym (trees-is old args_lists c.args.right.0 _ c.args-3.ensures.is))

@@ -21,5 +21,8 @@ returns-in-Ok-clause-is c =
     one-same (trees_at c.instantiate.new.cx.entries c.in-Ok.ty.0) (instantiate 0 A (trees_at old c.args.field.0))
     (c.in-Ok.ensures.instantiated ∙ ap (λ (b : Ty). each_piece (λ d t. instantiate d A t) (one_piece (trees_at old b.0))) c.bind.ensures)
 
-pub returns-in-Err-Fault-clause-full : goal.returns-in-Err-Fault-clause-full
-returns-in-Err-Fault-clause-full c = λ q. c.in-Err-Fault.ensures.full (ap Err (c.in-Err-Fault.field-0-is ∙ ap error.Fault q))
+pub returns-in-Err-Fault-clause-terms : goal.returns-in-Err-Fault-clause-terms
+returns-in-Err-Fault-clause-terms c = record {
+  grew = c.instantiate.ensures.grew;
+  full = λ q. c.in-Err-Fault.ensures.full (ap Err (c.in-Err-Fault.field-0-is ∙ ap error.Fault q));
+}

@@ -6,7 +6,7 @@ use Rattle.term_folds.specs.Arguments.{first_misfit}
 use Rattle.type_terms.specs.Kept.{trees-later}
 use Rattle.declarations.specs.Merges.{Each}
 use Rattle.declarations.specs.Unsizing.{field_trees}
-use Rattle.term_folds.proofs.Grown.{grew-on}
+use Rattle.type_terms.proofs.Grown.{grew-on}
 use Rattle.built_in_candidates.specs.Constituents.{TypesHeld}
 use Rattle.built_in_candidates.proofs.Autos.{types-more, one-more-type}
 use Rattle.built_in_candidates.proofs.structural.fields_with.Goals as goal
@@ -20,7 +20,7 @@ fields-preserved c =
     let A = trees_at es c.args.args.0 in
     let found = c.fields.found.items in
     let ty = c.in_ok-ty.ty in
-    let k = c.field_with.ensures.grew.keeps in
+    let k = c.field_with.ensures.terms.grew.keeps in
     let back = c.in-Some.ensures.cases.0 in
     let x = c.in-Some.next.now in
     let rest = c.in-Some.others.now in
@@ -34,7 +34,7 @@ fields-preserved c =
     let before = subst (λ (l : List Ty). field_trees now found ++ map (instantiate 0 A) (field_trees es l) ≡ all) back inv.are in
     let put = c.in_ok-push.ensures.items in
     record {
-      grew = grew-on inv.grew c.field_with.ensures.grew;
+      grew = grew-on inv.grew c.field_with.ensures.terms.grew;
       left_held = held.1;
       left_fit = fit.1;
       found_held = subst (TypesHeld next) (sym put) (types-more now next k found ty inv.found_held c.in_ok-ty.ensures.held);

@@ -5,16 +5,18 @@ use Rattle.type_terms.specs.Rules.{unsize}
 use Rattle.type_terms.specs.Terms.{args_lists, trees_at}
 use Rattle.type_terms.specs.Kinds.{args_trees}
 use Rattle.type_terms.specs.Kept.{trees-is}
-use Rattle.type_terms.proofs.FailFacts.{refused-term}
+use Rattle.type_terms.proofs.FailFacts.{refused-term, at-limit}
 use Rattle.type_terms.proofs.TreeLaws.{append-none}
-use Rattle.infer_table.proofs.FullFacts.{at-limit}
 use Rattle.built_in_candidates.proofs.unsize_struct.unsizes.Goals as goal
 
-pub returns-in_err-args-clause-full : goal.returns-in_err-args-clause-full
-returns-in_err-args-clause-full c =
-    let refused = c.in_err-args.ensures in
-    let handed = c.from_residual-in_err-args in
-    at-limit handed.result handed.ensures.1 (λ p. refused-term args_lists (omega arith) (refused.full (ap Err p)) refused.limit refused.refused)
+pub returns-in_err-args-clause-terms : goal.returns-in_err-args-clause-terms
+returns-in_err-args-clause-terms c = record {
+  grew = c.mk_args.ensures.grew;
+  full =
+      let refused = c.in_err-args.ensures in
+      let handed = c.from_residual-in_err-args in
+      at-limit handed.result handed.ensures.1 (λ p. refused-term args_lists (omega arith) (refused.full (ap Err p)) refused.grew.limit refused.refused);
+}
 
 pub returns-clause-is : goal.returns-clause-is
 returns-clause-is c =

@@ -4,12 +4,11 @@ use Rattle.type_terms.specs.Rules.{with_unsizing}
 use Rattle.type_terms.specs.Terms.{args_lists, trees_at}
 use Rattle.type_terms.specs.Kinds.{ArgsHeld, args_trees}
 use Rattle.type_terms.specs.Kept.{trees-is, has-later, trees-later}
-use Rattle.type_terms.proofs.FailFacts.{refused-term}
+use Rattle.type_terms.proofs.FailFacts.{refused-term, at-limit}
 use Rattle.declarations.specs.Applied.{sort_of_param}
 use Rattle.declarations.specs.Unsizing.{field_trees}
 use Rattle.assembly_laws.specs.Candidates.{all_equal}
 use Rattle.evaluation.proofs.Handed.{if-ok}
-use Rattle.infer_table.proofs.FullFacts.{at-limit}
 use Rattle.built_in_candidates.proofs.StructRows.{replaced-are, replaced-held}
 use Rattle.built_in_candidates.proofs.unsize_struct.unsizing_equations.Goals as goal
 
@@ -19,13 +18,16 @@ mk_args-requires c =
     subst (ArgsHeld es) (sym c.in_ok-list.ensures.is) (replaced-held es c.deref.result.now c.args-2.result.now c.args-3.result.now c.args-2.ensures.held c.args-3.ensures.held)
 
 pub relate_args-requires-clause-right : goal.relate_args-requires-clause-right
-relate_args-requires-clause-right c = has-later c.args.cx.now.entries c.mk_args.new.self.entries c.mk_args.ensures.keeps args_lists c.args.target.0 c.requires.target
+relate_args-requires-clause-right c = has-later c.args.cx.now.entries c.mk_args.new.self.entries c.mk_args.ensures.grew.keeps args_lists c.args.target.0 c.requires.target
 
-pub returns-in_err-unsized_args-clause-full : goal.returns-in_err-unsized_args-clause-full
-returns-in_err-unsized_args-clause-full c =
-    let refused = c.in_err-unsized_args.ensures in
-    let handed = c.from_residual-in_err-unsized_args in
-    at-limit handed.result handed.ensures.1 (λ p. refused-term args_lists (omega arith) (refused.full (ap Err p)) refused.limit refused.refused)
+pub returns-in_err-unsized_args-clause-terms : goal.returns-in_err-unsized_args-clause-terms
+returns-in_err-unsized_args-clause-terms c = record {
+  grew = c.mk_args.ensures.grew;
+  full =
+      let refused = c.in_err-unsized_args.ensures in
+      let handed = c.from_residual-in_err-unsized_args in
+      at-limit handed.result handed.ensures.1 (λ p. refused-term args_lists (omega arith) (refused.full (ap Err p)) refused.grew.limit refused.refused);
+}
 
 pub returns-clause-are : goal.returns-clause-are
 returns-clause-are c =
@@ -47,5 +49,5 @@ returns-clause-are c =
     if-ok _ _ c.relate_args.result
     (λ v e.
     e ∙ ap (λ t. all_equal t (trees_at mid c.args.target.0)) with
-    ∙ ap (all_equal (with_unsizing fs 0 b d)) (trees-later old mid c.mk_args.ensures.keeps args_lists c.args.target.0 c.requires.target))
+    ∙ ap (all_equal (with_unsizing fs 0 b d)) (trees-later old mid c.mk_args.ensures.grew.keeps args_lists c.args.target.0 c.requires.target))
     c.relate_args.ensures.are

@@ -20,22 +20,22 @@ use Rattle.built_in_candidates.proofs.ToDyn.{principal-applied, row-to-dyn, row-
 use Rattle.built_in_candidates.proofs.unsize_to_dyn.consider_builtin_unsize_to_dyn_candidate.Goals as goal
 
 pub to_dyn_candidate-requires-clause-goal : goal.to_dyn_candidate-requires-clause-goal
-to_dyn_candidate-requires-clause-goal c = goal-held-later c.args.cx.now.entries c.with_plain_head.new.cx.entries c.with_plain_head.ensures.grew.keeps c.args.goal.now.goal c.requires.goal
+to_dyn_candidate-requires-clause-goal c = goal-held-later c.args.cx.now.entries c.with_plain_head.new.cx.entries c.with_plain_head.ensures.terms.grew.keeps c.args.goal.now.goal c.requires.goal
 
 pub to_dyn_candidate-requires-clause-declared : goal.to_dyn_candidate-requires-clause-declared
-to_dyn_candidate-requires-clause-declared c = all-held c.args.cx.now.entries c.with_plain_head.new.cx.entries c.with_plain_head.ensures.grew.keeps c.args.declarations.now c.requires.declared
+to_dyn_candidate-requires-clause-declared c = all-held c.args.cx.now.entries c.with_plain_head.new.cx.entries c.with_plain_head.ensures.terms.grew.keeps c.args.declarations.now c.requires.declared
 
 pub to_dyn_candidate-requires-clause-traits : goal.to_dyn_candidate-requires-clause-traits
-to_dyn_candidate-requires-clause-traits c = have-bounds-later c.args.cx.now.entries c.with_plain_head.new.cx.entries c.with_plain_head.ensures.grew.keeps c.args.declarations.now c.requires.declared c.requires.traits
+to_dyn_candidate-requires-clause-traits c = have-bounds-later c.args.cx.now.entries c.with_plain_head.new.cx.entries c.with_plain_head.ensures.terms.grew.keeps c.args.declarations.now c.requires.declared c.requires.traits
 
 pub to_dyn_candidate-requires-clause-bounds : goal.to_dyn_candidate-requires-clause-bounds
-to_dyn_candidate-requires-clause-bounds c = has-later c.args.cx.now.entries c.with_plain_head.new.cx.entries c.with_plain_head.ensures.grew.keeps bounds_lists c.in-None-Some.bounds.0 c.in-None-Some.ensures'.0
+to_dyn_candidate-requires-clause-bounds c = has-later c.args.cx.now.entries c.with_plain_head.new.cx.entries c.with_plain_head.ensures.terms.grew.keeps bounds_lists c.in-None-Some.bounds.0 c.in-None-Some.ensures'.0
 
 pub to_dyn_candidate-requires-clause-applied : goal.to_dyn_candidate-requires-clause-applied
 to_dyn_candidate-requires-clause-applied c = λ l lifetime.
     let old = c.args.cx.now.entries in
     let mid = c.with_plain_head.new.cx.entries in
-    let k = c.with_plain_head.ensures.grew.keeps in
+    let k = c.with_plain_head.ensures.terms.grew.keeps in
     let d = c.args.declarations.now in
     let S = trees_at old c.args.self_ty.0 in
     let T = trees_at old c.args.target.0 in
@@ -50,7 +50,7 @@ returns-in_ok-plain-in-None-Some-clause-is c =
     let old = c.args.cx.now.entries in
     let mid = c.with_plain_head.new.cx.entries in
     let new = c.to_dyn_candidate.new.cx.entries in
-    let k = c.with_plain_head.ensures.grew.keeps in
+    let k = c.with_plain_head.ensures.terms.grew.keeps in
     let d = c.args.declarations.now in
     let V = written old d in
     let g = c.args.goal.now in

@@ -18,17 +18,17 @@ use Rattle.built_in_candidates.proofs.ToDyn.{compatible, incompatible}
 use Rattle.built_in_candidates.proofs.unsize_to_dyn.to_dyn_candidate.Goals as goal
 
 pub unsizing_obligations-requires-clause-self_held : goal.unsizing_obligations-requires-clause-self_held
-unsizing_obligations-requires-clause-self_held c = has-later c.args.cx.now.entries c.elaborated_principal.new.cx.entries c.elaborated_principal.ensures.grew.keeps types c.args.self_ty.0 c.requires.self_held
+unsizing_obligations-requires-clause-self_held c = has-later c.args.cx.now.entries c.elaborated_principal.new.cx.entries c.elaborated_principal.ensures.terms.grew.keeps types c.args.self_ty.0 c.requires.self_held
 
 pub unsizing_obligations-requires-clause-bounds : goal.unsizing_obligations-requires-clause-bounds
-unsizing_obligations-requires-clause-bounds c = has-later c.args.cx.now.entries c.elaborated_principal.new.cx.entries c.elaborated_principal.ensures.grew.keeps bounds_lists c.args.bounds.0 c.requires.bounds
+unsizing_obligations-requires-clause-bounds c = has-later c.args.cx.now.entries c.elaborated_principal.new.cx.entries c.elaborated_principal.ensures.terms.grew.keeps bounds_lists c.args.bounds.0 c.requires.bounds
 
 pub returns-then-is_dyn_compatible-clause-held : goal.returns-then-is_dyn_compatible-clause-held
 returns-then-is_dyn_compatible-clause-held c =
     let old = c.args.cx.now.entries in
     let mid = c.elaborated_principal.new.cx.entries in
     let new = c.unsizing_obligations.new.cx.entries in
-    let k : Keeps old new = λ i e h. c.unsizing_obligations.ensures.grew.keeps i e (c.elaborated_principal.ensures.grew.keeps i e h) in
+    let k : Keeps old new = λ i e h. c.unsizing_obligations.ensures.terms.grew.keeps i e (c.elaborated_principal.ensures.terms.grew.keeps i e h) in
     c.in_ok-candidate.ensures.held new (goal-held-later old new k c.args.goal.now.goal c.requires.goal)
     (subst (Every (EquationHeld new)) (sym c.new.ensures.items) tt) (subst (TraitRefsHeld new) (sym c.deref-then-is_dyn_compatible.ensures.value) c.in_ok-premises.ensures.held)
 
@@ -37,8 +37,8 @@ returns-then-is_dyn_compatible-clause-is c = λ l lifetime.
     let old = c.args.cx.now.entries in
     let mid = c.elaborated_principal.new.cx.entries in
     let new = c.unsizing_obligations.new.cx.entries in
-    let k = c.elaborated_principal.ensures.grew.keeps in
-    let whole : Keeps old new = λ i e h. c.unsizing_obligations.ensures.grew.keeps i e (k i e h) in
+    let k = c.elaborated_principal.ensures.terms.grew.keeps in
+    let whole : Keeps old new = λ i e h. c.unsizing_obligations.ensures.terms.grew.keeps i e (k i e h) in
     let d = c.args.declarations.now in
     let V = written old d in
     let g = c.args.goal.now in

@@ -12,14 +12,14 @@ use Rattle.built_in_candidates.proofs.ToDyn.{bounds-asked, append-more, pushed-l
 use Rattle.built_in_candidates.proofs.unsize_to_dyn.unsizing_obligations.Goals as goal
 
 pub type_asked-requires : goal.type_asked-requires
-type_asked-requires c = has-later c.args.cx.now.entries c.with_traits_asked.new.cx.entries c.with_traits_asked.ensures.grew.keeps types c.args.self_ty.0 c.requires.self_held
+type_asked-requires c = has-later c.args.cx.now.entries c.with_traits_asked.new.cx.entries c.with_traits_asked.ensures.terms.grew.keeps types c.args.self_ty.0 c.requires.self_held
 
 pub returns-clause-held : goal.returns-clause-held
 returns-clause-held c =
     let mid = c.with_traits_asked.new.cx.entries in
     let new = c.type_asked.new.cx.entries in
     subst (TraitRefsHeld new) (sym c.in_ok-push.ensures.items)
-    (held-more mid new c.type_asked.ensures.grew.keeps c.in_ok-premises.premises.items c.in_ok-is_sized.is_sized c.in_ok-premises.ensures.held c.in_ok-is_sized.ensures.held)
+    (held-more mid new c.type_asked.ensures.terms.grew.keeps c.in_ok-premises.premises.items c.in_ok-is_sized.is_sized c.in_ok-premises.ensures.held c.in_ok-is_sized.ensures.held)
 
 pub returns-clause-are : goal.returns-clause-are
 returns-clause-are c = λ l lifetime.
@@ -32,9 +32,9 @@ returns-clause-are c = λ l lifetime.
     let premises = c.in_ok-premises.premises.items in
     let autos = ap (λ ts. traits_asked ts S) (c.deref-2.ensures.value ∙ c.in_ok-autos.ensures.items ∙ c.deref.ensures.value) ∙ bounds-asked old S found l lifetime
     ∙ ap (λ t. autos_with S (t +++ leaf l)) (sym (trees-is old bounds_lists c.args.bounds.0 _ c.bounds.ensures.is)) in
-    let is_sized = c.in_ok-is_sized.ensures.is ∙ ap (asked sized) (trees-later old mid c.with_traits_asked.ensures.grew.keeps types c.args.self_ty.0 c.requires.self_held) in
+    let is_sized = c.in_ok-is_sized.ensures.is ∙ ap (asked sized) (trees-later old mid c.with_traits_asked.ensures.terms.grew.keeps types c.args.self_ty.0 c.requires.self_held) in
     ap (references_in new) c.in_ok-push.ensures.items ∙ pushed-last new premises c.in_ok-is_sized.is_sized
-    ∙ ap (λ rs. rs ++ reference_in new c.in_ok-is_sized.is_sized ∷ []) (all-same mid new c.type_asked.ensures.grew.keeps premises c.in_ok-premises.ensures.held ∙ c.in_ok-premises.ensures.are)
+    ∙ ap (λ rs. rs ++ reference_in new c.in_ok-is_sized.is_sized ∷ []) (all-same mid new c.type_asked.ensures.terms.grew.keeps premises c.in_ok-premises.ensures.held ∙ c.in_ok-premises.ensures.are)
     ∙ ap (λ r. (first ++ traits_asked c.deref-2.result.now S) ++ r ∷ []) is_sized
     ∙ append-more first (traits_asked c.deref-2.result.now S) (asked sized S ∷ [])
     ∙ ap (λ rs. first ++ (rs ++ asked sized S ∷ [])) autos

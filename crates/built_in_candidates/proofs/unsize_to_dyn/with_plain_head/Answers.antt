@@ -1,15 +1,17 @@
 use Rattle.std.proofs.Common.{ap, arith, sym, ◌∙◌, Err}
 use Rattle.type_terms.specs.Terms.{types}
 use Rattle.type_terms.specs.Kept.{trees-is}
-use Rattle.type_terms.proofs.FailFacts.{refused-term}
+use Rattle.type_terms.proofs.FailFacts.{refused-term, at-limit}
 use Rattle.assembly_laws.specs.Asking.{with_plain_head}
-use Rattle.infer_table.proofs.FullFacts.{at-limit}
 use Rattle.built_in_candidates.proofs.unsize_to_dyn.with_plain_head.Goals as goal
 
-pub returns-in_err-plain-in-FnPtr-clause-full : goal.returns-in_err-plain-in-FnPtr-clause-full
-returns-in_err-plain-in-FnPtr-clause-full c =
-    let refused = c.in_err-plain-in-FnPtr.ensures in
-    at-limit c.from_residual.result c.from_residual.ensures.1 (λ p. refused-term types (omega arith) (refused.full (ap Err p)) refused.limit refused.refused)
+pub returns-in_err-plain-in-FnPtr-clause-terms : goal.returns-in_err-plain-in-FnPtr-clause-terms
+returns-in_err-plain-in-FnPtr-clause-terms c = record {
+  grew = c.mk_ty.ensures.grew;
+  full =
+      let refused = c.in_err-plain-in-FnPtr.ensures in
+      at-limit c.from_residual.result c.from_residual.ensures.1 (λ p. refused-term types (omega arith) (refused.full (ap Err p)) refused.grew.limit refused.refused);
+}
 
 pub returns-in_ok-plain-in-FnPtr-clause-is : goal.returns-in_ok-plain-in-FnPtr-clause-is
 returns-in_ok-plain-in-FnPtr-clause-is c =

@@ -5,7 +5,7 @@ use Rattle.type_terms.specs.Kept.{trees-later}
 use Rattle.evaluation.specs.Merge.{if_there}
 use Rattle.declarations.specs.Applied.{references_in, TraitRefsHeld}
 use Rattle.declarations.proofs.Bounded.{held-more, one-more}
-use Rattle.term_folds.proofs.Grown.{grew-on}
+use Rattle.type_terms.proofs.Grown.{grew-on}
 use Rattle.built_in_candidates.specs.Unsizing.{traits_asked}
 use Rattle.built_in_candidates.proofs.unsize_to_dyn.with_traits_asked.Goals as goal
 
@@ -18,7 +18,7 @@ traits-preserved c =
     let S = trees_at es c.args.ty.0 in
     let found = c.traits.found.items in
     let r = c.in_ok-trait_ref.trait_ref in
-    let k = c.type_asked.ensures.grew.keeps in
+    let k = c.type_asked.ensures.terms.grew.keeps in
     let back = c.in-Some.ensures.cases.0 in
     let x = c.in-Some.def_id.now in
     let rest = c.in-Some.others.now in
@@ -28,7 +28,7 @@ traits-preserved c =
     let before = subst (λ l. references_in now found ++ traits_asked l S ≡ all) back inv.are in
     let put = c.in_ok-push.ensures.items in
     record {
-      grew = grew-on inv.grew c.type_asked.ensures.grew;
+      grew = grew-on inv.grew c.type_asked.ensures.terms.grew;
       found_held = subst (TraitRefsHeld next) (sym put) (held-more now next k found r inv.found_held c.in_ok-trait_ref.ensures.held);
       are = subst (λ l. references_in next l ++ ys ≡ all) (sym put) (one-more now next k found r (asked x.index S) ys all inv.found_held is before);
     }

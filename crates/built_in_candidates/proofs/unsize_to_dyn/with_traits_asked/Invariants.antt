@@ -1,6 +1,6 @@
 use Rattle.std.proofs.Common.{◌≡◌, ◌++◌, length}
 use Rattle.type_terms.specs.Terms.{trees_at}
-use Rattle.term_folds.specs.Growth.{Grew}
+use Rattle.type_terms.specs.Growth.{Grew}
 use Rattle.evaluation.specs.Merge.{if_there}
 use Rattle.declarations.specs.Applied.{references_in, TraitRefsHeld}
 use Rattle.built_in_candidates.specs.Unsizing.{traits_asked}

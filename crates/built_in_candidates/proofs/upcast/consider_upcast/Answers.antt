@@ -17,13 +17,13 @@ use Rattle.built_in_candidates.proofs.Asking.{asked-later}
 use Rattle.built_in_candidates.proofs.upcast.consider_upcast.Goals as goal
 
 pub upcast_candidate-requires-clause-goal : goal.upcast_candidate-requires-clause-goal
-upcast_candidate-requires-clause-goal c = goal-held-later c.args.cx.now.entries c.upcast_ends.new.cx.entries c.upcast_ends.ensures.grew.keeps c.args.goal.now.goal c.requires.goal
+upcast_candidate-requires-clause-goal c = goal-held-later c.args.cx.now.entries c.upcast_ends.new.cx.entries c.upcast_ends.ensures.terms.grew.keeps c.args.goal.now.goal c.requires.goal
 
 pub returns-then-can_upcast-clause-is : goal.returns-then-can_upcast-clause-is
 returns-then-can_upcast-clause-is c =
     let old = c.args.cx.now.entries in
     let mid = c.upcast_ends.new.cx.entries in
-    let keeps = c.upcast_ends.ensures.grew.keeps in
+    let keeps = c.upcast_ends.ensures.terms.grew.keeps in
     let V = written old c.args.declarations.now in
     let g = c.args.goal.now in
     let a = asked_of old g in
@@ -54,7 +54,7 @@ pub returns-clause-is : goal.returns-clause-is
 returns-clause-is c = λ l h m j.
     let old = c.args.cx.now.entries in
     let mid = c.upcast_ends.new.cx.entries in
-    let keeps = c.upcast_ends.ensures.grew.keeps in
+    let keeps = c.upcast_ends.ensures.terms.grew.keeps in
     let V = written old c.args.declarations.now in
     let a = asked_of old c.args.goal.now in
     let S = trees_at old c.args.self_ty.0 in

@@ -29,8 +29,8 @@ returns-clause-held c =
     let old = c.args.cx.now.entries in
     let mid = c.instance_behind.new.cx.entries in
     let new = c.relate_args.new.cx.entries in
-    let kept : Keeps old new = keeps-trans old mid new c.in_ok-instance.ensures.grew.keeps c.in_ok-equations.ensures.grew.keeps in
-    let later = references-kept mid new c.in_ok-equations.ensures.grew.keeps c.in_ok-instance.instance.clauses.items c.in_ok-instance.ensures.clauses_held in
+    let kept : Keeps old new = keeps-trans old mid new c.in_ok-instance.ensures.terms.grew.keeps c.in_ok-equations.ensures.terms.grew.keeps in
+    let later = references-kept mid new c.in_ok-equations.ensures.terms.grew.keeps c.in_ok-instance.instance.clauses.items c.in_ok-instance.ensures.clauses_held in
     record {
       equations = c.in_ok-equations.ensures.held;
       constraints = subst (AllConstraintsHeld new) (sym c.new.ensures.items) tt;
@@ -54,10 +54,10 @@ returns-clause-is c = λ V.
     let def = c.args.def.now in
     let instance = c.in_ok-instance.instance in
     let made = c.in_ok-instance.ensures in
-    let further = c.in_ok-equations.ensures.grew.keeps in
-    let kept : Keeps old new = keeps-trans old mid new made.grew.keeps further in
+    let further = c.in_ok-equations.ensures.terms.grew.keeps in
+    let kept : Keeps old new = keeps-trans old mid new made.terms.grew.keeps further in
     let count : c.len.result ≡ length g.variables.items = let e = c.len.ensures in omega (arith, e) in
-    let asked = trees-later old mid made.grew.keeps args_lists g.goal.predicate.trait_ref.args.0 c.requires.goal.predicate in
+    let asked = trees-later old mid made.terms.grew.keeps args_lists g.goal.predicate.trait_ref.args.0 c.requires.goal.predicate in
     let header = made.header ∙ ap (λ m. rules_behind m (reference_in old def.header)) count in
     let clauses = all-same mid new further instance.clauses.items made.clauses_held ∙ made.clauses ∙ ap (λ m. map (rules_behind m) (references_in old def.clauses.items)) count in
     same _ _ _ _ _ _ _ _ _ (ap Impl (sym (same-impl c.args.id))) (made.variables ∙ c.requires.params)

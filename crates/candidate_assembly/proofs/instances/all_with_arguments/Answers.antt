@@ -8,7 +8,7 @@ use Rattle.declarations.specs.Merges.{Each}
 use Rattle.declarations.specs.Applied.{references_in, TraitRefsHeld}
 use Rattle.declarations.proofs.Growth.{reference-same}
 use Rattle.declarations.proofs.Bounded.{held-more, one-more}
-use Rattle.term_folds.proofs.Grown.{grew-on}
+use Rattle.type_terms.proofs.Grown.{grew-on}
 use Rattle.candidate_assembly.proofs.instances.all_with_arguments.Goals as goal
 
 pub references-preserved : goal.references-preserved
@@ -20,7 +20,7 @@ references-preserved c =
     let A = trees_at es c.args.args.0 in
     let found = c.references.found.items in
     let r = c.in_ok-instance.instance in
-    let k = c.with_arguments.ensures.grew.keeps in
+    let k = c.with_arguments.ensures.terms.grew.keeps in
     let back = c.in-Some.ensures.cases.0 in
     let x = c.in-Some.next.now in
     let rest = c.in-Some.others.now in
@@ -34,7 +34,7 @@ references-preserved c =
     let before = subst (λ l. references_in now found ++ all_with_args A (references_in es l) ≡ all) back inv.are in
     let put = c.in_ok-push.ensures.items in
     record {
-      grew = grew-on inv.grew c.with_arguments.ensures.grew;
+      grew = grew-on inv.grew c.with_arguments.ensures.terms.grew;
       left_held = held.1;
       left_fit = fit.1;
       found_held = subst (TraitRefsHeld next) (sym put) (held-more now next k found r inv.found_held c.in_ok-instance.ensures.held);

@@ -3,9 +3,9 @@ use Rattle.type_terms.specs.Kept.{args-held-later}
 use Rattle.infer_table.specs.declared.canonical.CanonicalVarKind.TheVariants.{Ty}
 use Rattle.infer_table.specs.Values.{values_of, values-later}
 use Rattle.infer_table.proofs.Values.{args-held-push, values-push}
-use Rattle.infer_table.proofs.FullFacts.{at-limit}
+use Rattle.type_terms.proofs.FailFacts.{at-limit}
 use Rattle.evaluation.proofs.Shortages.{some-kind}
-use Rattle.term_folds.proofs.Grown.{grew-on}
+use Rattle.type_terms.proofs.Grown.{grew-on}
 use Rattle.candidate_assembly.proofs.Variables.{one-more-behind}
 use Rattle.candidate_assembly.proofs.instances.variables_behind.Goals as goal
 
@@ -23,5 +23,8 @@ loop-place-preserved c =
           (one-more-behind c.args.others (values_of now vs) _ _ c.args.kinds.now c.loop-place.place _ Ty c.loop-place-test.true refl c.in_ok-value.ensures.is inv.values)));
     }
 
-pub returns-in_err-value-clause-full : goal.returns-in_err-value-clause-full
-returns-in_err-value-clause-full c = at-limit c.from_residual.result c.from_residual.ensures.1 (λ p. some-kind (c.in_err-value.ensures.full (ap Err p)))
+pub returns-in_err-value-clause-terms : goal.returns-in_err-value-clause-terms
+returns-in_err-value-clause-terms c = record {
+  grew = grew-on c.loop-place.invariant.grew c.canonical_variable.ensures.grew;
+  full = at-limit c.from_residual.result c.from_residual.ensures.1 (λ p. some-kind (c.in_err-value.ensures.full (ap Err p)));
+}

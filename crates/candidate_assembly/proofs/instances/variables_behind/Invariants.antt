@@ -1,6 +1,6 @@
 use Rattle.std.proofs.Common.{◌≡◌, ◌+◌, ◌++◌, drop}
 use Rattle.type_terms.specs.Kinds.{ArgsHeld}
-use Rattle.term_folds.specs.Growth.{Grew}
+use Rattle.type_terms.specs.Growth.{Grew}
 use Rattle.infer_table.specs.Values.{values_of}
 use Rattle.infer_table.specs.Raw.{variables_from}
 use Rattle.candidate_assembly.proofs.instances.variables_behind.Given as goal

@@ -30,7 +30,7 @@ relate_args-requires-clause-right c =
 pub returns-in_ok-candidate-in-Some-clause-held : goal.returns-in_ok-candidate-in-Some-clause-held
 returns-in_ok-candidate-in-Some-clause-held c =
     c.in_ok-candidate-in-Some.ensures.held c.relate_args.new.cx.entries
-    (goal-held-later c.args.cx.now.entries c.relate_args.new.cx.entries c.relate_args.ensures.grew.keeps c.args.goal.now.goal c.requires) c.in_ok-equations-in-Some.ensures.held tt
+    (goal-held-later c.args.cx.now.entries c.relate_args.new.cx.entries c.relate_args.ensures.terms.grew.keeps c.args.goal.now.goal c.requires) c.in_ok-equations-in-Some.ensures.held tt
 
 pub returns-in_ok-candidate-in-Some-clause-is : goal.returns-in_ok-candidate-in-Some-clause-is
 returns-in_ok-candidate-in-Some-clause-is c = λ V.
@@ -41,7 +41,7 @@ returns-in_ok-candidate-in-Some-clause-is c = λ V.
     let t = g.goal.predicate.trait_ref.def_id.index in
     let equations = c.in_ok-equations-in-Some.equations.items in
     let made = c.in_ok-candidate-in-Some.ensures.is new V
-    ∙ ap (λ x. by_rule V x (ParamEnv c.clause_source.result) (map (equation_read new) equations) []) (asked-later old new c.relate_args.ensures.grew.keeps g c.requires)
+    ∙ ap (λ x. by_rule V x (ParamEnv c.clause_source.result) (map (equation_read new) equations) []) (asked-later old new c.relate_args.ensures.terms.grew.keeps g c.requires)
     ∙ ap (λ l. by_rule V a (ParamEnv c.clause_source.result) l []) c.in_ok-equations-in-Some.ensures.are
     ∙ ap (λ s. by_rule V a (ParamEnv s) (all_equal (trees_at old g.goal.predicate.trait_ref.args.0) (trees_at old c.in-Some.trait_ref.args.0)) []) c.clause_source.ensures in
     let found = clause-at V old a g.goal.param_env.items c.args.place

@@ -1,7 +1,7 @@
 use Rattle.std.proofs.Common.{◌≡◌, if◌then◌else◌, sym, ◌∙◌, ap, None, option_map}
 use Rattle.std.proofs.lemmas.Result.{IfOk-weaker}
 use Rattle.goal_frames.proofs.Later.{considered-later}
-use Rattle.term_folds.proofs.Grown.{grew-on}
+use Rattle.type_terms.proofs.Grown.{grew-on}
 use Rattle.declarations.specs.Items.{written}
 use Rattle.built_in_candidates.specs.Goals.{candidate_of}
 use Rattle.candidate_assembly.specs.Nexts.{early_in, late_unless}
@@ -11,13 +11,16 @@ use Rattle.candidate_assembly.proofs.trait_goals.candidate_until.Goals as goal
 
 pub late_candidate_unless-requires-clause-decided : goal.late_candidate_unless-requires-clause-decided
 late_candidate_unless-requires-clause-decided c =
-    decided-later c.args.cx.now.entries c.early_candidate.new.cx.entries c.in_ok-candidate.ensures.grew.keeps c.args.declarations.now c.args.goal.now c.requires.decided
+    decided-later c.args.cx.now.entries c.early_candidate.new.cx.entries c.in_ok-candidate.ensures.terms.grew.keeps c.args.declarations.now c.args.goal.now c.requires.decided
 
 pub late_candidate_unless-requires-clause-done : goal.late_candidate_unless-requires-clause-done
-late_candidate_unless-requires-clause-done c = considered-later c.args.cx.now.entries c.early_candidate.new.cx.entries c.in_ok-candidate.ensures.grew.keeps c.args.done.now c.requires.done
+late_candidate_unless-requires-clause-done c = considered-later c.args.cx.now.entries c.early_candidate.new.cx.entries c.in_ok-candidate.ensures.terms.grew.keeps c.args.done.now c.requires.done
 
-pub returns-in-None-clause-grew : goal.returns-in-None-clause-grew
-returns-in-None-clause-grew c = grew-on c.in_ok-candidate.ensures.grew c.late_candidate_unless.ensures.grew
+pub returns-in-None-clause-terms : goal.returns-in-None-clause-terms
+returns-in-None-clause-terms c = record {
+  grew = grew-on c.in_ok-candidate.ensures.terms.grew c.late_candidate_unless.ensures.terms.grew;
+  full = c.late_candidate_unless.ensures.terms.full;
+}
 
 pub returns-in-Some-clause-is : goal.returns-in-Some-clause-is
 returns-in-Some-clause-is c = λ seen s t.
@@ -40,5 +43,5 @@ returns-in-None-clause-is c =
     (λ o p. λ seen s t.
     second-of (early_in es d g seen) (late_unless c.args.stops es d g seen) (option_map (candidate_of (written es d) trait new) o)
     (ap (option_map (candidate_of (written es d) trait mid)) (sym c.in-None.is) ∙ c.in_ok-candidate.ensures.is seen s t)
-    (histories-later es mid c.in_ok-candidate.ensures.grew.keeps d g c.requires.decided c.args.done.now c.requires.done (λ W b z. option_map (candidate_of W trait new) o ≡ (if c.args.stops then None else late W b z)) p seen s t))
+    (histories-later es mid c.in_ok-candidate.ensures.terms.grew.keeps d g c.requires.decided c.args.done.now c.requires.done (λ W b z. option_map (candidate_of W trait new) o ≡ (if c.args.stops then None else late W b z)) p seen s t))
     c.late_candidate_unless.ensures.is

@@ -11,10 +11,10 @@ use Rattle.candidate_assembly.proofs.TraitGoals.{considers, answers, candidate-f
 use Rattle.candidate_assembly.proofs.trait_goals.compute_trait_goal.Goals as goal
 
 pub merge_trait_candidates-requires-clause-held : goal.merge_trait_candidates-requires-clause-held
-merge_trait_candidates-requires-clause-held c = considered-later c.args.cx.now.entries c.assemble_and_evaluate_candidates.new.cx.entries c.in_ok-candidate.ensures.grew.keeps c.args.done.now c.requires.done
+merge_trait_candidates-requires-clause-held c = considered-later c.args.cx.now.entries c.assemble_and_evaluate_candidates.new.cx.entries c.in_ok-candidate.ensures.terms.grew.keeps c.args.done.now c.requires.done
 
 pub merge_trait_candidates-requires-clause-fits : goal.merge_trait_candidates-requires-clause-fits
-merge_trait_candidates-requires-clause-fits c = considered-fits-later c.args.cx.now.entries c.assemble_and_evaluate_candidates.new.cx.entries c.in_ok-candidate.ensures.grew.keeps c.args.done.now c.requires.done c.requires.fits
+merge_trait_candidates-requires-clause-fits c = considered-fits-later c.args.cx.now.entries c.assemble_and_evaluate_candidates.new.cx.entries c.in_ok-candidate.ensures.terms.grew.keeps c.args.done.now c.requires.done c.requires.fits
 
 pub returns-in-Some-clause-fits : goal.returns-in-Some-clause-fits
 returns-in-Some-clause-fits c =
@@ -44,7 +44,7 @@ returns-in-None-clause-next c =
     let b = c.stays_decided-decided.result in
     IfOk-weaker c.merge_trait_candidates.result _ _
     (λ step p seen s t.
-    p seen (shown-later es mid c.in_ok-candidate.ensures.grew.keeps c.args.done.now c.requires.done ∙ s) _
+    p seen (shown-later es mid c.in_ok-candidate.ensures.terms.grew.keeps c.args.done.now c.requires.done ∙ s) _
     ∙ ap (λ mode. wanted frame_tables (end_in mode c.deref.result.now seen)) c.mode_at_end-mode.ensures
     ∙ ap (λ ks. wanted frame_tables (end_in (mode_at_end g.mode b) ks seen)) c.deref.ensures.value
     ∙ answers es d g b c.stays_decided-decided.ensures seen t (ap (option_map at) (sym c.in-None.is) ∙ c.in_ok-candidate.ensures.is seen s t))

@@ -1,7 +1,7 @@
 use Rattle.std.proofs.Common.{◌≡◌, sym, ◌∙◌, ap, option_map}
 use Rattle.std.specs.List.{slice_get}
 use Rattle.std.proofs.lemmas.Result.{IfOk-weaker}
-use Rattle.term_folds.proofs.Grown.{grew-on}
+use Rattle.type_terms.proofs.Grown.{grew-on}
 use Rattle.declarations.specs.Items.{written}
 use Rattle.assembly_laws.specs.Asking.{clauses}
 use Rattle.assembly_laws.specs.Candidates.{by_clauses, built_in}
@@ -14,28 +14,31 @@ use Rattle.candidate_assembly.proofs.trait_goals.early_candidate.Goals as goal
 pub assemble_builtin_impl_candidates-requires-clause-considered : goal.assemble_builtin_impl_candidates-requires-clause-considered
 assemble_builtin_impl_candidates-requires-clause-considered c =
     let mid = c.assemble_param_env_candidates.new.cx.entries in
-    can-be mid c.args.declarations.now c.args.goal.now (decided-later c.args.cx.now.entries mid c.in_ok-candidate.ensures.grew.keeps c.args.declarations.now c.args.goal.now c.requires.decided)
+    can-be mid c.args.declarations.now c.args.goal.now (decided-later c.args.cx.now.entries mid c.in_ok-candidate.ensures.terms.grew.keeps c.args.declarations.now c.args.goal.now c.requires.decided)
 
 pub assemble_builtin_impl_candidates-requires-clause-impls : goal.assemble_builtin_impl_candidates-requires-clause-impls
 assemble_builtin_impl_candidates-requires-clause-impls c =
-    (decided-later c.args.cx.now.entries c.assemble_param_env_candidates.new.cx.entries c.in_ok-candidate.ensures.grew.keeps c.args.declarations.now c.args.goal.now c.requires.decided).ready.impls
+    (decided-later c.args.cx.now.entries c.assemble_param_env_candidates.new.cx.entries c.in_ok-candidate.ensures.terms.grew.keeps c.args.declarations.now c.args.goal.now c.requires.decided).ready.impls
 
 pub assemble_builtin_impl_candidates-requires-clause-bounds : goal.assemble_builtin_impl_candidates-requires-clause-bounds
 assemble_builtin_impl_candidates-requires-clause-bounds c =
-    (decided-later c.args.cx.now.entries c.assemble_param_env_candidates.new.cx.entries c.in_ok-candidate.ensures.grew.keeps c.args.declarations.now c.args.goal.now c.requires.decided).ready.bounds
+    (decided-later c.args.cx.now.entries c.assemble_param_env_candidates.new.cx.entries c.in_ok-candidate.ensures.terms.grew.keeps c.args.declarations.now c.args.goal.now c.requires.decided).ready.bounds
 
 pub assemble_builtin_impl_candidates-requires-clause-object : goal.assemble_builtin_impl_candidates-requires-clause-object
 assemble_builtin_impl_candidates-requires-clause-object c =
     let mid = c.assemble_param_env_candidates.new.cx.entries in
-    object mid c.args.declarations.now c.args.goal.now (decided-later c.args.cx.now.entries mid c.in_ok-candidate.ensures.grew.keeps c.args.declarations.now c.args.goal.now c.requires.decided)
+    object mid c.args.declarations.now c.args.goal.now (decided-later c.args.cx.now.entries mid c.in_ok-candidate.ensures.terms.grew.keeps c.args.declarations.now c.args.goal.now c.requires.decided)
 
 pub assemble_builtin_impl_candidates-requires-clause-unsizing : goal.assemble_builtin_impl_candidates-requires-clause-unsizing
 assemble_builtin_impl_candidates-requires-clause-unsizing c =
     let mid = c.assemble_param_env_candidates.new.cx.entries in
-    unsizing mid c.args.declarations.now c.args.goal.now (decided-later c.args.cx.now.entries mid c.in_ok-candidate.ensures.grew.keeps c.args.declarations.now c.args.goal.now c.requires.decided)
+    unsizing mid c.args.declarations.now c.args.goal.now (decided-later c.args.cx.now.entries mid c.in_ok-candidate.ensures.terms.grew.keeps c.args.declarations.now c.args.goal.now c.requires.decided)
 
-pub returns-in-None-clause-grew : goal.returns-in-None-clause-grew
-returns-in-None-clause-grew c = grew-on c.in_ok-candidate.ensures.grew c.assemble_builtin_impl_candidates.ensures.grew
+pub returns-in-None-clause-terms : goal.returns-in-None-clause-terms
+returns-in-None-clause-terms c = record {
+  grew = grew-on c.in_ok-candidate.ensures.terms.grew c.assemble_builtin_impl_candidates.ensures.terms.grew;
+  full = c.assemble_builtin_impl_candidates.ensures.terms.full;
+}
 
 pub returns-in-Some-clause-is : goal.returns-in-Some-clause-is
 returns-in-Some-clause-is c = λ seen s t.
@@ -58,5 +61,5 @@ returns-in-None-clause-is c =
     (λ o p. λ seen s t.
     second-of (slice_get (by_clauses V a (clauses a)) (considered_from is_clause seen)) (slice_get (built_in V a) (considered_from (is_built_in (misc_is_bound a)) seen)) (option_map (candidate_of V a.reference.trait new) o)
     (ap (option_map (candidate_of V a.reference.trait mid)) (sym c.in-None.is) ∙ c.in_ok-candidate.ensures.is V seen s)
-    (past-later es mid c.in_ok-candidate.ensures.grew.keeps d c.args.goal.now c.requires.decided c.args.done.now c.requires.done (λ W b z. option_map (candidate_of W b.reference.trait new) o ≡ slice_get (built_in W b) (considered_from (is_built_in (misc_is_bound b)) z)) p seen s))
+    (past-later es mid c.in_ok-candidate.ensures.terms.grew.keeps d c.args.goal.now c.requires.decided c.args.done.now c.requires.done (λ W b z. option_map (candidate_of W b.reference.trait new) o ≡ slice_get (built_in W b) (considered_from (is_built_in (misc_is_bound b)) z)) p seen s))
     c.assemble_builtin_impl_candidates.ensures.is

@@ -1,6 +1,6 @@
 use Rattle.std.proofs.Common.{◌≡◌, sym, ◌∙◌, ap, option_map}
 use Rattle.std.proofs.lemmas.Result.{IfOk-weaker}
-use Rattle.term_folds.proofs.Grown.{grew-on}
+use Rattle.type_terms.proofs.Grown.{grew-on}
 use Rattle.declarations.specs.Items.{written}
 use Rattle.built_in_candidates.specs.Goals.{asked_of, candidate_of}
 use Rattle.candidate_assembly.proofs.DecidedGoals.{decided-later, past-later, walk-in, first-of, second-of, next_impl, next_bound}
@@ -8,10 +8,13 @@ use Rattle.candidate_assembly.proofs.trait_goals.late_candidate.Goals as goal
 
 pub assemble_object_bound_candidates-requires : goal.assemble_object_bound_candidates-requires
 assemble_object_bound_candidates-requires c =
-    decided-later c.args.cx.now.entries c.assemble_impl_candidates.new.cx.entries c.in_ok-candidate.ensures.grew.keeps c.args.declarations.now c.args.goal.now c.requires.decided
+    decided-later c.args.cx.now.entries c.assemble_impl_candidates.new.cx.entries c.in_ok-candidate.ensures.terms.grew.keeps c.args.declarations.now c.args.goal.now c.requires.decided
 
-pub returns-in-None-clause-grew : goal.returns-in-None-clause-grew
-returns-in-None-clause-grew c = grew-on c.in_ok-candidate.ensures.grew c.assemble_object_bound_candidates.ensures.grew
+pub returns-in-None-clause-terms : goal.returns-in-None-clause-terms
+returns-in-None-clause-terms c = record {
+  grew = grew-on c.in_ok-candidate.ensures.terms.grew c.assemble_object_bound_candidates.ensures.terms.grew;
+  full = c.assemble_object_bound_candidates.ensures.terms.full;
+}
 
 pub returns-in-Some-clause-is : goal.returns-in-Some-clause-is
 returns-in-Some-clause-is c = λ seen s t.
@@ -35,5 +38,5 @@ returns-in-None-clause-is c =
     (λ o p. λ seen s t.
     second-of (next_impl V a seen) (next_bound V a seen) (option_map (candidate_of V a.reference.trait new) o)
     (ap (option_map (candidate_of V a.reference.trait mid)) (sym c.in-None.is) ∙ c.in_ok-candidate.ensures.is seen s ∙ walk-in es d c.args.goal.now c.requires.decided c.assemble_impl_candidates.ensures.rises c.args.done.now seen s t)
-    (past-later es mid c.in_ok-candidate.ensures.grew.keeps d c.args.goal.now c.requires.decided c.args.done.now c.requires.done (λ W b z. option_map (candidate_of W b.reference.trait new) o ≡ next_bound W b z) p seen s))
+    (past-later es mid c.in_ok-candidate.ensures.terms.grew.keeps d c.args.goal.now c.requires.decided c.args.done.now c.requires.done (λ W b z. option_map (candidate_of W b.reference.trait new) o ≡ next_bound W b z) p seen s))
     c.assemble_object_bound_candidates.ensures.is

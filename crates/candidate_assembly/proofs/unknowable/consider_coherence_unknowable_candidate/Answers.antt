@@ -26,7 +26,7 @@ returns-clause-held c =
     record {
       equations = subst (Every (EquationHeld new)) (sym c.new-2.ensures.items) tt;
       constraints = subst (AllConstraintsHeld new) (sym c.new-3.ensures.items) tt;
-      nested = c.in_ok-nested_goals.ensures.held new (goal-held-later old new c.supertraits.ensures.grew.keeps c.args.goal.now.goal c.requires.goal)
+      nested = c.in_ok-nested_goals.ensures.held new (goal-held-later old new c.supertraits.ensures.terms.grew.keeps c.args.goal.now.goal c.requires.goal)
           (subst (TraitRefsHeld new) (sym c.deref.ensures.value) c.in_ok-supertraits.ensures.held);
     }
 
@@ -45,5 +45,5 @@ returns-clause-is c =
     let ps = references_in new c.deref.result.now in
     same _ _ _ _ _ c.new.ensures.items (ap (map (equation_read new)) c.new-2.ensures.items) (ap (constraints_trees new) c.new-3.ensures.items)
     (c.in_ok-nested_goals.ensures.are new (is_coinductive V t)
-    ∙ ap (λ a. map (premise a false) ps) (asked-later old new c.supertraits.ensures.grew.keeps g c.requires.goal)
+    ∙ ap (λ a. map (premise a false) ps) (asked-later old new c.supertraits.ensures.terms.grew.keeps g c.requires.goal)
     ∙ ap (map (premise (asked_of old g) false)) (ap (references_in new) c.deref.ensures.value ∙ c.in_ok-supertraits.ensures.are))

@@ -6,7 +6,7 @@ use Rattle.type_terms.specs.Kept.{trees-later}
 use Rattle.declarations.specs.Items.{reference_in}
 use Rattle.declarations.specs.Merges.{Each}
 use Rattle.declarations.specs.Applied.{references_in, TraitRefsHeld}
-use Rattle.term_folds.proofs.Grown.{grew-on}
+use Rattle.type_terms.proofs.Grown.{grew-on}
 use Rattle.declarations.proofs.Growth.{reference-same}
 use Rattle.declarations.proofs.Bounded.{held-more, one-more}
 use Rattle.declarations.proofs.elaborate.instantiate_bounds.Goals as goal
@@ -20,7 +20,7 @@ bounds-preserved c =
     let A = trees_at es c.args.args.0 in
     let found = c.bounds.found.items in
     let r = c.in_ok-next.next in
-    let k = c.with_arguments.ensures.grew.keeps in
+    let k = c.with_arguments.ensures.terms.grew.keeps in
     let back = c.in-Some.ensures.cases.0 in
     let x = c.in-Some.bound.now in
     let rest = c.in-Some.others.now in
@@ -34,7 +34,7 @@ bounds-preserved c =
     let before = subst (λ l. references_in now found ++ all_with_args A (references_in es l) ≡ all) back inv.are in
     let put = c.in_ok-put.ensures.put in
     record {
-      grew = grew-on inv.grew c.with_arguments.ensures.grew;
+      grew = grew-on inv.grew c.with_arguments.ensures.terms.grew;
       left_held = held.1;
       left_fit = fit.1;
       found_held = subst (TraitRefsHeld next) (sym put) (held-more now next k found r inv.found_held c.in_ok-next.ensures.held);

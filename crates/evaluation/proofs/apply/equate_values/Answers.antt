@@ -71,8 +71,8 @@ loop-value-preserved c =
     record {
       ready = c.eq.ensures.ready;
       grows = grows-trans _ _ _ inv.grows c.eq.ensures.grows;
-      keeps = λ i e h. c.eq.ensures.grew.keeps i e (inv.keeps i e h);
-      limit = c.eq.ensures.grew.limit ∙ inv.limit;
+      keeps = λ i e h. c.eq.ensures.terms.grew.keeps i e (inv.keeps i e h);
+      limit = c.eq.ensures.terms.grew.limit ∙ inv.limit;
       equates = λ later e. inv.equates later (step later (subst (λ n. Equates cs later (args_trees es (drop n xs)) (args_trees es (drop n ys))) more e));
       never = λ n. inv.never (never-after es c.lawful.ensures now inv.keeps bs cs xs ys j x y turn.0 turn.1 (turn.2 x) (turn.3 y) x-held y-held c.in_ok-eq.ensures.equates
           (subst (λ n. HasNoSolution cs (args_trees es (drop n xs)) (args_trees es (drop n ys))) more n));

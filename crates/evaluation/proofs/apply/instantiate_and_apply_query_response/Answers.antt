@@ -11,7 +11,7 @@ pub returns-in-Err-clause-ready : goal.returns-in-Err-clause-ready
 returns-in-Err-clause-ready c =
     let now = c.apply.new.cx.entries in
     let t = c.args.table.now in
-    subst (Ready now) (sym (c.roll_back.ensures t c.snapshot-place.ensures c.apply.ensures.grows)) (ready-later c.args.cx.now.entries now t c.apply.ensures.grew.keeps c.requires.ready)
+    subst (Ready now) (sym (c.roll_back.ensures t c.snapshot-place.ensures c.apply.ensures.grows)) (ready-later c.args.cx.now.entries now t c.apply.ensures.terms.grew.keeps c.requires.ready)
 
 pub returns-in-Err-clause-grows : goal.returns-in-Err-clause-grows
 returns-in-Err-clause-grows c =

@@ -31,7 +31,7 @@ loop-number-preserved c =
     let next = c.value_or_unknown.new.cx.entries in
     let inv = c.loop-number.invariant in
     let vs = c.loop-number.values.items in
-    let k = c.value_or_unknown.ensures.grew.keeps in
+    let k = c.value_or_unknown.ensures.terms.grew.keeps in
     let i = c.loop-number.number in
     let r = c.args.response.now in
     let os = c.args.original_values.now in
@@ -44,7 +44,7 @@ loop-number-preserved c =
     let kind = get_or c.deref-kind-items.result.now i Ty in
     record {
       keeps = λ j e h. k j e (inv.keeps j e h);
-      limit = c.value_or_unknown.ensures.grew.limit ∙ inv.limit;
+      limit = c.value_or_unknown.ensures.terms.grew.limit ∙ inv.limit;
       ready = c.value_or_unknown.ensures.ready;
       bindings = c.value_or_unknown.ensures.bindings ∙ inv.bindings;
       constraints = c.value_or_unknown.ensures.constraints ∙ inv.constraints;

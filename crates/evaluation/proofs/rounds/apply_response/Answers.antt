@@ -39,5 +39,8 @@ returns-in-Err-clause-refused c = λ e.
     put-applied (table_trees es c.args.table.now) (values_of es c.args.values.now) (answer_trees es c.args.response.now) (sym (c.is_answer_to.ensures es) ∙ yes)
     ∙ c.in-Err.ensures.refusal (ap Err (refused c.in-Err.error (sym c.from.ensures ∙ err-is _ _ e)))
 
-pub returns-in-Err-clause-full : goal.returns-in-Err-clause-full
-returns-in-Err-clause-full c = λ q. c.in-Err.ensures.full (given-up c.in-Err.error _ c.from.ensures q)
+pub returns-in-Err-clause-terms : goal.returns-in-Err-clause-terms
+returns-in-Err-clause-terms c = record {
+  grew = c.instantiate_and_apply_query_response.ensures.terms.grew;
+  full = λ q. c.in-Err.ensures.terms.full (given-up c.in-Err.error _ c.from.ensures q);
+}

@@ -35,7 +35,7 @@ loop-nested-preserved c =
     let now = c.loop-nested.cx.entries in
     let next = c.instantiate_with_values.new.cx.entries in
     let inv = c.loop-nested.invariant in
-    let k = c.instantiate_with_values.ensures.grew.keeps in
+    let k = c.instantiate_with_values.ensures.terms.grew.keeps in
     let xs = c.args.goals.now in
     let i = c.loop-nested.nested-index in
     let n = c.nested-item.result in
@@ -52,7 +52,7 @@ loop-nested-preserved c =
     let put = put-in es now next inv.keeps (values_of es vs) vs c.requires.values refl n.0 n.1 g had c.in_ok-goal.ensures.filled in
     record {
       keeps = λ j e h. k j e (inv.keeps j e h);
-      limit = c.instantiate_with_values.ensures.grew.limit ∙ inv.limit;
+      limit = c.instantiate_with_values.ensures.terms.grew.limit ∙ inv.limit;
       ready = ready-added next context after m added (context-later now next k context inv.ready) (record { clauses = c.in_ok-goal.ensures.held.environment; predicate = c.in_ok-goal.ensures.held.predicate });
       rest = rest-nested c.args.context.now context after (context.nested ++ m ∷ []) inv.rest added;
       left = one-more-goal es (values_of es vs) (goals_trees now context.nested) (goals_trees next after.nested) _ (nested_trees next m) xs i n c.loop-nested-test.true c.nested-item.is more put inv.left;

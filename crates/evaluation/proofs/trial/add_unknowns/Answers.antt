@@ -14,7 +14,7 @@ loop-kind-preserved c =
     let now = c.loop-kind.cx.entries in
     let next = c.new_unknown.new.cx.entries in
     let inv = c.loop-kind.invariant in
-    let k = c.new_unknown.ensures.grew.keeps in
+    let k = c.new_unknown.ensures.terms.grew.keeps in
     let ks = c.args.kinds.now in
     let i = c.loop-kind.kind-index in
     let kind = get_or ks i Ty in
@@ -25,7 +25,7 @@ loop-kind-preserved c =
     let grown : u ≡ with_unknown t kind = c.in_ok-unknown.ensures.made next ∙ ap (λ (z : TableTrees). with_unknown z kind) (table-kept now next k c.loop-kind.table inv.ready) in
     record {
       keeps = λ j e h. k j e (inv.keeps j e h);
-      limit = c.new_unknown.ensures.grew.limit ∙ inv.limit;
+      limit = c.new_unknown.ensures.terms.grew.limit ∙ inv.limit;
       ready = c.new_unknown.ensures.ready;
       held = rw c.in_ok-push.ensures.items (args-held-push next vs v (args-held-later now next k vs inv.held) c.in_ok-unknown.ensures.held);
       left = rw c.in_ok-push.ensures.items (rw (values-push next vs v)

@@ -12,7 +12,7 @@ pub add_unknowns-requires-clause-held : goal.add_unknowns-requires-clause-held
 add_unknowns-requires-clause-held c = rw c.in_ok-values.ensures.items (rw c.deref-2.ensures.value c.in_ok-own.ensures.args)
 
 pub returns-clause-own : goal.returns-clause-own
-returns-clause-own c = args-held-later c.next_values.new.cx.entries c.add_unknowns.new.cx.entries c.add_unknowns.ensures.grew.keeps c.in_ok-own.own.items c.in_ok-own.ensures.args
+returns-clause-own c = args-held-later c.next_values.new.cx.entries c.add_unknowns.new.cx.entries c.add_unknowns.ensures.terms.grew.keeps c.in_ok-own.own.items c.in_ok-own.ensures.args
 
 pub returns-clause-is : goal.returns-clause-is
 returns-clause-is c =
@@ -20,6 +20,6 @@ returns-clause-is c =
     let ks = c.deref.ensures.value in
     let new = c.new-table.result in
     let more = c.in_ok-add_unknowns.ensures in
-    begun-is c.next_values.new.cx.entries c.add_unknowns.new.cx.entries c.add_unknowns.ensures.grew.keeps c.lawful.ensures c.new-table.result c.next_values.new.table c.add_unknowns.new.table
+    begun-is c.next_values.new.cx.entries c.add_unknowns.new.cx.entries c.add_unknowns.ensures.terms.grew.keeps c.lawful.ensures c.new-table.result c.next_values.new.table c.add_unknowns.new.table
     c.in_ok-own.own.items c.in_ok-values.values.items c.add_unknowns.new.values.items c.args.input.now.variables.items c.args.variables.now
     c.new-table.ensures made.held made.args (made.unknowns ∙ ap (next_labels new 0) ks) (made.made ∙ ap (with_each new) ks) (c.in_ok-values.ensures.items ∙ c.deref-2.ensures.value) more.values more.made

@@ -8,12 +8,12 @@ use Rattle.evaluation.proofs.Ending.{script-tried}
 use Rattle.evaluation.proofs.FirstOf.{handed}
 use Rattle.evaluation.proofs.Later.{goals-held-later, premises-later}
 use Rattle.evaluation.proofs.OpenBeginnings.{begin-refused}
-use Rattle.term_folds.proofs.Grown.{grew-on}
+use Rattle.type_terms.proofs.Grown.{grew-on}
 use Rattle.evaluation.proofs.trial.begin_candidate.Goals as goal
 
 pub open_nested-requires-clause-goals : goal.open_nested-requires-clause-goals
 open_nested-requires-clause-goals c =
-    goals-held-later c.args.cx.now.entries c.try_candidate.new.cx.entries c.try_candidate.ensures.grew.keeps c.args.spec.now.nested_goals.items c.requires.spec.nested
+    goals-held-later c.args.cx.now.entries c.try_candidate.new.cx.entries c.try_candidate.ensures.terms.grew.keeps c.args.spec.now.nested_goals.items c.requires.spec.nested
 
 pub returns-in_err-trial-clause-stands : goal.returns-in_err-trial-clause-stands
 returns-in_err-trial-clause-stands c =
@@ -29,7 +29,7 @@ returns-clause-stands c =
     let es = c.args.cx.now.entries in
     let es1 = c.try_candidate.new.cx.entries in
     let es2 = c.open_nested.new.cx.entries in
-    let k : Keeps es es1 = c.try_candidate.ensures.grew.keeps in
+    let k : Keeps es es1 = c.try_candidate.ensures.terms.grew.keeps in
     let input = c.args.input.now in
     let spec = c.args.spec.now in
     let s = spec_trees es spec in
@@ -38,5 +38,8 @@ returns-clause-stands c =
     subst (λ z. StandsAt es2 z x) (sym (script-tried input.mode input.variables.items s t c.in_ok-trial.ensures.tried))
     (subst (λ z. StandsAt es2 (asked input.mode z s.certainty t) x) (premises-later es es1 k spec.nested_goals.items c.requires.spec.nested) c.open_nested.ensures.stands)
 
-pub returns-clause-grew : goal.returns-clause-grew
-returns-clause-grew c = grew-on c.try_candidate.ensures.grew c.open_nested.ensures.grew
+pub returns-clause-terms : goal.returns-clause-terms
+returns-clause-terms c = record {
+  grew = grew-on c.try_candidate.ensures.terms.grew c.open_nested.ensures.terms.grew;
+  full = c.open_nested.ensures.terms.full;
+}

@@ -24,7 +24,7 @@ loop-equation-preserved c =
     let es = c.args.cx.now.entries in
     let now = c.loop-equation.cx.entries in
     let inv = c.loop-equation.invariant in
-    let k = c.equate.ensures.grew.keeps in
+    let k = c.equate.ensures.terms.grew.keeps in
     let xs = c.args.equations.now in
     let i = c.loop-equation.equation-index in
     let x = c.equation-item.result in
@@ -32,7 +32,7 @@ loop-equation-preserved c =
     let had : EquationHeld es x = subst (EquationHeld es) (sym c.equation-item.is) (every-at (EquationHeld es) xs i x c.requires.equations c.loop-equation-test.true) in
     record {
       keeps = λ j e h. k j e (inv.keeps j e h);
-      limit = c.equate.ensures.grew.limit ∙ inv.limit;
+      limit = c.equate.ensures.terms.grew.limit ∙ inv.limit;
       ready = c.equate.ensures.ready;
       left = next-solved es now inv.keeps (values_of es vs) (values_of now vs) (values-later es now inv.keeps vs c.requires.values) xs i x c.loop-equation-test.true c.equation-item.is had
           (table_trees now c.loop-equation.table) (table_trees c.equate.new.cx.entries c.equate.new.table) _ c.in_ok-equate.ensures.solved inv.left;

@@ -10,15 +10,15 @@ use Rattle.evaluation.proofs.Ending.{trial-refused, script-tried}
 use Rattle.evaluation.proofs.FirstOf.{handed}
 use Rattle.evaluation.proofs.Later.{goals-held-later, premises-later}
 use Rattle.evaluation.proofs.LaterTrees.{replies-trees-later}
-use Rattle.term_folds.proofs.Grown.{grew-on}
+use Rattle.type_terms.proofs.Grown.{grew-on}
 use Rattle.evaluation.proofs.trial.evaluate_candidate.Goals as goal
 
 pub evaluate_nested-requires-clause-goals : goal.evaluate_nested-requires-clause-goals
 evaluate_nested-requires-clause-goals c =
-    goals-held-later c.args.cx.now.entries c.try_candidate.new.cx.entries c.try_candidate.ensures.grew.keeps c.args.spec.now.nested_goals.items c.requires.spec.nested
+    goals-held-later c.args.cx.now.entries c.try_candidate.new.cx.entries c.try_candidate.ensures.terms.grew.keeps c.args.spec.now.nested_goals.items c.requires.spec.nested
 
 pub evaluate_nested-requires-clause-replies : goal.evaluate_nested-requires-clause-replies
-evaluate_nested-requires-clause-replies c = replies-later c.args.cx.now.entries c.try_candidate.new.cx.entries c.try_candidate.ensures.grew.keeps c.args.replies.now c.requires.replies
+evaluate_nested-requires-clause-replies c = replies-later c.args.cx.now.entries c.try_candidate.new.cx.entries c.try_candidate.ensures.terms.grew.keeps c.args.replies.now c.requires.replies
 
 pub returns-in_err-trial-clause-runs : goal.returns-in_err-trial-clause-runs
 returns-in_err-trial-clause-runs c =
@@ -35,7 +35,7 @@ returns-clause-runs c =
     let es = c.args.cx.now.entries in
     let es1 = c.try_candidate.new.cx.entries in
     let es2 = c.evaluate_nested.new.cx.entries in
-    let k : Keeps es es1 = c.try_candidate.ensures.grew.keeps in
+    let k : Keeps es es1 = c.try_candidate.ensures.terms.grew.keeps in
     let input = c.args.input.now in
     let spec = c.args.spec.now in
     let s = spec_trees es spec in
@@ -47,5 +47,8 @@ returns-clause-runs c =
     (subst (λ z. CandidateEnds es2 (run (asked input.mode (premises_trees es1 spec.nested_goals.items) s.certainty t) z) x) (replies-trees-later es es1 k c.args.replies.now c.requires.replies)
     c.evaluate_nested.ensures.runs))
 
-pub returns-clause-grew : goal.returns-clause-grew
-returns-clause-grew c = grew-on c.try_candidate.ensures.grew c.evaluate_nested.ensures.grew
+pub returns-clause-terms : goal.returns-clause-terms
+returns-clause-terms c = record {
+  grew = grew-on c.try_candidate.ensures.terms.grew c.evaluate_nested.ensures.terms.grew;
+  full = c.evaluate_nested.ensures.terms.full;
+}

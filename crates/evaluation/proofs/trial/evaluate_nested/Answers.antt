@@ -17,7 +17,7 @@ use Rattle.evaluation.specs.Trial.{premises_trees}
 use Rattle.evaluation.specs.TrialEnds.{trial_trees}
 use Rattle.evaluation.proofs.TrialContexts.{ready-begun, ready-heard}
 use Rattle.evaluation.proofs.Ending.{nested-ends}
-use Rattle.term_folds.proofs.Grown.{grew-on}
+use Rattle.type_terms.proofs.Grown.{grew-on}
 use Rattle.evaluation.proofs.Shortages.{eval-at-limit}
 use Rattle.evaluation.proofs.trial.evaluate_nested.Goals as goal
 
@@ -42,11 +42,14 @@ evaluate_added_goals_and_make_canonical_response-requires c =
     let goals = c.add_goals.new.context in
     let mid = c.add_replies.new.context in
     let none : goals.replies ≡ [] = ap (λ (z : Context). z.replies) c.in_ok-add_goals.ensures.rest ∙ ap (λ (z : Context). z.replies) begun.ensures in
-    let replies = c.in_ok-add_replies.ensures.held es1 (subst (Every (ResultHeld es1)) (sym none) tt) (replies-later es es1 c.add_goals.ensures.grew.keeps c.args.replies.now c.requires.replies) in
+    let replies = c.in_ok-add_replies.ensures.held es1 (subst (Every (ResultHeld es1)) (sym none) tt) (replies-later es es1 c.add_goals.ensures.terms.grew.keeps c.args.replies.now c.requires.replies) in
     record { ready = ready-heard es1 goals mid c.in_ok-add_replies.ensures.rest c.in_ok-add_goals.ensures.ready replies }
 
-pub returns-clause-grew : goal.returns-clause-grew
-returns-clause-grew c = grew-on c.add_goals.ensures.grew c.evaluate_added_goals_and_make_canonical_response.ensures.grew
+pub returns-clause-terms : goal.returns-clause-terms
+returns-clause-terms c = record {
+  grew = grew-on c.add_goals.ensures.terms.grew c.evaluate_added_goals_and_make_canonical_response.ensures.terms.grew;
+  full = c.evaluate_added_goals_and_make_canonical_response.ensures.terms.full;
+}
 
 pub returns-clause-runs : goal.returns-clause-runs
 returns-clause-runs c =
@@ -54,8 +57,8 @@ returns-clause-runs c =
     let es1 = c.add_goals.new.cx.entries in
     let call = c.evaluate_added_goals_and_make_canonical_response in
     let es2 = call.new.cx.entries in
-    let k : Keeps es es1 = c.add_goals.ensures.grew.keeps in
-    let l : Keeps es es2 = λ i x h. call.ensures.grew.keeps i x (k i x h) in
+    let k : Keeps es es1 = c.add_goals.ensures.terms.grew.keeps in
+    let l : Keeps es es2 = λ i x h. call.ensures.terms.grew.keeps i x (k i x h) in
     let trial = c.args.trial in
     let variables = c.args.input.now.variables.items in
     let ns = c.args.spec.now.nested_goals.items in
@@ -84,5 +87,8 @@ returns-clause-runs c =
     (c.in_ok-add_replies.ensures.added es1 ∙ ap (λ (z : List (Option CanonicalResponse)). replies_trees es1 z ++ replies_trees es1 rs) no-replies ∙ replies-trees-later es es1 k rs c.requires.replies)
     call.ensures.runs
 
-pub returns-in_err-add_goals-clause-full : goal.returns-in_err-add_goals-clause-full
-returns-in_err-add_goals-clause-full c = eval-at-limit c.from_residual-in_err-add_goals.result c.from_residual-in_err-add_goals.ensures.1 c.in_err-add_goals.ensures.full
+pub returns-in_err-add_goals-clause-terms : goal.returns-in_err-add_goals-clause-terms
+returns-in_err-add_goals-clause-terms c = record {
+  grew = c.add_goals.ensures.terms.grew;
+  full = eval-at-limit c.from_residual-in_err-add_goals.result c.from_residual-in_err-add_goals.ensures.1 c.in_err-add_goals.ensures.terms.full;
+}

@@ -5,7 +5,7 @@ use Rattle.type_terms.specs.Pieces.{one_piece}
 use Rattle.infer_table.specs.Values.{values_of, filled, filling}
 use Rattle.infer_table.proofs.Fillings.{filled-fold}
 use Rattle.evaluation.proofs.Handed.{if-ok}
-use Rattle.infer_table.proofs.FullFacts.{fold-at-limit}
+use Rattle.type_terms.proofs.FailFacts.{fold-at-limit}
 use Rattle.evaluation.proofs.trial.fill.Goals as goal
 
 pub returns-clause-filled : goal.returns-clause-filled
@@ -17,5 +17,8 @@ returns-clause-filled c =
     if-ok (λ a. FoldsEach (λ bs t. filling vs t) [] (one_piece (arg_trees es x)) (one_piece (arg_trees end a))) (λ a. arg_trees end a ≡ filled vs (arg_trees es x)) c.fold_with.result
     (λ a h. filled-fold vs _ _ h.1) c.fold_with.ensures.folded
 
-pub returns-clause-full : goal.returns-clause-full
-returns-clause-full c = fold-at-limit c.fold_with.result c.fold_with.ensures.full
+pub returns-clause-terms : goal.returns-clause-terms
+returns-clause-terms c = record {
+  grew = c.fold_with.ensures.grew;
+  full = fold-at-limit c.fold_with.result c.fold_with.ensures.full;
+}

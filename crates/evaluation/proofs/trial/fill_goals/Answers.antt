@@ -47,7 +47,7 @@ loop-premise-preserved c =
     let now = c.loop-premise.cx.entries in
     let next = c.instantiate_with_values.new.cx.entries in
     let inv = c.loop-premise.invariant in
-    let k = c.instantiate_with_values.ensures.grew.keeps in
+    let k = c.instantiate_with_values.ensures.terms.grew.keeps in
     let xs = c.args.goals.now in
     let i = c.loop-premise.premise-index in
     let n = c.premise-item.result in
@@ -67,7 +67,7 @@ loop-premise-preserved c =
     let one : GoalIsHeld next m = record { clauses = c.in_ok-goal.ensures.held.environment; predicate = c.in_ok-goal.ensures.held.predicate } in
     record {
       keeps = λ j e h. k j e (inv.keeps j e h);
-      limit = c.instantiate_with_values.ensures.grew.limit ∙ inv.limit;
+      limit = c.instantiate_with_values.ensures.terms.grew.limit ∙ inv.limit;
       held = subst (NestedHeld next) (sym goals) (every-more (GoalIsHeld next) (map nested_goal before) m (nested-later now next k (map nested_goal before) inv.held) one);
       left = one-more-goal es (values_of es vs) (premises_trees now before) (premises_trees next after) _ (nested_trees next m) xs i n c.loop-premise-test.true c.premise-item.is more put inv.left;
     }

@@ -14,7 +14,7 @@ use Rattle.evaluation.specs.declared.resuming.Evaluation.{Evaluation}
 use Rattle.evaluation.proofs.ListLaws.{length-map}
 use Rattle.evaluation.proofs.OpenQuestions.{premises-length}
 use Rattle.evaluation.proofs.OpenBeginnings.{nested-begin}
-use Rattle.term_folds.proofs.Grown.{grew-on}
+use Rattle.type_terms.proofs.Grown.{grew-on}
 use Rattle.evaluation.proofs.Shortages.{eval-at-limit}
 use Rattle.evaluation.proofs.trial.open_nested.Goals as goal
 
@@ -26,18 +26,21 @@ fill_goals-requires-clause-goals c = rw c.deref-3.ensures.value c.requires.goals
 
 pub begin_rounds-requires-clause-evaluation : goal.begin_rounds-requires-clause-evaluation
 begin_rounds-requires-clause-evaluation c = record {
-  table = ready-later c.args.cx.now.entries c.fill_goals.new.cx.entries c.args.trial.table c.fill_goals.ensures.grew.keeps c.requires.ready;
-  own = args-held-later c.args.cx.now.entries c.fill_goals.new.cx.entries c.fill_goals.ensures.grew.keeps c.args.trial.own.items c.requires.own;
+  table = ready-later c.args.cx.now.entries c.fill_goals.new.cx.entries c.args.trial.table c.fill_goals.ensures.terms.grew.keeps c.requires.ready;
+  own = args-held-later c.args.cx.now.entries c.fill_goals.new.cx.entries c.fill_goals.ensures.terms.grew.keeps c.args.trial.own.items c.requires.own;
 }
 
-pub returns-clause-grew : goal.returns-clause-grew
-returns-clause-grew c = grew-on c.fill_goals.ensures.grew c.begin_rounds.ensures.grew
+pub returns-clause-terms : goal.returns-clause-terms
+returns-clause-terms c = record {
+  grew = grew-on c.fill_goals.ensures.terms.grew c.begin_rounds.ensures.terms.grew;
+  full = c.begin_rounds.ensures.terms.full;
+}
 
 pub returns-clause-stands : goal.returns-clause-stands
 returns-clause-stands c =
     let es = c.args.cx.now.entries in
     let es1 = c.fill_goals.new.cx.entries in
-    let k : Keeps es es1 = c.fill_goals.ensures.grew.keeps in
+    let k : Keeps es es1 = c.fill_goals.ensures.terms.grew.keeps in
     let trial = c.args.trial in
     let variables = c.args.input.now.variables.items in
     let spec = c.args.spec.now in
@@ -64,5 +67,8 @@ returns-clause-most c =
     ∙ ap (λ (z : List (GoalSource × Goal)). length z) c.deref-3.ensures.value in
     subst (λ n. IfOk c.begin_rounds.result (AsksAtMost (8 * n))) many c.begin_rounds.ensures.most
 
-pub returns-in_err-goals-clause-full : goal.returns-in_err-goals-clause-full
-returns-in_err-goals-clause-full c = eval-at-limit c.from_residual-in_err-goals.result c.from_residual-in_err-goals.ensures.1 c.in_err-goals.ensures.full
+pub returns-in_err-goals-clause-terms : goal.returns-in_err-goals-clause-terms
+returns-in_err-goals-clause-terms c = record {
+  grew = c.fill_goals.ensures.terms.grew;
+  full = eval-at-limit c.from_residual-in_err-goals.result c.from_residual-in_err-goals.ensures.1 c.in_err-goals.ensures.terms.full;
+}

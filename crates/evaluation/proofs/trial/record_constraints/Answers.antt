@@ -25,7 +25,7 @@ loop-constraint-preserved c =
     let es = c.args.cx.now.entries in
     let now = c.loop-constraint.cx.entries in
     let inv = c.loop-constraint.invariant in
-    let k = c.record_constraint.ensures.grew.keeps in
+    let k = c.record_constraint.ensures.terms.grew.keeps in
     let xs = c.args.constraints.now in
     let i = c.loop-constraint.constraint-index in
     let x = c.constraint-item.result in
@@ -33,7 +33,7 @@ loop-constraint-preserved c =
     let had : IsHeldConstraint es x = subst (IsHeldConstraint es) (sym c.constraint-item.is) (constraint-held-at es xs i x c.requires.constraints c.loop-constraint-test.true) in
     record {
       keeps = λ j e h. k j e (inv.keeps j e h);
-      limit = c.record_constraint.ensures.grew.limit ∙ inv.limit;
+      limit = c.record_constraint.ensures.terms.grew.limit ∙ inv.limit;
       ready = c.record_constraint.ensures.ready;
       left = next-recorded es now inv.keeps (values_of es vs) (values_of now vs) (values-later es now inv.keeps vs c.requires.values) xs i x c.loop-constraint-test.true c.constraint-item.is had
           (table_trees now c.loop-constraint.table) (table_trees c.record_constraint.new.cx.entries c.record_constraint.new.table) _ c.in_ok-record_constraint.ensures.recorded inv.left;

@@ -30,5 +30,8 @@ returns-clause-is c =
     floundered-result c.args.cx.now.entries c.flounder.new.cx.entries c.lawful.ensures c.args.variables.now c.args.responses.now c.requires.held c.requires.fits (response_of merged)
     (response-content merged ∙ c.in_ok-merged.ensures.response) (ap response_of c.in_default.is) c.flounder.result f.none f.variables f.certainty f.constraints f.values
 
-pub returns-clause-full : goal.returns-clause-full
-returns-clause-full c = kind-at-limit c.flounder.new.cx.entries c.flounder.new.cx.limit c.flounder.result c.flounder.ensures.full
+pub returns-clause-terms : goal.returns-clause-terms
+returns-clause-terms c = record {
+  grew = c.flounder.ensures.grew;
+  full = kind-at-limit c.flounder.new.cx.entries c.flounder.new.cx.limit c.flounder.result c.flounder.ensures.full;
+}

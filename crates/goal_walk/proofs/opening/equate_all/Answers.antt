@@ -1,6 +1,6 @@
 use Rattle.std.proofs.Common.{sym, subst}
 use Rattle.type_terms.specs.Kept.{args-held-later}
-use Rattle.term_folds.proofs.Grown.{grew-none, grew-on}
+use Rattle.type_terms.proofs.Grown.{grew-none, grew-on}
 use Rattle.infer_table.specs.Growth.{grows-trans, grows-refl}
 use Rattle.evaluation.specs.Readings.{EquationHeld}
 use Rattle.evaluation.proofs.Later.{equation-held-later}

@@ -1,4 +1,4 @@
-use Rattle.term_folds.specs.Growth.{Grew}
+use Rattle.type_terms.specs.Growth.{Grew}
 use Rattle.infer_table.specs.Content.{Ready, Grows}
 use Rattle.goal_walk.proofs.opening.equate_all.Given as goal
 

@@ -1,5 +1,5 @@
 use Rattle.std.proofs.Common.{sym, subst}
-use Rattle.term_folds.proofs.Grown.{grew-none, grew-on}
+use Rattle.type_terms.proofs.Grown.{grew-none, grew-on}
 use Rattle.type_terms.specs.Kept.{args-held-later}
 use Rattle.infer_table.proofs.Numbers.{goal-held-later}
 use Rattle.evaluation.proofs.Turns.{every-at}
@@ -26,7 +26,7 @@ loop-nested-preserved c =
     let now = c.loop-nested.cx.entries in
     let next = c.instantiate_with_values.new.cx.entries in
     let inv = c.loop-nested.invariant in
-    let grew = c.instantiate_with_values.ensures.grew in
+    let grew = c.instantiate_with_values.ensures.terms.grew in
     let before = c.loop-nested.filled.items in
     record {
       grew = grew-on inv.grew grew;

@@ -1,4 +1,4 @@
-use Rattle.term_folds.specs.Growth.{Grew}
+use Rattle.type_terms.specs.Growth.{Grew}
 use Rattle.goal_walk.specs.Walking.{GoalsHeld}
 use Rattle.goal_walk.proofs.opening.fill_goals.Given as goal
 

@@ -1,9 +1,10 @@
-use Rattle.std.proofs.Common.{◌≡◌, ap, sym, ◌∙◌, subst, false, [], Err, arith}
+use Rattle.std.proofs.Common.{refl, ◌≡◌, ap, sym, ◌∙◌, subst, false, [], Err, arith}
 use Rattle.std.specs.Prelude.{map}
 use Rattle.type_terms.specs.Trees.{none, ◌+++◌}
 use Rattle.type_terms.specs.Terms.{Keeps, args_lists, trees_at}
 use Rattle.type_terms.specs.Kinds.{args_trees}
 use Rattle.type_terms.specs.Kept.{append-both, trees-is, trees-later}
+use Rattle.infer_table.proofs.FullFacts.{memory-at-limit}
 use Rattle.infer_table.specs.Canonical.{kind_of_leaf, canonical_label}
 use Rattle.infer_table.specs.Solutions.{resolved}
 use Rattle.infer_table.specs.Content.{content}
@@ -20,60 +21,76 @@ use Rattle.infer_table.specs.Responses.{answer_leaves, numbered_by}
 use Rattle.infer_table.proofs.ConstraintLists.{constraints-later, constraints-numbered, one-piece-is, form-same}
 use Rattle.infer_table.specs.Covers.{AreNumbered}
 use Rattle.infer_table.proofs.Answered.{agrees, are-numbered, value-leaves}
-use Rattle.type_terms.proofs.FailFacts.{refused-term, only-tables}
-use Rattle.infer_table.proofs.FullFacts.{at-limit}
+use Rattle.type_terms.proofs.FailFacts.{refused-term, only-tables, at-limit}
 use Rattle.infer_table.proofs.canonicalize.canonicalize_response.Goals as goal
 
 pub eager_resolve_vars-requires-clause-ready : goal.eager_resolve_vars-requires-clause-ready
-eager_resolve_vars-requires-clause-ready c = ready-later c.args.cx.now.entries c.mk_args.new.self.entries c.args.table.now c.mk_args.ensures.keeps c.requires.ready
+eager_resolve_vars-requires-clause-ready c = ready-later c.args.cx.now.entries c.mk_args.new.self.entries c.args.table.now c.mk_args.ensures.grew.keeps c.requires.ready
 
 pub variable_kinds-requires-clause-open : goal.variable_kinds-requires-clause-open
 variable_kinds-requires-clause-open c =
     let now = c.resolve_constraints.new.cx.entries in
     subst AreOpen (sym (ap (labels now) c.as_slice.ensures.keys ∙ c.in_ok-collected.ensures.leaves)) (goal-open none (trees_at now c.in_ok-resolved.resolved.0 +++ constraints_trees now c.deref.result.now))
 
-pub returns-in_err-variables-clause-grew : goal.returns-in_err-variables-clause-grew
-returns-in_err-variables-clause-grew c =
-    record {
-      keeps = λ i x h. c.resolve_constraints.ensures.grew.keeps i x (c.eager_resolve_vars.ensures.grew.keeps i x (c.mk_args.ensures.keeps i x h));
-      limit = c.resolve_constraints.ensures.grew.limit ∙ c.eager_resolve_vars.ensures.grew.limit ∙ c.mk_args.ensures.limit;
-    }
+pub returns-in_err-variables-clause-terms : goal.returns-in_err-variables-clause-terms
+returns-in_err-variables-clause-terms c = record {
+  grew =
+      record {
+        keeps = λ i x h. c.resolve_constraints.ensures.terms.grew.keeps i x (c.eager_resolve_vars.ensures.terms.grew.keeps i x (c.mk_args.ensures.grew.keeps i x h));
+        limit = c.resolve_constraints.ensures.terms.grew.limit ∙ c.eager_resolve_vars.ensures.terms.grew.limit ∙ c.mk_args.ensures.grew.limit;
+      };
+  full = memory-at-limit _ c.from_residual-in_err-variables.result c.from_residual-in_err-variables.ensures.1 c.in_err-variables.ensures.memory;
+}
 
-pub returns-in_err-numbered-clause-grew : goal.returns-in_err-numbered-clause-grew
-returns-in_err-numbered-clause-grew c =
-    record {
-      keeps = λ i x h. c.fold_with.ensures.keeps i x (c.resolve_constraints.ensures.grew.keeps i x (c.eager_resolve_vars.ensures.grew.keeps i x (c.mk_args.ensures.keeps i x h)));
-      limit = c.fold_with.ensures.limit ∙ c.resolve_constraints.ensures.grew.limit ∙ c.eager_resolve_vars.ensures.grew.limit ∙ c.mk_args.ensures.limit;
-    }
+pub returns-in_err-numbered-clause-terms : goal.returns-in_err-numbered-clause-terms
+returns-in_err-numbered-clause-terms c = record {
+  grew =
+      record {
+        keeps = λ i x h. c.fold_with.ensures.grew.keeps i x (c.resolve_constraints.ensures.terms.grew.keeps i x (c.eager_resolve_vars.ensures.terms.grew.keeps i x (c.mk_args.ensures.grew.keeps i x h)));
+        limit = c.fold_with.ensures.grew.limit ∙ c.resolve_constraints.ensures.terms.grew.limit ∙ c.eager_resolve_vars.ensures.terms.grew.limit ∙ c.mk_args.ensures.grew.limit;
+      };
+  full =
+      at-limit c.from_residual-in_err-numbered.result c.from_residual-in_err-numbered.ensures.1 (λ p. only-tables (c.in_err-numbered.ensures.full (ap Err p)));
+}
 
 pub fold_constraints-requires-clause-ready : goal.fold_constraints-requires-clause-ready
 fold_constraints-requires-clause-ready c =
-    leaves-later c.resolve_constraints.new.cx.entries c.fold_with.new.cx.entries c.fold_with.ensures.keeps c.in_ok-collected.collected.leaves.keys c.in_ok-collected.ensures.listed
+    leaves-later c.resolve_constraints.new.cx.entries c.fold_with.new.cx.entries c.fold_with.ensures.grew.keeps c.in_ok-collected.collected.leaves.keys c.in_ok-collected.ensures.listed
 
 pub fold_constraints-requires-clause-held : goal.fold_constraints-requires-clause-held
 fold_constraints-requires-clause-held c =
-    rw c.deref-2.ensures.value (constraints-kept c.resolve_constraints.new.cx.entries c.fold_with.new.cx.entries c.in_ok-constraints.constraints.items c.fold_with.ensures.keeps c.in_ok-constraints.ensures.held)
+    rw c.deref-2.ensures.value (constraints-kept c.resolve_constraints.new.cx.entries c.fold_with.new.cx.entries c.in_ok-constraints.constraints.items c.fold_with.ensures.grew.keeps c.in_ok-constraints.ensures.held)
 
-pub returns-in_err-region_constraints-clause-grew : goal.returns-in_err-region_constraints-clause-grew
-returns-in_err-region_constraints-clause-grew c =
-    record {
-      keeps = λ i x h. c.fold_constraints.ensures.grew.keeps i x (c.fold_with.ensures.keeps i x (c.resolve_constraints.ensures.grew.keeps i x (c.eager_resolve_vars.ensures.grew.keeps i x (c.mk_args.ensures.keeps i x h))));
-      limit = c.fold_constraints.ensures.grew.limit ∙ c.fold_with.ensures.limit ∙ c.resolve_constraints.ensures.grew.limit ∙ c.eager_resolve_vars.ensures.grew.limit ∙ c.mk_args.ensures.limit;
-    }
+pub returns-in_err-region_constraints-clause-terms : goal.returns-in_err-region_constraints-clause-terms
+returns-in_err-region_constraints-clause-terms c = record {
+  grew =
+      record {
+        keeps = λ i x h. c.fold_constraints.ensures.grew.keeps i x (c.fold_with.ensures.grew.keeps i x (c.resolve_constraints.ensures.terms.grew.keeps i x (c.eager_resolve_vars.ensures.terms.grew.keeps i x (c.mk_args.ensures.grew.keeps i x h))));
+        limit = c.fold_constraints.ensures.grew.limit ∙ c.fold_with.ensures.grew.limit ∙ c.resolve_constraints.ensures.terms.grew.limit ∙ c.eager_resolve_vars.ensures.terms.grew.limit ∙ c.mk_args.ensures.grew.limit;
+      };
+  full =
+      at-limit c.from_residual-in_err-region_constraints.result c.from_residual-in_err-region_constraints.ensures.1 (λ p. only-tables (c.in_err-region_constraints.ensures.full (ap Err p)));
+}
 
-pub returns-in_err-var_values-clause-grew : goal.returns-in_err-var_values-clause-grew
-returns-in_err-var_values-clause-grew c =
-    record {
-      keeps = λ i x h. c.fold_constraints.ensures.grew.keeps i x (c.fold_with.ensures.keeps i x (c.resolve_constraints.ensures.grew.keeps i x (c.eager_resolve_vars.ensures.grew.keeps i x (c.mk_args.ensures.keeps i x h))));
-      limit = c.fold_constraints.ensures.grew.limit ∙ c.fold_with.ensures.limit ∙ c.resolve_constraints.ensures.grew.limit ∙ c.eager_resolve_vars.ensures.grew.limit ∙ c.mk_args.ensures.limit;
-    }
+pub returns-in_err-var_values-clause-terms : goal.returns-in_err-var_values-clause-terms
+returns-in_err-var_values-clause-terms c = record {
+  grew =
+      record {
+        keeps = λ i x h. c.fold_constraints.ensures.grew.keeps i x (c.fold_with.ensures.grew.keeps i x (c.resolve_constraints.ensures.terms.grew.keeps i x (c.eager_resolve_vars.ensures.terms.grew.keeps i x (c.mk_args.ensures.grew.keeps i x h))));
+        limit = c.fold_constraints.ensures.grew.limit ∙ c.fold_with.ensures.grew.limit ∙ c.resolve_constraints.ensures.terms.grew.limit ∙ c.eager_resolve_vars.ensures.terms.grew.limit ∙ c.mk_args.ensures.grew.limit;
+      };
+  full = memory-at-limit _ c.from_residual-in_err-var_values.result c.from_residual-in_err-var_values.ensures.1 refl;
+}
 
-pub returns-clause-grew : goal.returns-clause-grew
-returns-clause-grew c =
-    record {
-      keeps = λ i x h. c.fold_constraints.ensures.grew.keeps i x (c.fold_with.ensures.keeps i x (c.resolve_constraints.ensures.grew.keeps i x (c.eager_resolve_vars.ensures.grew.keeps i x (c.mk_args.ensures.keeps i x h))));
-      limit = c.fold_constraints.ensures.grew.limit ∙ c.fold_with.ensures.limit ∙ c.resolve_constraints.ensures.grew.limit ∙ c.eager_resolve_vars.ensures.grew.limit ∙ c.mk_args.ensures.limit;
-    }
+pub returns-clause-terms : goal.returns-clause-terms
+returns-clause-terms c = record {
+  grew =
+      record {
+        keeps = λ i x h. c.fold_constraints.ensures.grew.keeps i x (c.fold_with.ensures.grew.keeps i x (c.resolve_constraints.ensures.terms.grew.keeps i x (c.eager_resolve_vars.ensures.terms.grew.keeps i x (c.mk_args.ensures.grew.keeps i x h))));
+        limit = c.fold_constraints.ensures.grew.limit ∙ c.fold_with.ensures.grew.limit ∙ c.resolve_constraints.ensures.terms.grew.limit ∙ c.eager_resolve_vars.ensures.terms.grew.limit ∙ c.mk_args.ensures.grew.limit;
+      };
+  full = tt;
+}
 
 pub returns-clause-values : goal.returns-clause-values
 returns-clause-values c =
@@ -89,12 +106,12 @@ returns-clause-values c =
     let V = args_trees es c.args.values.now in
     let C = constraints_trees es cs in
     let keys = c.in_ok-collected.collected.leaves.keys in
-    let to-solved : Keeps es solved = λ i x h. c.eager_resolve_vars.ensures.grew.keeps i x (c.mk_args.ensures.keeps i x h) in
+    let to-solved : Keeps es solved = λ i x h. c.eager_resolve_vars.ensures.terms.grew.keeps i x (c.mk_args.ensures.grew.keeps i x h) in
     let values : trees_at now c.in_ok-resolved.resolved.0 ≡ resolved bs V =
-    trees-later solved now c.resolve_constraints.ensures.grew.keeps args_lists c.in_ok-resolved.resolved.0 c.in_ok-resolved.ensures.held
+    trees-later solved now c.resolve_constraints.ensures.terms.grew.keeps args_lists c.in_ok-resolved.resolved.0 c.in_ok-resolved.ensures.held
     ∙ one-piece-is _ _ c.in_ok-resolved.ensures.resolved
     ∙ ap (λ z. resolved (content made ps) z) (trees-is made args_lists c.in_ok-given.given.0 _ c.in_ok-given.ensures.is ∙ ap (args_trees es) c.in_ok-from_slice.ensures.items)
-    ∙ ap (λ z. resolved z V) (content-kept es made ps c.mk_args.ensures.keeps c.requires.ready.held) in
+    ∙ ap (λ z. resolved z V) (content-kept es made ps c.mk_args.ensures.grew.keeps c.requires.ready.held) in
     let constraints : constraints_trees now c.in_ok-constraints.constraints.items ≡ resolved bs C =
     c.in_ok-constraints.ensures.resolved
     ∙ ap (λ z. resolved (content solved ps) (constraints_trees solved z)) c.region_constraints.ensures
@@ -126,12 +143,12 @@ returns-clause-constraints c =
     let V = args_trees es c.args.values.now in
     let C = constraints_trees es cs in
     let keys = c.in_ok-collected.collected.leaves.keys in
-    let to-solved : Keeps es solved = λ i x h. c.eager_resolve_vars.ensures.grew.keeps i x (c.mk_args.ensures.keeps i x h) in
+    let to-solved : Keeps es solved = λ i x h. c.eager_resolve_vars.ensures.terms.grew.keeps i x (c.mk_args.ensures.grew.keeps i x h) in
     let values : trees_at now c.in_ok-resolved.resolved.0 ≡ resolved bs V =
-    trees-later solved now c.resolve_constraints.ensures.grew.keeps args_lists c.in_ok-resolved.resolved.0 c.in_ok-resolved.ensures.held
+    trees-later solved now c.resolve_constraints.ensures.terms.grew.keeps args_lists c.in_ok-resolved.resolved.0 c.in_ok-resolved.ensures.held
     ∙ one-piece-is _ _ c.in_ok-resolved.ensures.resolved
     ∙ ap (λ z. resolved (content made ps) z) (trees-is made args_lists c.in_ok-given.given.0 _ c.in_ok-given.ensures.is ∙ ap (args_trees es) c.in_ok-from_slice.ensures.items)
-    ∙ ap (λ z. resolved z V) (content-kept es made ps c.mk_args.ensures.keeps c.requires.ready.held) in
+    ∙ ap (λ z. resolved z V) (content-kept es made ps c.mk_args.ensures.grew.keeps c.requires.ready.held) in
     let constraints : constraints_trees now c.in_ok-constraints.constraints.items ≡ resolved bs C =
     c.in_ok-constraints.ensures.resolved
     ∙ ap (λ z. resolved (content solved ps) (constraints_trees solved z)) c.region_constraints.ensures
@@ -142,9 +159,9 @@ returns-clause-constraints c =
     ∙ ap answer_leaves (append-both _ _ _ _ values (ap (constraints_trees now) c.deref.ensures.value ∙ constraints) ∙ sym (resolved-append bs V C)) in
     let numbered-constraints : constraints_trees end c.in_ok-region_constraints.region_constraints.items ≡ numbered_by (answer_leaves (resolved bs (V +++ C))) (resolved bs C) =
     constraints-numbered (labels next keys) next end c.deref-2.result.now c.in_ok-region_constraints.region_constraints.items c.in_ok-region_constraints.ensures.folded
-    ∙ ap (λ z. numbered_by z (constraints_trees next c.deref-2.result.now)) (labels-later now next c.fold_with.ensures.keeps keys c.in_ok-collected.ensures.listed ∙ listed)
+    ∙ ap (λ z. numbered_by z (constraints_trees next c.deref-2.result.now)) (labels-later now next c.fold_with.ensures.grew.keeps keys c.in_ok-collected.ensures.listed ∙ listed)
     ∙ ap (λ z. numbered_by (answer_leaves (resolved bs (V +++ C))) (constraints_trees next z)) c.deref-2.ensures.value
-    ∙ ap (numbered_by (answer_leaves (resolved bs (V +++ C)))) (constraints-later now next c.fold_with.ensures.keeps c.in_ok-constraints.constraints.items c.in_ok-constraints.ensures.held ∙ constraints) in
+    ∙ ap (numbered_by (answer_leaves (resolved bs (V +++ C)))) (constraints-later now next c.fold_with.ensures.grew.keeps c.in_ok-constraints.constraints.items c.in_ok-constraints.ensures.held ∙ constraints) in
     numbered-constraints
 
 pub returns-clause-form : goal.returns-clause-form
@@ -161,12 +178,12 @@ returns-clause-form c =
     let V = args_trees es c.args.values.now in
     let C = constraints_trees es cs in
     let keys = c.in_ok-collected.collected.leaves.keys in
-    let to-solved : Keeps es solved = λ i x h. c.eager_resolve_vars.ensures.grew.keeps i x (c.mk_args.ensures.keeps i x h) in
+    let to-solved : Keeps es solved = λ i x h. c.eager_resolve_vars.ensures.terms.grew.keeps i x (c.mk_args.ensures.grew.keeps i x h) in
     let values : trees_at now c.in_ok-resolved.resolved.0 ≡ resolved bs V =
-    trees-later solved now c.resolve_constraints.ensures.grew.keeps args_lists c.in_ok-resolved.resolved.0 c.in_ok-resolved.ensures.held
+    trees-later solved now c.resolve_constraints.ensures.terms.grew.keeps args_lists c.in_ok-resolved.resolved.0 c.in_ok-resolved.ensures.held
     ∙ one-piece-is _ _ c.in_ok-resolved.ensures.resolved
     ∙ ap (λ z. resolved (content made ps) z) (trees-is made args_lists c.in_ok-given.given.0 _ c.in_ok-given.ensures.is ∙ ap (args_trees es) c.in_ok-from_slice.ensures.items)
-    ∙ ap (λ z. resolved z V) (content-kept es made ps c.mk_args.ensures.keeps c.requires.ready.held) in
+    ∙ ap (λ z. resolved z V) (content-kept es made ps c.mk_args.ensures.grew.keeps c.requires.ready.held) in
     let constraints : constraints_trees now c.in_ok-constraints.constraints.items ≡ resolved bs C =
     c.in_ok-constraints.ensures.resolved
     ∙ ap (λ z. resolved (content solved ps) (constraints_trees solved z)) c.region_constraints.ensures
@@ -184,9 +201,9 @@ returns-clause-form c =
     ∙ ap (numbered_by (answer_leaves (resolved bs (V +++ C)))) values in
     let numbered-constraints : constraints_trees end c.in_ok-region_constraints.region_constraints.items ≡ numbered_by (answer_leaves (resolved bs (V +++ C))) (resolved bs C) =
     constraints-numbered (labels next keys) next end c.deref-2.result.now c.in_ok-region_constraints.region_constraints.items c.in_ok-region_constraints.ensures.folded
-    ∙ ap (λ z. numbered_by z (constraints_trees next c.deref-2.result.now)) (labels-later now next c.fold_with.ensures.keeps keys c.in_ok-collected.ensures.listed ∙ listed)
+    ∙ ap (λ z. numbered_by z (constraints_trees next c.deref-2.result.now)) (labels-later now next c.fold_with.ensures.grew.keeps keys c.in_ok-collected.ensures.listed ∙ listed)
     ∙ ap (λ z. numbered_by (answer_leaves (resolved bs (V +++ C))) (constraints_trees next z)) c.deref-2.ensures.value
-    ∙ ap (numbered_by (answer_leaves (resolved bs (V +++ C)))) (constraints-later now next c.fold_with.ensures.keeps c.in_ok-constraints.constraints.items c.in_ok-constraints.ensures.held ∙ constraints) in
+    ∙ ap (numbered_by (answer_leaves (resolved bs (V +++ C)))) (constraints-later now next c.fold_with.ensures.grew.keeps c.in_ok-constraints.constraints.items c.in_ok-constraints.ensures.held ∙ constraints) in
     let P = resolved bs (V +++ C) in
     let ls = answer_leaves P in
     let trees =
@@ -209,12 +226,12 @@ returns-clause-agrees c = λ n s h.
     let V = args_trees es c.args.values.now in
     let C = constraints_trees es cs in
     let keys = c.in_ok-collected.collected.leaves.keys in
-    let to-solved : Keeps es solved = λ i x h. c.eager_resolve_vars.ensures.grew.keeps i x (c.mk_args.ensures.keeps i x h) in
+    let to-solved : Keeps es solved = λ i x h. c.eager_resolve_vars.ensures.terms.grew.keeps i x (c.mk_args.ensures.grew.keeps i x h) in
     let values : trees_at now c.in_ok-resolved.resolved.0 ≡ resolved bs V =
-    trees-later solved now c.resolve_constraints.ensures.grew.keeps args_lists c.in_ok-resolved.resolved.0 c.in_ok-resolved.ensures.held
+    trees-later solved now c.resolve_constraints.ensures.terms.grew.keeps args_lists c.in_ok-resolved.resolved.0 c.in_ok-resolved.ensures.held
     ∙ one-piece-is _ _ c.in_ok-resolved.ensures.resolved
     ∙ ap (λ z. resolved (content made ps) z) (trees-is made args_lists c.in_ok-given.given.0 _ c.in_ok-given.ensures.is ∙ ap (args_trees es) c.in_ok-from_slice.ensures.items)
-    ∙ ap (λ z. resolved z V) (content-kept es made ps c.mk_args.ensures.keeps c.requires.ready.held) in
+    ∙ ap (λ z. resolved z V) (content-kept es made ps c.mk_args.ensures.grew.keeps c.requires.ready.held) in
     let constraints : constraints_trees now c.in_ok-constraints.constraints.items ≡ resolved bs C =
     c.in_ok-constraints.ensures.resolved
     ∙ ap (λ z. resolved (content solved ps) (constraints_trees solved z)) c.region_constraints.ensures
@@ -250,12 +267,12 @@ returns-clause-numbered c = λ n.
     let V = args_trees es c.args.values.now in
     let C = constraints_trees es cs in
     let keys = c.in_ok-collected.collected.leaves.keys in
-    let to-solved : Keeps es solved = λ i x h. c.eager_resolve_vars.ensures.grew.keeps i x (c.mk_args.ensures.keeps i x h) in
+    let to-solved : Keeps es solved = λ i x h. c.eager_resolve_vars.ensures.terms.grew.keeps i x (c.mk_args.ensures.grew.keeps i x h) in
     let values : trees_at now c.in_ok-resolved.resolved.0 ≡ resolved bs V =
-    trees-later solved now c.resolve_constraints.ensures.grew.keeps args_lists c.in_ok-resolved.resolved.0 c.in_ok-resolved.ensures.held
+    trees-later solved now c.resolve_constraints.ensures.terms.grew.keeps args_lists c.in_ok-resolved.resolved.0 c.in_ok-resolved.ensures.held
     ∙ one-piece-is _ _ c.in_ok-resolved.ensures.resolved
     ∙ ap (λ z. resolved (content made ps) z) (trees-is made args_lists c.in_ok-given.given.0 _ c.in_ok-given.ensures.is ∙ ap (args_trees es) c.in_ok-from_slice.ensures.items)
-    ∙ ap (λ z. resolved z V) (content-kept es made ps c.mk_args.ensures.keeps c.requires.ready.held) in
+    ∙ ap (λ z. resolved z V) (content-kept es made ps c.mk_args.ensures.grew.keeps c.requires.ready.held) in
     let constraints : constraints_trees now c.in_ok-constraints.constraints.items ≡ resolved bs C =
     c.in_ok-constraints.ensures.resolved
     ∙ ap (λ z. resolved (content solved ps) (constraints_trees solved z)) c.region_constraints.ensures
@@ -278,15 +295,10 @@ returns-clause-numbered c = λ n.
     subst (AreNumbered c.in_ok-variables.variables.items) (sym numbered-values)
     (are-numbered ls c.in_ok-variables.variables.items kinds (resolved bs V) n only (value-leaves (resolved bs V) (resolved bs C) P (resolved-append bs V C)))
 
-pub returns-in_err-given-clause-full : goal.returns-in_err-given-clause-full
-returns-in_err-given-clause-full c =
-    at-limit c.from_residual-in_err-given.result c.from_residual-in_err-given.ensures.1
-    (λ p. refused-term args_lists (omega arith) (c.in_err-given.ensures.full (ap Err p)) c.mk_args.ensures.limit c.in_err-given.ensures.refused)
-
-pub returns-in_err-numbered-clause-full : goal.returns-in_err-numbered-clause-full
-returns-in_err-numbered-clause-full c =
-    at-limit c.from_residual-in_err-numbered.result c.from_residual-in_err-numbered.ensures.1 (λ p. only-tables (c.in_err-numbered.ensures.full (ap Err p)))
-
-pub returns-in_err-region_constraints-clause-full : goal.returns-in_err-region_constraints-clause-full
-returns-in_err-region_constraints-clause-full c =
-    at-limit c.from_residual-in_err-region_constraints.result c.from_residual-in_err-region_constraints.ensures.1 (λ p. only-tables (c.in_err-region_constraints.ensures.full (ap Err p)))
+pub returns-in_err-given-clause-terms : goal.returns-in_err-given-clause-terms
+returns-in_err-given-clause-terms c = record {
+  grew = c.mk_args.ensures.grew;
+  full =
+      at-limit c.from_residual-in_err-given.result c.from_residual-in_err-given.ensures.1
+      (λ p. refused-term args_lists (omega arith) (c.in_err-given.ensures.full (ap Err p)) c.mk_args.ensures.grew.limit c.in_err-given.ensures.refused);
+}

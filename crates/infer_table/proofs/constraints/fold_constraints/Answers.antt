@@ -26,11 +26,11 @@ loop-constraint-preserved g c =
     let ys = c.loop-constraint.folded.items in
     let x = c.constraint-item.result in
     let y = c.in_ok-next.next in
-    let k = c.fold_with.ensures.keeps in
+    let k = c.fold_with.ensures.grew.keeps in
     let had : IsHeldConstraint es x = rw c.constraint-item.is (constraint-held-at es xs i x c.requires.held c.loop-constraint-test.true) in
     record {
       keeps = λ j e h. k j e (inv.keeps j e h);
-      limit = c.fold_with.ensures.limit ∙ inv.limit;
+      limit = c.fold_with.ensures.grew.limit ∙ inv.limit;
       ready = law.ready_kept c.args.folder.now now next k inv.ready;
       held = rw c.in_ok-push.ensures.items (constraints-held-push next ys y (constraints-kept now next ys k inv.held) c.in_ok-next.ensures.held);
       folded = rw c.in_ok-push.ensures.items

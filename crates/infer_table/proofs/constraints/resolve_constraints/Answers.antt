@@ -33,12 +33,12 @@ loop-constraint-preserved c =
     let ys = c.loop-constraint.resolved.items in
     let x = c.constraint-item.result in
     let y = c.in_ok-next.next in
-    let k = c.eager_resolve_vars.ensures.grew.keeps in
+    let k = c.eager_resolve_vars.ensures.terms.grew.keeps in
     let values = c.args.table.now.values in
     let had : IsHeldConstraint es x = rw c.constraint-item.is (constraint-held-at es xs i x c.requires.held c.loop-constraint-test.true) in
     record {
       keeps = λ j e h. k j e (inv.keeps j e h);
-      limit = c.eager_resolve_vars.ensures.grew.limit ∙ inv.limit;
+      limit = c.eager_resolve_vars.ensures.terms.grew.limit ∙ inv.limit;
       ready = c.eager_resolve_vars.ensures.ready;
       held = rw c.in_ok-push.ensures.items (constraints-held-push next ys y (constraints-kept now next ys k inv.held) c.in_ok-next.ensures.held);
       resolved = rw c.in_ok-push.ensures.items

@@ -25,11 +25,11 @@ loop-clause-preserved g c =
     let ys = c.loop-clause.folded.items in
     let x = c.clause-item.result in
     let y = c.in_ok-next.next in
-    let k = c.fold_with.ensures.keeps in
+    let k = c.fold_with.ensures.grew.keeps in
     let had : ClauseHeld es x = rw c.clause-item.is (clause-held-at es xs i x c.requires.held c.loop-clause-test.true) in
     record {
       keeps = λ j e h. k j e (inv.keeps j e h);
-      limit = c.fold_with.ensures.limit ∙ inv.limit;
+      limit = c.fold_with.ensures.grew.limit ∙ inv.limit;
       ready = law.ready_kept c.args.folder.now now next k inv.ready;
       held = rw c.in_ok-push.ensures.items (clauses-held-push next ys y (clauses-held-later now next k ys inv.held) c.in_ok-next.ensures.held);
       folded = rw c.in_ok-push.ensures.items

@@ -7,7 +7,7 @@ use Rattle.infer_table.proofs.ClosedGoals.{from-form, own-form, own-back, resolv
 use Rattle.infer_table.proofs.input.canonicalize_goal.Goals as goal
 
 pub returns-clause-ready : goal.returns-clause-ready
-returns-clause-ready c = ready-later c.resolve_goal.new.cx.entries c.canonicalize_resolved.new.cx.entries c.args.table.now c.canonicalize_resolved.ensures.grew.keeps c.resolve_goal.ensures.ready
+returns-clause-ready c = ready-later c.resolve_goal.new.cx.entries c.canonicalize_resolved.new.cx.entries c.args.table.now c.canonicalize_resolved.ensures.terms.grew.keeps c.resolve_goal.ensures.ready
 
 pub returns-then-is_closed_goal-clause-form : goal.returns-then-is_closed_goal-clause-form
 returns-then-is_closed_goal-clause-form c =

@@ -19,13 +19,13 @@ pub returns-clause-held : goal.returns-clause-held
 returns-clause-held c =
     let es = c.args.cx.now.entries in
     let same : c.in_ok-values.values.items ≡ c.in_ok-collected.collected.leaves.keys = c.in_ok-values.ensures.items ∙ c.as_slice.ensures.keys in
-    leaves-later es c.number_leaves.new.cx.entries c.number_leaves.ensures.grew.keeps c.in_ok-values.values.items (subst (AreLeaves es) (sym same) c.in_ok-collected.ensures.listed)
+    leaves-later es c.number_leaves.new.cx.entries c.number_leaves.ensures.terms.grew.keeps c.in_ok-values.values.items (subst (AreLeaves es) (sym same) c.in_ok-collected.ensures.listed)
 
 pub returns-clause-values : goal.returns-clause-values
 returns-clause-values c =
     let es = c.args.cx.now.entries in
     let same : c.in_ok-values.values.items ≡ c.in_ok-collected.collected.leaves.keys = c.in_ok-values.ensures.items ∙ c.as_slice.ensures.keys in
-    labels-later es c.number_leaves.new.cx.entries c.number_leaves.ensures.grew.keeps c.in_ok-values.values.items (subst (AreLeaves es) (sym same) c.in_ok-collected.ensures.listed)
+    labels-later es c.number_leaves.new.cx.entries c.number_leaves.ensures.terms.grew.keeps c.in_ok-values.values.items (subst (AreLeaves es) (sym same) c.in_ok-collected.ensures.listed)
     ∙ ap (labels es) same ∙ c.in_ok-collected.ensures.leaves
 
 pub returns-clause-args : goal.returns-clause-args
@@ -33,7 +33,7 @@ returns-clause-args c =
     let es = c.args.cx.now.entries in
     let same : c.in_ok-values.values.items ≡ c.in_ok-collected.collected.leaves.keys = c.in_ok-values.ensures.items ∙ c.as_slice.ensures.keys in
     leaves-held c.number_leaves.new.cx.entries c.in_ok-values.values.items
-    (leaves-later es c.number_leaves.new.cx.entries c.number_leaves.ensures.grew.keeps c.in_ok-values.values.items (subst (AreLeaves es) (sym same) c.in_ok-collected.ensures.listed))
+    (leaves-later es c.number_leaves.new.cx.entries c.number_leaves.ensures.terms.grew.keeps c.in_ok-values.values.items (subst (AreLeaves es) (sym same) c.in_ok-collected.ensures.listed))
 
 pub returns-clause-back : goal.returns-clause-back
 returns-clause-back c = λ n.
@@ -43,5 +43,5 @@ returns-clause-back c = λ n.
     let same : xs ≡ c.in_ok-collected.collected.leaves.keys = c.in_ok-values.ensures.items ∙ c.as_slice.ensures.keys in
     let listed : AreLeaves es xs = subst (AreLeaves es) (sym same) c.in_ok-collected.ensures.listed in
     let g = goal_trees es c.args.goal.now in
-    goal-filled-cong _ _ _ _ (values-later es end c.number_leaves.ensures.grew.keeps xs (leaves-held es xs listed)) (c.in_ok-goal.ensures.numbered ∙ ap (λ ks. renamed (canonical_label (labels es ks)) g) (sym same))
+    goal-filled-cong _ _ _ _ (values-later es end c.number_leaves.ensures.terms.grew.keeps xs (leaves-held es xs listed)) (c.in_ok-goal.ensures.numbered ∙ ap (λ ks. renamed (canonical_label (labels es ks)) g) (sym same))
     ∙ goal-returned es c.lawful.ensures xs g listed (ap (labels es) same ∙ c.in_ok-collected.ensures.leaves) n c.in_ok-collected.ensures.only

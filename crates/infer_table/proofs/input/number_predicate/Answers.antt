@@ -7,7 +7,7 @@ use Rattle.infer_table.specs.Goals.{predicate_trees}
 use Rattle.infer_table.specs.Leaves.{labels, are_closed_flags, is_closed}
 use Rattle.infer_table.proofs.ClosedFacts.{closed-stays}
 use Rattle.infer_table.proofs.Numbers.{predicate-numbered}
-use Rattle.infer_table.proofs.FullFacts.{fold-at-limit}
+use Rattle.type_terms.proofs.FailFacts.{fold-at-limit}
 use Rattle.infer_table.proofs.input.number_predicate.Goals as goal
 
 head : (i j : ℕ) → (j ∷ []) ≡ (i ∷ []) → j ≡ i
@@ -32,5 +32,8 @@ returns-clause-numbered c =
     from-both c.fold_with.result c.fold_with.ensures.outline c.fold_with.ensures.folded
     (λ q o f. predicate-numbered (labels es c.args.leaves.now.keys) p.def_id.index q.trait_ref.def_id.index (trees_at es p.args.0) (trees_at now q.trait_ref.args.0) (head _ _ o) f)
 
-pub returns-clause-full : goal.returns-clause-full
-returns-clause-full c = fold-at-limit c.fold_with.result c.fold_with.ensures.full
+pub returns-clause-terms : goal.returns-clause-terms
+returns-clause-terms c = record {
+  grew = c.fold_with.ensures.grew;
+  full = fold-at-limit c.fold_with.result c.fold_with.ensures.full;
+}

@@ -2,7 +2,7 @@ use Rattle.std.proofs.Common.{◌≡◌, Result, Ok, Err, IfOk}
 use Rattle.infer_table.specs.Goals.{goal_trees, GoalFolds}
 use Rattle.infer_table.specs.Values.{values_of, filling, goal_filled}
 use Rattle.infer_table.proofs.Fillings.{goal-filled}
-use Rattle.infer_table.proofs.FullFacts.{fold-at-limit}
+use Rattle.type_terms.proofs.FailFacts.{fold-at-limit}
 use Rattle.infer_table.proofs.instantiate.instantiate_with_values.Goals as goal
 
 if-ok : {T E : Type 0} (P Q : T → Type 0) (r : Result T E) → ((x : T) → P x → Q x) → IfOk r P → IfOk r Q
@@ -17,5 +17,8 @@ returns-clause-filled c =
     let g = c.args.goal.now in
     if-ok (λ h. GoalFolds (λ bs t. filling vs t) es g end h) (λ h. goal_trees end h ≡ goal_filled vs (goal_trees es g)) c.fold_with.result (goal-filled vs es end g) c.fold_with.ensures.folded
 
-pub returns-clause-full : goal.returns-clause-full
-returns-clause-full c = fold-at-limit c.fold_with.result c.fold_with.ensures.full
+pub returns-clause-terms : goal.returns-clause-terms
+returns-clause-terms c = record {
+  grew = c.fold_with.ensures.grew;
+  full = fold-at-limit c.fold_with.result c.fold_with.ensures.full;
+}

@@ -35,14 +35,14 @@ loop-clause-preserved c =
     let ys = c.loop-clause.resolved.items in
     let x = c.clause-item.result in
     let y = c.in_ok-next.next in
-    let k = c.eager_resolve_vars.ensures.grew.keeps in
+    let k = c.eager_resolve_vars.ensures.terms.grew.keeps in
     let bs = content es c.args.table.now.values in
     let had : ClauseHeld es x = rw c.clause-item.is (clause-held-at es xs i x c.requires.held c.loop-clause-test.true) in
     let pieces : clause_pieces next y ≡ each_piece (λ d t. resolved bs t) (clause_pieces now x) =
     c.in_ok-next.ensures.resolved ∙ ap (λ z. each_piece (λ d t. resolved z t) (clause_pieces now x)) (content-kept es now c.args.table.now.values inv.keeps c.requires.ready.held) in
     record {
       keeps = λ j e h. k j e (inv.keeps j e h);
-      limit = c.eager_resolve_vars.ensures.grew.limit ∙ inv.limit;
+      limit = c.eager_resolve_vars.ensures.terms.grew.limit ∙ inv.limit;
       ready = c.eager_resolve_vars.ensures.ready;
       held = rw c.in_ok-push.ensures.items (clauses-held-push next ys y (clauses-held-later now next k ys inv.held) c.in_ok-next.ensures.held);
       resolved = rw c.in_ok-push.ensures.items

@@ -14,7 +14,7 @@ variables-preserved c =
     let now = c.variables.cx.entries in
     let next = c.next_value.new.cx.entries in
     let inv = c.variables.invariant in
-    let k = c.next_value.ensures.grew.keeps in
+    let k = c.next_value.ensures.terms.grew.keeps in
     let xs = c.variables.values.items in
     let x = c.in_ok-value.value in
     let t = c.args.table.now in
@@ -25,7 +25,7 @@ variables-preserved c =
     let made : c.next_value.new.table ≡ with_next now-table kind = c.in_ok-value.ensures.made in
     record {
       keeps = λ j e h. k j e (inv.keeps j e h);
-      limit = c.next_value.ensures.grew.limit ∙ inv.limit;
+      limit = c.next_value.ensures.terms.grew.limit ∙ inv.limit;
       ready = c.next_value.ensures.ready;
       held = rw c.in_ok-push.ensures.items (leaves-push next xs x (leaves-later now next k xs inv.held) c.in_ok-value.ensures.leaf);
       unknowns = rw c.in_ok-push.ensures.items

@@ -20,16 +20,16 @@ pub consider_object_bound_candidate-requires-clause-object : goal.consider_objec
 consider_object_bound_candidate-requires-clause-object c = c.requires.fits.object
 
 pub next_impl_candidate-requires-clause-goal : goal.next_impl_candidate-requires-clause-goal
-next_impl_candidate-requires-clause-goal c = (decided-later c.args.cx.now.entries c.consider_object_bound_candidate.new.cx.entries c.consider_object_bound_candidate.ensures.grew.keeps c.args.decls.now c.args.goal.now c.requires).goal
+next_impl_candidate-requires-clause-goal c = (decided-later c.args.cx.now.entries c.consider_object_bound_candidate.new.cx.entries c.consider_object_bound_candidate.ensures.terms.grew.keeps c.args.decls.now c.args.goal.now c.requires).goal
 
 pub next_impl_candidate-requires-clause-first : goal.next_impl_candidate-requires-clause-first
-next_impl_candidate-requires-clause-first c = (decided-later c.args.cx.now.entries c.consider_object_bound_candidate.new.cx.entries c.consider_object_bound_candidate.ensures.grew.keeps c.args.decls.now c.args.goal.now c.requires).fits.first
+next_impl_candidate-requires-clause-first c = (decided-later c.args.cx.now.entries c.consider_object_bound_candidate.new.cx.entries c.consider_object_bound_candidate.ensures.terms.grew.keeps c.args.decls.now c.args.goal.now c.requires).fits.first
 
 pub next_impl_candidate-requires-clause-declared : goal.next_impl_candidate-requires-clause-declared
-next_impl_candidate-requires-clause-declared c = (decided-later c.args.cx.now.entries c.consider_object_bound_candidate.new.cx.entries c.consider_object_bound_candidate.ensures.grew.keeps c.args.decls.now c.args.goal.now c.requires).ready.held
+next_impl_candidate-requires-clause-declared c = (decided-later c.args.cx.now.entries c.consider_object_bound_candidate.new.cx.entries c.consider_object_bound_candidate.ensures.terms.grew.keeps c.args.decls.now c.args.goal.now c.requires).ready.held
 
 pub next_impl_candidate-requires-clause-impls : goal.next_impl_candidate-requires-clause-impls
-next_impl_candidate-requires-clause-impls c = (decided-later c.args.cx.now.entries c.consider_object_bound_candidate.new.cx.entries c.consider_object_bound_candidate.ensures.grew.keeps c.args.decls.now c.args.goal.now c.requires).ready.impls
+next_impl_candidate-requires-clause-impls c = (decided-later c.args.cx.now.entries c.consider_object_bound_candidate.new.cx.entries c.consider_object_bound_candidate.ensures.terms.grew.keeps c.args.decls.now c.args.goal.now c.requires).ready.impls
 
 pub returns-in-None : goal.returns-in-None
-returns-in-None c = λ i e h. c.next_impl_candidate.ensures.grew.keeps i e (c.consider_object_bound_candidate.ensures.grew.keeps i e h)
+returns-in-None c = λ i e h. c.next_impl_candidate.ensures.terms.grew.keeps i e (c.consider_object_bound_candidate.ensures.terms.grew.keeps i e h)

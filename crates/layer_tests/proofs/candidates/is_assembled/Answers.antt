@@ -12,7 +12,7 @@ pub assemble_and_evaluate_candidates-requires-clause-decides : goal.assemble_and
 assemble_and_evaluate_candidates-requires-clause-decides c = decides c.args.cx.now.entries c.args.decls.now c.args.goal.now c.requires
 
 pub is_last-requires : goal.is_last-requires
-is_last-requires c = decided-later c.args.cx.now.entries c.assemble_and_evaluate_candidates.new.cx.entries c.assemble_and_evaluate_candidates.ensures.grew.keeps c.args.decls.now c.args.goal.now c.requires
+is_last-requires c = decided-later c.args.cx.now.entries c.assemble_and_evaluate_candidates.new.cx.entries c.assemble_and_evaluate_candidates.ensures.terms.grew.keeps c.args.decls.now c.args.goal.now c.requires
 
 pub returns : goal.returns
-returns c = λ i e h. c.is_last.ensures i e (c.assemble_and_evaluate_candidates.ensures.grew.keeps i e h)
+returns c = λ i e h. c.is_last.ensures i e (c.assemble_and_evaluate_candidates.ensures.terms.grew.keeps i e h)

@@ -2,7 +2,7 @@ use Rattle.std.proofs.Common.{◌≡◌, ℕ, false, List, ◌∷◌, ◌<◌, �
 use Rattle.std.proofs.lemmas.Bool.Decides.{nat_tests}
 use Rattle.std.proofs.lemmas.Result.{err_from_is_err_and}
 use Rattle.type_terms.specs.Kinds.{ArgsHeld, args_trees}
-use Rattle.term_folds.proofs.Grown.{grew-on}
+use Rattle.type_terms.proofs.Grown.{grew-on}
 use Rattle.infer_table.specs.Solutions.{Equates, HasNoSolution}
 use Rattle.infer_table.specs.Content.{content}
 use Rattle.infer_table.specs.Growth.{grows-trans}
@@ -56,7 +56,7 @@ pairs-preserved c =
     record {
       ready = c.eq.ensures.ready;
       grows = grows-trans _ _ _ inv.grows c.eq.ensures.grows;
-      grew = grew-on inv.grew c.eq.ensures.grew;
+      grew = grew-on inv.grew c.eq.ensures.terms.grew;
       left_held = hx.1;
       right_held = hy.1;
       equates = λ later e. inv.equates later

@@ -4,7 +4,7 @@ use Rattle.infer_table.specs.Solutions.{Binding, Equates, HasNoSolution}
 use Rattle.infer_table.specs.Content.{content, Ready, Grows}
 use Rattle.infer_table.specs.Unification.{table_trees}
 use Rattle.infer_table.specs.Applied.{solved_in_turn}
-use Rattle.term_folds.specs.Growth.{Grew}
+use Rattle.type_terms.specs.Growth.{Grew}
 use Rattle.overlap_check.proofs.equate.equate_args.Given as goal
 
 abbrev pub invariant-pairs : goal.invariant-pairs

@@ -10,7 +10,7 @@ use Rattle.type_terms.proofs.FailFacts.{refused-term}
 use Rattle.type_terms.specs.Kinds.{ArgsHeld, args_trees}
 use Rattle.type_terms.specs.declared.kinds.GenericArgs.{GenericArgs}
 use Rattle.type_terms.specs.Kept.{args-held-later, trees-is}
-use Rattle.term_folds.proofs.Grown.{grew-on}
+use Rattle.type_terms.proofs.Grown.{grew-on}
 use Rattle.infer_table.specs.Kept.{ready-later}
 use Rattle.infer_table.proofs.Values.{args-held-push}
 use Rattle.declarations.specs.Applied.{sort_of_param}
@@ -23,7 +23,7 @@ params-preserved c =
     let now = c.params.cx.entries in
     let next = c.var_for_param.new.cx.entries in
     let inv = c.params.invariant in
-    let k = c.var_for_param.ensures.grew.keeps in
+    let k = c.var_for_param.ensures.terms.grew.keeps in
     let kind = c.in-Some.kind.now in
     let rest = c.in-Some.others.now in
     let t = c.params.table in
@@ -38,7 +38,7 @@ params-preserved c =
     let put = c.in_ok-push.ensures.items in
     record {
       ready = c.var_for_param.ensures.ready;
-      grew = grew-on inv.grew c.var_for_param.ensures.grew;
+      grew = grew-on inv.grew c.var_for_param.ensures.terms.grew;
       held = subst (ArgsHeld next) (sym put) (args-held-push next xs a (args-held-later now next k xs inv.held) c.in_ok-arg.ensures.held);
       are = subst (λ l. args_trees next l +++ fresh_unknowns u ks ≡ fresh_unknowns start all) (sym put)
           (subst (λ w. args_trees next (xs ++ a ∷ []) +++ fresh_unknowns w ks ≡ fresh_unknowns start all) (sym made)
@@ -56,7 +56,7 @@ if-ok P Q (Ok x) f h = f x h
 if-ok P Q (Err e) f h = tt
 
 pub returns-clause-ready : goal.returns-clause-ready
-returns-clause-ready c = ready-later c.params.cx.entries c.mk_args.new.self.entries c.params.table c.mk_args.ensures.keeps c.params.invariant.ready
+returns-clause-ready c = ready-later c.params.cx.entries c.mk_args.new.self.entries c.params.table c.mk_args.ensures.grew.keeps c.params.invariant.ready
 
 pub returns-clause-are : goal.returns-clause-are
 returns-clause-are c =
@@ -73,6 +73,9 @@ args-at-limit : {A : Type 0} (r : Result A Fault) (old new : List Entry) {limit 
 args-at-limit (Ok x) old new f l same = tt
 args-at-limit (Err e) old new f l same = λ q. refused-term args_lists (omega arith) (f (ap Err q)) l same
 
-pub returns-clause-full : goal.returns-clause-full
-returns-clause-full c =
-    args-at-limit c.mk_args.result c.params.cx.entries c.mk_args.new.self.entries c.mk_args.ensures.full c.mk_args.ensures.limit c.mk_args.ensures.refused
+pub returns-clause-terms : goal.returns-clause-terms
+returns-clause-terms c = record {
+  grew = grew-on c.params.invariant.grew c.mk_args.ensures.grew;
+  full =
+      args-at-limit c.mk_args.result c.params.cx.entries c.mk_args.new.self.entries c.mk_args.ensures.full c.mk_args.ensures.grew.limit c.mk_args.ensures.refused;
+}

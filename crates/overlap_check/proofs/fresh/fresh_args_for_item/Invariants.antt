@@ -3,7 +3,7 @@ use Rattle.type_terms.specs.Trees.{◌+++◌}
 use Rattle.type_terms.specs.Kinds.{ArgsHeld, args_trees}
 use Rattle.infer_table.specs.Content.{Ready}
 use Rattle.declarations.specs.Applied.{sort_of_param}
-use Rattle.term_folds.specs.Growth.{Grew}
+use Rattle.type_terms.specs.Growth.{Grew}
 use Rattle.overlap_check.specs.Fresh.{with_unknowns, fresh_unknowns}
 use Rattle.overlap_check.proofs.fresh.fresh_args_for_item.Given as goal
 

@@ -1,17 +1,22 @@
 use Rattle.std.proofs.Common.{ap, Err, arith}
 use Rattle.type_terms.specs.Terms.{types, consts}
-use Rattle.type_terms.proofs.FailFacts.{refused-term}
-use Rattle.declarations.proofs.Bounded.{at-limit}
+use Rattle.type_terms.proofs.FailFacts.{refused-term, at-limit}
 use Rattle.overlap_check.proofs.fresh.var_for_param.Goals as goal
 
-pub returns-in_err-ty-in-Type-clause-full : goal.returns-in_err-ty-in-Type-clause-full
-returns-in_err-ty-in-Type-clause-full c =
-    let refused = c.in_err-ty-in-Type.ensures in
-    let handed = c.from_residual-in_err-ty-in-Type in
-    at-limit handed.result handed.ensures.1 (λ p. refused-term types (omega arith) (refused.full (ap Err p)) refused.grew.limit refused.nothing_made)
+pub returns-in_err-ty-in-Type-clause-terms : goal.returns-in_err-ty-in-Type-clause-terms
+returns-in_err-ty-in-Type-clause-terms c = record {
+  grew = c.next_ty_var.ensures.grew;
+  full =
+      let refused = c.in_err-ty-in-Type.ensures in
+      let handed = c.from_residual-in_err-ty-in-Type in
+      at-limit handed.result handed.ensures.1 (λ p. refused-term types (omega arith) (refused.full (ap Err p)) refused.grew.limit refused.nothing_made);
+}
 
-pub returns-in_err-ct-in-Const-clause-full : goal.returns-in_err-ct-in-Const-clause-full
-returns-in_err-ct-in-Const-clause-full c =
-    let refused = c.in_err-ct-in-Const.ensures in
-    let handed = c.from_residual-in_err-ct-in-Const in
-    at-limit handed.result handed.ensures.1 (λ p. refused-term consts (omega arith) (refused.full (ap Err p)) refused.grew.limit refused.nothing_made)
+pub returns-in_err-ct-in-Const-clause-terms : goal.returns-in_err-ct-in-Const-clause-terms
+returns-in_err-ct-in-Const-clause-terms c = record {
+  grew = c.next_const_var.ensures.grew;
+  full =
+      let refused = c.in_err-ct-in-Const.ensures in
+      let handed = c.from_residual-in_err-ct-in-Const in
+      at-limit handed.result handed.ensures.1 (λ p. refused-term consts (omega arith) (refused.full (ap Err p)) refused.grew.limit refused.nothing_made);
+}

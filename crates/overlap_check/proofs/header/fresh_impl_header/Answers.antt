@@ -19,16 +19,16 @@ instantiate_trait_ref-requires-clause-closed c = ap outer_binder c.in_ok-impl_ar
 pub instantiate_trait_ref-requires-clause-fits : goal.instantiate_trait_ref-requires-clause-fits
 instantiate_trait_ref-requires-clause-fits c =
     let t = c.args.table.now in
-    header-fits c.args.cx.now.entries c.fresh_args_for_item.new.cx.entries c.fresh_args_for_item.ensures.grew.keeps t c.args.def.now c.requires.held c.requires.written c.in_ok-impl_args.impl_args.0
+    header-fits c.args.cx.now.entries c.fresh_args_for_item.new.cx.entries c.fresh_args_for_item.ensures.terms.grew.keeps t c.args.def.now c.requires.held c.requires.written c.in_ok-impl_args.impl_args.0
     (c.in_ok-impl_args.ensures.are ∙ ap (λ ps. fresh_unknowns t (map sort_of_param ps)) c.deref.ensures.value)
 
 pub returns-in_err-trait_ref-clause-ready : goal.returns-in_err-trait_ref-clause-ready
 returns-in_err-trait_ref-clause-ready c =
-    ready-later c.fresh_args_for_item.new.cx.entries c.instantiate_trait_ref.new.cx.entries c.fresh_args_for_item.new.table c.instantiate_trait_ref.ensures.grew.keeps c.fresh_args_for_item.ensures.ready
+    ready-later c.fresh_args_for_item.new.cx.entries c.instantiate_trait_ref.new.cx.entries c.fresh_args_for_item.new.table c.instantiate_trait_ref.ensures.terms.grew.keeps c.fresh_args_for_item.ensures.ready
 
 pub returns-clause-ready : goal.returns-clause-ready
 returns-clause-ready c =
-    ready-later c.fresh_args_for_item.new.cx.entries c.instantiate_trait_ref.new.cx.entries c.fresh_args_for_item.new.table c.instantiate_trait_ref.ensures.grew.keeps c.fresh_args_for_item.ensures.ready
+    ready-later c.fresh_args_for_item.new.cx.entries c.instantiate_trait_ref.new.cx.entries c.fresh_args_for_item.new.table c.instantiate_trait_ref.ensures.terms.grew.keeps c.fresh_args_for_item.ensures.ready
 
 pub returns-clause-header : goal.returns-clause-header
 returns-clause-header c =
@@ -38,11 +38,11 @@ returns-clause-header c =
     let t = c.args.table.now in
     let def = c.args.def.now in
     let a = c.in_ok-impl_args.impl_args.0 in
-    let k = c.instantiate_trait_ref.ensures.grew.keeps in
+    let k = c.instantiate_trait_ref.ensures.terms.grew.keeps in
     let e : trees_at one a ≡ unknowns_for t def = c.in_ok-impl_args.ensures.are ∙ ap (λ ps. fresh_unknowns t (map sort_of_param ps)) c.deref.ensures.value in
     record {
       unknowns = record { held = has-later one two k args_lists a c.in_ok-impl_args.ensures.held; are = trees-later one two k args_lists a c.in_ok-impl_args.ensures.held ∙ e };
       held = c.in_ok-trait_ref.ensures.held;
       is = c.in_ok-trait_ref.ensures.is ∙ ap (λ A. with_args A (reference_in one def.header)) e
-          ∙ ap (with_args (unknowns_for t def)) (reference-same es one c.fresh_args_for_item.ensures.grew.keeps def.header c.requires.held.header);
+          ∙ ap (with_args (unknowns_for t def)) (reference-same es one c.fresh_args_for_item.ensures.terms.grew.keeps def.header c.requires.held.header);
     }

@@ -3,7 +3,7 @@ use Rattle.type_terms.specs.Worlds.{with_args, all_with_args}
 use Rattle.type_terms.specs.Terms.{args_lists, trees_at}
 use Rattle.term_folds.specs.Arguments.{first_misfit}
 use Rattle.type_terms.specs.Kept.{trees-later}
-use Rattle.term_folds.proofs.Grown.{grew-on}
+use Rattle.type_terms.proofs.Grown.{grew-on}
 use Rattle.declarations.specs.Items.{reference_in}
 use Rattle.declarations.specs.Merges.{Each}
 use Rattle.declarations.specs.Applied.{references_in, TraitRefsHeld}
@@ -20,7 +20,7 @@ clauses-preserved c =
     let A = trees_at es c.args.args.0 in
     let found = c.clauses.found.items in
     let r = c.in_ok-next.next in
-    let k = c.instantiate_trait_ref.ensures.grew.keeps in
+    let k = c.instantiate_trait_ref.ensures.terms.grew.keeps in
     let back = c.in-Some.ensures.cases.0 in
     let x = c.in-Some.clause.now in
     let rest = c.in-Some.others.now in
@@ -34,7 +34,7 @@ clauses-preserved c =
     let before = subst (λ l. references_in now found ++ all_with_args A (references_in es l) ≡ all) back inv.are in
     let put = c.in_ok-push.ensures.items in
     record {
-      grew = grew-on inv.grew c.instantiate_trait_ref.ensures.grew;
+      grew = grew-on inv.grew c.instantiate_trait_ref.ensures.terms.grew;
       left_held = held.1;
       left_fit = fit.1;
       found_held = subst (TraitRefsHeld next) (sym put) (held-more now next k found r inv.found_held c.in_ok-next.ensures.held);

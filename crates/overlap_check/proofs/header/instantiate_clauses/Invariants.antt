@@ -4,7 +4,7 @@ use Rattle.type_terms.specs.Terms.{trees_at}
 use Rattle.term_folds.specs.Arguments.{first_misfit}
 use Rattle.declarations.specs.Merges.{Each}
 use Rattle.declarations.specs.Applied.{references_in, TraitRefsHeld}
-use Rattle.term_folds.specs.Growth.{Grew}
+use Rattle.type_terms.specs.Growth.{Grew}
 use Rattle.overlap_check.proofs.header.instantiate_clauses.Given as goal
 
 abbrev pub invariant-clauses : goal.invariant-clauses

@@ -15,5 +15,8 @@ returns-in-Ok-clause-is c =
     one-instantiated old new (trees_at old c.args.args.0) c.args.trait_ref c.in-Ok.instance (c.in-Ok.ensures.outline ∙ ap (λ (b : TraitRef). b.def_id.index ∷ []) value)
     (c.in-Ok.ensures.instantiated ∙ ap (λ (b : TraitRef). each_piece (λ d t. instantiate d (trees_at old c.args.args.0) t) (one_piece (trees_at old b.args.0))) value)
 
-pub returns-in-Err-Fault-clause-full : goal.returns-in-Err-Fault-clause-full
-returns-in-Err-Fault-clause-full c = λ q. c.in-Err-Fault.ensures.full (ap Err (c.in-Err-Fault.field-0-is ∙ ap error.Fault q))
+pub returns-in-Err-Fault-clause-terms : goal.returns-in-Err-Fault-clause-terms
+returns-in-Err-Fault-clause-terms c = record {
+  grew = c.instantiate.ensures.grew;
+  full = λ q. c.in-Err-Fault.ensures.full (ap Err (c.in-Err-Fault.field-0-is ∙ ap error.Fault q));
+}

@@ -20,18 +20,18 @@ pub returns-in_default-clause-apart : goal.returns-in_default-clause-apart
 returns-in_default-clause-apart c = λ _. c.in_ok-headers.ensures.apart (ap Ok c.in_default.is)
 
 pub instantiate_both-requires-clause-left_held : goal.instantiate_both-requires-clause-left_held
-instantiate_both-requires-clause-left_held c = impl-later c.args.cx.now.entries c.equate_fresh_headers.new.cx.entries c.equate_fresh_headers.ensures.grew.keeps c.args.left.now c.requires.left_held
+instantiate_both-requires-clause-left_held c = impl-later c.args.cx.now.entries c.equate_fresh_headers.new.cx.entries c.equate_fresh_headers.ensures.terms.grew.keeps c.args.left.now c.requires.left_held
 
 pub instantiate_both-requires-clause-right_held : goal.instantiate_both-requires-clause-right_held
-instantiate_both-requires-clause-right_held c = impl-later c.args.cx.now.entries c.equate_fresh_headers.new.cx.entries c.equate_fresh_headers.ensures.grew.keeps c.args.right.now c.requires.right_held
+instantiate_both-requires-clause-right_held c = impl-later c.args.cx.now.entries c.equate_fresh_headers.new.cx.entries c.equate_fresh_headers.ensures.terms.grew.keeps c.args.right.now c.requires.right_held
 
 pub instantiate_both-requires-clause-left_written : goal.instantiate_both-requires-clause-left_written
 instantiate_both-requires-clause-left_written c =
-    well-later c.args.cx.now.entries c.equate_fresh_headers.new.cx.entries c.equate_fresh_headers.ensures.grew.keeps c.args.left.now c.requires.left_held c.requires.left_written
+    well-later c.args.cx.now.entries c.equate_fresh_headers.new.cx.entries c.equate_fresh_headers.ensures.terms.grew.keeps c.args.left.now c.requires.left_held c.requires.left_written
 
 pub instantiate_both-requires-clause-right_written : goal.instantiate_both-requires-clause-right_written
 instantiate_both-requires-clause-right_written c =
-    well-later c.args.cx.now.entries c.equate_fresh_headers.new.cx.entries c.equate_fresh_headers.ensures.grew.keeps c.args.right.now c.requires.right_held c.requires.right_written
+    well-later c.args.cx.now.entries c.equate_fresh_headers.new.cx.entries c.equate_fresh_headers.ensures.terms.grew.keeps c.args.right.now c.requires.right_held c.requires.right_written
 
 pub returns-clause-found : goal.returns-clause-found
 returns-clause-found c =
@@ -42,8 +42,8 @@ returns-clause-found c =
     let x = c.args.right.now in
     let u = c.equate_fresh_headers.new.table in
     let h = c.in-Some.headers in
-    let k1 = c.equate_fresh_headers.ensures.grew.keeps in
-    let k2 = c.instantiate_both.ensures.grew.keeps in
+    let k1 = c.equate_fresh_headers.ensures.terms.grew.keeps in
+    let k2 = c.instantiate_both.ensures.terms.grew.keeps in
     let equal : AreEqualHeaders es w x three u h.0 h.1 = subst (λ o. IfSome o (λ (p : ImplHeader × ImplHeader). AreEqualHeaders es w x three u p.0 p.1)) c.in-Some.is c.in_ok-headers.ensures.equal in
     let ls = c.in_ok-left.left.items in
     let rs = c.in_ok-left.right.items in
@@ -70,8 +70,8 @@ returns-clause-posed c = λ vw vx.
     let x = c.args.right.now in
     let u = c.equate_fresh_headers.new.table in
     let h = c.in-Some.headers in
-    let k1 = c.equate_fresh_headers.ensures.grew.keeps in
-    let k2 = c.instantiate_both.ensures.grew.keeps in
+    let k1 = c.equate_fresh_headers.ensures.terms.grew.keeps in
+    let k2 = c.instantiate_both.ensures.terms.grew.keeps in
     let equal : AreEqualHeaders es w x three u h.0 h.1 = subst (λ o. IfSome o (λ (p : ImplHeader × ImplHeader). AreEqualHeaders es w x three u p.0 p.1)) c.in-Some.is c.in_ok-headers.ensures.equal in
     let I = unknowns_for empty_table w in
     let J = unknowns_for (with_unknowns_for empty_table w) x in
@@ -92,8 +92,8 @@ returns-clause-solved c =
     let x = c.args.right.now in
     let u = c.equate_fresh_headers.new.table in
     let h = c.in-Some.headers in
-    let k1 = c.equate_fresh_headers.ensures.grew.keeps in
-    let k2 = c.instantiate_both.ensures.grew.keeps in
+    let k1 = c.equate_fresh_headers.ensures.terms.grew.keeps in
+    let k2 = c.instantiate_both.ensures.terms.grew.keeps in
     let equal : AreEqualHeaders es w x three u h.0 h.1 = subst (λ o. IfSome o (λ (p : ImplHeader × ImplHeader). AreEqualHeaders es w x three u p.0 p.1)) c.in-Some.is c.in_ok-headers.ensures.equal in
     let I = unknowns_for empty_table w in
     let J = unknowns_for (with_unknowns_for empty_table w) x in

@@ -28,18 +28,18 @@ instantiate_clauses-requires-clause-fits c =
 pub instantiate_clauses-requires-2-clause-held : goal.instantiate_clauses-requires-2-clause-held
 instantiate_clauses-requires-2-clause-held c =
     subst (TraitRefsHeld c.instantiate_clauses.new.cx.entries) (sym c.deref-2.ensures.value)
-    (references-kept c.args.cx.now.entries c.instantiate_clauses.new.cx.entries c.instantiate_clauses.ensures.grew.keeps c.args.right.now.clauses.items c.requires.right_held.clauses)
+    (references-kept c.args.cx.now.entries c.instantiate_clauses.new.cx.entries c.instantiate_clauses.ensures.terms.grew.keeps c.args.right.now.clauses.items c.requires.right_held.clauses)
 
 pub instantiate_clauses-requires-2-clause-closed : goal.instantiate_clauses-requires-2-clause-closed
 instantiate_clauses-requires-2-clause-closed c =
     let a = c.requires.right_args in
-    ap outer_binder (trees-later c.args.cx.now.entries c.instantiate_clauses.new.cx.entries c.instantiate_clauses.ensures.grew.keeps args_lists c.args.right_header.impl_args.0 a.1.held ∙ a.1.are) ∙ fresh-closed a.0 (sorts_of_impl c.args.right.now)
+    ap outer_binder (trees-later c.args.cx.now.entries c.instantiate_clauses.new.cx.entries c.instantiate_clauses.ensures.terms.grew.keeps args_lists c.args.right_header.impl_args.0 a.1.held ∙ a.1.are) ∙ fresh-closed a.0 (sorts_of_impl c.args.right.now)
 
 pub instantiate_clauses-requires-2-clause-fits : goal.instantiate_clauses-requires-2-clause-fits
 instantiate_clauses-requires-2-clause-fits c =
     let es = c.args.cx.now.entries in
     let now = c.instantiate_clauses.new.cx.entries in
-    let k = c.instantiate_clauses.ensures.grew.keeps in
+    let k = c.instantiate_clauses.ensures.terms.grew.keeps in
     let a = c.requires.right_args in
     let i = c.args.right_header.impl_args.0 in
     subst (Each (λ (k : TraitRef). first_misfit (trees_at now i) (trees_at now k.args.0) ≡ None)) (sym c.deref-2.ensures.value)
@@ -47,19 +47,19 @@ instantiate_clauses-requires-2-clause-fits c =
 
 pub returns-clause-left_held : goal.returns-clause-left_held
 returns-clause-left_held c =
-    references-kept c.instantiate_clauses.new.cx.entries c.instantiate_clauses-2.new.cx.entries c.instantiate_clauses-2.ensures.grew.keeps c.in_ok-left_clauses.left_clauses.items c.in_ok-left_clauses.ensures.held
+    references-kept c.instantiate_clauses.new.cx.entries c.instantiate_clauses-2.new.cx.entries c.instantiate_clauses-2.ensures.terms.grew.keeps c.in_ok-left_clauses.left_clauses.items c.in_ok-left_clauses.ensures.held
 
 pub returns-clause-left : goal.returns-clause-left
 returns-clause-left c =
     let es = c.args.cx.now.entries in
-    all-same c.instantiate_clauses.new.cx.entries c.instantiate_clauses-2.new.cx.entries c.instantiate_clauses-2.ensures.grew.keeps c.in_ok-left_clauses.left_clauses.items c.in_ok-left_clauses.ensures.held
+    all-same c.instantiate_clauses.new.cx.entries c.instantiate_clauses-2.new.cx.entries c.instantiate_clauses-2.ensures.terms.grew.keeps c.in_ok-left_clauses.left_clauses.items c.in_ok-left_clauses.ensures.held
     ∙ c.in_ok-left_clauses.ensures.are ∙ ap (λ l. all_with_args (trees_at es c.args.left_header.impl_args.0) (references_in es l)) c.deref.ensures.value
 
 pub returns-clause-right : goal.returns-clause-right
 returns-clause-right c =
     let es = c.args.cx.now.entries in
     let now = c.instantiate_clauses.new.cx.entries in
-    let k = c.instantiate_clauses.ensures.grew.keeps in
+    let k = c.instantiate_clauses.ensures.terms.grew.keeps in
     let i = c.args.right_header.impl_args.0 in
     c.in_ok-right_clauses.ensures.are ∙ ap (λ l. all_with_args (trees_at now i) (references_in now l)) c.deref-2.ensures.value
     ∙ ap (λ A. all_with_args A (references_in now c.args.right.now.clauses.items)) (trees-later es now k args_lists i c.requires.right_args.1.held)

@@ -1,5 +1,5 @@
 use Rattle.std.proofs.Common.{◌≤◌, subst, arith}
-use Rattle.term_folds.proofs.Grown.{grew-on}
+use Rattle.type_terms.proofs.Grown.{grew-on}
 use Rattle.declarations.specs.Items.{declared}
 use Rattle.declarations.proofs.Growth.{all-declared, all-held}
 use Rattle.overlap_check.specs.Orphans.{IsErrorOf}
@@ -33,7 +33,7 @@ loop-index-preserved c =
     let n = c.loop-index.index in
     let k = c.loop-index.invariant.grew.keeps in
     record {
-      grew = grew-on c.loop-index.invariant.grew c.impl_error.ensures.grew;
+      grew = grew-on c.loop-index.invariant.grew c.impl_error.ensures.terms.grew;
       kept = kept-more (declared old d) d.local n new c.loop-index.invariant.kept
           (subst (IsErrorOf (declared old d) d.local n new) c.in_default.is
           (subst (λ W. IsErrorOf W d.local n new c.in_ok-error.field-0) (all-declared old now k d c.requires.held) c.in_ok-error.ensures.found));

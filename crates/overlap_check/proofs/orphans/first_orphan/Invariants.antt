@@ -1,5 +1,5 @@
 use Rattle.declarations.specs.Items.{declared}
-use Rattle.term_folds.specs.Growth.{Grew}
+use Rattle.type_terms.specs.Growth.{Grew}
 use Rattle.overlap_check.proofs.Judged.{KeptBelow}
 use Rattle.overlap_check.proofs.orphans.first_orphan.Given as goal
 

@@ -21,5 +21,5 @@ returns-clause-found c = λ foreign.
     let def = c.args.def.now in
     let x = c.in_ok-header.header in
     ok-then (IsWalkError (declared new d) d.local (trees_at new x.trait_ref.args.0) new) (IsHeaderError (declared es d) d.local (erased_reference (reference_in es def.header)) new) c.walk_error.result
-    (header-judged es c.lawful.ensures d c.requires.held def c.requires.impl_held c.requires.written c.requires.params new c.fresh_impl_header.ensures.grew.keeps x
+    (header-judged es c.lawful.ensures d c.requires.held def c.requires.impl_held c.requires.written c.requires.params new c.fresh_impl_header.ensures.terms.grew.keeps x
     (subst (λ t. IsHeaderOver es t def new x) c.requires.empty c.in_ok-header.ensures.header) foreign) c.walk_error.ensures.found

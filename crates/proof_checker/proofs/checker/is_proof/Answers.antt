@@ -1,7 +1,7 @@
 use Rattle.std.proofs.Common.{◌≡◌, ◌<◌, ◌++◌, inl, inr, ap, sym, ◌∙◌, subst, Some, arith}
 use Rattle.std.specs.List.{slice_get}
 use Rattle.type_terms.specs.Proofs.{In}
-use Rattle.term_folds.proofs.Grown.{grew-on}
+use Rattle.type_terms.proofs.Grown.{grew-on}
 use Rattle.declarations.specs.Items.{declared}
 use Rattle.declarations.specs.Held.{ReferenceHeld}
 use Rattle.declarations.proofs.Growth.{reference-kept, each-kept}
@@ -12,7 +12,7 @@ use Rattle.proof_checker.proofs.Places.{each-at}
 use Rattle.proof_checker.proofs.Later.{steps-kept, say-same, term-same, terms-same, assumed-same}
 use Rattle.proof_checker.proofs.Ends.{StepFollows, get-below, are-proof, moved, one-more-place}
 use Rattle.proof_checker.proofs.Results.{not-ok, never}
-use Rattle.declarations.proofs.Bounded.{at-limit}
+use Rattle.type_terms.proofs.FailFacts.{at-limit}
 use Rattle.proof_checker.proofs.checker.is_proof.Goals as goal
 
 pub is_step-requires-clause-declared : goal.is_step-requires-clause-declared
@@ -58,7 +58,7 @@ steps-preserved c =
     moved (declared now d) W (terms_of now cl ++ assumed_in now ss) E now es (steps_say now ss) rs n st
     (c.declarations_are_kept.ensures.declares es now d inv.grew.keeps c.requires.declared) both (term-same es now inv.grew.keeps st.reference held.0) say at_now in
     record {
-      grew = grew-on inv.grew c.is_step.ensures.grew;
+      grew = grew-on inv.grew c.is_step.ensures.terms.grew;
       follow = λ i s h g. elim (one-more-place i n h) [
         | inl m ↦ inv.follow i s m g
         | inr m ↦ (let e : slice_get ss n ≡ Some s = subst (λ k. slice_get ss k ≡ Some s) m g in
@@ -72,20 +72,26 @@ returns-clause-proof c = λ _.
     are-proof c.args.cx.now.entries (declared c.args.cx.now.entries c.args.declarations.now) (terms_of c.args.cx.now.entries c.args.clauses.now) c.args.steps.now
     (λ i s e. let b = get-below c.args.steps.now i s e in let t = c.steps-test.false in let l : i < c.steps.place = omega (arith, b, t) in c.steps.invariant.follow i s l e)
 
-pub returns-then-not-branch-clause-grew : goal.returns-then-not-branch-clause-grew
-returns-then-not-branch-clause-grew c = grew-on c.steps.invariant.grew c.is_step.ensures.grew
+pub returns-then-not-branch-clause-terms : goal.returns-then-not-branch-clause-terms
+returns-then-not-branch-clause-terms c = record {
+  grew = grew-on c.steps.invariant.grew c.is_step.ensures.terms.grew;
+  full = tt;
+}
 
 pub returns-then-not-branch-clause-proof : goal.returns-then-not-branch-clause-proof
 returns-then-not-branch-clause-proof c = never
 
-pub returns-in_err-is_step-clause-grew : goal.returns-in_err-is_step-clause-grew
-returns-in_err-is_step-clause-grew c = grew-on c.steps.invariant.grew c.is_step.ensures.grew
+pub returns-in_err-is_step-clause-terms : goal.returns-in_err-is_step-clause-terms
+returns-in_err-is_step-clause-terms c = record {
+  grew = grew-on c.steps.invariant.grew c.is_step.ensures.terms.grew;
+  full = at-limit c.from_residual.result c.from_residual.ensures.1 c.in_err-is_step.ensures.terms.full;
+}
 
 pub returns-in_err-is_step-clause-proof : goal.returns-in_err-is_step-clause-proof
 returns-in_err-is_step-clause-proof c = not-ok _ _ c.from_residual.result c.from_residual.ensures.1
 
-pub returns-in_err-is_step-clause-full : goal.returns-in_err-is_step-clause-full
-returns-in_err-is_step-clause-full c = at-limit c.from_residual.result c.from_residual.ensures.1 c.in_err-is_step.ensures.full
-
-pub returns-clause-grew : goal.returns-clause-grew
-returns-clause-grew c = c.steps.invariant.grew
+pub returns-clause-terms : goal.returns-clause-terms
+returns-clause-terms c = record {
+  grew = c.steps.invariant.grew;
+  full = tt;
+}

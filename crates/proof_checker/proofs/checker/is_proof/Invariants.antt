@@ -1,7 +1,7 @@
 use Rattle.std.proofs.Common.{◌≡◌, ◌<◌, ◌++◌, ℕ, Some}
 use Rattle.std.specs.List.{slice_get}
 use Rattle.declarations.specs.Items.{declared}
-use Rattle.term_folds.specs.Growth.{Grew}
+use Rattle.type_terms.specs.Growth.{Grew}
 use Rattle.proof_checker.specs.declared.steps.Step.{Step}
 use Rattle.proof_checker.specs.Steps.{terms_of, steps_say, assumed_in}
 use Rattle.proof_checker.proofs.Ends.{StepFollows}

@@ -8,21 +8,21 @@ use Rattle.proof_checker.proofs.Results.{mapped, not-ok, never}
 use Rattle.proof_checker.proofs.Above.{each-end}
 use Rattle.proof_checker.proofs.Later.{term-same}
 use Rattle.proof_checker.proofs.Moved.{concludes, last-said}
-use Rattle.term_folds.proofs.Grown.{grew-on}
-use Rattle.declarations.proofs.Bounded.{at-limit}
+use Rattle.type_terms.proofs.Grown.{grew-on}
+use Rattle.type_terms.proofs.FailFacts.{at-limit}
 use Rattle.proof_checker.proofs.checker.is_proof_of.Goals as goal
 
 pub are_one-requires-clause-one : goal.are_one-requires-clause-one
 are_one-requires-clause-one c =
     let P = StepHeld c.args.cx.now.entries in
     let held = each-end P c.in-Some.field-0-1.now c.in-Some.last.now (subst (Each P) c.in-Some.ensures.cases.0 c.requires.steps) in
-    reference-kept c.args.cx.now.entries c.is_proof.new.cx.entries c.is_proof.ensures.grew.keeps c.in-Some.last.now.reference held.0
+    reference-kept c.args.cx.now.entries c.is_proof.new.cx.entries c.is_proof.ensures.terms.grew.keeps c.in-Some.last.now.reference held.0
 
 pub returns-in-Some-clause-proof : goal.returns-in-Some-clause-proof
 returns-in-Some-clause-proof c =
     let es = c.args.cx.now.entries in
     let fs = c.is_proof.new.cx.entries in
-    let k = c.is_proof.ensures.grew.keeps in
+    let k = c.is_proof.ensures.terms.grew.keeps in
     let ss = c.args.steps.now in
     let W = declared es c.args.declarations.now in
     let E = terms_of es c.args.clauses.now in
@@ -52,32 +52,38 @@ is_proof-requires-clause-clauses c = c.requires.clauses
 pub is_proof-requires-clause-steps : goal.is_proof-requires-clause-steps
 is_proof-requires-clause-steps c = c.requires.steps
 
-pub returns-in_err-is_proof-clause-grew : goal.returns-in_err-is_proof-clause-grew
-returns-in_err-is_proof-clause-grew c = c.is_proof.ensures.grew
+pub returns-in_err-is_proof-clause-terms : goal.returns-in_err-is_proof-clause-terms
+returns-in_err-is_proof-clause-terms c = record {
+  grew = c.is_proof.ensures.terms.grew;
+  full = at-limit c.from_residual.result c.from_residual.ensures.1 c.in_err-is_proof.ensures.terms.full;
+}
 
 pub returns-in_err-is_proof-clause-proof : goal.returns-in_err-is_proof-clause-proof
 returns-in_err-is_proof-clause-proof c = not-ok _ _ c.from_residual.result c.from_residual.ensures.1
 
-pub returns-in_err-is_proof-clause-full : goal.returns-in_err-is_proof-clause-full
-returns-in_err-is_proof-clause-full c = at-limit c.from_residual.result c.from_residual.ensures.1 c.in_err-is_proof.ensures.full
-
-pub returns-then-not-branch-clause-grew : goal.returns-then-not-branch-clause-grew
-returns-then-not-branch-clause-grew c = c.is_proof.ensures.grew
+pub returns-then-not-branch-clause-terms : goal.returns-then-not-branch-clause-terms
+returns-then-not-branch-clause-terms c = record {
+  grew = c.is_proof.ensures.terms.grew;
+  full = tt;
+}
 
 pub returns-then-not-branch-clause-proof : goal.returns-then-not-branch-clause-proof
 returns-then-not-branch-clause-proof c = never
 
 pub are_one-requires-clause-other : goal.are_one-requires-clause-other
-are_one-requires-clause-other c = reference-kept c.args.cx.now.entries c.is_proof.new.cx.entries c.is_proof.ensures.grew.keeps c.args.asked c.requires.asked
+are_one-requires-clause-other c = reference-kept c.args.cx.now.entries c.is_proof.new.cx.entries c.is_proof.ensures.terms.grew.keeps c.args.asked c.requires.asked
 
-pub returns-in-Some-clause-grew : goal.returns-in-Some-clause-grew
-returns-in-Some-clause-grew c = grew-on c.is_proof.ensures.grew c.are_one.ensures.grew
+pub returns-in-Some-clause-terms : goal.returns-in-Some-clause-terms
+returns-in-Some-clause-terms c = record {
+  grew = grew-on c.is_proof.ensures.terms.grew c.are_one.ensures.terms.grew;
+  full = c.are_one.ensures.terms.full;
+}
 
-pub returns-in-Some-clause-full : goal.returns-in-Some-clause-full
-returns-in-Some-clause-full c = c.are_one.ensures.full
-
-pub returns-in-None-clause-grew : goal.returns-in-None-clause-grew
-returns-in-None-clause-grew c = c.is_proof.ensures.grew
+pub returns-in-None-clause-terms : goal.returns-in-None-clause-terms
+returns-in-None-clause-terms c = record {
+  grew = c.is_proof.ensures.terms.grew;
+  full = tt;
+}
 
 pub returns-in-None-clause-proof : goal.returns-in-None-clause-proof
 returns-in-None-clause-proof c = never

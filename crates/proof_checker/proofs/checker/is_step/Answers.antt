@@ -11,14 +11,14 @@ use Rattle.proof_checker.proofs.Results.{mapped, both, not-ok, never}
 use Rattle.proof_checker.proofs.Places.{each-at}
 use Rattle.proof_checker.proofs.Ways.{rule-more, assumed-rule}
 use Rattle.proof_checker.proofs.Later.{steps-kept, say-same, say-length, stand-all, stand-before, assumed-in}
-use Rattle.term_folds.proofs.Grown.{grew-none, grew-on}
-use Rattle.declarations.proofs.Bounded.{at-limit}
+use Rattle.type_terms.proofs.Grown.{grew-none, grew-on}
+use Rattle.type_terms.proofs.FailFacts.{at-limit}
 use Rattle.declarations.specs.Applied.{TraitRefsHeld}
 use Rattle.proof_checker.proofs.checker.is_step.Goals as goal
 use Rattle.proof_checker.proofs.checker.is_step.Goals.{then-is_coinductive, else-is_coinductive}
 
 pub premises_stand-requires-clause-steps : goal.premises_stand-requires-clause-steps
-premises_stand-requires-clause-steps c = steps-kept c.args.cx.now.entries c.by_impl.new.cx.entries c.by_impl.ensures.grew.keeps c.args.steps.now c.requires.steps
+premises_stand-requires-clause-steps c = steps-kept c.args.cx.now.entries c.by_impl.new.cx.entries c.by_impl.ensures.terms.grew.keeps c.args.steps.now c.requires.steps
 
 pub by_clause-requires-clause-reference : goal.by_clause-requires-clause-reference
 by_clause-requires-clause-reference c = (each-at (StepHeld c.args.cx.now.entries) c.args.steps.now c.args.place c.args.step.now c.requires.steps c.requires.step).0
@@ -38,7 +38,7 @@ returns-in-Some-clause-rule c =
     let rs = steps_say es ss in
     let ps = c.args.step.now.premises.items in
     let way = rule.by_impl c.in-Impl.id.index in
-    let same = say-same es fs c.by_impl.ensures.grew.keeps ss c.requires.steps in
+    let same = say-same es fs c.by_impl.ensures.terms.grew.keeps ss c.requires.steps in
     let by = subst (λ o. IfSome o (λ v. (F : _) → IsRuleByWay W F r way (terms_of fs v.items))) c.in-Some.is c.in_ok-premises-in-Impl.ensures.rule in
     mapped _ _ c.premises_stand.result
     (λ b are q.
@@ -56,7 +56,7 @@ returns-in-Some-clause-stand c =
     let t = c.args.step.now.reference.def_id.index in
     let rs = steps_say es ss in
     let ps = at_places rs c.args.step.now.premises.items in
-    let same = say-same es fs c.by_impl.ensures.grew.keeps ss c.requires.steps in
+    let same = say-same es fs c.by_impl.ensures.terms.grew.keeps ss c.requires.steps in
     let n = c.if-is_coinductive.allowed in
     let co = c.is_coinductive.ensures es in
     both _ _ _ c.premises_stand.result
@@ -73,7 +73,7 @@ returns-in-Some-clause-stand c =
 
 -- ---- built-in rules
 pub premises_stand-requires-in-Some-2-clause-steps : goal.premises_stand-requires-in-Some-2-clause-steps
-premises_stand-requires-in-Some-2-clause-steps c = steps-kept c.args.cx.now.entries c.by_built_in.new.cx.entries c.by_built_in.ensures.grew.keeps c.args.steps.now c.requires.steps
+premises_stand-requires-in-Some-2-clause-steps c = steps-kept c.args.cx.now.entries c.by_built_in.new.cx.entries c.by_built_in.ensures.terms.grew.keeps c.args.steps.now c.requires.steps
 
 pub by_built_in-requires-clause-reference : goal.by_built_in-requires-clause-reference
 by_built_in-requires-clause-reference c = (each-at (StepHeld c.args.cx.now.entries) c.args.steps.now c.args.place c.args.step.now c.requires.steps c.requires.step).0
@@ -88,7 +88,7 @@ returns-in-Some-2-clause-rule c =
     let r = term_of es c.args.step.now.reference in
     let rs = steps_say es ss in
     let ps = c.args.step.now.premises.items in
-    let same = say-same es fs c.by_built_in.ensures.grew.keeps ss c.requires.steps in
+    let same = say-same es fs c.by_built_in.ensures.terms.grew.keeps ss c.requires.steps in
     let found = subst (λ o. IfSome o (λ v. (F : List Reference) → IsBuiltInRule W F r (terms_of fs v.items))) c.in-Some-2.is c.in_ok-premises-in-BuiltIn.ensures.rule E in
     let way = rule.built_in found.0 in
     mapped _ _ c.premises_stand-in-Some-2.result
@@ -107,7 +107,7 @@ returns-in-Some-2-clause-stand c =
     let t = c.args.step.now.reference.def_id.index in
     let rs = steps_say es ss in
     let ps = at_places rs c.args.step.now.premises.items in
-    let same = say-same es fs c.by_built_in.ensures.grew.keeps ss c.requires.steps in
+    let same = say-same es fs c.by_built_in.ensures.terms.grew.keeps ss c.requires.steps in
     let n = c.if-is_coinductive.allowed in
     let co = c.is_coinductive.ensures es in
     both _ _ _ c.premises_stand-in-Some-2.result
@@ -183,8 +183,11 @@ pub by_impl-requires-clause-args : goal.by_impl-requires-clause-args
 by_impl-requires-clause-args c =
     subst (WayHeld c.args.cx.now.entries) c.in-Impl.is (each-at (StepHeld c.args.cx.now.entries) c.args.steps.now c.args.place c.args.step.now c.requires.steps c.requires.step).1
 
-pub returns-in_err-premises-in-Impl-clause-grew : goal.returns-in_err-premises-in-Impl-clause-grew
-returns-in_err-premises-in-Impl-clause-grew c = c.by_impl.ensures.grew
+pub returns-in_err-premises-in-Impl-clause-terms : goal.returns-in_err-premises-in-Impl-clause-terms
+returns-in_err-premises-in-Impl-clause-terms c = record {
+  grew = c.by_impl.ensures.terms.grew;
+  full = at-limit c.from_residual.result c.from_residual.ensures.1 c.in_err-premises-in-Impl.ensures.terms.full;
+}
 
 pub returns-in_err-premises-in-Impl-clause-rule : goal.returns-in_err-premises-in-Impl-clause-rule
 returns-in_err-premises-in-Impl-clause-rule c = not-ok _ _ c.from_residual.result c.from_residual.ensures.1
@@ -192,22 +195,22 @@ returns-in_err-premises-in-Impl-clause-rule c = not-ok _ _ c.from_residual.resul
 pub returns-in_err-premises-in-Impl-clause-stand : goal.returns-in_err-premises-in-Impl-clause-stand
 returns-in_err-premises-in-Impl-clause-stand c = not-ok _ _ c.from_residual.result c.from_residual.ensures.1
 
-pub returns-in_err-premises-in-Impl-clause-full : goal.returns-in_err-premises-in-Impl-clause-full
-returns-in_err-premises-in-Impl-clause-full c = at-limit c.from_residual.result c.from_residual.ensures.1 c.in_err-premises-in-Impl.ensures.full
-
 pub premises_stand-requires-clause-premises : goal.premises_stand-requires-clause-premises
 premises_stand-requires-clause-premises c =
     let fs = c.by_impl.new.cx.entries in
     subst (TraitRefsHeld fs) (sym c.deref-in-Some.ensures.value) (subst (λ o. IfSome o (λ v. TraitRefsHeld fs v.items)) c.in-Some.is c.in_ok-premises-in-Impl.ensures.held)
 
-pub returns-in-Some-clause-grew : goal.returns-in-Some-clause-grew
-returns-in-Some-clause-grew c = grew-on c.by_impl.ensures.grew c.premises_stand.ensures.grew
+pub returns-in-Some-clause-terms : goal.returns-in-Some-clause-terms
+returns-in-Some-clause-terms c = record {
+  grew = grew-on c.by_impl.ensures.terms.grew c.premises_stand.ensures.terms.grew;
+  full = c.premises_stand.ensures.terms.full;
+}
 
-pub returns-in-Some-clause-full : goal.returns-in-Some-clause-full
-returns-in-Some-clause-full c = c.premises_stand.ensures.full
-
-pub returns-in-None-clause-grew : goal.returns-in-None-clause-grew
-returns-in-None-clause-grew c = c.by_impl.ensures.grew
+pub returns-in-None-clause-terms : goal.returns-in-None-clause-terms
+returns-in-None-clause-terms c = record {
+  grew = c.by_impl.ensures.terms.grew;
+  full = tt;
+}
 
 pub returns-in-None-clause-rule : goal.returns-in-None-clause-rule
 returns-in-None-clause-rule c = never
@@ -218,8 +221,11 @@ returns-in-None-clause-stand c = never
 pub by_clause-requires-clause-clauses : goal.by_clause-requires-clause-clauses
 by_clause-requires-clause-clauses c = c.requires.clauses
 
-pub returns-in_err-found-in-Clause-clause-grew : goal.returns-in_err-found-in-Clause-clause-grew
-returns-in_err-found-in-Clause-clause-grew c = c.by_clause.ensures.grew
+pub returns-in_err-found-in-Clause-clause-terms : goal.returns-in_err-found-in-Clause-clause-terms
+returns-in_err-found-in-Clause-clause-terms c = record {
+  grew = c.by_clause.ensures.terms.grew;
+  full = at-limit c.from_residual-in_err-found-in-Clause.result c.from_residual-in_err-found-in-Clause.ensures.1 c.in_err-found-in-Clause.ensures.terms.full;
+}
 
 pub returns-in_err-found-in-Clause-clause-rule : goal.returns-in_err-found-in-Clause-clause-rule
 returns-in_err-found-in-Clause-clause-rule c = not-ok _ _ c.from_residual-in_err-found-in-Clause.result c.from_residual-in_err-found-in-Clause.ensures.1
@@ -227,18 +233,21 @@ returns-in_err-found-in-Clause-clause-rule c = not-ok _ _ c.from_residual-in_err
 pub returns-in_err-found-in-Clause-clause-stand : goal.returns-in_err-found-in-Clause-clause-stand
 returns-in_err-found-in-Clause-clause-stand c = not-ok _ _ c.from_residual-in_err-found-in-Clause.result c.from_residual-in_err-found-in-Clause.ensures.1
 
-pub returns-in_err-found-in-Clause-clause-full : goal.returns-in_err-found-in-Clause-clause-full
-returns-in_err-found-in-Clause-clause-full c = at-limit c.from_residual-in_err-found-in-Clause.result c.from_residual-in_err-found-in-Clause.ensures.1 c.in_err-found-in-Clause.ensures.full
-
-pub returns-then-found-clause-grew : goal.returns-then-found-clause-grew
-returns-then-found-clause-grew c = c.by_clause.ensures.grew
+pub returns-then-found-clause-terms : goal.returns-then-found-clause-terms
+returns-then-found-clause-terms c = record {
+  grew = c.by_clause.ensures.terms.grew;
+  full = tt;
+}
 
 pub returns-then-found-clause-stand : goal.returns-then-found-clause-stand
 returns-then-found-clause-stand c = λ q. subst (λ l. PremisesStand (declared c.args.cx.now.entries c.args.declarations.now) (steps_say c.args.cx.now.entries c.args.steps.now) c.args.place c.args.step.now.reference.def_id.index (at_places (steps_say c.args.cx.now.entries c.args.steps.now) l))
     (sym (c.is_leaf-leaf.ensures q)) tt
 
-pub returns-else-found-clause-grew : goal.returns-else-found-clause-grew
-returns-else-found-clause-grew c = c.by_clause.ensures.grew
+pub returns-else-found-clause-terms : goal.returns-else-found-clause-terms
+returns-else-found-clause-terms c = record {
+  grew = c.by_clause.ensures.terms.grew;
+  full = tt;
+}
 
 pub returns-else-found-clause-rule : goal.returns-else-found-clause-rule
 returns-else-found-clause-rule c = λ q. never (sym c.if-found.false ∙ q)
@@ -255,8 +264,11 @@ by_supertrait-requires-clause-bounds c = c.requires.bounds
 pub by_supertrait-requires-clause-clauses : goal.by_supertrait-requires-clause-clauses
 by_supertrait-requires-clause-clauses c = c.requires.clauses
 
-pub returns-in_err-found-in-Supertrait-clause-grew : goal.returns-in_err-found-in-Supertrait-clause-grew
-returns-in_err-found-in-Supertrait-clause-grew c = c.by_supertrait.ensures.grew
+pub returns-in_err-found-in-Supertrait-clause-terms : goal.returns-in_err-found-in-Supertrait-clause-terms
+returns-in_err-found-in-Supertrait-clause-terms c = record {
+  grew = c.by_supertrait.ensures.terms.grew;
+  full = at-limit c.from_residual-in_err-found-in-Supertrait.result c.from_residual-in_err-found-in-Supertrait.ensures.1 c.in_err-found-in-Supertrait.ensures.terms.full;
+}
 
 pub returns-in_err-found-in-Supertrait-clause-rule : goal.returns-in_err-found-in-Supertrait-clause-rule
 returns-in_err-found-in-Supertrait-clause-rule c = not-ok _ _ c.from_residual-in_err-found-in-Supertrait.result c.from_residual-in_err-found-in-Supertrait.ensures.1
@@ -264,18 +276,21 @@ returns-in_err-found-in-Supertrait-clause-rule c = not-ok _ _ c.from_residual-in
 pub returns-in_err-found-in-Supertrait-clause-stand : goal.returns-in_err-found-in-Supertrait-clause-stand
 returns-in_err-found-in-Supertrait-clause-stand c = not-ok _ _ c.from_residual-in_err-found-in-Supertrait.result c.from_residual-in_err-found-in-Supertrait.ensures.1
 
-pub returns-in_err-found-in-Supertrait-clause-full : goal.returns-in_err-found-in-Supertrait-clause-full
-returns-in_err-found-in-Supertrait-clause-full c = at-limit c.from_residual-in_err-found-in-Supertrait.result c.from_residual-in_err-found-in-Supertrait.ensures.1 c.in_err-found-in-Supertrait.ensures.full
-
-pub returns-then-found-2-clause-grew : goal.returns-then-found-2-clause-grew
-returns-then-found-2-clause-grew c = c.by_supertrait.ensures.grew
+pub returns-then-found-2-clause-terms : goal.returns-then-found-2-clause-terms
+returns-then-found-2-clause-terms c = record {
+  grew = c.by_supertrait.ensures.terms.grew;
+  full = tt;
+}
 
 pub returns-then-found-2-clause-stand : goal.returns-then-found-2-clause-stand
 returns-then-found-2-clause-stand c = λ q. subst (λ l. PremisesStand (declared c.args.cx.now.entries c.args.declarations.now) (steps_say c.args.cx.now.entries c.args.steps.now) c.args.place c.args.step.now.reference.def_id.index (at_places (steps_say c.args.cx.now.entries c.args.steps.now) l))
     (sym (c.is_leaf-leaf.ensures q)) tt
 
-pub returns-else-found-2-clause-grew : goal.returns-else-found-2-clause-grew
-returns-else-found-2-clause-grew c = c.by_supertrait.ensures.grew
+pub returns-else-found-2-clause-terms : goal.returns-else-found-2-clause-terms
+returns-else-found-2-clause-terms c = record {
+  grew = c.by_supertrait.ensures.terms.grew;
+  full = tt;
+}
 
 pub returns-else-found-2-clause-rule : goal.returns-else-found-2-clause-rule
 returns-else-found-2-clause-rule c = λ q. never (sym c.if-found-2.false ∙ q)
@@ -286,8 +301,11 @@ returns-else-found-2-clause-stand c = λ q. never (sym c.if-found-2.false ∙ q)
 pub by_built_in-requires-clause-declared : goal.by_built_in-requires-clause-declared
 by_built_in-requires-clause-declared c = c.requires.declared
 
-pub returns-in_err-premises-in-BuiltIn-clause-grew : goal.returns-in_err-premises-in-BuiltIn-clause-grew
-returns-in_err-premises-in-BuiltIn-clause-grew c = c.by_built_in.ensures.grew
+pub returns-in_err-premises-in-BuiltIn-clause-terms : goal.returns-in_err-premises-in-BuiltIn-clause-terms
+returns-in_err-premises-in-BuiltIn-clause-terms c = record {
+  grew = c.by_built_in.ensures.terms.grew;
+  full = at-limit c.from_residual-in_err-premises-in-BuiltIn.result c.from_residual-in_err-premises-in-BuiltIn.ensures.1 c.in_err-premises-in-BuiltIn.ensures.terms.full;
+}
 
 pub returns-in_err-premises-in-BuiltIn-clause-rule : goal.returns-in_err-premises-in-BuiltIn-clause-rule
 returns-in_err-premises-in-BuiltIn-clause-rule c = not-ok _ _ c.from_residual-in_err-premises-in-BuiltIn.result c.from_residual-in_err-premises-in-BuiltIn.ensures.1
@@ -295,22 +313,22 @@ returns-in_err-premises-in-BuiltIn-clause-rule c = not-ok _ _ c.from_residual-in
 pub returns-in_err-premises-in-BuiltIn-clause-stand : goal.returns-in_err-premises-in-BuiltIn-clause-stand
 returns-in_err-premises-in-BuiltIn-clause-stand c = not-ok _ _ c.from_residual-in_err-premises-in-BuiltIn.result c.from_residual-in_err-premises-in-BuiltIn.ensures.1
 
-pub returns-in_err-premises-in-BuiltIn-clause-full : goal.returns-in_err-premises-in-BuiltIn-clause-full
-returns-in_err-premises-in-BuiltIn-clause-full c = at-limit c.from_residual-in_err-premises-in-BuiltIn.result c.from_residual-in_err-premises-in-BuiltIn.ensures.1 c.in_err-premises-in-BuiltIn.ensures.full
-
 pub premises_stand-requires-in-Some-2-clause-premises : goal.premises_stand-requires-in-Some-2-clause-premises
 premises_stand-requires-in-Some-2-clause-premises c =
     let fs = c.by_built_in.new.cx.entries in
     subst (TraitRefsHeld fs) (sym c.deref-in-Some-2-2.ensures.value) (subst (λ o. IfSome o (λ v. TraitRefsHeld fs v.items)) c.in-Some-2.is c.in_ok-premises-in-BuiltIn.ensures.held)
 
-pub returns-in-Some-2-clause-grew : goal.returns-in-Some-2-clause-grew
-returns-in-Some-2-clause-grew c = grew-on c.by_built_in.ensures.grew c.premises_stand-in-Some-2.ensures.grew
+pub returns-in-Some-2-clause-terms : goal.returns-in-Some-2-clause-terms
+returns-in-Some-2-clause-terms c = record {
+  grew = grew-on c.by_built_in.ensures.terms.grew c.premises_stand-in-Some-2.ensures.terms.grew;
+  full = c.premises_stand-in-Some-2.ensures.terms.full;
+}
 
-pub returns-in-Some-2-clause-full : goal.returns-in-Some-2-clause-full
-returns-in-Some-2-clause-full c = c.premises_stand-in-Some-2.ensures.full
-
-pub returns-in-None-2-clause-grew : goal.returns-in-None-2-clause-grew
-returns-in-None-2-clause-grew c = c.by_built_in.ensures.grew
+pub returns-in-None-2-clause-terms : goal.returns-in-None-2-clause-terms
+returns-in-None-2-clause-terms c = record {
+  grew = c.by_built_in.ensures.terms.grew;
+  full = tt;
+}
 
 pub returns-in-None-2-clause-rule : goal.returns-in-None-2-clause-rule
 returns-in-None-2-clause-rule c = never
@@ -318,8 +336,11 @@ returns-in-None-2-clause-rule c = never
 pub returns-in-None-2-clause-stand : goal.returns-in-None-2-clause-stand
 returns-in-None-2-clause-stand c = never
 
-pub returns-in-Assumed-clause-grew : goal.returns-in-Assumed-clause-grew
-returns-in-Assumed-clause-grew c = grew-none
+pub returns-in-Assumed-clause-terms : goal.returns-in-Assumed-clause-terms
+returns-in-Assumed-clause-terms c = record {
+  grew = grew-none;
+  full = tt;
+}
 
 pub returns-in-Assumed-clause-stand : goal.returns-in-Assumed-clause-stand
 returns-in-Assumed-clause-stand c = λ q. subst (λ l. PremisesStand (declared c.args.cx.now.entries c.args.declarations.now) (steps_say c.args.cx.now.entries c.args.steps.now) c.args.place c.args.step.now.reference.def_id.index (at_places (steps_say c.args.cx.now.entries c.args.steps.now) l))

@@ -2,7 +2,7 @@ use Rattle.std.proofs.Common.{◌≡◌, ap, sym, ◌∙◌, subst, take, ◌∷
 use Rattle.type_terms.specs.Worlds.{Reference}
 use Rattle.type_terms.specs.Erased.{erased_reference}
 use Rattle.type_terms.specs.Proofs.{In, Every}
-use Rattle.term_folds.proofs.Grown.{grew-on, grew-none}
+use Rattle.type_terms.proofs.Grown.{grew-on, grew-none}
 use Rattle.declarations.specs.Applied.{TraitRefsHeld}
 use Rattle.declarations.specs.Items.{reference_in}
 use Rattle.declarations.proofs.Growth.{reference-same, reference-kept}
@@ -19,7 +19,7 @@ pub premises-preserved : goal.premises-preserved
 premises-preserved c =
     let es = c.args.cx.now.entries in
     let now = c.premises.cx.entries in
-    let k = c.are_one.ensures.grew.keeps in
+    let k = c.are_one.ensures.terms.grew.keeps in
     let inv = c.premises.invariant in
     let back = c.in-Some.ensures.cases.0 in
     let back2 = c.in-Some-split_first.ensures.cases.0 in
@@ -37,7 +37,7 @@ premises-preserved c =
     let same = subst (λ (s : Step). erased_reference (reference_in now x) ≡ erased_reference (reference_in now s.reference)) (sym c.index-steps-place.is) (c.in_ok-are_one-in-Some-split_first.ensures.one c.if-not-branch.false) in
     let eq : term_of es st.reference ≡ term_of es x = ap erased_reference (sym (reference-same es now inv.grew.keeps st.reference sheld)) ∙ sym same ∙ ap erased_reference (reference-same es now inv.grew.keeps x held.0) in
     record {
-      grew = grew-on inv.grew c.are_one.ensures.grew;
+      grew = grew-on inv.grew c.are_one.ensures.terms.grew;
       left_held = held.1;
       are = λ h. inv.are (subst (λ l. at_places rs l ≡ terms_of es c.premises.left.now) (sym back2)
           (subst (λ l. at_places rs (i ∷ is) ≡ terms_of es l) (sym back) (places-more rs i is (term_of es st.reference) (term_of es x) (terms_of es xs) said eq h)));
@@ -48,8 +48,11 @@ premises-preserved c =
 pub premises-init : goal.premises-init
 premises-init c = record { grew = grew-none; left_held = c.requires.premises; are = λ h. h; stand = λ h. h }
 
-pub returns-then-place-allowed-clause-grew : goal.returns-then-place-allowed-clause-grew
-returns-then-place-allowed-clause-grew c = c.premises.invariant.grew
+pub returns-then-place-allowed-clause-terms : goal.returns-then-place-allowed-clause-terms
+returns-then-place-allowed-clause-terms c = record {
+  grew = c.premises.invariant.grew;
+  full = tt;
+}
 
 pub returns-then-place-allowed-clause-are : goal.returns-then-place-allowed-clause-are
 returns-then-place-allowed-clause-are c = never
@@ -78,8 +81,11 @@ are_one-requires-clause-other c =
     let held = each-at (StepHeld es) steps i st c.requires.steps (get-at steps i st c.if-place-steps.false c.index-steps-place.is) in
     subst (λ (s : Step). ReferenceHeld now s.reference) c.index-steps-place.is (reference-kept es now c.premises.invariant.grew.keeps st.reference held.0)
 
-pub returns-then-not-branch-clause-grew : goal.returns-then-not-branch-clause-grew
-returns-then-not-branch-clause-grew c = grew-on c.premises.invariant.grew c.are_one.ensures.grew
+pub returns-then-not-branch-clause-terms : goal.returns-then-not-branch-clause-terms
+returns-then-not-branch-clause-terms c = record {
+  grew = grew-on c.premises.invariant.grew c.are_one.ensures.terms.grew;
+  full = tt;
+}
 
 pub returns-then-not-branch-clause-are : goal.returns-then-not-branch-clause-are
 returns-then-not-branch-clause-are c = never
@@ -90,8 +96,11 @@ returns-then-not-branch-clause-stand c = never
 pub premises-smaller : goal.premises-smaller
 premises-smaller c = shorter c.in-Some.premise.now c.premises.left.now c.in-Some.others.now c.in-Some.ensures.cases.0
 
-pub returns-in-None-clause-grew : goal.returns-in-None-clause-grew
-returns-in-None-clause-grew c = c.premises.invariant.grew
+pub returns-in-None-clause-terms : goal.returns-in-None-clause-terms
+returns-in-None-clause-terms c = record {
+  grew = c.premises.invariant.grew;
+  full = tt;
+}
 
 pub returns-in-None-clause-are : goal.returns-in-None-clause-are
 returns-in-None-clause-are c = never
@@ -99,8 +108,11 @@ returns-in-None-clause-are c = never
 pub returns-in-None-clause-stand : goal.returns-in-None-clause-stand
 returns-in-None-clause-stand c = never
 
-pub returns-clause-grew : goal.returns-clause-grew
-returns-clause-grew c = c.premises.invariant.grew
+pub returns-clause-terms : goal.returns-clause-terms
+returns-clause-terms c = record {
+  grew = c.premises.invariant.grew;
+  full = tt;
+}
 
 pub returns-clause-are : goal.returns-clause-are
 returns-clause-are c = λ q.

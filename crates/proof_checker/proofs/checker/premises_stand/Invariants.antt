@@ -1,7 +1,7 @@
 use Rattle.std.proofs.Common.{◌≡◌, length, take}
 use Rattle.type_terms.specs.Proofs.{In, Every}
 use Rattle.declarations.specs.Applied.{TraitRefsHeld}
-use Rattle.term_folds.specs.Growth.{Grew}
+use Rattle.type_terms.specs.Growth.{Grew}
 use Rattle.proof_checker.specs.Steps.{terms_of, steps_say, at_places}
 use Rattle.proof_checker.proofs.checker.premises_stand.Given as goal
 

@@ -22,8 +22,11 @@ returns-in-Ok-clause-fits c =
     subst (λ (b : Ty). first_misfit A (trees_at es b.0) ≡ None) c.bind.ensures
     (no-misfit {T = Ty} c.in-Ok.ty A (trees_at es c.bind.result.value.0) c.in-Ok.ensures.out_of_range c.in-Ok.ensures.other_kind)
 
-pub returns-in-Err-Fault-clause-full : goal.returns-in-Err-Fault-clause-full
-returns-in-Err-Fault-clause-full c = λ q. c.in-Err-Fault.ensures.full (ap Err (c.in-Err-Fault.field-0-is ∙ ap error.Fault q))
+pub returns-in-Err-Fault-clause-terms : goal.returns-in-Err-Fault-clause-terms
+returns-in-Err-Fault-clause-terms c = record {
+  grew = c.instantiate.ensures.grew;
+  full = λ q. c.in-Err-Fault.ensures.full (ap Err (c.in-Err-Fault.field-0-is ∙ ap error.Fault q));
+}
 
 pub instantiate-requires-clause-held : goal.instantiate-requires-clause-held
 instantiate-requires-clause-held c = subst (λ (b : Ty). Has c.args.cx.now.entries types b.0) (sym c.bind.ensures) c.requires.field
@@ -32,17 +35,23 @@ pub instantiate-requires-clause-range : goal.instantiate-requires-clause-range
 instantiate-requires-clause-range c = let es = c.args.cx.now.entries in
     c.closed_arguments_are_in_range.ensures (trees_at es c.args.args.0) (one_piece (trees_at es c.bind.result.value.0)) c.requires.closed
 
-pub returns-in-Ok-clause-grew : goal.returns-in-Ok-clause-grew
-returns-in-Ok-clause-grew c = record { keeps = c.instantiate.ensures.keeps; limit = c.instantiate.ensures.limit }
+pub returns-in-Ok-clause-terms : goal.returns-in-Ok-clause-terms
+returns-in-Ok-clause-terms c = record {
+  grew = c.instantiate.ensures.grew;
+  full = tt;
+}
 
 pub returns-in-Ok-clause-held : goal.returns-in-Ok-clause-held
 returns-in-Ok-clause-held c = c.in-Ok.ensures.held
 
-pub returns-in-Err-Fault-clause-grew : goal.returns-in-Err-Fault-clause-grew
-returns-in-Err-Fault-clause-grew c = record { keeps = c.instantiate.ensures.keeps; limit = c.instantiate.ensures.limit }
+pub returns-in-Err-ParamOutOfRange-clause-terms : goal.returns-in-Err-ParamOutOfRange-clause-terms
+returns-in-Err-ParamOutOfRange-clause-terms c = record {
+  grew = c.instantiate.ensures.grew;
+  full = tt;
+}
 
-pub returns-in-Err-ParamOutOfRange-clause-grew : goal.returns-in-Err-ParamOutOfRange-clause-grew
-returns-in-Err-ParamOutOfRange-clause-grew c = record { keeps = c.instantiate.ensures.keeps; limit = c.instantiate.ensures.limit }
-
-pub returns-in-Err-ParamKind-clause-grew : goal.returns-in-Err-ParamKind-clause-grew
-returns-in-Err-ParamKind-clause-grew c = record { keeps = c.instantiate.ensures.keeps; limit = c.instantiate.ensures.limit }
+pub returns-in-Err-ParamKind-clause-terms : goal.returns-in-Err-ParamKind-clause-terms
+returns-in-Err-ParamKind-clause-terms c = record {
+  grew = c.instantiate.ensures.grew;
+  full = tt;
+}

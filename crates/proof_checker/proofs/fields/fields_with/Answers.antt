@@ -1,4 +1,4 @@
-use Rattle.std.proofs.Common.{◌≡◌, ◌++◌, List, map, ap, sym, ◌∙◌, subst, None, append-nil}
+use Rattle.std.proofs.Common.{refl, ◌≡◌, ◌++◌, List, map, ap, sym, ◌∙◌, subst, None, append-nil}
 use Rattle.std.specs.Prelude.{IfSome}
 use Rattle.type_terms.specs.Trees.{instantiate, outer_binder}
 use Rattle.type_terms.specs.Kinds.{TysHeld}
@@ -6,12 +6,12 @@ use Rattle.type_terms.specs.Terms.{Has, args_lists, types, trees_at}
 use Rattle.type_terms.specs.declared.kinds.Ty.{Ty}
 use Rattle.term_folds.specs.Arguments.{first_misfit}
 use Rattle.type_terms.specs.Kept.{trees-later, has-later}
-use Rattle.term_folds.proofs.Grown.{grew-on}
+use Rattle.type_terms.proofs.Grown.{grew-on}
 use Rattle.declarations.specs.Merges.{Each}
 use Rattle.declarations.specs.Unsizing.{field_trees}
 use Rattle.proof_checker.proofs.PartRows.{types-more, one-more-type}
-use Rattle.proof_checker.proofs.Results.{not-ok, none-each}
-use Rattle.declarations.proofs.Bounded.{at-limit}
+use Rattle.proof_checker.proofs.Results.{not-ok, none-each, memory-at-limit}
+use Rattle.type_terms.proofs.FailFacts.{at-limit}
 use Rattle.proof_checker.proofs.Places.{shorter, none-left}
 use Rattle.proof_checker.proofs.fields.fields_with.Goals as goal
 
@@ -24,7 +24,7 @@ fields-preserved c =
     let A = trees_at es c.args.args.0 in
     let found = c.fields.found.items in
     let ty = c.in-Some-2.ty in
-    let k = c.field_with.ensures.grew.keeps in
+    let k = c.field_with.ensures.terms.grew.keeps in
     let back = c.in-Some.ensures.cases.0 in
     let x = c.in-Some.next.now in
     let rest = c.in-Some.others.now in
@@ -42,7 +42,7 @@ fields-preserved c =
     let before = subst (λ (l : List Ty). field_trees now found ++ map (instantiate 0 A) (field_trees es l) ≡ all) back inv.are in
     let put = c.in_ok-push-in-Some-2.ensures.items in
     record {
-      grew = grew-on inv.grew c.field_with.ensures.grew;
+      grew = grew-on inv.grew c.field_with.ensures.terms.grew;
       left_held = held.1;
       fits = λ h. inv.fits (subst (Each (λ (f : Ty). first_misfit A (trees_at es f.0) ≡ None)) (sym back) (fit, h));
       found_held = subst (TysHeld next) (sym put) (types-more now next k found ty inv.found_held made_held);
@@ -61,8 +61,11 @@ pub field_with-requires-clause-closed : goal.field_with-requires-clause-closed
 field_with-requires-clause-closed c =
     ap outer_binder (trees-later c.args.cx.now.entries c.fields.cx.entries c.fields.invariant.grew.keeps args_lists c.args.args.0 c.requires.args) ∙ c.requires.closed
 
-pub returns-in_err-ty-clause-grew : goal.returns-in_err-ty-clause-grew
-returns-in_err-ty-clause-grew c = grew-on c.fields.invariant.grew c.field_with.ensures.grew
+pub returns-in_err-ty-clause-terms : goal.returns-in_err-ty-clause-terms
+returns-in_err-ty-clause-terms c = record {
+  grew = grew-on c.fields.invariant.grew c.field_with.ensures.terms.grew;
+  full = at-limit c.from_residual.result c.from_residual.ensures.1 c.in_err-ty.ensures.terms.full;
+}
 
 pub returns-in_err-ty-clause-held : goal.returns-in_err-ty-clause-held
 returns-in_err-ty-clause-held c = not-ok _ _ c.from_residual.result c.from_residual.ensures.1
@@ -70,20 +73,26 @@ returns-in_err-ty-clause-held c = not-ok _ _ c.from_residual.result c.from_resid
 pub returns-in_err-ty-clause-are : goal.returns-in_err-ty-clause-are
 returns-in_err-ty-clause-are c = not-ok _ _ c.from_residual.result c.from_residual.ensures.1
 
-pub returns-in_err-ty-clause-full : goal.returns-in_err-ty-clause-full
-returns-in_err-ty-clause-full c = at-limit c.from_residual.result c.from_residual.ensures.1 c.in_err-ty.ensures.full
-
-pub returns-in_err-push-in-Some-2-clause-grew : goal.returns-in_err-push-in-Some-2-clause-grew
-returns-in_err-push-in-Some-2-clause-grew c = grew-on c.fields.invariant.grew c.field_with.ensures.grew
+pub returns-in_err-push-in-Some-2-clause-terms : goal.returns-in_err-push-in-Some-2-clause-terms
+returns-in_err-push-in-Some-2-clause-terms c = record {
+  grew = grew-on c.fields.invariant.grew c.field_with.ensures.terms.grew;
+  full = memory-at-limit _ c.from_residual-in_err-push-in-Some-2.result c.from_residual-in_err-push-in-Some-2.ensures.1 refl;
+}
 
 pub fields-smaller : goal.fields-smaller
 fields-smaller c = shorter c.in-Some.next.now c.fields.left.now c.in-Some.others.now c.in-Some.ensures.cases.0
 
-pub returns-in-None-clause-grew : goal.returns-in-None-clause-grew
-returns-in-None-clause-grew c = grew-on c.fields.invariant.grew c.field_with.ensures.grew
+pub returns-in-None-clause-terms : goal.returns-in-None-clause-terms
+returns-in-None-clause-terms c = record {
+  grew = grew-on c.fields.invariant.grew c.field_with.ensures.terms.grew;
+  full = tt;
+}
 
-pub returns-clause-grew : goal.returns-clause-grew
-returns-clause-grew c = c.fields.invariant.grew
+pub returns-clause-terms : goal.returns-clause-terms
+returns-clause-terms c = record {
+  grew = c.fields.invariant.grew;
+  full = tt;
+}
 
 pub returns-clause-held : goal.returns-clause-held
 returns-clause-held c = c.fields.invariant.found_held

@@ -6,7 +6,7 @@ use Rattle.type_terms.specs.declared.kinds.Ty.{Ty}
 use Rattle.term_folds.specs.Arguments.{first_misfit}
 use Rattle.declarations.specs.Merges.{Each}
 use Rattle.declarations.specs.Unsizing.{field_trees}
-use Rattle.term_folds.specs.Growth.{Grew}
+use Rattle.type_terms.specs.Growth.{Grew}
 use Rattle.proof_checker.proofs.fields.fields_with.Given as goal
 
 abbrev pub invariant-fields : goal.invariant-fields

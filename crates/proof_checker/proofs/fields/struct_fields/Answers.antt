@@ -11,7 +11,7 @@ use Rattle.declarations.specs.Unsizing.{field_trees}
 use Rattle.proof_checker.proofs.Impls.{args-made}
 use Rattle.proof_checker.proofs.PartRows.{fields-erased}
 use Rattle.proof_checker.proofs.Results.{both-some}
-use Rattle.term_folds.proofs.Grown.{grew-none}
+use Rattle.type_terms.proofs.Grown.{grew-none}
 use Rattle.proof_checker.proofs.fields.struct_fields.Goals as goal
 
 each-types : (es : List Entry) (ts : List Ty) → Each (λ (t : Ty). Has es types t.0) ts → TysHeld es ts
@@ -41,8 +41,11 @@ returns-clause-are c =
     ))
     c.fields_with.ensures.are c.fields_with.ensures.fits
 
-pub returns-in-None-clause-grew : goal.returns-in-None-clause-grew
-returns-in-None-clause-grew c = grew-none
+pub returns-in-None-clause-terms : goal.returns-in-None-clause-terms
+returns-in-None-clause-terms c = record {
+  grew = grew-none;
+  full = tt;
+}
 
 pub outer_exclusive_binder-requires : goal.outer_exclusive_binder-requires
 outer_exclusive_binder-requires c = c.requires.args
@@ -53,11 +56,11 @@ fields_with-requires-clause-args c = c.requires.args
 pub fields_with-requires-clause-closed : goal.fields_with-requires-clause-closed
 fields_with-requires-clause-closed c = sym c.outer_exclusive_binder.ensures ∙ c.if-outer_exclusive_binder-ne0.false
 
-pub returns-clause-grew : goal.returns-clause-grew
-returns-clause-grew c = c.fields_with.ensures.grew
+pub returns-clause-terms : goal.returns-clause-terms
+returns-clause-terms c = record {
+  grew = c.fields_with.ensures.terms.grew;
+  full = c.fields_with.ensures.terms.full;
+}
 
 pub returns-clause-held : goal.returns-clause-held
 returns-clause-held c = c.fields_with.ensures.held
-
-pub returns-clause-full : goal.returns-clause-full
-returns-clause-full c = c.fields_with.ensures.full

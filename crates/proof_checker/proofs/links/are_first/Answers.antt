@@ -1,6 +1,6 @@
 use Rattle.std.proofs.Common.{◌≡◌, refl, ap, sym, ◌∙◌, subst, ◌∷◌, ◌++◌, List}
 use Rattle.type_terms.specs.Worlds.{Reference}
-use Rattle.term_folds.proofs.Grown.{grew-on}
+use Rattle.type_terms.proofs.Grown.{grew-on}
 use Rattle.declarations.specs.Applied.{TraitRefsHeld}
 use Rattle.declarations.proofs.Growth.{reference-same}
 use Rattle.type_terms.specs.Erased.{erased_reference}
@@ -26,7 +26,7 @@ premises-preserved c =
     let same = c.in_ok-are_one-in-Some-split_first.ensures.one c.if-not-branch.false in
     let eq : term_of es y ≡ term_of es x = ap erased_reference (sym (reference-same es now inv.grew.keeps y held2.0)) ∙ same ∙ ap erased_reference (reference-same es now inv.grew.keeps x held.0) in
     record {
-      grew = grew-on inv.grew c.are_one.ensures.grew;
+      grew = grew-on inv.grew c.are_one.ensures.terms.grew;
       left_held = held.1;
       asked_held = held2.1;
       first = λ h. inv.first (subst (λ l. AreFirstOf (terms_of es c.premises.left_asked.now) (terms_of es l)) (sym back)

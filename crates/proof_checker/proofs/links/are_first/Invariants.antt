@@ -1,6 +1,6 @@
 use Rattle.std.proofs.Common.{length}
 use Rattle.declarations.specs.Applied.{TraitRefsHeld}
-use Rattle.term_folds.specs.Growth.{Grew}
+use Rattle.type_terms.specs.Growth.{Grew}
 use Rattle.proof_checker.specs.Checked.{AreFirstOf}
 use Rattle.proof_checker.specs.Steps.{terms_of}
 use Rattle.proof_checker.proofs.links.are_first.Given as goal

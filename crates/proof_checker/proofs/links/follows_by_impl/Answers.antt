@@ -16,7 +16,7 @@ pub are_first-requires-clause-premises : goal.are_first-requires-clause-premises
 are_first-requires-clause-premises c =
     let es = c.args.cx.now.entries in
     let now = c.by_impl.new.cx.entries in
-    each-kept (ReferenceHeld es) (ReferenceHeld now) (λ r h. reference-kept es now c.by_impl.ensures.grew.keeps r h) c.args.premises.now c.requires.premises
+    each-kept (ReferenceHeld es) (ReferenceHeld now) (λ r h. reference-kept es now c.by_impl.ensures.terms.grew.keeps r h) c.args.premises.now c.requires.premises
 
 pub returns-in-Some-clause-follows : goal.returns-in-Some-clause-follows
 returns-in-Some-clause-follows c =
@@ -28,7 +28,7 @@ returns-in-Some-clause-follows c =
     let way = rule.by_impl c.args.id.index in
     let by = subst (λ o. IfSome o (λ v. (F : _) → IsRuleByWay V F r way (terms_of now v.items))) c.in-Some.is c.in_ok-asked.ensures.rule in
     let same : terms_of now ps ≡ terms_of es ps =
-    terms-map now ps ∙ ap (map erased_reference) (all-same es now c.by_impl.ensures.grew.keeps ps c.requires.premises) ∙ sym (terms-map es ps) in
+    terms-map now ps ∙ ap (map erased_reference) (all-same es now c.by_impl.ensures.terms.grew.keeps ps c.requires.premises) ∙ sym (terms-map es ps) in
     mapped _ _ c.are_first.result
     (λ b f q E.
     let h = f q in

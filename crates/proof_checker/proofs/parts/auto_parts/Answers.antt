@@ -1,4 +1,4 @@
-use Rattle.std.proofs.Common.{◌≡◌, [], ◌∷◌, List, sym, ap, ◌∙◌, subst}
+use Rattle.std.proofs.Common.{refl, ◌≡◌, [], ◌∷◌, List, sym, ap, ◌∙◌, subst}
 use Rattle.type_terms.specs.Kept.{trees-is}
 use Rattle.type_terms.specs.Kinds.{TysHeld}
 use Rattle.type_terms.specs.Label.{slice, uint}
@@ -9,10 +9,10 @@ use Rattle.type_terms.specs.declared.kinds.Ty.{Ty}
 use Rattle.declarations.specs.Items.{declared}
 use Rattle.proof_checker.specs.Rows.{IsOneRow, each_asked_of}
 use Rattle.proof_checker.proofs.PartRows.{pointee-row, referent-row, item-row, element-row, struct-row}
-use Rattle.proof_checker.proofs.Results.{both-some, not-ok}
+use Rattle.proof_checker.proofs.Results.{both-some, not-ok, memory-at-limit}
 use Rattle.proof_checker.proofs.TypeRows.{type-is, tys-asked}
-use Rattle.term_folds.proofs.Grown.{grew-none}
-use Rattle.declarations.proofs.Bounded.{at-limit}
+use Rattle.type_terms.proofs.Grown.{grew-none}
+use Rattle.type_terms.proofs.FailFacts.{at-limit}
 use Rattle.proof_checker.proofs.parts.auto_parts.Goals as goal
 
 pub returns-in_ok-tys-in-RawPtr-clause-asks : goal.returns-in_ok-tys-in-RawPtr-clause-asks
@@ -91,8 +91,11 @@ returns-in_ok-tys-in-Str-clause-held c = subst (TysHeld c.str_bytes.new.cx.entri
 pub kind-requires : goal.kind-requires
 kind-requires c = c.requires.self_held
 
-pub returns-in_err-bytes-in-Str-clause-grew : goal.returns-in_err-bytes-in-Str-clause-grew
-returns-in_err-bytes-in-Str-clause-grew c = c.str_bytes.ensures.grew
+pub returns-in_err-bytes-in-Str-clause-terms : goal.returns-in_err-bytes-in-Str-clause-terms
+returns-in_err-bytes-in-Str-clause-terms c = record {
+  grew = c.str_bytes.ensures.terms.grew;
+  full = at-limit c.from_residual.result c.from_residual.ensures.1 c.in_err-bytes-in-Str.ensures.terms.full;
+}
 
 pub returns-in_err-bytes-in-Str-clause-asks : goal.returns-in_err-bytes-in-Str-clause-asks
 returns-in_err-bytes-in-Str-clause-asks c = not-ok _ _ c.from_residual.result c.from_residual.ensures.1
@@ -100,11 +103,11 @@ returns-in_err-bytes-in-Str-clause-asks c = not-ok _ _ c.from_residual.result c.
 pub returns-in_err-bytes-in-Str-clause-held : goal.returns-in_err-bytes-in-Str-clause-held
 returns-in_err-bytes-in-Str-clause-held c = not-ok _ _ c.from_residual.result c.from_residual.ensures.1
 
-pub returns-in_err-bytes-in-Str-clause-full : goal.returns-in_err-bytes-in-Str-clause-full
-returns-in_err-bytes-in-Str-clause-full c = at-limit c.from_residual.result c.from_residual.ensures.1 c.in_err-bytes-in-Str.ensures.full
-
-pub returns-in_err-tys-in-Str-clause-grew : goal.returns-in_err-tys-in-Str-clause-grew
-returns-in_err-tys-in-Str-clause-grew c = c.str_bytes.ensures.grew
+pub returns-in_err-tys-in-Str-clause-terms : goal.returns-in_err-tys-in-Str-clause-terms
+returns-in_err-tys-in-Str-clause-terms c = record {
+  grew = c.str_bytes.ensures.terms.grew;
+  full = memory-at-limit _ c.from_residual-in_err-tys-in-Str.result c.from_residual-in_err-tys-in-Str.ensures.1 refl;
+}
 
 pub returns-in_err-tys-in-Str-clause-asks : goal.returns-in_err-tys-in-Str-clause-asks
 returns-in_err-tys-in-Str-clause-asks c = not-ok _ _ c.from_residual-in_err-tys-in-Str.result c.from_residual-in_err-tys-in-Str.ensures.1
@@ -112,11 +115,17 @@ returns-in_err-tys-in-Str-clause-asks c = not-ok _ _ c.from_residual-in_err-tys-
 pub returns-in_err-tys-in-Str-clause-held : goal.returns-in_err-tys-in-Str-clause-held
 returns-in_err-tys-in-Str-clause-held c = not-ok _ _ c.from_residual-in_err-tys-in-Str.result c.from_residual-in_err-tys-in-Str.ensures.1
 
-pub returns-in_ok-tys-in-Str-clause-grew : goal.returns-in_ok-tys-in-Str-clause-grew
-returns-in_ok-tys-in-Str-clause-grew c = c.str_bytes.ensures.grew
+pub returns-in_ok-tys-in-Str-clause-terms : goal.returns-in_ok-tys-in-Str-clause-terms
+returns-in_ok-tys-in-Str-clause-terms c = record {
+  grew = c.str_bytes.ensures.terms.grew;
+  full = tt;
+}
 
-pub returns-in_err-tys-in-RawPtr-clause-grew : goal.returns-in_err-tys-in-RawPtr-clause-grew
-returns-in_err-tys-in-RawPtr-clause-grew c = grew-none
+pub returns-in_err-tys-in-RawPtr-clause-terms : goal.returns-in_err-tys-in-RawPtr-clause-terms
+returns-in_err-tys-in-RawPtr-clause-terms c = record {
+  grew = grew-none;
+  full = memory-at-limit _ c.from_residual-in_err-tys-in-RawPtr.result c.from_residual-in_err-tys-in-RawPtr.ensures.1 refl;
+}
 
 pub returns-in_err-tys-in-RawPtr-clause-asks : goal.returns-in_err-tys-in-RawPtr-clause-asks
 returns-in_err-tys-in-RawPtr-clause-asks c = not-ok _ _ c.from_residual-in_err-tys-in-RawPtr.result c.from_residual-in_err-tys-in-RawPtr.ensures.1
@@ -124,14 +133,20 @@ returns-in_err-tys-in-RawPtr-clause-asks c = not-ok _ _ c.from_residual-in_err-t
 pub returns-in_err-tys-in-RawPtr-clause-held : goal.returns-in_err-tys-in-RawPtr-clause-held
 returns-in_err-tys-in-RawPtr-clause-held c = not-ok _ _ c.from_residual-in_err-tys-in-RawPtr.result c.from_residual-in_err-tys-in-RawPtr.ensures.1
 
-pub returns-in_ok-tys-in-RawPtr-clause-grew : goal.returns-in_ok-tys-in-RawPtr-clause-grew
-returns-in_ok-tys-in-RawPtr-clause-grew c = grew-none
+pub returns-in_ok-tys-in-RawPtr-clause-terms : goal.returns-in_ok-tys-in-RawPtr-clause-terms
+returns-in_ok-tys-in-RawPtr-clause-terms c = record {
+  grew = grew-none;
+  full = tt;
+}
 
 pub returns-in_ok-tys-in-RawPtr-clause-held : goal.returns-in_ok-tys-in-RawPtr-clause-held
 returns-in_ok-tys-in-RawPtr-clause-held c = subst (TysHeld c.args.cx.now.entries) (sym c.in_ok-tys-in-RawPtr.ensures.items) (c.in-RawPtr.ensures.held, tt)
 
-pub returns-in_err-tys-in-Ref-clause-grew : goal.returns-in_err-tys-in-Ref-clause-grew
-returns-in_err-tys-in-Ref-clause-grew c = grew-none
+pub returns-in_err-tys-in-Ref-clause-terms : goal.returns-in_err-tys-in-Ref-clause-terms
+returns-in_err-tys-in-Ref-clause-terms c = record {
+  grew = grew-none;
+  full = memory-at-limit _ c.from_residual-in_err-tys-in-Ref.result c.from_residual-in_err-tys-in-Ref.ensures.1 refl;
+}
 
 pub returns-in_err-tys-in-Ref-clause-asks : goal.returns-in_err-tys-in-Ref-clause-asks
 returns-in_err-tys-in-Ref-clause-asks c = not-ok _ _ c.from_residual-in_err-tys-in-Ref.result c.from_residual-in_err-tys-in-Ref.ensures.1
@@ -139,14 +154,20 @@ returns-in_err-tys-in-Ref-clause-asks c = not-ok _ _ c.from_residual-in_err-tys-
 pub returns-in_err-tys-in-Ref-clause-held : goal.returns-in_err-tys-in-Ref-clause-held
 returns-in_err-tys-in-Ref-clause-held c = not-ok _ _ c.from_residual-in_err-tys-in-Ref.result c.from_residual-in_err-tys-in-Ref.ensures.1
 
-pub returns-in_ok-tys-in-Ref-clause-grew : goal.returns-in_ok-tys-in-Ref-clause-grew
-returns-in_ok-tys-in-Ref-clause-grew c = grew-none
+pub returns-in_ok-tys-in-Ref-clause-terms : goal.returns-in_ok-tys-in-Ref-clause-terms
+returns-in_ok-tys-in-Ref-clause-terms c = record {
+  grew = grew-none;
+  full = tt;
+}
 
 pub returns-in_ok-tys-in-Ref-clause-held : goal.returns-in_ok-tys-in-Ref-clause-held
 returns-in_ok-tys-in-Ref-clause-held c = subst (TysHeld c.args.cx.now.entries) (sym c.in_ok-tys-in-Ref.ensures.items) (c.in-Ref.ensures.held.1, tt)
 
-pub returns-in_err-tys-in-Array-clause-grew : goal.returns-in_err-tys-in-Array-clause-grew
-returns-in_err-tys-in-Array-clause-grew c = grew-none
+pub returns-in_err-tys-in-Array-clause-terms : goal.returns-in_err-tys-in-Array-clause-terms
+returns-in_err-tys-in-Array-clause-terms c = record {
+  grew = grew-none;
+  full = memory-at-limit _ c.from_residual-in_err-tys-in-Array.result c.from_residual-in_err-tys-in-Array.ensures.1 refl;
+}
 
 pub returns-in_err-tys-in-Array-clause-asks : goal.returns-in_err-tys-in-Array-clause-asks
 returns-in_err-tys-in-Array-clause-asks c = not-ok _ _ c.from_residual-in_err-tys-in-Array.result c.from_residual-in_err-tys-in-Array.ensures.1
@@ -154,14 +175,20 @@ returns-in_err-tys-in-Array-clause-asks c = not-ok _ _ c.from_residual-in_err-ty
 pub returns-in_err-tys-in-Array-clause-held : goal.returns-in_err-tys-in-Array-clause-held
 returns-in_err-tys-in-Array-clause-held c = not-ok _ _ c.from_residual-in_err-tys-in-Array.result c.from_residual-in_err-tys-in-Array.ensures.1
 
-pub returns-in_ok-tys-in-Array-clause-grew : goal.returns-in_ok-tys-in-Array-clause-grew
-returns-in_ok-tys-in-Array-clause-grew c = grew-none
+pub returns-in_ok-tys-in-Array-clause-terms : goal.returns-in_ok-tys-in-Array-clause-terms
+returns-in_ok-tys-in-Array-clause-terms c = record {
+  grew = grew-none;
+  full = tt;
+}
 
 pub returns-in_ok-tys-in-Array-clause-held : goal.returns-in_ok-tys-in-Array-clause-held
 returns-in_ok-tys-in-Array-clause-held c = subst (TysHeld c.args.cx.now.entries) (sym c.in_ok-tys-in-Array.ensures.items) (c.in-Array.ensures.held.0, tt)
 
-pub returns-in_err-tys-in-Slice-clause-grew : goal.returns-in_err-tys-in-Slice-clause-grew
-returns-in_err-tys-in-Slice-clause-grew c = grew-none
+pub returns-in_err-tys-in-Slice-clause-terms : goal.returns-in_err-tys-in-Slice-clause-terms
+returns-in_err-tys-in-Slice-clause-terms c = record {
+  grew = grew-none;
+  full = memory-at-limit _ c.from_residual-in_err-tys-in-Slice.result c.from_residual-in_err-tys-in-Slice.ensures.1 refl;
+}
 
 pub returns-in_err-tys-in-Slice-clause-asks : goal.returns-in_err-tys-in-Slice-clause-asks
 returns-in_err-tys-in-Slice-clause-asks c = not-ok _ _ c.from_residual-in_err-tys-in-Slice.result c.from_residual-in_err-tys-in-Slice.ensures.1
@@ -169,14 +196,20 @@ returns-in_err-tys-in-Slice-clause-asks c = not-ok _ _ c.from_residual-in_err-ty
 pub returns-in_err-tys-in-Slice-clause-held : goal.returns-in_err-tys-in-Slice-clause-held
 returns-in_err-tys-in-Slice-clause-held c = not-ok _ _ c.from_residual-in_err-tys-in-Slice.result c.from_residual-in_err-tys-in-Slice.ensures.1
 
-pub returns-in_ok-tys-in-Slice-clause-grew : goal.returns-in_ok-tys-in-Slice-clause-grew
-returns-in_ok-tys-in-Slice-clause-grew c = grew-none
+pub returns-in_ok-tys-in-Slice-clause-terms : goal.returns-in_ok-tys-in-Slice-clause-terms
+returns-in_ok-tys-in-Slice-clause-terms c = record {
+  grew = grew-none;
+  full = tt;
+}
 
 pub returns-in_ok-tys-in-Slice-clause-held : goal.returns-in_ok-tys-in-Slice-clause-held
 returns-in_ok-tys-in-Slice-clause-held c = subst (TysHeld c.args.cx.now.entries) (sym c.in_ok-tys-in-Slice.ensures.items) (c.in-Slice.ensures.held, tt)
 
-pub returns-in_err-tys-in-Tuple-clause-grew : goal.returns-in_err-tys-in-Tuple-clause-grew
-returns-in_err-tys-in-Tuple-clause-grew c = grew-none
+pub returns-in_err-tys-in-Tuple-clause-terms : goal.returns-in_err-tys-in-Tuple-clause-terms
+returns-in_err-tys-in-Tuple-clause-terms c = record {
+  grew = grew-none;
+  full = memory-at-limit _ c.from_residual-in_err-tys-in-Tuple.result c.from_residual-in_err-tys-in-Tuple.ensures.1 refl;
+}
 
 pub returns-in_err-tys-in-Tuple-clause-asks : goal.returns-in_err-tys-in-Tuple-clause-asks
 returns-in_err-tys-in-Tuple-clause-asks c = not-ok _ _ c.from_residual-in_err-tys-in-Tuple.result c.from_residual-in_err-tys-in-Tuple.ensures.1
@@ -184,8 +217,11 @@ returns-in_err-tys-in-Tuple-clause-asks c = not-ok _ _ c.from_residual-in_err-ty
 pub returns-in_err-tys-in-Tuple-clause-held : goal.returns-in_err-tys-in-Tuple-clause-held
 returns-in_err-tys-in-Tuple-clause-held c = not-ok _ _ c.from_residual-in_err-tys-in-Tuple.result c.from_residual-in_err-tys-in-Tuple.ensures.1
 
-pub returns-in_ok-tys-in-Tuple-clause-grew : goal.returns-in_ok-tys-in-Tuple-clause-grew
-returns-in_ok-tys-in-Tuple-clause-grew c = grew-none
+pub returns-in_ok-tys-in-Tuple-clause-terms : goal.returns-in_ok-tys-in-Tuple-clause-terms
+returns-in_ok-tys-in-Tuple-clause-terms c = record {
+  grew = grew-none;
+  full = tt;
+}
 
 pub returns-in_ok-tys-in-Tuple-clause-held : goal.returns-in_ok-tys-in-Tuple-clause-held
 returns-in_ok-tys-in-Tuple-clause-held c = subst (TysHeld c.args.cx.now.entries) (sym c.in_ok-tys-in-Tuple.ensures.items) c.tys.ensures.held
@@ -199,20 +235,26 @@ struct_fields-found-requires-clause-declared c = c.requires.declared
 pub struct_fields-found-requires-clause-args : goal.struct_fields-found-requires-clause-args
 struct_fields-found-requires-clause-args c = c.in-Adt.ensures.held
 
-pub returns-in-Adt-clause-grew : goal.returns-in-Adt-clause-grew
-returns-in-Adt-clause-grew c = c.struct_fields-found.ensures.grew
+pub returns-in-Adt-clause-terms : goal.returns-in-Adt-clause-terms
+returns-in-Adt-clause-terms c = record {
+  grew = c.struct_fields-found.ensures.terms.grew;
+  full = c.struct_fields-found.ensures.terms.full;
+}
 
 pub returns-in-Adt-clause-held : goal.returns-in-Adt-clause-held
 returns-in-Adt-clause-held c = c.struct_fields-found.ensures.held
 
-pub returns-in-Adt-clause-full : goal.returns-in-Adt-clause-full
-returns-in-Adt-clause-full c = c.struct_fields-found.ensures.full
-
-pub returns-in-Bool-clause-grew : goal.returns-in-Bool-clause-grew
-returns-in-Bool-clause-grew c = grew-none
+pub returns-in-Bool-clause-terms : goal.returns-in-Bool-clause-terms
+returns-in-Bool-clause-terms c = record {
+  grew = grew-none;
+  full = tt;
+}
 
 pub returns-in-Bool-clause-held : goal.returns-in-Bool-clause-held
 returns-in-Bool-clause-held c = subst (TysHeld c.args.cx.now.entries) (sym c.new.ensures.items) tt
 
-pub returns-in-Dynamic-clause-grew : goal.returns-in-Dynamic-clause-grew
-returns-in-Dynamic-clause-grew c = grew-none
+pub returns-in-Dynamic-clause-terms : goal.returns-in-Dynamic-clause-terms
+returns-in-Dynamic-clause-terms c = record {
+  grew = grew-none;
+  full = tt;
+}

@@ -11,7 +11,7 @@ use Rattle.proof_checker.specs.Rows.{AreFieldsOf, IsOneRow, each_asked_of, last_
 use Rattle.proof_checker.proofs.PartRows.{sized-struct-row}
 use Rattle.proof_checker.proofs.TypeRows.{held-last}
 use Rattle.proof_checker.proofs.Results.{not-ok}
-use Rattle.declarations.proofs.Bounded.{at-limit}
+use Rattle.type_terms.proofs.FailFacts.{at-limit}
 use Rattle.proof_checker.proofs.parts.sized_part.Goals as goal
 
 pub returns-in_ok-last-in-Some-clause-asks : goal.returns-in_ok-last-in-Some-clause-asks
@@ -38,8 +38,11 @@ returns-in_ok-last-in-Some-clause-held c =
 pub kind-requires : goal.kind-requires
 kind-requires c = c.requires.self_held
 
-pub returns-in_err-found-clause-grew : goal.returns-in_err-found-clause-grew
-returns-in_err-found-clause-grew c = c.struct_fields.ensures.grew
+pub returns-in_err-found-clause-terms : goal.returns-in_err-found-clause-terms
+returns-in_err-found-clause-terms c = record {
+  grew = c.struct_fields.ensures.terms.grew;
+  full = at-limit c.from_residual.result c.from_residual.ensures.1 c.in_err-found.ensures.terms.full;
+}
 
 pub returns-in_err-found-clause-asks : goal.returns-in_err-found-clause-asks
 returns-in_err-found-clause-asks c = not-ok _ _ c.from_residual.result c.from_residual.ensures.1
@@ -47,11 +50,14 @@ returns-in_err-found-clause-asks c = not-ok _ _ c.from_residual.result c.from_re
 pub returns-in_err-found-clause-held : goal.returns-in_err-found-clause-held
 returns-in_err-found-clause-held c = not-ok _ _ c.from_residual.result c.from_residual.ensures.1
 
-pub returns-in_err-found-clause-full : goal.returns-in_err-found-clause-full
-returns-in_err-found-clause-full c = at-limit c.from_residual.result c.from_residual.ensures.1 c.in_err-found.ensures.full
+pub returns-in_ok-last-in-Some-clause-terms : goal.returns-in_ok-last-in-Some-clause-terms
+returns-in_ok-last-in-Some-clause-terms c = record {
+  grew = c.struct_fields.ensures.terms.grew;
+  full = tt;
+}
 
-pub returns-in_ok-last-in-Some-clause-grew : goal.returns-in_ok-last-in-Some-clause-grew
-returns-in_ok-last-in-Some-clause-grew c = c.struct_fields.ensures.grew
-
-pub returns-in-None-clause-grew : goal.returns-in-None-clause-grew
-returns-in-None-clause-grew c = c.struct_fields.ensures.grew
+pub returns-in-None-clause-terms : goal.returns-in-None-clause-terms
+returns-in-None-clause-terms c = record {
+  grew = c.struct_fields.ensures.terms.grew;
+  full = tt;
+}

@@ -3,24 +3,29 @@ use Rattle.type_terms.specs.Label.{slice}
 use Rattle.type_terms.specs.Trees.{tree, none}
 use Rattle.type_terms.specs.Terms.{types, bounds_lists}
 use Rattle.type_terms.specs.Kept.{trees-is}
-use Rattle.type_terms.proofs.FailFacts.{refused-term}
-use Rattle.term_folds.proofs.Grown.{grew-on}
-use Rattle.declarations.proofs.Bounded.{at-limit}
+use Rattle.type_terms.proofs.FailFacts.{refused-term, at-limit}
+use Rattle.type_terms.proofs.Grown.{grew-on}
 use Rattle.proof_checker.proofs.parts.str_bytes.Goals as goal
 
 no-further : types ≤ bounds_lists
 no-further = omega arith
 
-pub returns-in_err-byte-clause-full : goal.returns-in_err-byte-clause-full
-returns-in_err-byte-clause-full c =
-    let refused = c.in_err-byte.ensures in
-    at-limit c.from_residual.result c.from_residual.ensures.1 (λ p. refused-term types no-further (refused.full (ap Err p)) refused.limit refused.refused)
+pub returns-in_err-byte-clause-terms : goal.returns-in_err-byte-clause-terms
+returns-in_err-byte-clause-terms c = record {
+  grew = c.mk_ty.ensures.grew;
+  full =
+      let refused = c.in_err-byte.ensures in
+      at-limit c.from_residual.result c.from_residual.ensures.1 (λ p. refused-term types no-further (refused.full (ap Err p)) refused.grew.limit refused.refused);
+}
 
-pub returns-in_err-bytes-clause-full : goal.returns-in_err-bytes-clause-full
-returns-in_err-bytes-clause-full c =
-    let refused = c.in_err-bytes.ensures in
-    let handed = c.from_residual-in_err-bytes in
-    at-limit handed.result handed.ensures.1 (λ p. refused-term types no-further (refused.full (ap Err p)) refused.limit refused.refused)
+pub returns-in_err-bytes-clause-terms : goal.returns-in_err-bytes-clause-terms
+returns-in_err-bytes-clause-terms c = record {
+  grew = grew-on {b = c.mk_ty.new.self} c.mk_ty.ensures.grew c.mk_ty-2.ensures.grew;
+  full =
+      let refused = c.in_err-bytes.ensures in
+      let handed = c.from_residual-in_err-bytes in
+      at-limit handed.result handed.ensures.1 (λ p. refused-term types no-further (refused.full (ap Err p)) refused.grew.limit refused.refused);
+}
 
 pub returns-clause-is : goal.returns-clause-is
 returns-clause-is c =
@@ -31,14 +36,11 @@ returns-clause-is c =
 pub mk_ty-requires-2 : goal.mk_ty-requires-2
 mk_ty-requires-2 c = (_, c.in_ok-byte.ensures.is)
 
-pub returns-in_err-byte-clause-grew : goal.returns-in_err-byte-clause-grew
-returns-in_err-byte-clause-grew c = record { keeps = c.mk_ty.ensures.keeps; limit = c.mk_ty.ensures.limit }
-
-pub returns-in_err-bytes-clause-grew : goal.returns-in_err-bytes-clause-grew
-returns-in_err-bytes-clause-grew c = grew-on {b = c.mk_ty.new.self} (record { keeps = c.mk_ty.ensures.keeps; limit = c.mk_ty.ensures.limit }) (record { keeps = c.mk_ty-2.ensures.keeps; limit = c.mk_ty-2.ensures.limit })
-
-pub returns-clause-grew : goal.returns-clause-grew
-returns-clause-grew c = grew-on {b = c.mk_ty.new.self} (record { keeps = c.mk_ty.ensures.keeps; limit = c.mk_ty.ensures.limit }) (record { keeps = c.mk_ty-2.ensures.keeps; limit = c.mk_ty-2.ensures.limit })
+pub returns-clause-terms : goal.returns-clause-terms
+returns-clause-terms c = record {
+  grew = grew-on {b = c.mk_ty.new.self} c.mk_ty.ensures.grew c.mk_ty-2.ensures.grew;
+  full = tt;
+}
 
 pub returns-clause-held : goal.returns-clause-held
 returns-clause-held c = (_, c.in_ok-bytes.ensures.is)

@@ -1,7 +1,7 @@
 use Rattle.std.proofs.Common.{◌≡◌, ◌++◌, length}
 use Rattle.type_terms.specs.Kinds.{TysHeld}
 use Rattle.declarations.specs.Applied.{TraitRefsHeld}
-use Rattle.term_folds.specs.Growth.{Grew}
+use Rattle.type_terms.specs.Growth.{Grew}
 use Rattle.proof_checker.specs.Rows.{each_asked_of}
 use Rattle.proof_checker.specs.Steps.{terms_of}
 use Rattle.proof_checker.proofs.rows.all_asked.Given as goal

@@ -8,10 +8,10 @@ use Rattle.declarations.specs.Items.{declared}
 use Rattle.proof_checker.specs.Checked.{IsBuiltInRule}
 use Rattle.proof_checker.specs.Rows.{HasRow, each_asked_of}
 use Rattle.proof_checker.specs.Steps.{terms_of}
-use Rattle.proof_checker.proofs.Results.{mapped-some, not-ok}
+use Rattle.proof_checker.proofs.Results.{mapped-some, not-ok, memory-at-limit}
 use Rattle.proof_checker.proofs.TypeRows.{built-in-rule}
-use Rattle.term_folds.proofs.Grown.{grew-none}
-use Rattle.declarations.proofs.Bounded.{at-limit}
+use Rattle.type_terms.proofs.Grown.{grew-none}
+use Rattle.type_terms.proofs.FailFacts.{at-limit}
 use Rattle.type_terms.specs.Kinds.{TysHeld}
 use Rattle.proof_checker.proofs.rows.by_built_in.Goals as goal
 
@@ -42,8 +42,11 @@ all_asked-requires c =
     let es = c.args.cx.now.entries in
     subst (TysHeld es) (sym c.deref.ensures.value) (subst (λ o. IfSome o (λ v. TysHeld es v.items)) c.in-Some-2.is c.in_ok-tys.ensures.held)
 
-pub returns-in_err-tys-clause-grew : goal.returns-in_err-tys-clause-grew
-returns-in_err-tys-clause-grew c = grew-none
+pub returns-in_err-tys-clause-terms : goal.returns-in_err-tys-clause-terms
+returns-in_err-tys-clause-terms c = record {
+  grew = grew-none;
+  full = memory-at-limit _ c.from_residual.result c.from_residual.ensures.1 c.in_err-tys.ensures.memory;
+}
 
 pub returns-in_err-tys-clause-held : goal.returns-in_err-tys-clause-held
 returns-in_err-tys-clause-held c = not-ok _ _ c.from_residual.result c.from_residual.ensures.1
@@ -51,8 +54,11 @@ returns-in_err-tys-clause-held c = not-ok _ _ c.from_residual.result c.from_resi
 pub returns-in_err-tys-clause-rule : goal.returns-in_err-tys-clause-rule
 returns-in_err-tys-clause-rule c = not-ok _ _ c.from_residual.result c.from_residual.ensures.1
 
-pub returns-in_err-premises-in-Some-2-clause-grew : goal.returns-in_err-premises-in-Some-2-clause-grew
-returns-in_err-premises-in-Some-2-clause-grew c = c.all_asked.ensures.grew
+pub returns-in_err-premises-in-Some-2-clause-terms : goal.returns-in_err-premises-in-Some-2-clause-terms
+returns-in_err-premises-in-Some-2-clause-terms c = record {
+  grew = c.all_asked.ensures.terms.grew;
+  full = at-limit c.from_residual-in_err-premises-in-Some-2.result c.from_residual-in_err-premises-in-Some-2.ensures.1 c.in_err-premises-in-Some-2.ensures.terms.full;
+}
 
 pub returns-in_err-premises-in-Some-2-clause-held : goal.returns-in_err-premises-in-Some-2-clause-held
 returns-in_err-premises-in-Some-2-clause-held c = not-ok _ _ c.from_residual-in_err-premises-in-Some-2.result c.from_residual-in_err-premises-in-Some-2.ensures.1
@@ -60,11 +66,11 @@ returns-in_err-premises-in-Some-2-clause-held c = not-ok _ _ c.from_residual-in_
 pub returns-in_err-premises-in-Some-2-clause-rule : goal.returns-in_err-premises-in-Some-2-clause-rule
 returns-in_err-premises-in-Some-2-clause-rule c = not-ok _ _ c.from_residual-in_err-premises-in-Some-2.result c.from_residual-in_err-premises-in-Some-2.ensures.1
 
-pub returns-in_err-premises-in-Some-2-clause-full : goal.returns-in_err-premises-in-Some-2-clause-full
-returns-in_err-premises-in-Some-2-clause-full c = at-limit c.from_residual-in_err-premises-in-Some-2.result c.from_residual-in_err-premises-in-Some-2.ensures.1 c.in_err-premises-in-Some-2.ensures.full
-
-pub returns-in_ok-premises-in-Some-2-clause-grew : goal.returns-in_ok-premises-in-Some-2-clause-grew
-returns-in_ok-premises-in-Some-2-clause-grew c = c.all_asked.ensures.grew
+pub returns-in_ok-premises-in-Some-2-clause-terms : goal.returns-in_ok-premises-in-Some-2-clause-terms
+returns-in_ok-premises-in-Some-2-clause-terms c = record {
+  grew = c.all_asked.ensures.terms.grew;
+  full = tt;
+}
 
 pub returns-in_ok-premises-in-Some-2-clause-held : goal.returns-in_ok-premises-in-Some-2-clause-held
 returns-in_ok-premises-in-Some-2-clause-held c = c.in_ok-premises-in-Some-2.ensures.held
@@ -75,11 +81,11 @@ by_parts-requires-clause-declared c = c.requires.declared
 pub by_parts-requires-clause-self_held : goal.by_parts-requires-clause-self_held
 by_parts-requires-clause-self_held c = c.in-Some.ensures.held
 
-pub returns-in-None-clause-grew : goal.returns-in-None-clause-grew
-returns-in-None-clause-grew c = c.by_parts.ensures.grew
+pub returns-in-None-clause-terms : goal.returns-in-None-clause-terms
+returns-in-None-clause-terms c = record {
+  grew = c.by_parts.ensures.terms.grew;
+  full = c.by_parts.ensures.terms.full;
+}
 
 pub returns-in-None-clause-held : goal.returns-in-None-clause-held
 returns-in-None-clause-held c = c.by_parts.ensures.held
-
-pub returns-in-None-clause-full : goal.returns-in-None-clause-full
-returns-in-None-clause-full c = c.by_parts.ensures.full

@@ -7,9 +7,9 @@ use Rattle.declarations.specs.Items.{declared}
 use Rattle.proof_checker.specs.Checked.{IsBuiltInRule}
 use Rattle.proof_checker.specs.Rows.{HasRow, each_asked_of}
 use Rattle.proof_checker.proofs.TypeRows.{built-in-rule}
-use Rattle.term_folds.proofs.Grown.{grew-on}
+use Rattle.type_terms.proofs.Grown.{grew-on}
 use Rattle.proof_checker.proofs.Results.{not-ok}
-use Rattle.declarations.proofs.Bounded.{at-limit}
+use Rattle.type_terms.proofs.FailFacts.{at-limit}
 use Rattle.type_terms.specs.Kinds.{TysHeld}
 use Rattle.proof_checker.proofs.rows.by_parts.Goals as goal
 
@@ -30,8 +30,11 @@ parts_asked-requires-clause-declared c = c.requires.declared
 pub parts_asked-requires-clause-self_held : goal.parts_asked-requires-clause-self_held
 parts_asked-requires-clause-self_held c = c.requires.self_held
 
-pub returns-in_err-tys-clause-grew : goal.returns-in_err-tys-clause-grew
-returns-in_err-tys-clause-grew c = c.parts_asked.ensures.grew
+pub returns-in_err-tys-clause-terms : goal.returns-in_err-tys-clause-terms
+returns-in_err-tys-clause-terms c = record {
+  grew = c.parts_asked.ensures.terms.grew;
+  full = at-limit c.from_residual.result c.from_residual.ensures.1 c.in_err-tys.ensures.terms.full;
+}
 
 pub returns-in_err-tys-clause-held : goal.returns-in_err-tys-clause-held
 returns-in_err-tys-clause-held c = not-ok _ _ c.from_residual.result c.from_residual.ensures.1
@@ -39,16 +42,16 @@ returns-in_err-tys-clause-held c = not-ok _ _ c.from_residual.result c.from_resi
 pub returns-in_err-tys-clause-rule : goal.returns-in_err-tys-clause-rule
 returns-in_err-tys-clause-rule c = not-ok _ _ c.from_residual.result c.from_residual.ensures.1
 
-pub returns-in_err-tys-clause-full : goal.returns-in_err-tys-clause-full
-returns-in_err-tys-clause-full c = at-limit c.from_residual.result c.from_residual.ensures.1 c.in_err-tys.ensures.full
-
 pub all_asked-requires : goal.all_asked-requires
 all_asked-requires c =
     let mid = c.parts_asked.new.cx.entries in
     subst (TysHeld mid) (sym c.deref.ensures.value) (subst (λ o. IfSome o (λ v. TysHeld mid v.items)) c.in-Some.is c.in_ok-tys.ensures.held)
 
-pub returns-in_err-premises-in-Some-clause-grew : goal.returns-in_err-premises-in-Some-clause-grew
-returns-in_err-premises-in-Some-clause-grew c = grew-on c.parts_asked.ensures.grew c.all_asked.ensures.grew
+pub returns-in_err-premises-in-Some-clause-terms : goal.returns-in_err-premises-in-Some-clause-terms
+returns-in_err-premises-in-Some-clause-terms c = record {
+  grew = grew-on c.parts_asked.ensures.terms.grew c.all_asked.ensures.terms.grew;
+  full = at-limit c.from_residual-in_err-premises-in-Some.result c.from_residual-in_err-premises-in-Some.ensures.1 c.in_err-premises-in-Some.ensures.terms.full;
+}
 
 pub returns-in_err-premises-in-Some-clause-held : goal.returns-in_err-premises-in-Some-clause-held
 returns-in_err-premises-in-Some-clause-held c = not-ok _ _ c.from_residual-in_err-premises-in-Some.result c.from_residual-in_err-premises-in-Some.ensures.1
@@ -56,14 +59,17 @@ returns-in_err-premises-in-Some-clause-held c = not-ok _ _ c.from_residual-in_er
 pub returns-in_err-premises-in-Some-clause-rule : goal.returns-in_err-premises-in-Some-clause-rule
 returns-in_err-premises-in-Some-clause-rule c = not-ok _ _ c.from_residual-in_err-premises-in-Some.result c.from_residual-in_err-premises-in-Some.ensures.1
 
-pub returns-in_err-premises-in-Some-clause-full : goal.returns-in_err-premises-in-Some-clause-full
-returns-in_err-premises-in-Some-clause-full c = at-limit c.from_residual-in_err-premises-in-Some.result c.from_residual-in_err-premises-in-Some.ensures.1 c.in_err-premises-in-Some.ensures.full
-
-pub returns-in_ok-premises-in-Some-clause-grew : goal.returns-in_ok-premises-in-Some-clause-grew
-returns-in_ok-premises-in-Some-clause-grew c = grew-on c.parts_asked.ensures.grew c.all_asked.ensures.grew
+pub returns-in_ok-premises-in-Some-clause-terms : goal.returns-in_ok-premises-in-Some-clause-terms
+returns-in_ok-premises-in-Some-clause-terms c = record {
+  grew = grew-on c.parts_asked.ensures.terms.grew c.all_asked.ensures.terms.grew;
+  full = tt;
+}
 
 pub returns-in_ok-premises-in-Some-clause-held : goal.returns-in_ok-premises-in-Some-clause-held
 returns-in_ok-premises-in-Some-clause-held c = c.in_ok-premises-in-Some.ensures.held
 
-pub returns-in-None-clause-grew : goal.returns-in-None-clause-grew
-returns-in-None-clause-grew c = c.parts_asked.ensures.grew
+pub returns-in-None-clause-terms : goal.returns-in-None-clause-terms
+returns-in-None-clause-terms c = record {
+  grew = c.parts_asked.ensures.terms.grew;
+  full = tt;
+}

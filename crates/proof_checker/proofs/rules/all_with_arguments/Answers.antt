@@ -1,18 +1,19 @@
-use Rattle.std.proofs.Common.{◌≡◌, ◌++◌, ap, sym, ◌∙◌, subst, None, append-nil}
+use Rattle.std.proofs.Common.{refl, ◌≡◌, ◌++◌, ap, sym, ◌∙◌, subst, None, append-nil}
 use Rattle.std.specs.Prelude.{IfSome}
 use Rattle.type_terms.specs.Worlds.{with_args, all_with_args}
 use Rattle.type_terms.specs.Terms.{args_lists, trees_at}
 use Rattle.term_folds.specs.Arguments.{first_misfit}
 use Rattle.term_folds.specs.declared.predicate.TraitRef.{TraitRef}
 use Rattle.type_terms.specs.Kept.{trees-later, has-later}
-use Rattle.term_folds.proofs.Grown.{grew-on, grew-none}
+use Rattle.type_terms.proofs.Grown.{grew-on, grew-none}
+use Rattle.type_terms.proofs.FailFacts.{at-limit}
 use Rattle.declarations.specs.Items.{reference_in}
 use Rattle.declarations.specs.Held.{ReferenceHeld}
 use Rattle.declarations.specs.Merges.{Each}
 use Rattle.declarations.specs.Applied.{references_in, TraitRefsHeld}
 use Rattle.declarations.proofs.Growth.{reference-same, reference-kept}
-use Rattle.declarations.proofs.Bounded.{held-more, one-more, at-limit}
-use Rattle.proof_checker.proofs.Results.{not-ok, none-each}
+use Rattle.declarations.proofs.Bounded.{held-more, one-more}
+use Rattle.proof_checker.proofs.Results.{not-ok, none-each, memory-at-limit}
 use Rattle.type_terms.specs.Trees.{outer_binder}
 use Rattle.proof_checker.proofs.Places.{shorter, none-left}
 use Rattle.proof_checker.proofs.rules.all_with_arguments.Goals as goal
@@ -26,7 +27,7 @@ references-preserved c =
     let A = trees_at es c.args.args.0 in
     let found = c.references.found.items in
     let r = c.in-Some-2.instance in
-    let k = c.with_arguments.ensures.grew.keeps in
+    let k = c.with_arguments.ensures.terms.grew.keeps in
     let back = c.in-Some.ensures.cases.0 in
     let x = c.in-Some.next.now in
     let rest = c.in-Some.others.now in
@@ -44,7 +45,7 @@ references-preserved c =
     let before = subst (λ l. references_in now found ++ all_with_args A (references_in es l) ≡ all) back inv.are in
     let put = c.in_ok-push-in-Some-2.ensures.items in
     record {
-      grew = grew-on inv.grew c.with_arguments.ensures.grew;
+      grew = grew-on inv.grew c.with_arguments.ensures.terms.grew;
       left_held = held.1;
       fits = λ h. inv.fits (subst (Each (λ (b : TraitRef). first_misfit A (trees_at es b.args.0) ≡ None)) (sym back) (fit, h));
       found_held = subst (TraitRefsHeld next) (sym put) (held-more now next k found r inv.found_held made_held);
@@ -74,8 +75,11 @@ pub with_arguments-requires-clause-closed : goal.with_arguments-requires-clause-
 with_arguments-requires-clause-closed c =
     ap outer_binder (trees-later c.args.cx.now.entries c.references.cx.entries c.references.invariant.grew.keeps args_lists c.args.args.0 c.requires.args) ∙ c.requires.closed
 
-pub returns-in_err-instance-clause-grew : goal.returns-in_err-instance-clause-grew
-returns-in_err-instance-clause-grew c = grew-on c.references.invariant.grew c.with_arguments.ensures.grew
+pub returns-in_err-instance-clause-terms : goal.returns-in_err-instance-clause-terms
+returns-in_err-instance-clause-terms c = record {
+  grew = grew-on c.references.invariant.grew c.with_arguments.ensures.terms.grew;
+  full = at-limit c.from_residual.result c.from_residual.ensures.1 c.in_err-instance.ensures.terms.full;
+}
 
 pub returns-in_err-instance-clause-held : goal.returns-in_err-instance-clause-held
 returns-in_err-instance-clause-held c = not-ok _ _ c.from_residual.result c.from_residual.ensures.1
@@ -83,11 +87,11 @@ returns-in_err-instance-clause-held c = not-ok _ _ c.from_residual.result c.from
 pub returns-in_err-instance-clause-are : goal.returns-in_err-instance-clause-are
 returns-in_err-instance-clause-are c = not-ok _ _ c.from_residual.result c.from_residual.ensures.1
 
-pub returns-in_err-instance-clause-full : goal.returns-in_err-instance-clause-full
-returns-in_err-instance-clause-full c = at-limit c.from_residual.result c.from_residual.ensures.1 c.in_err-instance.ensures.full
-
-pub returns-in_err-push-in-Some-2-clause-grew : goal.returns-in_err-push-in-Some-2-clause-grew
-returns-in_err-push-in-Some-2-clause-grew c = grew-on c.references.invariant.grew c.with_arguments.ensures.grew
+pub returns-in_err-push-in-Some-2-clause-terms : goal.returns-in_err-push-in-Some-2-clause-terms
+returns-in_err-push-in-Some-2-clause-terms c = record {
+  grew = grew-on c.references.invariant.grew c.with_arguments.ensures.terms.grew;
+  full = memory-at-limit _ c.from_residual-in_err-push-in-Some-2.result c.from_residual-in_err-push-in-Some-2.ensures.1 refl;
+}
 
 pub returns-in_err-push-in-Some-2-clause-held : goal.returns-in_err-push-in-Some-2-clause-held
 returns-in_err-push-in-Some-2-clause-held c = not-ok _ _ c.from_residual-in_err-push-in-Some-2.result c.from_residual-in_err-push-in-Some-2.ensures.1
@@ -98,11 +102,17 @@ returns-in_err-push-in-Some-2-clause-are c = not-ok _ _ c.from_residual-in_err-p
 pub references-smaller : goal.references-smaller
 references-smaller c = shorter c.in-Some.next.now c.references.left.now c.in-Some.others.now c.in-Some.ensures.cases.0
 
-pub returns-in-None-clause-grew : goal.returns-in-None-clause-grew
-returns-in-None-clause-grew c = grew-on c.references.invariant.grew c.with_arguments.ensures.grew
+pub returns-in-None-clause-terms : goal.returns-in-None-clause-terms
+returns-in-None-clause-terms c = record {
+  grew = grew-on c.references.invariant.grew c.with_arguments.ensures.terms.grew;
+  full = tt;
+}
 
-pub returns-clause-grew : goal.returns-clause-grew
-returns-clause-grew c = c.references.invariant.grew
+pub returns-clause-terms : goal.returns-clause-terms
+returns-clause-terms c = record {
+  grew = c.references.invariant.grew;
+  full = tt;
+}
 
 pub returns-clause-held : goal.returns-clause-held
 returns-clause-held c = c.references.invariant.found_held

@@ -8,16 +8,17 @@ use Rattle.type_terms.specs.Terms.{args_lists, trees_at}
 use Rattle.type_terms.specs.Kept.{trees-later, has-later}
 use Rattle.term_folds.specs.Arguments.{first_misfit}
 use Rattle.term_folds.specs.declared.predicate.TraitRef.{TraitRef}
+use Rattle.type_terms.proofs.FailFacts.{at-limit}
 use Rattle.declarations.specs.Items.{reference_in, impl_in, written}
 use Rattle.declarations.specs.Held.{ReferenceHeld}
 use Rattle.declarations.specs.Merges.{Each}
 use Rattle.declarations.specs.Applied.{references_in, TraitRefsHeld}
 use Rattle.declarations.proofs.Growth.{reference-same, reference-kept, each-kept}
-use Rattle.declarations.proofs.Bounded.{all-same, at-limit}
+use Rattle.declarations.proofs.Bounded.{all-same}
 use Rattle.proof_checker.proofs.Results.{both-some, not-ok}
 use Rattle.proof_checker.proofs.Fitting.{fits-of}
 use Rattle.proof_checker.proofs.Impls.{args-made, clauses-fit, fits-back, terms-map, by-the-impl}
-use Rattle.term_folds.proofs.Grown.{grew-none, grew-on}
+use Rattle.type_terms.proofs.Grown.{grew-none, grew-on}
 use Rattle.type_terms.specs.Trees.{outer_binder}
 use Rattle.proof_checker.proofs.rules.by_impl.Goals as goal
 
@@ -25,8 +26,8 @@ pub all_with_arguments-requires-clause-held : goal.all_with_arguments-requires-c
 all_with_arguments-requires-clause-held c =
     let es = c.args.cx.now.entries in
     let es2 = c.are_one.new.cx.entries in
-    let k1 = c.with_arguments.ensures.grew.keeps in
-    let k2 = c.are_one.ensures.grew.keeps in
+    let k1 = c.with_arguments.ensures.terms.grew.keeps in
+    let k2 = c.are_one.ensures.terms.grew.keeps in
     let ih = c.in-Some.ensures.held es c.requires.declared in
     subst (TraitRefsHeld es2) (sym c.deref.ensures.value)
     (each-kept (ReferenceHeld es) (ReferenceHeld es2) (λ r h. reference-kept es es2 (λ j e g. k2 j e (k1 j e g)) r h) c.in-Some.def.now.clauses.items ih.clauses)
@@ -37,8 +38,8 @@ returns-clause-rule c =
     let es1 = c.with_arguments.new.cx.entries in
     let es2 = c.are_one.new.cx.entries in
     let es3 = c.all_with_arguments.new.cx.entries in
-    let k1 = c.with_arguments.ensures.grew.keeps in
-    let k2 = c.are_one.ensures.grew.keeps in
+    let k1 = c.with_arguments.ensures.terms.grew.keeps in
+    let k2 = c.are_one.ensures.terms.grew.keeps in
     let law = c.lawful.ensures in
     let A = trees_at es c.args.args.0 in
     let B = trees_at es2 c.args.args.0 in
@@ -67,8 +68,11 @@ returns-clause-rule c =
     (terms-map es3 v.items ∙ ap (map erased_reference) (pr ∙ ap (λ a. all_with_args a (references_in es2 cl)) now_then ∙ ap (all_with_args A) (all-same es es2 (λ j e g. k2 j e (k1 j e g)) cl held_cl ∙ ap (references_in es) dv))))
     c.all_with_arguments.ensures.are c.all_with_arguments.ensures.fits
 
-pub returns-in-None-clause-grew : goal.returns-in-None-clause-grew
-returns-in-None-clause-grew c = grew-none
+pub returns-in-None-clause-terms : goal.returns-in-None-clause-terms
+returns-in-None-clause-terms c = record {
+  grew = grew-none;
+  full = tt;
+}
 
 pub outer_exclusive_binder-requires : goal.outer_exclusive_binder-requires
 outer_exclusive_binder-requires c = c.requires.args
@@ -82,8 +86,11 @@ with_arguments-requires-clause-args c = c.requires.args
 pub with_arguments-requires-clause-closed : goal.with_arguments-requires-clause-closed
 with_arguments-requires-clause-closed c = sym c.outer_exclusive_binder.ensures ∙ c.if-outer_exclusive_binder-ne0.false
 
-pub returns-in_err-made-clause-grew : goal.returns-in_err-made-clause-grew
-returns-in_err-made-clause-grew c = c.with_arguments.ensures.grew
+pub returns-in_err-made-clause-terms : goal.returns-in_err-made-clause-terms
+returns-in_err-made-clause-terms c = record {
+  grew = c.with_arguments.ensures.terms.grew;
+  full = at-limit c.from_residual.result c.from_residual.ensures.1 c.in_err-made.ensures.terms.full;
+}
 
 pub returns-in_err-made-clause-held : goal.returns-in_err-made-clause-held
 returns-in_err-made-clause-held c = not-ok _ _ c.from_residual.result c.from_residual.ensures.1
@@ -91,20 +98,23 @@ returns-in_err-made-clause-held c = not-ok _ _ c.from_residual.result c.from_res
 pub returns-in_err-made-clause-rule : goal.returns-in_err-made-clause-rule
 returns-in_err-made-clause-rule c = not-ok _ _ c.from_residual.result c.from_residual.ensures.1
 
-pub returns-in_err-made-clause-full : goal.returns-in_err-made-clause-full
-returns-in_err-made-clause-full c = at-limit c.from_residual.result c.from_residual.ensures.1 c.in_err-made.ensures.full
-
-pub returns-in-None-made-clause-grew : goal.returns-in-None-made-clause-grew
-returns-in-None-made-clause-grew c = c.with_arguments.ensures.grew
+pub returns-in-None-made-clause-terms : goal.returns-in-None-made-clause-terms
+returns-in-None-made-clause-terms c = record {
+  grew = c.with_arguments.ensures.terms.grew;
+  full = tt;
+}
 
 pub are_one-requires-clause-one : goal.are_one-requires-clause-one
 are_one-requires-clause-one c = subst (λ o. IfSome o (ReferenceHeld c.with_arguments.new.cx.entries)) c.in-Some-made.is c.in_ok-made.ensures.held
 
 pub are_one-requires-clause-other : goal.are_one-requires-clause-other
-are_one-requires-clause-other c = reference-kept c.args.cx.now.entries c.with_arguments.new.cx.entries c.with_arguments.ensures.grew.keeps c.args.reference c.requires.reference
+are_one-requires-clause-other c = reference-kept c.args.cx.now.entries c.with_arguments.new.cx.entries c.with_arguments.ensures.terms.grew.keeps c.args.reference c.requires.reference
 
-pub returns-in_err-are_one-clause-grew : goal.returns-in_err-are_one-clause-grew
-returns-in_err-are_one-clause-grew c = grew-on c.with_arguments.ensures.grew c.are_one.ensures.grew
+pub returns-in_err-are_one-clause-terms : goal.returns-in_err-are_one-clause-terms
+returns-in_err-are_one-clause-terms c = record {
+  grew = grew-on c.with_arguments.ensures.terms.grew c.are_one.ensures.terms.grew;
+  full = at-limit c.from_residual-in_err-are_one.result c.from_residual-in_err-are_one.ensures.1 c.in_err-are_one.ensures.terms.full;
+}
 
 pub returns-in_err-are_one-clause-held : goal.returns-in_err-are_one-clause-held
 returns-in_err-are_one-clause-held c = not-ok _ _ c.from_residual-in_err-are_one.result c.from_residual-in_err-are_one.ensures.1
@@ -112,26 +122,26 @@ returns-in_err-are_one-clause-held c = not-ok _ _ c.from_residual-in_err-are_one
 pub returns-in_err-are_one-clause-rule : goal.returns-in_err-are_one-clause-rule
 returns-in_err-are_one-clause-rule c = not-ok _ _ c.from_residual-in_err-are_one.result c.from_residual-in_err-are_one.ensures.1
 
-pub returns-in_err-are_one-clause-full : goal.returns-in_err-are_one-clause-full
-returns-in_err-are_one-clause-full c = at-limit c.from_residual-in_err-are_one.result c.from_residual-in_err-are_one.ensures.1 c.in_err-are_one.ensures.full
-
-pub returns-then-not-branch-clause-grew : goal.returns-then-not-branch-clause-grew
-returns-then-not-branch-clause-grew c = grew-on c.with_arguments.ensures.grew c.are_one.ensures.grew
+pub returns-then-not-branch-clause-terms : goal.returns-then-not-branch-clause-terms
+returns-then-not-branch-clause-terms c = record {
+  grew = grew-on c.with_arguments.ensures.terms.grew c.are_one.ensures.terms.grew;
+  full = tt;
+}
 
 pub all_with_arguments-requires-clause-args : goal.all_with_arguments-requires-clause-args
 all_with_arguments-requires-clause-args c =
-    has-later c.args.cx.now.entries c.are_one.new.cx.entries (λ i e h. c.are_one.ensures.grew.keeps i e (c.with_arguments.ensures.grew.keeps i e h)) args_lists c.args.args.0 c.requires.args
+    has-later c.args.cx.now.entries c.are_one.new.cx.entries (λ i e h. c.are_one.ensures.terms.grew.keeps i e (c.with_arguments.ensures.terms.grew.keeps i e h)) args_lists c.args.args.0 c.requires.args
 
 pub all_with_arguments-requires-clause-closed : goal.all_with_arguments-requires-clause-closed
 all_with_arguments-requires-clause-closed c =
-    ap outer_binder (trees-later c.args.cx.now.entries c.are_one.new.cx.entries (λ i e h. c.are_one.ensures.grew.keeps i e (c.with_arguments.ensures.grew.keeps i e h)) args_lists c.args.args.0 c.requires.args)
+    ap outer_binder (trees-later c.args.cx.now.entries c.are_one.new.cx.entries (λ i e h. c.are_one.ensures.terms.grew.keeps i e (c.with_arguments.ensures.terms.grew.keeps i e h)) args_lists c.args.args.0 c.requires.args)
     ∙ sym c.outer_exclusive_binder.ensures ∙ c.if-outer_exclusive_binder-ne0.false
 
-pub returns-clause-grew : goal.returns-clause-grew
-returns-clause-grew c = grew-on (grew-on c.with_arguments.ensures.grew c.are_one.ensures.grew) c.all_with_arguments.ensures.grew
+pub returns-clause-terms : goal.returns-clause-terms
+returns-clause-terms c = record {
+  grew = grew-on (grew-on c.with_arguments.ensures.terms.grew c.are_one.ensures.terms.grew) c.all_with_arguments.ensures.terms.grew;
+  full = c.all_with_arguments.ensures.terms.full;
+}
 
 pub returns-clause-held : goal.returns-clause-held
 returns-clause-held c = c.all_with_arguments.ensures.held
-
-pub returns-clause-full : goal.returns-clause-full
-returns-clause-full c = c.all_with_arguments.ensures.full

@@ -1,6 +1,6 @@
 use Rattle.declarations.specs.Items.{declared}
 use Rattle.declarations.specs.Merges.{Each}
-use Rattle.term_folds.specs.Growth.{Grew}
+use Rattle.type_terms.specs.Growth.{Grew}
 use Rattle.proof_checker.specs.Steps.{term_of}
 use Rattle.proof_checker.proofs.Above.{IsAbove}
 use Rattle.proof_checker.proofs.supertraits.is_supertrait_of.Given as goal

@@ -7,9 +7,9 @@ use Rattle.term_folds.specs.declared.predicate.TraitRef.{TraitRef}
 use Rattle.declarations.specs.Applied.{references_in, TraitRefsHeld}
 use Rattle.declarations.specs.Merges.{Each}
 use Rattle.proof_checker.proofs.Above.{supertraits-are}
-use Rattle.term_folds.proofs.Grown.{grew-none}
+use Rattle.type_terms.proofs.Grown.{grew-none}
 use Rattle.proof_checker.proofs.Results.{none-each, not-ok}
-use Rattle.declarations.proofs.Bounded.{at-limit}
+use Rattle.type_terms.proofs.FailFacts.{at-limit}
 use Rattle.proof_checker.proofs.supertraits.written_supertraits.Goals as goal
 
 pub all_with_arguments-requires-clause-held : goal.all_with_arguments-requires-clause-held
@@ -28,8 +28,11 @@ returns-in-Some-2-clause-are c =
     supertraits-are es fs c.lawful.ensures c.args.declarations.now c.args.reference def (c.in-Some.ensures.written es) c.requires.reference (c.in-Some.ensures.held es c.requires.declared)
     (subst (λ l. Each (λ (b : TraitRef). first_misfit A (trees_at es b.args.0) ≡ None) l) dv fits) c.in-Some-2.supertraits.items (are ∙ ap (λ l. all_with_args A (references_in es l)) dv)
 
-pub returns-in-None-clause-grew : goal.returns-in-None-clause-grew
-returns-in-None-clause-grew c = grew-none
+pub returns-in-None-clause-terms : goal.returns-in-None-clause-terms
+returns-in-None-clause-terms c = record {
+  grew = grew-none;
+  full = tt;
+}
 
 pub returns-in-None-clause-held : goal.returns-in-None-clause-held
 returns-in-None-clause-held c = none-each _ _ c.new.ensures.items
@@ -46,8 +49,11 @@ all_with_arguments-requires-clause-args c = c.requires.reference
 pub all_with_arguments-requires-clause-closed : goal.all_with_arguments-requires-clause-closed
 all_with_arguments-requires-clause-closed c = sym c.outer_exclusive_binder.ensures ∙ c.if-outer_exclusive_binder-ne0.false
 
-pub returns-in_err-supertraits-clause-grew : goal.returns-in_err-supertraits-clause-grew
-returns-in_err-supertraits-clause-grew c = c.all_with_arguments.ensures.grew
+pub returns-in_err-supertraits-clause-terms : goal.returns-in_err-supertraits-clause-terms
+returns-in_err-supertraits-clause-terms c = record {
+  grew = c.all_with_arguments.ensures.terms.grew;
+  full = at-limit c.from_residual.result c.from_residual.ensures.1 c.in_err-supertraits.ensures.terms.full;
+}
 
 pub returns-in_err-supertraits-clause-held : goal.returns-in_err-supertraits-clause-held
 returns-in_err-supertraits-clause-held c = not-ok _ _ c.from_residual.result c.from_residual.ensures.1
@@ -55,17 +61,20 @@ returns-in_err-supertraits-clause-held c = not-ok _ _ c.from_residual.result c.f
 pub returns-in_err-supertraits-clause-are : goal.returns-in_err-supertraits-clause-are
 returns-in_err-supertraits-clause-are c = not-ok _ _ c.from_residual.result c.from_residual.ensures.1
 
-pub returns-in_err-supertraits-clause-full : goal.returns-in_err-supertraits-clause-full
-returns-in_err-supertraits-clause-full c = at-limit c.from_residual.result c.from_residual.ensures.1 c.in_err-supertraits.ensures.full
-
-pub returns-in-Some-2-clause-grew : goal.returns-in-Some-2-clause-grew
-returns-in-Some-2-clause-grew c = c.all_with_arguments.ensures.grew
+pub returns-in-Some-2-clause-terms : goal.returns-in-Some-2-clause-terms
+returns-in-Some-2-clause-terms c = record {
+  grew = c.all_with_arguments.ensures.terms.grew;
+  full = tt;
+}
 
 pub returns-in-Some-2-clause-held : goal.returns-in-Some-2-clause-held
 returns-in-Some-2-clause-held c = subst (λ o. IfSome o (λ v. TraitRefsHeld c.all_with_arguments.new.cx.entries v.items)) c.in-Some-2.is c.in_ok-supertraits.ensures.held
 
-pub returns-in-None-2-clause-grew : goal.returns-in-None-2-clause-grew
-returns-in-None-2-clause-grew c = c.all_with_arguments.ensures.grew
+pub returns-in-None-2-clause-terms : goal.returns-in-None-2-clause-terms
+returns-in-None-2-clause-terms c = record {
+  grew = c.all_with_arguments.ensures.terms.grew;
+  full = tt;
+}
 
 pub returns-in-None-2-clause-held : goal.returns-in-None-2-clause-held
 returns-in-None-2-clause-held c = none-each _ _ c.new-in-None-2.ensures.items

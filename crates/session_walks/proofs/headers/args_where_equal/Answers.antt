@@ -1,16 +1,16 @@
 use Rattle.type_terms.specs.Kept.{has-later}
 use Rattle.type_terms.specs.Terms.{args_lists}
-use Rattle.term_folds.proofs.Grown.{grew-on}
+use Rattle.type_terms.proofs.Grown.{grew-on}
 use Rattle.session_walks.proofs.headers.args_where_equal.Goals as goal
 
 pub eager_resolve_vars-requires-clause-held : goal.eager_resolve_vars-requires-clause-held
-eager_resolve_vars-requires-clause-held c = has-later c.args.cx.now.entries c.equate_impl_headers.new.cx.entries c.equate_impl_headers.ensures.grew.keeps args_lists c.args.args.0 c.requires.args
+eager_resolve_vars-requires-clause-held c = has-later c.args.cx.now.entries c.equate_impl_headers.new.cx.entries c.equate_impl_headers.ensures.terms.grew.keeps args_lists c.args.args.0 c.requires.args
 
 pub returns-in_err-resolved-in-Ok-clause-grew : goal.returns-in_err-resolved-in-Ok-clause-grew
-returns-in_err-resolved-in-Ok-clause-grew c = grew-on c.equate_impl_headers.ensures.grew c.eager_resolve_vars.ensures.grew
+returns-in_err-resolved-in-Ok-clause-grew c = grew-on c.equate_impl_headers.ensures.terms.grew c.eager_resolve_vars.ensures.terms.grew
 
 pub returns-in_ok-resolved-in-Ok-clause-grew : goal.returns-in_ok-resolved-in-Ok-clause-grew
-returns-in_ok-resolved-in-Ok-clause-grew c = grew-on c.equate_impl_headers.ensures.grew c.eager_resolve_vars.ensures.grew
+returns-in_ok-resolved-in-Ok-clause-grew c = grew-on c.equate_impl_headers.ensures.terms.grew c.eager_resolve_vars.ensures.terms.grew
 
 pub equate_impl_headers-requires-clause-left : goal.equate_impl_headers-requires-clause-left
 equate_impl_headers-requires-clause-left c = c.requires.left
@@ -37,7 +37,7 @@ pub returns-in-Err-NoSolution-clause-table : goal.returns-in-Err-NoSolution-clau
 returns-in-Err-NoSolution-clause-table c = c.equate_impl_headers.ensures.ready
 
 pub returns-in-Err-NoSolution-clause-grew : goal.returns-in-Err-NoSolution-clause-grew
-returns-in-Err-NoSolution-clause-grew c = c.equate_impl_headers.ensures.grew
+returns-in-Err-NoSolution-clause-grew c = c.equate_impl_headers.ensures.terms.grew
 
 pub returns-in-Err-NoSolution-clause-held : goal.returns-in-Err-NoSolution-clause-held
 returns-in-Err-NoSolution-clause-held c = tt
@@ -46,7 +46,7 @@ pub returns-in-Err-Fault-clause-table : goal.returns-in-Err-Fault-clause-table
 returns-in-Err-Fault-clause-table c = c.equate_impl_headers.ensures.ready
 
 pub returns-in-Err-Fault-clause-grew : goal.returns-in-Err-Fault-clause-grew
-returns-in-Err-Fault-clause-grew c = c.equate_impl_headers.ensures.grew
+returns-in-Err-Fault-clause-grew c = c.equate_impl_headers.ensures.terms.grew
 
 pub returns-in-Err-Fault-clause-held : goal.returns-in-Err-Fault-clause-held
 returns-in-Err-Fault-clause-held c = tt

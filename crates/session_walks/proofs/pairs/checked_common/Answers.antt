@@ -1,6 +1,6 @@
 use Rattle.std.proofs.Common.{sym, subst}
 use Rattle.std.specs.Prelude.{IfSome}
-use Rattle.term_folds.proofs.Grown.{grew-on}
+use Rattle.type_terms.proofs.Grown.{grew-on}
 use Rattle.declarations.specs.Items.{declared}
 use Rattle.declarations.proofs.Growth.{reference-kept}
 use Rattle.candidate_assembly.specs.Kept.{ready-kept}

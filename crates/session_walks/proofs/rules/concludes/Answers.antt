@@ -23,4 +23,4 @@ returns-in-BuiltinImpl-clause-concludes c =
     c.follows_by_built_in.ensures.follows
 
 pub returns-in-BuiltinImpl-clause-table : goal.returns-in-BuiltinImpl-clause-table
-returns-in-BuiltinImpl-clause-table c = ready-later c.args.cx.now.entries c.follows_by_built_in.new.cx.entries c.args.table.now c.follows_by_built_in.ensures.grew.keeps c.requires.table
+returns-in-BuiltinImpl-clause-table c = ready-later c.args.cx.now.entries c.follows_by_built_in.new.cx.entries c.args.table.now c.follows_by_built_in.ensures.terms.grew.keeps c.requires.table

@@ -32,7 +32,7 @@ pub follows_by_impl-requires-clause-premises : goal.follows_by_impl-requires-cla
 follows_by_impl-requires-clause-premises c = references-kept c.args.cx.now.entries c.impl_args.new.cx.entries c.impl_args.ensures.grew.keeps c.args.premises.now c.requires.premises
 
 pub returns-clause-table : goal.returns-clause-table
-returns-clause-table c = ready-later c.impl_args.new.cx.entries c.follows_by_impl.new.cx.entries c.impl_args.new.table c.follows_by_impl.ensures.grew.keeps c.impl_args.ensures.table
+returns-clause-table c = ready-later c.impl_args.new.cx.entries c.follows_by_impl.new.cx.entries c.impl_args.new.table c.follows_by_impl.ensures.terms.grew.keeps c.impl_args.ensures.table
 
 pub returns-clause-follows : goal.returns-clause-follows
 returns-clause-follows c =

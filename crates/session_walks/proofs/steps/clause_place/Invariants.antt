@@ -1,4 +1,4 @@
-use Rattle.term_folds.specs.Growth.{Grew}
+use Rattle.type_terms.specs.Growth.{Grew}
 use Rattle.session_walks.proofs.steps.clause_place.Given as goal
 
 abbrev pub invariant-loop-place : goal.invariant-loop-place

@@ -1,4 +1,4 @@
-use Rattle.term_folds.proofs.Grown.{grew-on}
+use Rattle.type_terms.proofs.Grown.{grew-on}
 use Rattle.declarations.proofs.Elaborating.{have-bounds-later}
 use Rattle.declarations.proofs.Growth.{all-held, references-kept}
 use Rattle.session_walks.proofs.steps.clause_way.Goals as goal

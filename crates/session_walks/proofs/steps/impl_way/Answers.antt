@@ -1,4 +1,4 @@
-use Rattle.term_folds.proofs.Grown.{grew-none}
+use Rattle.type_terms.proofs.Grown.{grew-none}
 use Rattle.overlap_check.proofs.Judged.{found-well}
 use Rattle.session_walks.proofs.steps.impl_way.Goals as goal
 

@@ -7,4 +7,4 @@ pub by_built_in-requires-clause-reference : goal.by_built_in-requires-clause-ref
 by_built_in-requires-clause-reference c = c.requires.reference
 
 pub returns-in_err-by_built_in-clause-grew : goal.returns-in_err-by_built_in-clause-grew
-returns-in_err-by_built_in-clause-grew c = c.by_built_in.ensures.grew
+returns-in_err-by_built_in-clause-grew c = c.by_built_in.ensures.terms.grew

@@ -1,4 +1,4 @@
-use Rattle.term_folds.proofs.Grown.{grew-none}
+use Rattle.type_terms.proofs.Grown.{grew-none}
 use Rattle.std.proofs.Common.{◌≡◌, Some, subst}
 use Rattle.std.specs.List.{slice_get}
 use Rattle.type_terms.specs.Kept.{has-later}

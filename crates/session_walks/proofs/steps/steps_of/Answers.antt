@@ -8,7 +8,7 @@ use Rattle.proof_checker.specs.Steps.{StepHeld}
 use Rattle.proof_checker.proofs.Later.{steps-kept}
 use Rattle.session_walks.specs.Shown.{StepIsShown, StepsAreShown}
 use Rattle.session_walks.proofs.ShownSteps.{each-push, shown-push}
-use Rattle.term_folds.proofs.Grown.{grew-none, grew-on}
+use Rattle.type_terms.proofs.Grown.{grew-none, grew-on}
 use Rattle.candidate_assembly.specs.Kept.{ready-kept}
 use Rattle.session_walks.proofs.steps.steps_of.Goals as goal
 

@@ -2,7 +2,7 @@ use Rattle.std.proofs.Common.{take}
 use Rattle.declarations.specs.Merges.{Each}
 use Rattle.infer_table.specs.Content.{Ready}
 use Rattle.proof_checker.specs.Steps.{StepHeld}
-use Rattle.term_folds.specs.Growth.{Grew}
+use Rattle.type_terms.specs.Growth.{Grew}
 use Rattle.session_walks.specs.Shown.{StepsAreShown}
 use Rattle.session_walks.proofs.steps.steps_of.Given as goal
 

@@ -1,4 +1,4 @@
-use Rattle.term_folds.proofs.Grown.{grew-none, grew-on}
+use Rattle.type_terms.proofs.Grown.{grew-none, grew-on}
 use Rattle.declarations.proofs.Elaborating.{have-bounds-later}
 use Rattle.declarations.proofs.Growth.{all-held, reference-kept, references-kept}
 use Rattle.session_walks.proofs.steps.supertrait_place.Goals as goal
@@ -19,13 +19,13 @@ pub loop-place-init : goal.loop-place-init
 loop-place-init c = record { grew = grew-none }
 
 pub returns-in_err-by_supertrait : goal.returns-in_err-by_supertrait
-returns-in_err-by_supertrait c = record { grew = grew-on c.loop-place.invariant.grew c.by_supertrait.ensures.grew }
+returns-in_err-by_supertrait c = record { grew = grew-on c.loop-place.invariant.grew c.by_supertrait.ensures.terms.grew }
 
 pub returns-then-branch : goal.returns-then-branch
-returns-then-branch c = record { grew = grew-on c.loop-place.invariant.grew c.by_supertrait.ensures.grew }
+returns-then-branch c = record { grew = grew-on c.loop-place.invariant.grew c.by_supertrait.ensures.terms.grew }
 
 pub loop-place-preserved : goal.loop-place-preserved
-loop-place-preserved c = record { grew = grew-on c.loop-place.invariant.grew c.by_supertrait.ensures.grew }
+loop-place-preserved c = record { grew = grew-on c.loop-place.invariant.grew c.by_supertrait.ensures.terms.grew }
 
 pub returns : goal.returns
 returns c = record { grew = c.loop-place.invariant.grew }

@@ -1,4 +1,4 @@
-use Rattle.term_folds.proofs.Grown.{grew-none}
+use Rattle.type_terms.proofs.Grown.{grew-none}
 use Rattle.goal_walk.proofs.Walks.{ready-later}
 use Rattle.session_walks.proofs.steps.way_by.Goals as goal
 

@@ -10,7 +10,7 @@ first_orphan-found-requires-clause-written c = (c.ready_impls_are_written_well.e
 pub returns-clause-advances : goal.returns-clause-advances
 returns-clause-advances c =
     c.rest_laws.ensures.interner c.args.cx.now (record { alloc = c.args.cx.now.alloc; interner = c.first_orphan-found.new.cx; handler = c.args.cx.now.handler; store = c.args.cx.now.store }) c.requires.ready
-    (record { handler = refl; store = refl; entries = c.first_orphan-found.ensures.grew.keeps; lawful = c.lawful.ensures; limit = c.first_orphan-found.ensures.grew.limit })
+    (record { handler = refl; store = refl; entries = c.first_orphan-found.ensures.terms.grew.keeps; lawful = c.lawful.ensures; limit = c.first_orphan-found.ensures.terms.grew.limit })
 
 pub returns-clause-held : goal.returns-clause-held
 returns-clause-held c = c.first_orphan-found.ensures.held

@@ -28,7 +28,7 @@ impl_intersection-found-requires-clause-right_written c =
 pub returns-clause-advances : goal.returns-clause-advances
 returns-clause-advances c =
     c.rest_laws.ensures.interner c.args.cx.now (record { alloc = c.args.cx.now.alloc; interner = c.impl_intersection-found.new.cx; handler = c.args.cx.now.handler; store = c.args.cx.now.store }) c.requires.ready
-    (record { handler = refl; store = refl; entries = c.impl_intersection-found.ensures.grew.keeps; lawful = c.lawful.ensures; limit = c.impl_intersection-found.ensures.grew.limit })
+    (record { handler = refl; store = refl; entries = c.impl_intersection-found.ensures.terms.grew.keeps; lawful = c.lawful.ensures; limit = c.impl_intersection-found.ensures.terms.grew.limit })
 
 pub returns-clause-apart : goal.returns-clause-apart
 returns-clause-apart c = λ e.

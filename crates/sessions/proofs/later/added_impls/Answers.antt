@@ -8,7 +8,7 @@ lower_later-impls-requires c = c.later_impls_begin_declared.ensures c.requires.t
 pub returns-clause-advances : goal.returns-clause-advances
 returns-clause-advances c =
     c.rest_laws.ensures.interner c.args.cx.now (record { alloc = c.args.cx.now.alloc; interner = c.lower_later-impls.new.cx; handler = c.args.cx.now.handler; store = c.args.cx.now.store }) c.requires.ready
-    (record { handler = refl; store = refl; entries = c.lower_later-impls.ensures.grew.keeps; lawful = c.lawful.ensures; limit = c.lower_later-impls.ensures.grew.limit })
+    (record { handler = refl; store = refl; entries = c.lower_later-impls.ensures.terms.grew.keeps; lawful = c.lawful.ensures; limit = c.lower_later-impls.ensures.terms.grew.limit })
 
 pub returns-clause-headers : goal.returns-clause-headers
 returns-clause-headers c = headers-ok c.lower_later-impls.new.cx.entries c.args.workspace.now c.args.section c.lower_later-impls.result c.lower_later-impls.ensures.impls

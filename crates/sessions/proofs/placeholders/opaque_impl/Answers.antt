@@ -3,7 +3,7 @@ use Rattle.type_terms.specs.Trees.{outer_binder}
 use Rattle.type_terms.specs.Worlds.{with_args, all_with_args}
 use Rattle.type_terms.specs.Kept.{has-later, trees-later}
 use Rattle.type_terms.specs.Terms.{args_lists, trees_at}
-use Rattle.term_folds.proofs.Grown.{grew-on}
+use Rattle.type_terms.proofs.Grown.{grew-on}
 use Rattle.declarations.specs.Applied.{TraitRefsHeld, references_in, sort_of_param}
 use Rattle.declarations.specs.Items.{reference_in}
 use Rattle.declarations.proofs.Bounded.{all-same}
@@ -15,7 +15,7 @@ use Rattle.sessions.proofs.placeholders.opaque_impl.Goals as goal
 
 pub instantiate_trait_ref-requires-clause-held : goal.instantiate_trait_ref-requires-clause-held
 instantiate_trait_ref-requires-clause-held c =
-    reference-kept c.args.cx.now.entries c.placeholders_for_item.new.cx.entries c.placeholders_for_item.ensures.grew.keeps c.args.def.now.header c.requires.held.header
+    reference-kept c.args.cx.now.entries c.placeholders_for_item.new.cx.entries c.placeholders_for_item.ensures.terms.grew.keeps c.args.def.now.header c.requires.held.header
 
 pub instantiate_trait_ref-requires-clause-args : goal.instantiate_trait_ref-requires-clause-args
 instantiate_trait_ref-requires-clause-args c = c.in_ok-args.ensures.held
@@ -25,7 +25,7 @@ instantiate_trait_ref-requires-clause-closed c = ap outer_binder c.in_ok-args.en
 
 pub instantiate_trait_ref-requires-clause-fits : goal.instantiate_trait_ref-requires-clause-fits
 instantiate_trait_ref-requires-clause-fits c =
-    header-fits c.args.cx.now.entries c.placeholders_for_item.new.cx.entries c.placeholders_for_item.ensures.grew.keeps c.args.def.now c.requires.held c.requires.written c.in_ok-args.args.0
+    header-fits c.args.cx.now.entries c.placeholders_for_item.new.cx.entries c.placeholders_for_item.ensures.terms.grew.keeps c.args.def.now c.requires.held c.requires.written c.in_ok-args.args.0
     (c.in_ok-args.ensures.are ∙ ap (λ ps. placeholders_from 0 (map sort_of_param ps)) c.deref.ensures.value)
 
 pub instantiate_clauses-requires-clause-held : goal.instantiate_clauses-requires-clause-held
@@ -33,29 +33,32 @@ instantiate_clauses-requires-clause-held c =
     let old = c.args.cx.now.entries in
     let two = c.instantiate_trait_ref.new.cx.entries in
     subst (TraitRefsHeld two) (sym c.deref-2.ensures.value)
-    (references-kept old two (λ i e h. c.instantiate_trait_ref.ensures.grew.keeps i e (c.placeholders_for_item.ensures.grew.keeps i e h)) c.args.def.now.clauses.items c.requires.held.clauses)
+    (references-kept old two (λ i e h. c.instantiate_trait_ref.ensures.terms.grew.keeps i e (c.placeholders_for_item.ensures.terms.grew.keeps i e h)) c.args.def.now.clauses.items c.requires.held.clauses)
 
 pub instantiate_clauses-requires-clause-args : goal.instantiate_clauses-requires-clause-args
 instantiate_clauses-requires-clause-args c =
-    has-later c.placeholders_for_item.new.cx.entries c.instantiate_trait_ref.new.cx.entries c.instantiate_trait_ref.ensures.grew.keeps args_lists c.in_ok-args.args.0 c.in_ok-args.ensures.held
+    has-later c.placeholders_for_item.new.cx.entries c.instantiate_trait_ref.new.cx.entries c.instantiate_trait_ref.ensures.terms.grew.keeps args_lists c.in_ok-args.args.0 c.in_ok-args.ensures.held
 
 pub instantiate_clauses-requires-clause-closed : goal.instantiate_clauses-requires-clause-closed
 instantiate_clauses-requires-clause-closed c =
-    ap outer_binder (trees-later c.placeholders_for_item.new.cx.entries c.instantiate_trait_ref.new.cx.entries c.instantiate_trait_ref.ensures.grew.keeps args_lists c.in_ok-args.args.0 c.in_ok-args.ensures.held ∙ c.in_ok-args.ensures.are)
+    ap outer_binder (trees-later c.placeholders_for_item.new.cx.entries c.instantiate_trait_ref.new.cx.entries c.instantiate_trait_ref.ensures.terms.grew.keeps args_lists c.in_ok-args.args.0 c.in_ok-args.ensures.held ∙ c.in_ok-args.ensures.are)
     ∙ placeholders-closed 0 (map sort_of_param c.deref.result.now)
 
 pub instantiate_clauses-requires-clause-fits : goal.instantiate_clauses-requires-clause-fits
 instantiate_clauses-requires-clause-fits c =
     let one = c.placeholders_for_item.new.cx.entries in
     let two = c.instantiate_trait_ref.new.cx.entries in
-    let k = c.instantiate_trait_ref.ensures.grew.keeps in
+    let k = c.instantiate_trait_ref.ensures.terms.grew.keeps in
     let A = c.in_ok-args.args.0 in
-    clauses-fit c.args.cx.now.entries two (λ i e h. k i e (c.placeholders_for_item.ensures.grew.keeps i e h)) c.args.def.now c.requires.held c.requires.written A
+    clauses-fit c.args.cx.now.entries two (λ i e h. k i e (c.placeholders_for_item.ensures.terms.grew.keeps i e h)) c.args.def.now c.requires.held c.requires.written A
     (trees-later one two k args_lists A c.in_ok-args.ensures.held ∙ c.in_ok-args.ensures.are ∙ ap (λ ps. placeholders_from 0 (map sort_of_param ps)) c.deref.ensures.value)
     c.deref-2.result.now c.deref-2.ensures.value
 
-pub returns-clause-grew : goal.returns-clause-grew
-returns-clause-grew c = grew-on c.placeholders_for_item.ensures.grew (grew-on c.instantiate_trait_ref.ensures.grew c.instantiate_clauses.ensures.grew)
+pub returns-clause-terms : goal.returns-clause-terms
+returns-clause-terms c = record {
+  grew = grew-on c.placeholders_for_item.ensures.terms.grew (grew-on c.instantiate_trait_ref.ensures.terms.grew c.instantiate_clauses.ensures.terms.grew);
+  full = tt;
+}
 
 pub returns-clause-is : goal.returns-clause-is
 returns-clause-is c =
@@ -64,9 +67,9 @@ returns-clause-is c =
     let two = c.instantiate_trait_ref.new.cx.entries in
     let new = c.instantiate_clauses.new.cx.entries in
     let def = c.args.def.now in
-    let k1 = c.placeholders_for_item.ensures.grew.keeps in
-    let k2 = c.instantiate_trait_ref.ensures.grew.keeps in
-    let k3 = c.instantiate_clauses.ensures.grew.keeps in
+    let k1 = c.placeholders_for_item.ensures.terms.grew.keeps in
+    let k2 = c.instantiate_trait_ref.ensures.terms.grew.keeps in
+    let k3 = c.instantiate_clauses.ensures.terms.grew.keeps in
     let A = c.in_ok-args.args.0 in
     let P = placeholders_from 0 (map sort_of_param def.params.items) in
     let are : trees_at one A ≡ P = c.in_ok-args.ensures.are ∙ ap (λ ps. placeholders_from 0 (map sort_of_param ps)) c.deref.ensures.value in

@@ -8,6 +8,7 @@ use Rattle.type_terms.specs.declared.kinds.GenericArgs.{GenericArgs}
 use Rattle.type_terms.specs.Kept.{args-held-later, trees-is}
 use Rattle.infer_table.proofs.Values.{args-held-push}
 use Rattle.declarations.specs.Applied.{sort_of_param}
+use Rattle.type_terms.proofs.Grown.{grew-on}
 use Rattle.sessions.specs.Placeholders.{placeholders_from}
 use Rattle.sessions.proofs.OpaqueTerms.{one-more-placeholder}
 use Rattle.type_terms.specs.Terms.{args_lists}
@@ -21,7 +22,7 @@ params-preserved c =
     let now = c.params.cx.entries in
     let next = c.placeholder_for_param.new.cx.entries in
     let inv = c.params.invariant in
-    let k = c.placeholder_for_param.ensures.grew.keeps in
+    let k = c.placeholder_for_param.ensures.terms.grew.keeps in
     let kind = c.in-Some.kind.now in
     let rest = c.in-Some.others.now in
     let a = c.in_ok-arg.arg in
@@ -30,8 +31,7 @@ params-preserved c =
     let back = c.in-Some.ensures.cases.0 in
     let put = c.in_ok-push.ensures.items in
     record {
-      keeps = λ j e h. k j e (inv.keeps j e h);
-      limit = c.placeholder_for_param.ensures.grew.limit ∙ inv.limit;
+      grew = grew-on inv.grew c.placeholder_for_param.ensures.terms.grew;
       held = subst (ArgsHeld next) (sym put) (args-held-push next xs a (args-held-later now next k xs inv.held) c.in_ok-arg.ensures.held);
       are = subst (λ l. args_trees next l +++ placeholders_from c.in_ok-place.place (map sort_of_param rest) ≡ all) (sym put)
           (one-more-placeholder now next k xs a c.params.place c.in_ok-place.place (sort_of_param kind) (map sort_of_param rest) all inv.held c.in_ok-arg.ensures.is c.in_ok-place.ensures.next
@@ -56,5 +56,8 @@ returns-clause-are c =
     if-ok (λ (a : GenericArgs). Is new args_lists a.0 (args_trees now xs)) (λ a. trees_at new a.0 ≡ all) c.mk_args.result
     (λ a h. trees-is new args_lists a.0 (args_trees now xs) h ∙ sym (append-none (args_trees now xs)) ∙ done) c.mk_args.ensures.is
 
-pub returns-clause-full : goal.returns-clause-full
-returns-clause-full c = when-err _ c.mk_args.result (λ fault is q. refused-term args_lists (omega arith) (c.mk_args.ensures.full (is ∙ ap Err q)) c.mk_args.ensures.limit (at-error c.mk_args.result (is ∙ ap Err q) c.mk_args.ensures.refused))
+pub returns-clause-terms : goal.returns-clause-terms
+returns-clause-terms c = record {
+  grew = grew-on c.params.invariant.grew c.mk_args.ensures.grew;
+  full = when-err _ c.mk_args.result (λ fault is q. refused-term args_lists (omega arith) (c.mk_args.ensures.full (is ∙ ap Err q)) c.mk_args.ensures.grew.limit (at-error c.mk_args.result (is ∙ ap Err q) c.mk_args.ensures.refused));
+}

@@ -16,7 +16,7 @@ elaborate-elaborated-requires-clause-applied c = c.requires.applied
 pub returns-clause-advances : goal.returns-clause-advances
 returns-clause-advances c =
     c.rest_laws.ensures.interner c.args.cx.now (record { alloc = c.args.cx.now.alloc; interner = c.elaborate-elaborated.new.cx; handler = c.args.cx.now.handler; store = c.args.cx.now.store }) c.requires.ready
-    (record { handler = refl; store = refl; entries = c.elaborate-elaborated.ensures.grew.keeps; lawful = c.lawful.ensures; limit = c.elaborate-elaborated.ensures.grew.limit })
+    (record { handler = refl; store = refl; entries = c.elaborate-elaborated.ensures.terms.grew.keeps; lawful = c.lawful.ensures; limit = c.elaborate-elaborated.ensures.terms.grew.limit })
 
 pub returns-clause-held : goal.returns-clause-held
 returns-clause-held c = c.elaborate-elaborated.ensures.held

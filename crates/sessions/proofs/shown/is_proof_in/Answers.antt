@@ -26,7 +26,7 @@ is_proof_of-found-requires-clause-steps c = c.requires.steps
 pub returns-clause-advances : goal.returns-clause-advances
 returns-clause-advances c =
     c.rest_laws.ensures.interner c.args.cx.now (record { alloc = c.args.cx.now.alloc; interner = c.is_proof_of-found.new.cx; handler = c.args.cx.now.handler; store = c.args.cx.now.store }) c.requires.ready
-    (record { handler = refl; store = refl; entries = c.is_proof_of-found.ensures.grew.keeps; lawful = c.lawful.ensures; limit = c.is_proof_of-found.ensures.grew.limit })
+    (record { handler = refl; store = refl; entries = c.is_proof_of-found.ensures.terms.grew.keeps; lawful = c.lawful.ensures; limit = c.is_proof_of-found.ensures.terms.grew.limit })
 
 pub returns-clause-proof : goal.returns-clause-proof
 returns-clause-proof c = c.is_proof_of-found.ensures.proof

@@ -8,17 +8,23 @@ use Rattle.sessions.specs.Tables.{table_of}
 use Rattle.sessions.proofs.Counts.{one-more-type, one-more-const, one-more-lifetime}
 use Rattle.sessions.proofs.table.add_unknown.Goals as goal
 
-pub returns-in_err-next_ty_var-in-Ty-clause-full : goal.returns-in_err-next_ty_var-in-Ty-clause-full
-returns-in_err-next_ty_var-in-Ty-clause-full c =
-    let refused = c.in_err-next_ty_var-in-Ty.ensures in
-    handed _ c.from_residual-in_err-next_ty_var-in-Ty.result c.from_residual-in_err-next_ty_var-in-Ty.ensures.1
-    (λ p. refused-term types (omega arith) (refused.full (ap Err p)) refused.grew.limit refused.nothing_made)
+pub returns-in_err-next_ty_var-in-Ty-clause-terms : goal.returns-in_err-next_ty_var-in-Ty-clause-terms
+returns-in_err-next_ty_var-in-Ty-clause-terms c = record {
+  grew = c.next_ty_var.ensures.grew;
+  full =
+      let refused = c.in_err-next_ty_var-in-Ty.ensures in
+      handed _ c.from_residual-in_err-next_ty_var-in-Ty.result c.from_residual-in_err-next_ty_var-in-Ty.ensures.1
+      (λ p. refused-term types (omega arith) (refused.full (ap Err p)) refused.grew.limit refused.nothing_made);
+}
 
-pub returns-in_err-next_const_var-in-Const-clause-full : goal.returns-in_err-next_const_var-in-Const-clause-full
-returns-in_err-next_const_var-in-Const-clause-full c =
-    let refused = c.in_err-next_const_var-in-Const.ensures in
-    handed _ c.from_residual-in_err-next_const_var-in-Const.result c.from_residual-in_err-next_const_var-in-Const.ensures.1
-    (λ p. refused-term consts (omega arith) (refused.full (ap Err p)) refused.grew.limit refused.nothing_made)
+pub returns-in_err-next_const_var-in-Const-clause-terms : goal.returns-in_err-next_const_var-in-Const-clause-terms
+returns-in_err-next_const_var-in-Const-clause-terms c = record {
+  grew = c.next_const_var.ensures.grew;
+  full =
+      let refused = c.in_err-next_const_var-in-Const.ensures in
+      handed _ c.from_residual-in_err-next_const_var-in-Const.result c.from_residual-in_err-next_const_var-in-Const.ensures.1
+      (λ p. refused-term consts (omega arith) (refused.full (ap Err p)) refused.grew.limit refused.nothing_made);
+}
 
 pub returns-in_ok-next_region_var-in-Lifetime-clause-made : goal.returns-in_ok-next_region_var-in-Lifetime-clause-made
 returns-in_ok-next_region_var-in-Lifetime-clause-made c = λ ks e.

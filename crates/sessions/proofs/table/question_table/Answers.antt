@@ -12,7 +12,7 @@ loop-unknown-preserved c =
     let inv = c.loop-unknown.invariant in
     record {
       ready = c.add_unknown.ensures.ready;
-      keeps = λ j e h. c.add_unknown.ensures.grew.keeps j e (inv.keeps j e h);
-      limit = c.add_unknown.ensures.grew.limit ∙ inv.limit;
+      keeps = λ j e h. c.add_unknown.ensures.terms.grew.keeps j e (inv.keeps j e h);
+      limit = c.add_unknown.ensures.terms.grew.limit ∙ inv.limit;
       is = c.in_ok-add_unknown.ensures.made (map arg_sort (take i xs)) inv.is ∙ ap table_of (sym (sorts-push xs i x c.loop-unknown-test.true c.unknown-item.is));
     }

@@ -41,7 +41,7 @@ loop-unknown-preserved c =
     let ys = c.loop-unknown.values.items in
     let x = c.unknown-item.result in
     let y = c.in_ok-value.value in
-    let k = c.eager_resolve_vars.ensures.grew.keeps in
+    let k = c.eager_resolve_vars.ensures.terms.grew.keeps in
     let bs = content es c.args.table.now.values in
     let had : ArgHeld es x = rw c.unknown-item.is (held-at es xs i x c.requires.held c.loop-unknown-test.true) in
     let one : arg_trees next y ≡ resolved bs (arg_trees es x) =
@@ -50,7 +50,7 @@ loop-unknown-preserved c =
     ∙ ap (resolved bs) (arg-trees-later es now inv.keeps x had) in
     record {
       keeps = λ j e h. k j e (inv.keeps j e h);
-      limit = c.eager_resolve_vars.ensures.grew.limit ∙ inv.limit;
+      limit = c.eager_resolve_vars.ensures.terms.grew.limit ∙ inv.limit;
       ready = c.eager_resolve_vars.ensures.ready;
       held = rw c.in_ok-push.ensures.items (args-held-push next ys y (args-held-later now next k ys inv.held) c.in_ok-value.ensures.held);
       are = rw c.in_ok-push.ensures.items (one-more-value bs es now next k xs ys i x y c.loop-unknown-test.true c.unknown-item.is inv.held inv.are one);

@@ -16,36 +16,36 @@ pub returns-in_err-resolved-clause-advances : goal.returns-in_err-resolved-claus
 returns-in_err-resolved-clause-advances g c =
     later g.H.GoalHandler.meaning.IsReady g.met.H.GoalHandler.lawful.ready_kept c.args.cx.now
     (record { alloc = c.args.cx.now.alloc; interner = c.resolve_goal-resolved.new.cx; handler = c.args.cx.now.handler; store = c.args.cx.now.store }) c.requires.ready refl refl
-    c.resolve_goal-resolved.ensures.grew.keeps c.lawful.ensures c.resolve_goal-resolved.ensures.grew.limit
+    c.resolve_goal-resolved.ensures.terms.grew.keeps c.lawful.ensures c.resolve_goal-resolved.ensures.terms.grew.limit
 
 pub canonicalize_goal-canonicalized-requires-clause-held :
     goal.canonicalize_goal-canonicalized-requires-clause-held
 canonicalize_goal-canonicalized-requires-clause-held g c =
-    goal-held-later c.args.cx.now.interner.entries c.resolve_goal-resolved.new.cx.entries c.resolve_goal-resolved.ensures.grew.keeps c.args.goal.now c.requires.goal
+    goal-held-later c.args.cx.now.interner.entries c.resolve_goal-resolved.new.cx.entries c.resolve_goal-resolved.ensures.terms.grew.keeps c.args.goal.now c.requires.goal
 
 pub returns-in_err-input-clause-advances : goal.returns-in_err-input-clause-advances
 returns-in_err-input-clause-advances g c =
     later g.H.GoalHandler.meaning.IsReady g.met.H.GoalHandler.lawful.ready_kept c.args.cx.now
     (record { alloc = c.args.cx.now.alloc; interner = c.canonicalize_goal-canonicalized.new.cx; handler = c.args.cx.now.handler; store = c.args.cx.now.store }) c.requires.ready refl refl
-    (keeps-further c.args.cx.now.interner.entries c.resolve_goal-resolved.new.cx.entries c.canonicalize_goal-canonicalized.new.cx.entries c.resolve_goal-resolved.ensures.grew.keeps
-    c.canonicalize_goal-canonicalized.ensures.grew.keeps) c.lawful-2.ensures (c.canonicalize_goal-canonicalized.ensures.grew.limit ∙ c.resolve_goal-resolved.ensures.grew.limit)
+    (keeps-further c.args.cx.now.interner.entries c.resolve_goal-resolved.new.cx.entries c.canonicalize_goal-canonicalized.new.cx.entries c.resolve_goal-resolved.ensures.terms.grew.keeps
+    c.canonicalize_goal-canonicalized.ensures.terms.grew.keeps) c.lawful-2.ensures (c.canonicalize_goal-canonicalized.ensures.terms.grew.limit ∙ c.resolve_goal-resolved.ensures.terms.grew.limit)
 
 pub keep_goal-requires-clause-ready : goal.keep_goal-requires-clause-ready
 keep_goal-requires-clause-ready g c =
     (later g.H.GoalHandler.meaning.IsReady g.met.H.GoalHandler.lawful.ready_kept c.args.cx.now
     (record { alloc = c.args.cx.now.alloc; interner = c.canonicalize_goal-canonicalized.new.cx; handler = c.args.cx.now.handler; store = c.args.cx.now.store }) c.requires.ready refl refl
-    (keeps-further c.args.cx.now.interner.entries c.resolve_goal-resolved.new.cx.entries c.canonicalize_goal-canonicalized.new.cx.entries c.resolve_goal-resolved.ensures.grew.keeps
-    c.canonicalize_goal-canonicalized.ensures.grew.keeps) c.lawful-2.ensures (c.canonicalize_goal-canonicalized.ensures.grew.limit ∙ c.resolve_goal-resolved.ensures.grew.limit)).ready
+    (keeps-further c.args.cx.now.interner.entries c.resolve_goal-resolved.new.cx.entries c.canonicalize_goal-canonicalized.new.cx.entries c.resolve_goal-resolved.ensures.terms.grew.keeps
+    c.canonicalize_goal-canonicalized.ensures.terms.grew.keeps) c.lawful-2.ensures (c.canonicalize_goal-canonicalized.ensures.terms.grew.limit ∙ c.resolve_goal-resolved.ensures.terms.grew.limit)).ready
 
 pub returns-clause-held : goal.returns-clause-held
 returns-clause-held g c =
     subst (λ z. GoalHeld z.entries c.in_ok-resolved.resolved) (sym c.keep_goal.ensures.interner)
-    (goal-held-later c.resolve_goal-resolved.new.cx.entries c.canonicalize_goal-canonicalized.new.cx.entries c.canonicalize_goal-canonicalized.ensures.grew.keeps c.in_ok-resolved.resolved c.in_ok-resolved.ensures.held)
+    (goal-held-later c.resolve_goal-resolved.new.cx.entries c.canonicalize_goal-canonicalized.new.cx.entries c.canonicalize_goal-canonicalized.ensures.terms.grew.keeps c.in_ok-resolved.resolved c.in_ok-resolved.ensures.held)
 
 pub returns-clause-resolved : goal.returns-clause-resolved
 returns-clause-resolved g c =
     ap (λ z. goal_trees z.entries c.in_ok-resolved.resolved) c.keep_goal.ensures.interner
-    ∙ goal-trees-later c.resolve_goal-resolved.new.cx.entries c.canonicalize_goal-canonicalized.new.cx.entries c.canonicalize_goal-canonicalized.ensures.grew.keeps c.in_ok-resolved.resolved c.in_ok-resolved.ensures.held
+    ∙ goal-trees-later c.resolve_goal-resolved.new.cx.entries c.canonicalize_goal-canonicalized.new.cx.entries c.canonicalize_goal-canonicalized.ensures.terms.grew.keeps c.in_ok-resolved.resolved c.in_ok-resolved.ensures.held
     ∙ c.in_ok-resolved.ensures.resolved
 
 pub returns-clause-input : goal.returns-clause-input
@@ -55,7 +55,7 @@ returns-clause-input g c = (
       ∙ pair _ _ _ _ c.in_ok-input.ensures.mode
       (c.in_ok-input.ensures.form.form
       ∙ ap canonical_form
-      (goal-in-later c.args.cx.now.interner.entries c.resolve_goal-resolved.new.cx.entries c.resolve_goal-resolved.ensures.grew.keeps c.args.table.now c.requires.table c.args.goal.now c.requires.goal)),
+      (goal-in-later c.args.cx.now.interner.entries c.resolve_goal-resolved.new.cx.entries c.resolve_goal-resolved.ensures.terms.grew.keeps c.args.table.now c.requires.table c.args.goal.now c.requires.goal)),
 )
 
 pub returns-clause-values : goal.returns-clause-values
@@ -63,12 +63,12 @@ returns-clause-values g c =
     ap (λ z. labels z.entries c.in_ok-input.field-0.values.items) c.keep_goal.ensures.interner
     ∙ c.in_ok-input.ensures.values
     ∙ ap goal_leaves
-    (goal-in-later c.args.cx.now.interner.entries c.resolve_goal-resolved.new.cx.entries c.resolve_goal-resolved.ensures.grew.keeps c.args.table.now c.requires.table c.args.goal.now c.requires.goal)
+    (goal-in-later c.args.cx.now.interner.entries c.resolve_goal-resolved.new.cx.entries c.resolve_goal-resolved.ensures.terms.grew.keeps c.args.table.now c.requires.table c.args.goal.now c.requires.goal)
 
 pub returns-in_err-resolved-clause-full : goal.returns-in_err-resolved-clause-full
-returns-in_err-resolved-clause-full g c = handed (ContextFullAtLimit _) c.from_residual.result c.from_residual.ensures.1 (λ q. interner (c.in_err-resolved.ensures.full q))
+returns-in_err-resolved-clause-full g c = handed (ContextFullAtLimit _) c.from_residual.result c.from_residual.ensures.1 (λ q. interner (c.in_err-resolved.ensures.terms.full q))
 
 pub returns-in_err-input-clause-full : goal.returns-in_err-input-clause-full
 returns-in_err-input-clause-full g c =
     let again = c.from_residual-in_err-input in
-    handed (ContextFullAtLimit _) again.result again.ensures.1 (λ q. interner (c.in_err-input.ensures.full q))
+    handed (ContextFullAtLimit _) again.result again.ensures.1 (λ q. interner (c.in_err-input.ensures.terms.full q))

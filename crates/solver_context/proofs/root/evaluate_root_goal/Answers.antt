@@ -157,13 +157,13 @@ pub returns-in-Ok-clause-rests : goal.returns-in-Ok-clause-rests
 returns-in-Ok-clause-rests g c = record {
   empty = search rules;
   depth = search rules;
-  cache = justified-later (solver_meaning g.H.GoalHandler.meaning) c.search.new.cx (record { alloc = c.search.new.cx.alloc; interner = c.apply_answer-applied.new.cx; handler = c.search.new.cx.handler; store = c.search.new.cx.store }) c.search.new.cache (keeps g.H.GoalHandler.meaning g.met.H.GoalHandler.lawful.world_kept c.search.new.cx (record { alloc = c.search.new.cx.alloc; interner = c.apply_answer-applied.new.cx; handler = c.search.new.cx.handler; store = c.search.new.cx.store }) c.search.ensures.ready (later g.H.GoalHandler.meaning.IsReady g.met.H.GoalHandler.lawful.ready_kept c.search.new.cx (record { alloc = c.search.new.cx.alloc; interner = c.apply_answer-applied.new.cx; handler = c.search.new.cx.handler; store = c.search.new.cx.store }) c.search.ensures.ready refl refl c.apply_answer-applied.ensures.grew.keeps c.lawful.ensures c.apply_answer-applied.ensures.grew.limit)) c.search.ensures.cache;
+  cache = justified-later (solver_meaning g.H.GoalHandler.meaning) c.search.new.cx (record { alloc = c.search.new.cx.alloc; interner = c.apply_answer-applied.new.cx; handler = c.search.new.cx.handler; store = c.search.new.cx.store }) c.search.new.cache (keeps g.H.GoalHandler.meaning g.met.H.GoalHandler.lawful.world_kept c.search.new.cx (record { alloc = c.search.new.cx.alloc; interner = c.apply_answer-applied.new.cx; handler = c.search.new.cx.handler; store = c.search.new.cx.store }) c.search.ensures.ready (later g.H.GoalHandler.meaning.IsReady g.met.H.GoalHandler.lawful.ready_kept c.search.new.cx (record { alloc = c.search.new.cx.alloc; interner = c.apply_answer-applied.new.cx; handler = c.search.new.cx.handler; store = c.search.new.cx.store }) c.search.ensures.ready refl refl c.apply_answer-applied.ensures.terms.grew.keeps c.lawful.ensures c.apply_answer-applied.ensures.terms.grew.limit)) c.search.ensures.cache;
   consistent = search rules;
   results = search rules;
-  ready = (later g.H.GoalHandler.meaning.IsReady g.met.H.GoalHandler.lawful.ready_kept c.search.new.cx (record { alloc = c.search.new.cx.alloc; interner = c.apply_answer-applied.new.cx; handler = c.search.new.cx.handler; store = c.search.new.cx.store }) c.search.ensures.ready refl refl c.apply_answer-applied.ensures.grew.keeps c.lawful.ensures c.apply_answer-applied.ensures.grew.limit).ready;
-  keeps = keeps-three g.H.GoalHandler.meaning g.met.H.GoalHandler.lawful.world_kept c.args.cx.now c.ask.new.cx c.search.new.cx c.requires.ready c.ask.ensures.advances c.search.ensures.keeps (record { alloc = c.search.new.cx.alloc; interner = c.apply_answer-applied.new.cx; handler = c.search.new.cx.handler; store = c.search.new.cx.store }) c.search.ensures.ready (later g.H.GoalHandler.meaning.IsReady g.met.H.GoalHandler.lawful.ready_kept c.search.new.cx (record { alloc = c.search.new.cx.alloc; interner = c.apply_answer-applied.new.cx; handler = c.search.new.cx.handler; store = c.search.new.cx.store }) c.search.ensures.ready refl refl c.apply_answer-applied.ensures.grew.keeps c.lawful.ensures c.apply_answer-applied.ensures.grew.limit);
-  entries = λ i e h. c.apply_answer-applied.ensures.grew.keeps i e (entries-two g.H.GoalHandler.meaning g.met.H.GoalHandler.lawful.world_kept c.args.cx.now c.ask.new.cx c.search.new.cx c.requires.ready c.ask.ensures.advances c.search.ensures.keeps i e h);
-  limits = limits-further c.args.cx.now c.search.new.cx (record { alloc = c.search.new.cx.alloc; interner = c.apply_answer-applied.new.cx; handler = c.search.new.cx.handler; store = c.search.new.cx.store }) (limits-two g.H.GoalHandler.meaning g.met.H.GoalHandler.lawful.world_kept c.args.cx.now c.ask.new.cx c.search.new.cx c.requires.ready c.ask.ensures.advances c.search.ensures.keeps) (record { terms = c.apply_answer-applied.ensures.grew.limit; kept = refl });
+  ready = (later g.H.GoalHandler.meaning.IsReady g.met.H.GoalHandler.lawful.ready_kept c.search.new.cx (record { alloc = c.search.new.cx.alloc; interner = c.apply_answer-applied.new.cx; handler = c.search.new.cx.handler; store = c.search.new.cx.store }) c.search.ensures.ready refl refl c.apply_answer-applied.ensures.terms.grew.keeps c.lawful.ensures c.apply_answer-applied.ensures.terms.grew.limit).ready;
+  keeps = keeps-three g.H.GoalHandler.meaning g.met.H.GoalHandler.lawful.world_kept c.args.cx.now c.ask.new.cx c.search.new.cx c.requires.ready c.ask.ensures.advances c.search.ensures.keeps (record { alloc = c.search.new.cx.alloc; interner = c.apply_answer-applied.new.cx; handler = c.search.new.cx.handler; store = c.search.new.cx.store }) c.search.ensures.ready (later g.H.GoalHandler.meaning.IsReady g.met.H.GoalHandler.lawful.ready_kept c.search.new.cx (record { alloc = c.search.new.cx.alloc; interner = c.apply_answer-applied.new.cx; handler = c.search.new.cx.handler; store = c.search.new.cx.store }) c.search.ensures.ready refl refl c.apply_answer-applied.ensures.terms.grew.keeps c.lawful.ensures c.apply_answer-applied.ensures.terms.grew.limit);
+  entries = λ i e h. c.apply_answer-applied.ensures.terms.grew.keeps i e (entries-two g.H.GoalHandler.meaning g.met.H.GoalHandler.lawful.world_kept c.args.cx.now c.ask.new.cx c.search.new.cx c.requires.ready c.ask.ensures.advances c.search.ensures.keeps i e h);
+  limits = limits-further c.args.cx.now c.search.new.cx (record { alloc = c.search.new.cx.alloc; interner = c.apply_answer-applied.new.cx; handler = c.search.new.cx.handler; store = c.search.new.cx.store }) (limits-two g.H.GoalHandler.meaning g.met.H.GoalHandler.lawful.world_kept c.args.cx.now c.ask.new.cx c.search.new.cx c.requires.ready c.ask.ensures.advances c.search.ensures.keeps) (record { terms = c.apply_answer-applied.ensures.terms.grew.limit; kept = refl });
   table = search rules;
   grows = search rules;
 }
@@ -177,13 +177,13 @@ returns-in-Ok-clause-costs g c = record {
 
 pub returns-in-Ok-clause-says : goal.returns-in-Ok-clause-says
 returns-in-Ok-clause-says g c = record {
-  held = goal-held-later c.ask.new.cx.interner.entries c.apply_answer-applied.new.cx.entries (λ i e h. c.apply_answer-applied.ensures.grew.keeps i e (c.search.ensures.keeps.held (of_term i e) h)) c.in_ok-asked.asked.goal c.in_ok-asked.ensures.held;
-  resolved = goal-trees-later c.ask.new.cx.interner.entries c.apply_answer-applied.new.cx.entries (λ i e h. c.apply_answer-applied.ensures.grew.keeps i e (c.search.ensures.keeps.held (of_term i e) h)) c.in_ok-asked.asked.goal c.in_ok-asked.ensures.held ∙ c.in_ok-asked.ensures.resolved;
+  held = goal-held-later c.ask.new.cx.interner.entries c.apply_answer-applied.new.cx.entries (λ i e h. c.apply_answer-applied.ensures.terms.grew.keeps i e (c.search.ensures.keeps.held (of_term i e) h)) c.in_ok-asked.asked.goal c.in_ok-asked.ensures.held;
+  resolved = goal-trees-later c.ask.new.cx.interner.entries c.apply_answer-applied.new.cx.entries (λ i e h. c.apply_answer-applied.ensures.terms.grew.keeps i e (c.search.ensures.keeps.held (of_term i e) h)) c.in_ok-asked.asked.goal c.in_ok-asked.ensures.held ∙ c.in_ok-asked.ensures.resolved;
   answer =
       let d : c.deref.result.now ≡ c.in_ok-asked.asked.values.items = search rules in
       let v = (values-later c.ask.new.cx.interner.entries c.search.new.cx.interner.entries (λ i e h. c.search.ensures.keeps.held (of_term i e) h) c.in_ok-asked.asked.values.items c.deref.result.now d (goal_leaves (goal_in c.args.cx.now.interner.entries c.args.table.now c.args.goal.now)) c.in_ok-asked.ensures.args c.in_ok-asked.ensures.leaves c.in_ok-asked.ensures.values) in (
         (answer_trees c.search.new.cx.interner.entries c.in-Some.answer),
-        (result-later (solver_meaning g.H.GoalHandler.meaning) c.args.cx.now c.search.new.cx (record { alloc = c.search.new.cx.alloc; interner = c.apply_answer-applied.new.cx; handler = c.search.new.cx.handler; store = c.search.new.cx.store }) (keeps g.H.GoalHandler.meaning g.met.H.GoalHandler.lawful.world_kept c.search.new.cx (record { alloc = c.search.new.cx.alloc; interner = c.apply_answer-applied.new.cx; handler = c.search.new.cx.handler; store = c.search.new.cx.store }) c.search.ensures.ready (later g.H.GoalHandler.meaning.IsReady g.met.H.GoalHandler.lawful.ready_kept c.search.new.cx (record { alloc = c.search.new.cx.alloc; interner = c.apply_answer-applied.new.cx; handler = c.search.new.cx.handler; store = c.search.new.cx.store }) c.search.ensures.ready refl refl c.apply_answer-applied.ensures.grew.keeps c.lawful.ensures c.apply_answer-applied.ensures.grew.limit)) c.args.cache.now c.search.new.cache c.search.ensures.cache c.args.graph.now c.search.new.graph (asked_in c.args.mode c.args.cx.now.interner.entries c.args.table.now c.args.goal.now) (Some (answer_trees c.search.new.cx.interner.entries c.in-Some.answer))
+        (result-later (solver_meaning g.H.GoalHandler.meaning) c.args.cx.now c.search.new.cx (record { alloc = c.search.new.cx.alloc; interner = c.apply_answer-applied.new.cx; handler = c.search.new.cx.handler; store = c.search.new.cx.store }) (keeps g.H.GoalHandler.meaning g.met.H.GoalHandler.lawful.world_kept c.search.new.cx (record { alloc = c.search.new.cx.alloc; interner = c.apply_answer-applied.new.cx; handler = c.search.new.cx.handler; store = c.search.new.cx.store }) c.search.ensures.ready (later g.H.GoalHandler.meaning.IsReady g.met.H.GoalHandler.lawful.ready_kept c.search.new.cx (record { alloc = c.search.new.cx.alloc; interner = c.apply_answer-applied.new.cx; handler = c.search.new.cx.handler; store = c.search.new.cx.store }) c.search.ensures.ready refl refl c.apply_answer-applied.ensures.terms.grew.keeps c.lawful.ensures c.apply_answer-applied.ensures.terms.grew.limit)) c.args.cache.now c.search.new.cache c.search.ensures.cache c.args.graph.now c.search.new.graph (asked_in c.args.mode c.args.cx.now.interner.entries c.args.table.now c.args.goal.now) (Some (answer_trees c.search.new.cx.interner.entries c.in-Some.answer))
             (result-before (solver_meaning g.H.GoalHandler.meaning) c.args.cx.now c.ask.new.cx (keeps g.H.GoalHandler.meaning g.met.H.GoalHandler.lawful.world_kept c.args.cx.now c.ask.new.cx c.requires.ready c.ask.ensures.advances) (goal_of c.ask.new.cx c.in_ok-asked.asked.input) (asked_in c.args.mode c.args.cx.now.interner.entries c.args.table.now c.args.goal.now) c.in_ok-asked.ensures.input.1 c.args.graph.now c.search.new.graph c.args.cache.now c.requires.cache c.search.new.cache c.search.new.cx (result_read c.search.new.cx.interner.entries c.in_ok-answer.field-0) (Some (answer_trees c.search.new.cx.interner.entries c.in-Some.answer)) (ap (result_read c.search.new.cx.interner.entries) c.in-Some.is) c.in_ok-answer.ensures.found)),
         record { certainty = refl; has_changed = c.has_changed-changed.ensures },
         left-later c.args.cx.now.interner.entries c.search.new.cx.interner.entries (entries-two g.H.GoalHandler.meaning g.met.H.GoalHandler.lawful.world_kept c.args.cx.now c.ask.new.cx c.search.new.cx c.requires.ready c.ask.ensures.advances c.search.ensures.keeps) c.args.table.now c.requires.table (values_of c.search.new.cx.interner.entries c.deref.result.now) (goal_in c.args.cx.now.interner.entries c.args.table.now c.args.goal.now) (answer_trees c.search.new.cx.interner.entries c.in-Some.answer) (values-are c.search.new.cx.interner.entries c.search.ensures.ready.lawful c.deref.result.now (goal_in c.args.cx.now.interner.entries c.args.table.now c.args.goal.now) v.args v.leaves v.labels_are) ∙ c.in-Ok.ensures.exact,
@@ -208,13 +208,13 @@ pub returns-in-Err-clause-rests : goal.returns-in-Err-clause-rests
 returns-in-Err-clause-rests g c = record {
   empty = search rules;
   depth = search rules;
-  cache = justified-later (solver_meaning g.H.GoalHandler.meaning) c.search.new.cx (record { alloc = c.search.new.cx.alloc; interner = c.apply_answer-applied.new.cx; handler = c.search.new.cx.handler; store = c.search.new.cx.store }) c.search.new.cache (keeps g.H.GoalHandler.meaning g.met.H.GoalHandler.lawful.world_kept c.search.new.cx (record { alloc = c.search.new.cx.alloc; interner = c.apply_answer-applied.new.cx; handler = c.search.new.cx.handler; store = c.search.new.cx.store }) c.search.ensures.ready (later g.H.GoalHandler.meaning.IsReady g.met.H.GoalHandler.lawful.ready_kept c.search.new.cx (record { alloc = c.search.new.cx.alloc; interner = c.apply_answer-applied.new.cx; handler = c.search.new.cx.handler; store = c.search.new.cx.store }) c.search.ensures.ready refl refl c.apply_answer-applied.ensures.grew.keeps c.lawful.ensures c.apply_answer-applied.ensures.grew.limit)) c.search.ensures.cache;
+  cache = justified-later (solver_meaning g.H.GoalHandler.meaning) c.search.new.cx (record { alloc = c.search.new.cx.alloc; interner = c.apply_answer-applied.new.cx; handler = c.search.new.cx.handler; store = c.search.new.cx.store }) c.search.new.cache (keeps g.H.GoalHandler.meaning g.met.H.GoalHandler.lawful.world_kept c.search.new.cx (record { alloc = c.search.new.cx.alloc; interner = c.apply_answer-applied.new.cx; handler = c.search.new.cx.handler; store = c.search.new.cx.store }) c.search.ensures.ready (later g.H.GoalHandler.meaning.IsReady g.met.H.GoalHandler.lawful.ready_kept c.search.new.cx (record { alloc = c.search.new.cx.alloc; interner = c.apply_answer-applied.new.cx; handler = c.search.new.cx.handler; store = c.search.new.cx.store }) c.search.ensures.ready refl refl c.apply_answer-applied.ensures.terms.grew.keeps c.lawful.ensures c.apply_answer-applied.ensures.terms.grew.limit)) c.search.ensures.cache;
   consistent = search rules;
   results = search rules;
-  ready = (later g.H.GoalHandler.meaning.IsReady g.met.H.GoalHandler.lawful.ready_kept c.search.new.cx (record { alloc = c.search.new.cx.alloc; interner = c.apply_answer-applied.new.cx; handler = c.search.new.cx.handler; store = c.search.new.cx.store }) c.search.ensures.ready refl refl c.apply_answer-applied.ensures.grew.keeps c.lawful.ensures c.apply_answer-applied.ensures.grew.limit).ready;
-  keeps = keeps-three g.H.GoalHandler.meaning g.met.H.GoalHandler.lawful.world_kept c.args.cx.now c.ask.new.cx c.search.new.cx c.requires.ready c.ask.ensures.advances c.search.ensures.keeps (record { alloc = c.search.new.cx.alloc; interner = c.apply_answer-applied.new.cx; handler = c.search.new.cx.handler; store = c.search.new.cx.store }) c.search.ensures.ready (later g.H.GoalHandler.meaning.IsReady g.met.H.GoalHandler.lawful.ready_kept c.search.new.cx (record { alloc = c.search.new.cx.alloc; interner = c.apply_answer-applied.new.cx; handler = c.search.new.cx.handler; store = c.search.new.cx.store }) c.search.ensures.ready refl refl c.apply_answer-applied.ensures.grew.keeps c.lawful.ensures c.apply_answer-applied.ensures.grew.limit);
-  entries = λ i e h. c.apply_answer-applied.ensures.grew.keeps i e (entries-two g.H.GoalHandler.meaning g.met.H.GoalHandler.lawful.world_kept c.args.cx.now c.ask.new.cx c.search.new.cx c.requires.ready c.ask.ensures.advances c.search.ensures.keeps i e h);
-  limits = limits-further c.args.cx.now c.search.new.cx (record { alloc = c.search.new.cx.alloc; interner = c.apply_answer-applied.new.cx; handler = c.search.new.cx.handler; store = c.search.new.cx.store }) (limits-two g.H.GoalHandler.meaning g.met.H.GoalHandler.lawful.world_kept c.args.cx.now c.ask.new.cx c.search.new.cx c.requires.ready c.ask.ensures.advances c.search.ensures.keeps) (record { terms = c.apply_answer-applied.ensures.grew.limit; kept = refl });
+  ready = (later g.H.GoalHandler.meaning.IsReady g.met.H.GoalHandler.lawful.ready_kept c.search.new.cx (record { alloc = c.search.new.cx.alloc; interner = c.apply_answer-applied.new.cx; handler = c.search.new.cx.handler; store = c.search.new.cx.store }) c.search.ensures.ready refl refl c.apply_answer-applied.ensures.terms.grew.keeps c.lawful.ensures c.apply_answer-applied.ensures.terms.grew.limit).ready;
+  keeps = keeps-three g.H.GoalHandler.meaning g.met.H.GoalHandler.lawful.world_kept c.args.cx.now c.ask.new.cx c.search.new.cx c.requires.ready c.ask.ensures.advances c.search.ensures.keeps (record { alloc = c.search.new.cx.alloc; interner = c.apply_answer-applied.new.cx; handler = c.search.new.cx.handler; store = c.search.new.cx.store }) c.search.ensures.ready (later g.H.GoalHandler.meaning.IsReady g.met.H.GoalHandler.lawful.ready_kept c.search.new.cx (record { alloc = c.search.new.cx.alloc; interner = c.apply_answer-applied.new.cx; handler = c.search.new.cx.handler; store = c.search.new.cx.store }) c.search.ensures.ready refl refl c.apply_answer-applied.ensures.terms.grew.keeps c.lawful.ensures c.apply_answer-applied.ensures.terms.grew.limit);
+  entries = λ i e h. c.apply_answer-applied.ensures.terms.grew.keeps i e (entries-two g.H.GoalHandler.meaning g.met.H.GoalHandler.lawful.world_kept c.args.cx.now c.ask.new.cx c.search.new.cx c.requires.ready c.ask.ensures.advances c.search.ensures.keeps i e h);
+  limits = limits-further c.args.cx.now c.search.new.cx (record { alloc = c.search.new.cx.alloc; interner = c.apply_answer-applied.new.cx; handler = c.search.new.cx.handler; store = c.search.new.cx.store }) (limits-two g.H.GoalHandler.meaning g.met.H.GoalHandler.lawful.world_kept c.args.cx.now c.ask.new.cx c.search.new.cx c.requires.ready c.ask.ensures.advances c.search.ensures.keeps) (record { terms = c.apply_answer-applied.ensures.terms.grew.limit; kept = refl });
   table = search rules;
   grows = search rules;
 }
@@ -234,7 +234,7 @@ returns-in-Err-clause-refusal g c = record {
       let d : c.deref.result.now ≡ c.in_ok-asked.asked.values.items = search rules in
       let v = (values-later c.ask.new.cx.interner.entries c.search.new.cx.interner.entries (λ i e h. c.search.ensures.keeps.held (of_term i e) h) c.in_ok-asked.asked.values.items c.deref.result.now d (goal_leaves (goal_in c.args.cx.now.interner.entries c.args.table.now c.args.goal.now)) c.in_ok-asked.ensures.args c.in_ok-asked.ensures.leaves c.in_ok-asked.ensures.values) in (
         Some (answer_trees c.search.new.cx.interner.entries c.in-Some.answer),
-        (result-later (solver_meaning g.H.GoalHandler.meaning) c.args.cx.now c.search.new.cx (record { alloc = c.search.new.cx.alloc; interner = c.apply_answer-applied.new.cx; handler = c.search.new.cx.handler; store = c.search.new.cx.store }) (keeps g.H.GoalHandler.meaning g.met.H.GoalHandler.lawful.world_kept c.search.new.cx (record { alloc = c.search.new.cx.alloc; interner = c.apply_answer-applied.new.cx; handler = c.search.new.cx.handler; store = c.search.new.cx.store }) c.search.ensures.ready (later g.H.GoalHandler.meaning.IsReady g.met.H.GoalHandler.lawful.ready_kept c.search.new.cx (record { alloc = c.search.new.cx.alloc; interner = c.apply_answer-applied.new.cx; handler = c.search.new.cx.handler; store = c.search.new.cx.store }) c.search.ensures.ready refl refl c.apply_answer-applied.ensures.grew.keeps c.lawful.ensures c.apply_answer-applied.ensures.grew.limit)) c.args.cache.now c.search.new.cache c.search.ensures.cache c.args.graph.now c.search.new.graph (asked_in c.args.mode c.args.cx.now.interner.entries c.args.table.now c.args.goal.now) (Some (answer_trees c.search.new.cx.interner.entries c.in-Some.answer))
+        (result-later (solver_meaning g.H.GoalHandler.meaning) c.args.cx.now c.search.new.cx (record { alloc = c.search.new.cx.alloc; interner = c.apply_answer-applied.new.cx; handler = c.search.new.cx.handler; store = c.search.new.cx.store }) (keeps g.H.GoalHandler.meaning g.met.H.GoalHandler.lawful.world_kept c.search.new.cx (record { alloc = c.search.new.cx.alloc; interner = c.apply_answer-applied.new.cx; handler = c.search.new.cx.handler; store = c.search.new.cx.store }) c.search.ensures.ready (later g.H.GoalHandler.meaning.IsReady g.met.H.GoalHandler.lawful.ready_kept c.search.new.cx (record { alloc = c.search.new.cx.alloc; interner = c.apply_answer-applied.new.cx; handler = c.search.new.cx.handler; store = c.search.new.cx.store }) c.search.ensures.ready refl refl c.apply_answer-applied.ensures.terms.grew.keeps c.lawful.ensures c.apply_answer-applied.ensures.terms.grew.limit)) c.args.cache.now c.search.new.cache c.search.ensures.cache c.args.graph.now c.search.new.graph (asked_in c.args.mode c.args.cx.now.interner.entries c.args.table.now c.args.goal.now) (Some (answer_trees c.search.new.cx.interner.entries c.in-Some.answer))
             (result-before (solver_meaning g.H.GoalHandler.meaning) c.args.cx.now c.ask.new.cx (keeps g.H.GoalHandler.meaning g.met.H.GoalHandler.lawful.world_kept c.args.cx.now c.ask.new.cx c.requires.ready c.ask.ensures.advances) (goal_of c.ask.new.cx c.in_ok-asked.asked.input) (asked_in c.args.mode c.args.cx.now.interner.entries c.args.table.now c.args.goal.now) c.in_ok-asked.ensures.input.1 c.args.graph.now c.search.new.graph c.args.cache.now c.requires.cache c.search.new.cache c.search.new.cx (result_read c.search.new.cx.interner.entries c.in_ok-answer.field-0) (Some (answer_trees c.search.new.cx.interner.entries c.in-Some.answer)) (ap (result_read c.search.new.cx.interner.entries) c.in-Some.is) c.in_ok-answer.ensures.found)),
         left-later c.args.cx.now.interner.entries c.search.new.cx.interner.entries (entries-two g.H.GoalHandler.meaning g.met.H.GoalHandler.lawful.world_kept c.args.cx.now c.ask.new.cx c.search.new.cx c.requires.ready c.ask.ensures.advances c.search.ensures.keeps) c.args.table.now c.requires.table (values_of c.search.new.cx.interner.entries c.deref.result.now) (goal_in c.args.cx.now.interner.entries c.args.table.now c.args.goal.now) (answer_trees c.search.new.cx.interner.entries c.in-Some.answer) (values-are c.search.new.cx.interner.entries c.search.ensures.ready.lawful c.deref.result.now (goal_in c.args.cx.now.interner.entries c.args.table.now c.args.goal.now) v.args v.leaves v.labels_are) ∙ c.in-Err.ensures.refusal (ap Err (refused c.in-Err.error (sym c.from.ensures ∙ err-is _ _ n))),
       );
@@ -251,5 +251,5 @@ pub returns-in-Err-clause-faults : goal.returns-in-Err-clause-faults
 returns-in-Err-clause-faults g c = record {
   not_plain = λ n. absurd (no-conflict c.in-Err.error (sym c.from.ensures ∙ err-is _ _ n));
   conflict = λ n. absurd (no-conflict c.in-Err.error (sym c.from.ensures ∙ err-is _ _ n));
-  full = λ n. interner (c.in-Err.ensures.full (equation-full c.in-Err.error (sym c.from.ensures ∙ n)));
+  full = λ n. interner (c.in-Err.ensures.terms.full (equation-full c.in-Err.error (sym c.from.ensures ∙ n)));
 }

@@ -15,9 +15,9 @@ take_step-requires-clause-todo g c = (steps-split c.loop.cx.entries _ _ (subst (
 pub loop-preserved : goal.loop-preserved
 loop-preserved g c =
     let inv = c.loop.invariant in (
-      λ i e h. c.take_step.ensures.keeps i e (inv.0 i e h),
-      g.met.F.FallibleTypeFolder.ready_kept c.args.folder.now c.loop.cx.entries c.take_step.new.cx.entries c.take_step.ensures.keeps inv.1,
+      λ i e h. c.take_step.ensures.grew.keeps i e (inv.0 i e h),
+      g.met.F.FallibleTypeFolder.ready_kept c.args.folder.now c.loop.cx.entries c.take_step.new.cx.entries c.take_step.ensures.grew.keeps inv.1,
       c.in_ok-take_step.ensures.known,
       c.in_ok-take_step.ensures.todo,
-      c.take_step.ensures.limit ∙ inv.4,
+      c.take_step.ensures.grew.limit ∙ inv.4,
     )

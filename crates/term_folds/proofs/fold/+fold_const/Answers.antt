@@ -15,9 +15,9 @@ returns-in-Enter-clause-folded g t c =
     let at : trees_at es c.args.ct.0 ≡ const_trees c.const_kind.result = trees-is es consts c.args.ct.0 _ c.const_kind.ensures.is in
     let does = says-enters (ConstIs c.try_fold_const.new.cx.entries) (f bs (trees_at es c.args.ct.0)) (rw (← c.in-Enter.is) c.in_ok-try_fold_const.ensures.answer) in
     let later : trees_at c.try_fold_const.new.cx.entries c.args.ct.0 ≡ const_trees c.const_kind.result =
-    trees-is _ consts c.args.ct.0 _ (c.try_fold_const.ensures.keeps c.args.ct.0 _ c.const_kind.ensures.is) in
+    trees-is _ consts c.args.ct.0 _ (c.try_fold_const.ensures.grew.keeps c.args.ct.0 _ c.const_kind.ensures.is) in
     record {
-      has = (_, c.try_fold_const.ensures.keeps c.args.ct.0 _ c.const_kind.ensures.is);
+      has = (_, c.try_fold_const.ensures.grew.keeps c.args.ct.0 _ c.const_kind.ensures.is);
       folded = rw (at, later) (leaf-stays f bs (const_label c.const_kind.result) (ap (f bs) (sym at) ∙ does));
     }
 
@@ -39,7 +39,7 @@ returns-in-Again-clause-folded g t c =
     let f = g.F.FallibleTypeFolder.action c.args.folder.now es in
     let at : trees_at es c.args.ct.0 ≡ const_trees c.const_kind.result = trees-is es consts c.args.ct.0 _ c.const_kind.ensures.is in
     let one : Single (trees_at es c.args.ct.0) = rw at refl in
-    let law = g.met.F.FallibleTypeFolder.action_kept c.args.folder.now es es1 c.try_fold_const.ensures.keeps c.requires.ready in
+    let law = g.met.F.FallibleTypeFolder.action_kept c.args.folder.now es es1 c.try_fold_const.ensures.grew.keeps c.requires.ready in
     ok-map c.fold_const.result c.fold_const.ensures.folded
     (λ r h. turn-handle (g.F.FallibleTypeFolder.action c.args.folder.now es1) f bs (trees_at es c.args.ct.0) es1 c.fold_const.new.cx.entries consts c.in-Again.next.0 r.0 one law
     (says-again (ConstIs c.try_fold_const.new.cx.entries) (f bs (trees_at es c.args.ct.0)) c.in-Again.next (rw (← c.in-Again.is) c.in_ok-try_fold_const.ensures.answer)) h)

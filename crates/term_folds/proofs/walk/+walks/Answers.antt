@@ -9,6 +9,7 @@ use Rattle.type_terms.specs.declared.kinds.TyKind.TheVariants.{Ref}
 use Rattle.type_terms.specs.declared.TraitId.{TraitId}
 use Rattle.type_terms.specs.Label.{ref, principal}
 use Rattle.type_terms.specs.Binders.{counts_of}
+use Rattle.type_terms.proofs.Grown.{grew-none, grew-on}
 use Rattle.term_folds.specs.Folds.{Does, enters, Folds, nothing, entered, below}
 use Rattle.type_terms.specs.Visits.{IsBound}
 use Rattle.type_terms.specs.Kept.{trees-is, has-later, trees-later, arg-held-later, arg-trees-later, args-held-later, tys-held-later}
@@ -28,16 +29,16 @@ walk_ty-returns-in_ok-note-in-Enter-clause-folded g t c =
     let es1 = c.try_fold_ty.new.cx.entries in
     let bs = counts_of c.args.binders.now in
     let f = g.F.FallibleTypeFolder.action c.args.folder.now es in
-    let law = g.met.F.FallibleTypeFolder.action_kept c.args.folder.now es es1 c.try_fold_ty.ensures.keeps c.requires.ready in
+    let law = g.met.F.FallibleTypeFolder.action_kept c.args.folder.now es es1 c.try_fold_ty.ensures.grew.keeps c.requires.ready in
     let does = says-enters (TyIs c.try_fold_ty.new.cx.entries) (f bs (trees_at es c.args.ty.0)) (rw (← c.in-Enter.is) c.in_ok-try_fold_ty.ensures.answer) in
     enter-later (g.F.FallibleTypeFolder.action c.args.folder.now es1) f bs (trees_at es1 c.args.ty.0) (trees_at es c.args.ty.0) c.super_walk_ty.new.cx.entries types _
-    law (trees-later es es1 c.try_fold_ty.ensures.keeps types c.args.ty.0 c.requires.held) does c.in_ok-folded-in-Enter.ensures.folded
+    law (trees-later es es1 c.try_fold_ty.ensures.grew.keeps types c.args.ty.0 c.requires.held) does c.in_ok-folded-in-Enter.ensures.folded
 
 pub walk_ty-returns-in_ok-note-in-Enter-clause-known : goal.walk_ty-returns-in_ok-note-in-Enter-clause-known
 walk_ty-returns-in_ok-note-in-Enter-clause-known g t c =
     let es = c.args.cx.now.entries in
     let es2 = c.super_walk_ty.new.cx.entries in
-    let keeps : Keeps es es2 = λ j e h. c.super_walk_ty.ensures.keeps j e (c.try_fold_ty.ensures.keeps j e h) in
+    let keeps : Keeps es es2 = λ j e h. c.super_walk_ty.ensures.grew.keeps j e (c.try_fold_ty.ensures.grew.keeps j e h) in
     let f = g.F.FallibleTypeFolder.action c.args.folder.now es2 in
     let law = g.met.F.FallibleTypeFolder.action_kept c.args.folder.now es es2 keeps c.requires.ready in
     c.in_ok-note-in-Enter.ensures.noted f es2 c.in_ok-folded-in-Enter.ensures.known
@@ -87,20 +88,20 @@ walk_tys-loop-ty-preserved g t c =
     let i = c.loop-ty.ty-index in
     let bs = counts_of c.args.binders.now in
     let f = g.F.FallibleTypeFolder.action c.args.folder.now es in
-    let keeps : Keeps es next = λ j e h. c.walk_ty.ensures.keeps j e (inv.0 j e h) in
+    let keeps : Keeps es next = λ j e h. c.walk_ty.ensures.grew.keeps j e (inv.0 j e h) in
     let law = g.met.F.FallibleTypeFolder.action_kept c.args.folder.now es now inv.0 c.requires.ready in
     let old = ty-held-at es xs i (record { 0 = 0 }) inv.4 c.loop-ty-test.true in
     let y = c.in_ok-folded.folded in
     let inner = by-action (g.F.FallibleTypeFolder.action c.args.folder.now now) f bs _ _ _ law (trees-later es now inv.0 types _ old) c.in_ok-folded.ensures.folded.folded in (
       keeps,
-      g.met.F.FallibleTypeFolder.ready_kept c.args.folder.now now next c.walk_ty.ensures.keeps inv.1,
-      rw c.in_ok-append.ensures.appended (tys-held-push next c.loop-ty.new.items y (tys-held-later now next c.walk_ty.ensures.keeps c.loop-ty.new.items inv.2) c.in_ok-folded.ensures.folded.has),
-      rw c.in_ok-append.ensures.appended (one-more-ty f bs es now next c.walk_ty.ensures.keeps xs c.loop-ty.new.items i (record { 0 = 0 }) y c.loop-ty-test.true inv.2 inv.3 inner),
+      g.met.F.FallibleTypeFolder.ready_kept c.args.folder.now now next c.walk_ty.ensures.grew.keeps inv.1,
+      rw c.in_ok-append.ensures.appended (tys-held-push next c.loop-ty.new.items y (tys-held-later now next c.walk_ty.ensures.grew.keeps c.loop-ty.new.items inv.2) c.in_ok-folded.ensures.folded.has),
+      rw c.in_ok-append.ensures.appended (one-more-ty f bs es now next c.walk_ty.ensures.grew.keeps xs c.loop-ty.new.items i (record { 0 = 0 }) y c.loop-ty-test.true inv.2 inv.3 inner),
       inv.4,
       inv.5,
       inv.6,
       rw c.in_ok-append.ensures.appended (grind (arith, common_steps, inv.7)),
-      c.walk_ty.ensures.limit ∙ inv.8,
+      c.walk_ty.ensures.grew.limit ∙ inv.8,
       c.in_ok-folded.ensures.known,
     )
 
@@ -164,20 +165,20 @@ walk_args-loop-arg-preserved g t c =
     let x = c.arg-item.result in
     let bs = counts_of c.args.binders.now in
     let f = g.F.FallibleTypeFolder.action c.args.folder.now es in
-    let keeps : Keeps es next = λ j e h. c.walk_arg.ensures.keeps j e (inv.0 j e h) in
+    let keeps : Keeps es next = λ j e h. c.walk_arg.ensures.grew.keeps j e (inv.0 j e h) in
     let law = g.met.F.FallibleTypeFolder.action_kept c.args.folder.now es now inv.0 c.requires.ready in
     let old : ArgHeld es x = rw c.arg-item.is (arg-held-at es xs i x inv.4 c.loop-arg-test.true) in
     let y = c.in_ok-folded.folded in
     let inner = by-action (g.F.FallibleTypeFolder.action c.args.folder.now now) f bs _ _ _ law (arg-trees-later es now inv.0 x old) c.in_ok-folded.ensures.folded in
     let inner-at = subst (λ z. Folds f bs (arg_trees es z) (arg_trees next y)) c.arg-item.is inner in (
       keeps,
-      g.met.F.FallibleTypeFolder.ready_kept c.args.folder.now now next c.walk_arg.ensures.keeps inv.1,
-      rw c.in_ok-append.ensures.appended (args-held-push next c.loop-arg.new.items y (args-held-later now next c.walk_arg.ensures.keeps c.loop-arg.new.items inv.2) c.in_ok-folded.ensures.held),
-      rw c.in_ok-append.ensures.appended (one-more-arg f bs es now next c.walk_arg.ensures.keeps xs c.loop-arg.new.items i x y c.loop-arg-test.true inv.2 inv.3 inner-at),
+      g.met.F.FallibleTypeFolder.ready_kept c.args.folder.now now next c.walk_arg.ensures.grew.keeps inv.1,
+      rw c.in_ok-append.ensures.appended (args-held-push next c.loop-arg.new.items y (args-held-later now next c.walk_arg.ensures.grew.keeps c.loop-arg.new.items inv.2) c.in_ok-folded.ensures.held),
+      rw c.in_ok-append.ensures.appended (one-more-arg f bs es now next c.walk_arg.ensures.grew.keeps xs c.loop-arg.new.items i x y c.loop-arg-test.true inv.2 inv.3 inner-at),
       inv.4,
       inv.5,
       inv.6,
-      c.walk_arg.ensures.limit ∙ inv.7,
+      c.walk_arg.ensures.grew.limit ∙ inv.7,
       c.in_ok-folded.ensures.known,
     )
 
@@ -243,23 +244,22 @@ walk_tys-returns-clause-known g t c =
     let inv = c.loop-ty.invariant in
     let now = c.loop-ty.cx.entries in
     let next = c.mk_tys.new.self.entries in
-    let law = g.met.F.FallibleTypeFolder.action_kept c.args.folder.now now next c.mk_tys.ensures.keeps inv.1 in
-    remembers-later _ (g.F.FallibleTypeFolder.action c.args.folder.now next) now next c.loop-ty.memo c.mk_tys.ensures.keeps law inv.9
+    let law = g.met.F.FallibleTypeFolder.action_kept c.args.folder.now now next c.mk_tys.ensures.grew.keeps inv.1 in
+    remembers-later _ (g.F.FallibleTypeFolder.action c.args.folder.now next) now next c.loop-ty.memo c.mk_tys.ensures.grew.keeps law inv.9
 
 pub walk_args-returns-clause-known : goal.walk_args-returns-clause-known
 walk_args-returns-clause-known g t c =
     let inv = c.loop-arg.invariant in
     let now = c.loop-arg.cx.entries in
     let next = c.mk_args.new.self.entries in
-    let law = g.met.F.FallibleTypeFolder.action_kept c.args.folder.now now next c.mk_args.ensures.keeps inv.1 in
-    remembers-later _ (g.F.FallibleTypeFolder.action c.args.folder.now next) now next c.loop-arg.memo c.mk_args.ensures.keeps law inv.8
+    let law = g.met.F.FallibleTypeFolder.action_kept c.args.folder.now now next c.mk_args.ensures.grew.keeps inv.1 in
+    remembers-later _ (g.F.FallibleTypeFolder.action c.args.folder.now next) now next c.loop-arg.memo c.mk_args.ensures.grew.keeps law inv.8
 
 -- ---- what every return says of the interner and of what is known
 pub walk_ty-returns-in_err-note-in-Enter : goal.walk_ty-returns-in_err-note-in-Enter
 walk_ty-returns-in_err-note-in-Enter g t c =
     record {
-      keeps = (λ j e h. c.super_walk_ty.ensures.keeps j e (c.try_fold_ty.ensures.keeps j e h));
-      limit = c.super_walk_ty.ensures.limit ∙ c.try_fold_ty.ensures.limit;
+      grew = grew-on c.try_fold_ty.ensures.grew c.super_walk_ty.ensures.grew;
       folded = no-value _ _ c.from_residual-in_err-note-in-Enter.result c.from_residual-in_err-note-in-Enter.ensures.1;
       known = no-value _ _ c.from_residual-in_err-note-in-Enter.result c.from_residual-in_err-note-in-Enter.ensures.1;
       failed = memory-error _ _ _ _ c.from_residual-in_err-note-in-Enter.result c.from_residual-in_err-note-in-Enter.ensures.1 c.in_err-note-in-Enter.ensures.memory;
@@ -268,8 +268,7 @@ walk_ty-returns-in_err-note-in-Enter g t c =
 pub walk_ty-returns-in-Replace : goal.walk_ty-returns-in-Replace
 walk_ty-returns-in-Replace g t c =
     record {
-      keeps = c.try_fold_ty.ensures.keeps;
-      limit = c.try_fold_ty.ensures.limit;
+      grew = c.try_fold_ty.ensures.grew;
       folded = (let es = c.args.cx.now.entries in
           let bs = counts_of c.args.binders.now in
           let f = g.F.FallibleTypeFolder.action c.args.folder.now es in
@@ -278,22 +277,21 @@ walk_ty-returns-in-Replace g t c =
           (says-puts (TyIs c.try_fold_ty.new.cx.entries) (f bs (trees_at es c.args.ty.0)) c.in-Replace.new (rw (← c.in-Replace.is) c.in_ok-try_fold_ty.ensures.answer)));
       known = (let es = c.args.cx.now.entries in
           let es1 = c.try_fold_ty.new.cx.entries in
-          let law = g.met.F.FallibleTypeFolder.action_kept c.args.folder.now es es1 c.try_fold_ty.ensures.keeps c.requires.ready in
-          remembers-later _ (g.F.FallibleTypeFolder.action c.args.folder.now es1) es es1 c.args.memo.now c.try_fold_ty.ensures.keeps law c.requires.known);
+          let law = g.met.F.FallibleTypeFolder.action_kept c.args.folder.now es es1 c.try_fold_ty.ensures.grew.keeps c.requires.ready in
+          remembers-later _ (g.F.FallibleTypeFolder.action c.args.folder.now es1) es es1 c.args.memo.now c.try_fold_ty.ensures.grew.keeps law c.requires.known);
       failed = tt;
     }
 
 pub walk_ty-returns-in-Again : goal.walk_ty-returns-in-Again
 walk_ty-returns-in-Again g t c =
     record {
-      keeps = (λ j e h. c.walk_ty.ensures.keeps j e (c.try_fold_ty.ensures.keeps j e h));
-      limit = c.walk_ty.ensures.limit ∙ c.try_fold_ty.ensures.limit;
+      grew = grew-on c.try_fold_ty.ensures.grew c.walk_ty.ensures.grew;
       folded = (let es = c.args.cx.now.entries in
           let es1 = c.try_fold_ty.new.cx.entries in
           let bs = counts_of c.args.binders.now in
           let f = g.F.FallibleTypeFolder.action c.args.folder.now es in
           let one : Single (trees_at es c.args.ty.0) = type-is-one es c.lawful.ensures c.args.ty.0 c.requires.held in
-          let law = g.met.F.FallibleTypeFolder.action_kept c.args.folder.now es es1 c.try_fold_ty.ensures.keeps c.requires.ready in
+          let law = g.met.F.FallibleTypeFolder.action_kept c.args.folder.now es es1 c.try_fold_ty.ensures.grew.keeps c.requires.ready in
           ok-map c.walk_ty.result c.walk_ty.ensures.folded
           (λ r h. turn-handle (g.F.FallibleTypeFolder.action c.args.folder.now es1) f bs (trees_at es c.args.ty.0) es1 c.walk_ty.new.cx.entries types c.in-Again.next.0 r.0 one law
           (says-again (TyIs c.try_fold_ty.new.cx.entries) (f bs (trees_at es c.args.ty.0)) c.in-Again.next (rw (← c.in-Again.is) c.in_ok-try_fold_ty.ensures.answer)) h));
@@ -304,8 +302,7 @@ walk_ty-returns-in-Again g t c =
 pub walk_kind-returns-in_ok-walk_args-in-Adt : goal.walk_kind-returns-in_ok-walk_args-in-Adt
 walk_kind-returns-in_ok-walk_args-in-Adt g t c =
     record {
-      keeps = c.walk_args.ensures.keeps;
-      limit = c.walk_args.ensures.limit;
+      grew = c.walk_args.ensures.grew;
       held = c.in_ok-walk_args-in-Adt.ensures.folded.has;
       folded = rw c.in-Adt.is (below c.in_ok-walk_args-in-Adt.ensures.folded.folded);
       known = c.in_ok-walk_args-in-Adt.ensures.known;
@@ -315,8 +312,7 @@ walk_kind-returns-in_ok-walk_args-in-Adt g t c =
 pub walk_kind-returns-in_ok-walk_ty-in-Ref : goal.walk_kind-returns-in_ok-walk_ty-in-Ref
 walk_kind-returns-in_ok-walk_ty-in-Ref g t c =
     record {
-      keeps = c.walk_ty.ensures.keeps;
-      limit = c.walk_ty.ensures.limit;
+      grew = c.walk_ty.ensures.grew;
       held = (c.in_ok-region-in-Ref.ensures.held, c.in_ok-walk_ty-in-Ref.ensures.folded.has);
       folded = rw c.in-Ref.is (below (folds-append c.in_ok-region-in-Ref.ensures.folded c.in_ok-walk_ty-in-Ref.ensures.folded.folded));
       known = c.in_ok-walk_ty-in-Ref.ensures.known;
@@ -326,8 +322,7 @@ walk_kind-returns-in_ok-walk_ty-in-Ref g t c =
 pub walk_kind-returns-in_ok-walk_ty-in-RawPtr : goal.walk_kind-returns-in_ok-walk_ty-in-RawPtr
 walk_kind-returns-in_ok-walk_ty-in-RawPtr g t c =
     record {
-      keeps = c.walk_ty-in-RawPtr.ensures.keeps;
-      limit = c.walk_ty-in-RawPtr.ensures.limit;
+      grew = c.walk_ty-in-RawPtr.ensures.grew;
       held = c.in_ok-walk_ty-in-RawPtr.ensures.folded.has;
       folded = rw c.in-RawPtr.is (below c.in_ok-walk_ty-in-RawPtr.ensures.folded.folded);
       known = c.in_ok-walk_ty-in-RawPtr.ensures.known;
@@ -337,31 +332,29 @@ walk_kind-returns-in_ok-walk_ty-in-RawPtr g t c =
 pub walk_kind-returns-in_ok-fold_const-in-Array : goal.walk_kind-returns-in_ok-fold_const-in-Array
 walk_kind-returns-in_ok-fold_const-in-Array g t c =
     record {
-      keeps = (λ j e h. c.fold_const.ensures.keeps j e (c.walk_ty-in-Array.ensures.keeps j e h));
-      limit = c.fold_const.ensures.limit ∙ c.walk_ty-in-Array.ensures.limit;
-      held = (has-later c.walk_ty-in-Array.new.cx.entries c.fold_const.new.cx.entries c.fold_const.ensures.keeps types _ c.in_ok-item-in-Array.ensures.folded.has, c.in_ok-fold_const-in-Array.ensures.folded.has);
+      grew = grew-on c.walk_ty-in-Array.ensures.grew c.fold_const.ensures.grew;
+      held = (has-later c.walk_ty-in-Array.new.cx.entries c.fold_const.new.cx.entries c.fold_const.ensures.grew.keeps types _ c.in_ok-item-in-Array.ensures.folded.has, c.in_ok-fold_const-in-Array.ensures.folded.has);
       folded = (let es = c.args.cx.now.entries in
           let es1 = c.walk_ty-in-Array.new.cx.entries in
           let bs = counts_of c.args.binders.now in
           let held = rw c.in-Array.is at c.requires.held in
-          let law = g.met.F.FallibleTypeFolder.action_kept c.args.folder.now es es1 c.walk_ty-in-Array.ensures.keeps c.requires.ready in
+          let law = g.met.F.FallibleTypeFolder.action_kept c.args.folder.now es es1 c.walk_ty-in-Array.ensures.grew.keeps c.requires.ready in
           rw c.in-Array.is
           (below (two-folds (g.F.FallibleTypeFolder.action c.args.folder.now es1) (g.F.FallibleTypeFolder.action c.args.folder.now es) bs es es1 c.fold_const.new.cx.entries types _ _ consts _ _
-          law c.walk_ty-in-Array.ensures.keeps c.fold_const.ensures.keeps c.in_ok-item-in-Array.ensures.folded held.1 c.in_ok-fold_const-in-Array.ensures.folded)));
+          law c.walk_ty-in-Array.ensures.grew.keeps c.fold_const.ensures.grew.keeps c.in_ok-item-in-Array.ensures.folded held.1 c.in_ok-fold_const-in-Array.ensures.folded)));
       known = (let es = c.args.cx.now.entries in
           let es1 = c.walk_ty-in-Array.new.cx.entries in
           let es2 = c.fold_const.new.cx.entries in
-          let ready = g.met.F.FallibleTypeFolder.ready_kept c.args.folder.now es es1 c.walk_ty-in-Array.ensures.keeps c.requires.ready in
-          let law = g.met.F.FallibleTypeFolder.action_kept c.args.folder.now es1 es2 c.fold_const.ensures.keeps ready in
-          remembers-later _ (g.F.FallibleTypeFolder.action c.args.folder.now es2) es1 es2 c.walk_ty-in-Array.new.memo c.fold_const.ensures.keeps law c.in_ok-item-in-Array.ensures.known);
+          let ready = g.met.F.FallibleTypeFolder.ready_kept c.args.folder.now es es1 c.walk_ty-in-Array.ensures.grew.keeps c.requires.ready in
+          let law = g.met.F.FallibleTypeFolder.action_kept c.args.folder.now es1 es2 c.fold_const.ensures.grew.keeps ready in
+          remembers-later _ (g.F.FallibleTypeFolder.action c.args.folder.now es2) es1 es2 c.walk_ty-in-Array.new.memo c.fold_const.ensures.grew.keeps law c.in_ok-item-in-Array.ensures.known);
       failed = tt;
     }
 
 pub walk_kind-returns-in_ok-walk_ty-in-Slice : goal.walk_kind-returns-in_ok-walk_ty-in-Slice
 walk_kind-returns-in_ok-walk_ty-in-Slice g t c =
     record {
-      keeps = c.walk_ty-in-Slice.ensures.keeps;
-      limit = c.walk_ty-in-Slice.ensures.limit;
+      grew = c.walk_ty-in-Slice.ensures.grew;
       held = c.in_ok-walk_ty-in-Slice.ensures.folded.has;
       folded = rw c.in-Slice.is (below c.in_ok-walk_ty-in-Slice.ensures.folded.folded);
       known = c.in_ok-walk_ty-in-Slice.ensures.known;
@@ -371,8 +364,7 @@ walk_kind-returns-in_ok-walk_ty-in-Slice g t c =
 pub walk_kind-returns-in_ok-walk_tys-in-Tuple : goal.walk_kind-returns-in_ok-walk_tys-in-Tuple
 walk_kind-returns-in_ok-walk_tys-in-Tuple g t c =
     record {
-      keeps = c.walk_tys.ensures.keeps;
-      limit = c.walk_tys.ensures.limit;
+      grew = c.walk_tys.ensures.grew;
       held = c.in_ok-walk_tys-in-Tuple.ensures.folded.has;
       folded = rw c.in-Tuple.is (below c.in_ok-walk_tys-in-Tuple.ensures.folded.folded);
       known = c.in_ok-walk_tys-in-Tuple.ensures.known;
@@ -382,8 +374,7 @@ walk_kind-returns-in_ok-walk_tys-in-Tuple g t c =
 pub walk_kind-returns-in_ok-walk_tys-in-FnPtr : goal.walk_kind-returns-in_ok-walk_tys-in-FnPtr
 walk_kind-returns-in_ok-walk_tys-in-FnPtr g t c =
     record {
-      keeps = c.walk_tys-in-FnPtr.ensures.keeps;
-      limit = c.walk_tys-in-FnPtr.ensures.limit;
+      grew = c.walk_tys-in-FnPtr.ensures.grew;
       held = (let held = rw c.in-FnPtr.is at c.requires.held in
           (c.in_ok-walk_tys-in-FnPtr.ensures.folded.has, c.in_ok-walk_tys-in-FnPtr.ensures.whole ∙ held.1));
       folded = rw c.in-FnPtr.is (below c.in_ok-walk_tys-in-FnPtr.ensures.folded.folded);
@@ -394,8 +385,7 @@ walk_kind-returns-in_ok-walk_tys-in-FnPtr g t c =
 pub walk_kind-returns-in_ok-walk_bounds-in-Dynamic : goal.walk_kind-returns-in_ok-walk_bounds-in-Dynamic
 walk_kind-returns-in_ok-walk_bounds-in-Dynamic g t c =
     record {
-      keeps = c.walk_bounds.ensures.keeps;
-      limit = c.walk_bounds.ensures.limit;
+      grew = c.walk_bounds.ensures.grew;
       held = (c.in_ok-walk_bounds-in-Dynamic.ensures.folded.has, c.in_ok-region-in-Dynamic.ensures.held);
       folded = rw c.in-Dynamic.is (below (folds-append c.in_ok-walk_bounds-in-Dynamic.ensures.folded.folded c.in_ok-region-in-Dynamic.ensures.folded));
       known = c.in_ok-walk_bounds-in-Dynamic.ensures.known;
@@ -405,8 +395,7 @@ walk_kind-returns-in_ok-walk_bounds-in-Dynamic g t c =
 pub walk_kind-returns-in_default : goal.walk_kind-returns-in_default
 walk_kind-returns-in_default g t c =
     record {
-      keeps = (λ i e h. h);
-      limit = refl;
+      grew = grew-none;
       held = c.requires.held;
       folded = leaf-below (g.F.FallibleTypeFolder.action c.args.folder.now c.args.cx.now.entries) (counts_of c.args.binders.now) c.args.cx.now.entries c.args.kind
           c.in_default.not-Adt c.in_default.not-Ref c.in_default.not-RawPtr c.in_default.not-Array c.in_default.not-Slice c.in_default.not-Tuple c.in_default.not-FnPtr c.in_default.not-Dynamic;
@@ -417,8 +406,7 @@ walk_kind-returns-in_default g t c =
 pub walk_principal-returns-in_ok-args-in-Some : goal.walk_principal-returns-in_ok-args-in-Some
 walk_principal-returns-in_ok-args-in-Some g t c =
     record {
-      keeps = c.walk_args.ensures.keeps;
-      limit = c.walk_args.ensures.limit;
+      grew = c.walk_args.ensures.grew;
       held = c.in_ok-args-in-Some.ensures.folded.has;
       folded = (let es = c.args.cx.now.entries in
           let bs = counts_of c.args.binders.now in
@@ -430,8 +418,7 @@ walk_principal-returns-in_ok-args-in-Some g t c =
 pub walk_principal-returns-in-None : goal.walk_principal-returns-in-None
 walk_principal-returns-in-None g t c =
     record {
-      keeps = (λ i e h. h);
-      limit = refl;
+      grew = grew-none;
       held = tt;
       folded = rw c.in-None.is nothing;
       known = c.requires.known;
@@ -441,8 +428,7 @@ walk_principal-returns-in-None g t c =
 pub walk_bounds-returns : goal.walk_bounds-returns
 walk_bounds-returns g t c =
     record {
-      keeps = (λ j e h. c.mk_bounds.ensures.keeps j e (c.walk_principal.ensures.keeps j e h));
-      limit = c.mk_bounds.ensures.limit ∙ c.walk_principal.ensures.limit;
+      grew = grew-on c.walk_principal.ensures.grew c.mk_bounds.ensures.grew;
       folded = (let es = c.args.cx.now.entries in
           let es1 = c.walk_principal.new.cx.entries in
           let bs = counts_of c.args.binders.now in
@@ -459,28 +445,26 @@ walk_bounds-returns g t c =
       known = (let es = c.args.cx.now.entries in
           let es1 = c.walk_principal.new.cx.entries in
           let es2 = c.mk_bounds.new.self.entries in
-          let ready = g.met.F.FallibleTypeFolder.ready_kept c.args.folder.now es es1 c.walk_principal.ensures.keeps c.requires.ready in
-          let law = g.met.F.FallibleTypeFolder.action_kept c.args.folder.now es1 es2 c.mk_bounds.ensures.keeps ready in
-          remembers-later _ (g.F.FallibleTypeFolder.action c.args.folder.now es2) es1 es2 c.walk_principal.new.memo c.mk_bounds.ensures.keeps law c.in_ok-principal.ensures.known);
+          let ready = g.met.F.FallibleTypeFolder.ready_kept c.args.folder.now es es1 c.walk_principal.ensures.grew.keeps c.requires.ready in
+          let law = g.met.F.FallibleTypeFolder.action_kept c.args.folder.now es1 es2 c.mk_bounds.ensures.grew.keeps ready in
+          remembers-later _ (g.F.FallibleTypeFolder.action c.args.folder.now es2) es1 es2 c.walk_principal.new.memo c.mk_bounds.ensures.grew.keeps law c.in_ok-principal.ensures.known);
       failed = tt;
     }
 
 pub super_walk_ty-returns-in_err-mk_ty : goal.super_walk_ty-returns-in_err-mk_ty
 super_walk_ty-returns-in_err-mk_ty g t c =
     record {
-      keeps = (λ j e h. c.mk_ty.ensures.keeps j e (c.walk_kind.ensures.keeps j e h));
-      limit = c.mk_ty.ensures.limit ∙ c.walk_kind.ensures.limit;
+      grew = grew-on c.walk_kind.ensures.grew c.mk_ty.ensures.grew;
       folded = no-value _ _ c.from_residual-in_err-mk_ty.result c.from_residual-in_err-mk_ty.ensures.1;
       known = no-value _ _ c.from_residual-in_err-mk_ty.result c.from_residual-in_err-mk_ty.ensures.1;
       failed = fault-error _ _ c.from_residual-in_err-mk_ty.result c.from_residual-in_err-mk_ty.ensures.1
-          (λ q. refused-term types (omega arith) (c.in_err-mk_ty.ensures.full (ap Err q)) c.mk_ty.ensures.limit c.in_err-mk_ty.ensures.refused);
+          (λ q. refused-term types (omega arith) (c.in_err-mk_ty.ensures.full (ap Err q)) c.mk_ty.ensures.grew.limit c.in_err-mk_ty.ensures.refused);
     }
 
 pub walk_tys-returns-in_err-old : goal.walk_tys-returns-in_err-old
 walk_tys-returns-in_err-old g t c =
     record {
-      keeps = (λ i e h. h);
-      limit = refl;
+      grew = grew-none;
       folded = no-value _ _ c.from_residual.result c.from_residual.ensures.1;
       whole = no-value _ _ c.from_residual.result c.from_residual.ensures.1;
       known = no-value _ _ c.from_residual.result c.from_residual.ensures.1;
@@ -490,8 +474,7 @@ walk_tys-returns-in_err-old g t c =
 pub walk_tys-returns-in_err-append : goal.walk_tys-returns-in_err-append
 walk_tys-returns-in_err-append g t c =
     record {
-      keeps = (λ j e h. c.walk_ty.ensures.keeps j e (c.loop-ty.invariant.0 j e h));
-      limit = c.walk_ty.ensures.limit ∙ c.loop-ty.invariant.8;
+      grew = grew-on (record { keeps = c.loop-ty.invariant.0; limit = c.loop-ty.invariant.8 }) c.walk_ty.ensures.grew;
       folded = no-value _ _ c.from_residual-in_err-append.result c.from_residual-in_err-append.ensures.1;
       whole = no-value _ _ c.from_residual-in_err-append.result c.from_residual-in_err-append.ensures.1;
       known = no-value _ _ c.from_residual-in_err-append.result c.from_residual-in_err-append.ensures.1;
@@ -501,20 +484,18 @@ walk_tys-returns-in_err-append g t c =
 pub walk_tys-returns-in_err-mk_tys : goal.walk_tys-returns-in_err-mk_tys
 walk_tys-returns-in_err-mk_tys g t c =
     record {
-      keeps = (λ j e h. c.mk_tys.ensures.keeps j e (c.loop-ty.invariant.0 j e h));
-      limit = c.mk_tys.ensures.limit ∙ c.loop-ty.invariant.8;
+      grew = grew-on (record { keeps = c.loop-ty.invariant.0; limit = c.loop-ty.invariant.8 }) c.mk_tys.ensures.grew;
       folded = no-value _ _ c.from_residual-in_err-mk_tys.result c.from_residual-in_err-mk_tys.ensures.1;
       whole = no-value _ _ c.from_residual-in_err-mk_tys.result c.from_residual-in_err-mk_tys.ensures.1;
       known = no-value _ _ c.from_residual-in_err-mk_tys.result c.from_residual-in_err-mk_tys.ensures.1;
       failed = fault-error _ _ c.from_residual-in_err-mk_tys.result c.from_residual-in_err-mk_tys.ensures.1
-          (λ q. refused-term type_lists (omega arith) (c.in_err-mk_tys.ensures.full (ap Err q)) c.mk_tys.ensures.limit c.in_err-mk_tys.ensures.refused);
+          (λ q. refused-term type_lists (omega arith) (c.in_err-mk_tys.ensures.full (ap Err q)) c.mk_tys.ensures.grew.limit c.in_err-mk_tys.ensures.refused);
     }
 
 pub walk_args-returns-in_err-old : goal.walk_args-returns-in_err-old
 walk_args-returns-in_err-old g t c =
     record {
-      keeps = (λ i e h. h);
-      limit = refl;
+      grew = grew-none;
       folded = no-value _ _ c.from_residual.result c.from_residual.ensures.1;
       known = no-value _ _ c.from_residual.result c.from_residual.ensures.1;
       failed = memory-error _ _ _ _ c.from_residual.result c.from_residual.ensures.1 c.in_err-old.ensures.memory;
@@ -523,8 +504,7 @@ walk_args-returns-in_err-old g t c =
 pub walk_args-returns-in_err-append : goal.walk_args-returns-in_err-append
 walk_args-returns-in_err-append g t c =
     record {
-      keeps = (λ j e h. c.walk_arg.ensures.keeps j e (c.loop-arg.invariant.0 j e h));
-      limit = c.walk_arg.ensures.limit ∙ c.loop-arg.invariant.7;
+      grew = grew-on (record { keeps = c.loop-arg.invariant.0; limit = c.loop-arg.invariant.7 }) c.walk_arg.ensures.grew;
       folded = no-value _ _ c.from_residual-in_err-append.result c.from_residual-in_err-append.ensures.1;
       known = no-value _ _ c.from_residual-in_err-append.result c.from_residual-in_err-append.ensures.1;
       failed = memory-error _ _ _ _ c.from_residual-in_err-append.result c.from_residual-in_err-append.ensures.1 c.in_err-append.ensures.memory;
@@ -533,19 +513,17 @@ walk_args-returns-in_err-append g t c =
 pub walk_args-returns-in_err-mk_args : goal.walk_args-returns-in_err-mk_args
 walk_args-returns-in_err-mk_args g t c =
     record {
-      keeps = (λ j e h. c.mk_args.ensures.keeps j e (c.loop-arg.invariant.0 j e h));
-      limit = c.mk_args.ensures.limit ∙ c.loop-arg.invariant.7;
+      grew = grew-on (record { keeps = c.loop-arg.invariant.0; limit = c.loop-arg.invariant.7 }) c.mk_args.ensures.grew;
       folded = no-value _ _ c.from_residual-in_err-mk_args.result c.from_residual-in_err-mk_args.ensures.1;
       known = no-value _ _ c.from_residual-in_err-mk_args.result c.from_residual-in_err-mk_args.ensures.1;
       failed = fault-error _ _ c.from_residual-in_err-mk_args.result c.from_residual-in_err-mk_args.ensures.1
-          (λ q. refused-term args_lists (omega arith) (c.in_err-mk_args.ensures.full (ap Err q)) c.mk_args.ensures.limit c.in_err-mk_args.ensures.refused);
+          (λ q. refused-term args_lists (omega arith) (c.in_err-mk_args.ensures.full (ap Err q)) c.mk_args.ensures.grew.limit c.in_err-mk_args.ensures.refused);
     }
 
 pub walk_bounds-returns-in_err-autos : goal.walk_bounds-returns-in_err-autos
 walk_bounds-returns-in_err-autos g t c =
     record {
-      keeps = (λ i e h. h);
-      limit = refl;
+      grew = grew-none;
       folded = no-value _ _ c.from_residual.result c.from_residual.ensures.1;
       known = no-value _ _ c.from_residual.result c.from_residual.ensures.1;
       failed = memory-error _ _ _ _ c.from_residual.result c.from_residual.ensures.1 c.in_err-autos.ensures.memory;
@@ -554,19 +532,17 @@ walk_bounds-returns-in_err-autos g t c =
 pub walk_bounds-returns-in_err-mk_bounds : goal.walk_bounds-returns-in_err-mk_bounds
 walk_bounds-returns-in_err-mk_bounds g t c =
     record {
-      keeps = (λ j e h. c.mk_bounds.ensures.keeps j e (c.walk_principal.ensures.keeps j e h));
-      limit = c.mk_bounds.ensures.limit ∙ c.walk_principal.ensures.limit;
+      grew = grew-on c.walk_principal.ensures.grew c.mk_bounds.ensures.grew;
       folded = no-value _ _ c.from_residual-in_err-mk_bounds.result c.from_residual-in_err-mk_bounds.ensures.1;
       known = no-value _ _ c.from_residual-in_err-mk_bounds.result c.from_residual-in_err-mk_bounds.ensures.1;
       failed = fault-error _ _ c.from_residual-in_err-mk_bounds.result c.from_residual-in_err-mk_bounds.ensures.1
-          (λ q. refused-term bounds_lists (omega arith) (c.in_err-mk_bounds.ensures.full (ap Err q)) c.mk_bounds.ensures.limit c.in_err-mk_bounds.ensures.refused);
+          (λ q. refused-term bounds_lists (omega arith) (c.in_err-mk_bounds.ensures.full (ap Err q)) c.mk_bounds.ensures.grew.limit c.in_err-mk_bounds.ensures.refused);
     }
 
 pub walk_kind-returns-in_err-walk_args-in-Adt : goal.walk_kind-returns-in_err-walk_args-in-Adt
 walk_kind-returns-in_err-walk_args-in-Adt g t c =
     record {
-      keeps = c.walk_args.ensures.keeps;
-      limit = c.walk_args.ensures.limit;
+      grew = c.walk_args.ensures.grew;
       held = no-value _ _ c.from_residual.result c.from_residual.ensures.1;
       folded = no-value _ _ c.from_residual.result c.from_residual.ensures.1;
       known = no-value _ _ c.from_residual.result c.from_residual.ensures.1;
@@ -576,8 +552,7 @@ walk_kind-returns-in_err-walk_args-in-Adt g t c =
 pub walk_kind-returns-in_err-region-in-Ref : goal.walk_kind-returns-in_err-region-in-Ref
 walk_kind-returns-in_err-region-in-Ref g t c =
     record {
-      keeps = (λ i e h. h);
-      limit = refl;
+      grew = grew-none;
       held = no-value _ _ c.from_residual-in_err-region-in-Ref.result c.from_residual-in_err-region-in-Ref.ensures.1;
       folded = no-value _ _ c.from_residual-in_err-region-in-Ref.result c.from_residual-in_err-region-in-Ref.ensures.1;
       known = no-value _ _ c.from_residual-in_err-region-in-Ref.result c.from_residual-in_err-region-in-Ref.ensures.1;
@@ -587,8 +562,7 @@ walk_kind-returns-in_err-region-in-Ref g t c =
 pub walk_kind-returns-in_err-walk_ty-in-Ref : goal.walk_kind-returns-in_err-walk_ty-in-Ref
 walk_kind-returns-in_err-walk_ty-in-Ref g t c =
     record {
-      keeps = c.walk_ty.ensures.keeps;
-      limit = c.walk_ty.ensures.limit;
+      grew = c.walk_ty.ensures.grew;
       held = no-value _ _ c.from_residual-in_err-walk_ty-in-Ref.result c.from_residual-in_err-walk_ty-in-Ref.ensures.1;
       folded = no-value _ _ c.from_residual-in_err-walk_ty-in-Ref.result c.from_residual-in_err-walk_ty-in-Ref.ensures.1;
       known = no-value _ _ c.from_residual-in_err-walk_ty-in-Ref.result c.from_residual-in_err-walk_ty-in-Ref.ensures.1;
@@ -598,8 +572,7 @@ walk_kind-returns-in_err-walk_ty-in-Ref g t c =
 pub walk_kind-returns-in_err-walk_ty-in-RawPtr : goal.walk_kind-returns-in_err-walk_ty-in-RawPtr
 walk_kind-returns-in_err-walk_ty-in-RawPtr g t c =
     record {
-      keeps = c.walk_ty-in-RawPtr.ensures.keeps;
-      limit = c.walk_ty-in-RawPtr.ensures.limit;
+      grew = c.walk_ty-in-RawPtr.ensures.grew;
       held = no-value _ _ c.from_residual-in_err-walk_ty-in-RawPtr.result c.from_residual-in_err-walk_ty-in-RawPtr.ensures.1;
       folded = no-value _ _ c.from_residual-in_err-walk_ty-in-RawPtr.result c.from_residual-in_err-walk_ty-in-RawPtr.ensures.1;
       known = no-value _ _ c.from_residual-in_err-walk_ty-in-RawPtr.result c.from_residual-in_err-walk_ty-in-RawPtr.ensures.1;
@@ -609,8 +582,7 @@ walk_kind-returns-in_err-walk_ty-in-RawPtr g t c =
 pub walk_kind-returns-in_err-item-in-Array : goal.walk_kind-returns-in_err-item-in-Array
 walk_kind-returns-in_err-item-in-Array g t c =
     record {
-      keeps = c.walk_ty-in-Array.ensures.keeps;
-      limit = c.walk_ty-in-Array.ensures.limit;
+      grew = c.walk_ty-in-Array.ensures.grew;
       held = no-value _ _ c.from_residual-in_err-item-in-Array.result c.from_residual-in_err-item-in-Array.ensures.1;
       folded = no-value _ _ c.from_residual-in_err-item-in-Array.result c.from_residual-in_err-item-in-Array.ensures.1;
       known = no-value _ _ c.from_residual-in_err-item-in-Array.result c.from_residual-in_err-item-in-Array.ensures.1;
@@ -620,8 +592,7 @@ walk_kind-returns-in_err-item-in-Array g t c =
 pub walk_kind-returns-in_err-fold_const-in-Array : goal.walk_kind-returns-in_err-fold_const-in-Array
 walk_kind-returns-in_err-fold_const-in-Array g t c =
     record {
-      keeps = (λ j e h. c.fold_const.ensures.keeps j e (c.walk_ty-in-Array.ensures.keeps j e h));
-      limit = c.fold_const.ensures.limit ∙ c.walk_ty-in-Array.ensures.limit;
+      grew = grew-on c.walk_ty-in-Array.ensures.grew c.fold_const.ensures.grew;
       held = no-value _ _ c.from_residual-in_err-fold_const-in-Array.result c.from_residual-in_err-fold_const-in-Array.ensures.1;
       folded = no-value _ _ c.from_residual-in_err-fold_const-in-Array.result c.from_residual-in_err-fold_const-in-Array.ensures.1;
       known = no-value _ _ c.from_residual-in_err-fold_const-in-Array.result c.from_residual-in_err-fold_const-in-Array.ensures.1;
@@ -631,8 +602,7 @@ walk_kind-returns-in_err-fold_const-in-Array g t c =
 pub walk_kind-returns-in_err-walk_ty-in-Slice : goal.walk_kind-returns-in_err-walk_ty-in-Slice
 walk_kind-returns-in_err-walk_ty-in-Slice g t c =
     record {
-      keeps = c.walk_ty-in-Slice.ensures.keeps;
-      limit = c.walk_ty-in-Slice.ensures.limit;
+      grew = c.walk_ty-in-Slice.ensures.grew;
       held = no-value _ _ c.from_residual-in_err-walk_ty-in-Slice.result c.from_residual-in_err-walk_ty-in-Slice.ensures.1;
       folded = no-value _ _ c.from_residual-in_err-walk_ty-in-Slice.result c.from_residual-in_err-walk_ty-in-Slice.ensures.1;
       known = no-value _ _ c.from_residual-in_err-walk_ty-in-Slice.result c.from_residual-in_err-walk_ty-in-Slice.ensures.1;
@@ -642,8 +612,7 @@ walk_kind-returns-in_err-walk_ty-in-Slice g t c =
 pub walk_kind-returns-in_err-walk_tys-in-Tuple : goal.walk_kind-returns-in_err-walk_tys-in-Tuple
 walk_kind-returns-in_err-walk_tys-in-Tuple g t c =
     record {
-      keeps = c.walk_tys.ensures.keeps;
-      limit = c.walk_tys.ensures.limit;
+      grew = c.walk_tys.ensures.grew;
       held = no-value _ _ c.from_residual-in_err-walk_tys-in-Tuple.result c.from_residual-in_err-walk_tys-in-Tuple.ensures.1;
       folded = no-value _ _ c.from_residual-in_err-walk_tys-in-Tuple.result c.from_residual-in_err-walk_tys-in-Tuple.ensures.1;
       known = no-value _ _ c.from_residual-in_err-walk_tys-in-Tuple.result c.from_residual-in_err-walk_tys-in-Tuple.ensures.1;
@@ -653,8 +622,7 @@ walk_kind-returns-in_err-walk_tys-in-Tuple g t c =
 pub walk_kind-returns-in_err-walk_tys-in-FnPtr : goal.walk_kind-returns-in_err-walk_tys-in-FnPtr
 walk_kind-returns-in_err-walk_tys-in-FnPtr g t c =
     record {
-      keeps = c.walk_tys-in-FnPtr.ensures.keeps;
-      limit = c.walk_tys-in-FnPtr.ensures.limit;
+      grew = c.walk_tys-in-FnPtr.ensures.grew;
       held = no-value _ _ c.from_residual-in_err-walk_tys-in-FnPtr.result c.from_residual-in_err-walk_tys-in-FnPtr.ensures.1;
       folded = no-value _ _ c.from_residual-in_err-walk_tys-in-FnPtr.result c.from_residual-in_err-walk_tys-in-FnPtr.ensures.1;
       known = no-value _ _ c.from_residual-in_err-walk_tys-in-FnPtr.result c.from_residual-in_err-walk_tys-in-FnPtr.ensures.1;
@@ -664,8 +632,7 @@ walk_kind-returns-in_err-walk_tys-in-FnPtr g t c =
 pub walk_kind-returns-in_err-region-in-Dynamic : goal.walk_kind-returns-in_err-region-in-Dynamic
 walk_kind-returns-in_err-region-in-Dynamic g t c =
     record {
-      keeps = (λ i e h. h);
-      limit = refl;
+      grew = grew-none;
       held = no-value _ _ c.from_residual-in_err-region-in-Dynamic.result c.from_residual-in_err-region-in-Dynamic.ensures.1;
       folded = no-value _ _ c.from_residual-in_err-region-in-Dynamic.result c.from_residual-in_err-region-in-Dynamic.ensures.1;
       known = no-value _ _ c.from_residual-in_err-region-in-Dynamic.result c.from_residual-in_err-region-in-Dynamic.ensures.1;
@@ -675,8 +642,7 @@ walk_kind-returns-in_err-region-in-Dynamic g t c =
 pub walk_kind-returns-in_err-walk_bounds-in-Dynamic : goal.walk_kind-returns-in_err-walk_bounds-in-Dynamic
 walk_kind-returns-in_err-walk_bounds-in-Dynamic g t c =
     record {
-      keeps = c.walk_bounds.ensures.keeps;
-      limit = c.walk_bounds.ensures.limit;
+      grew = c.walk_bounds.ensures.grew;
       held = no-value _ _ c.from_residual-in_err-walk_bounds-in-Dynamic.result c.from_residual-in_err-walk_bounds-in-Dynamic.ensures.1;
       folded = no-value _ _ c.from_residual-in_err-walk_bounds-in-Dynamic.result c.from_residual-in_err-walk_bounds-in-Dynamic.ensures.1;
       known = no-value _ _ c.from_residual-in_err-walk_bounds-in-Dynamic.result c.from_residual-in_err-walk_bounds-in-Dynamic.ensures.1;
@@ -686,8 +652,7 @@ walk_kind-returns-in_err-walk_bounds-in-Dynamic g t c =
 pub walk_arg-returns-in_err-fold_region-in-Lifetime : goal.walk_arg-returns-in_err-fold_region-in-Lifetime
 walk_arg-returns-in_err-fold_region-in-Lifetime g t c =
     record {
-      keeps = (λ i e h. h);
-      limit = refl;
+      grew = grew-none;
       held = no-value _ _ c.from_residual.result c.from_residual.ensures.1;
       folded = no-value _ _ c.from_residual.result c.from_residual.ensures.1;
       known = no-value _ _ c.from_residual.result c.from_residual.ensures.1;
@@ -697,8 +662,7 @@ walk_arg-returns-in_err-fold_region-in-Lifetime g t c =
 pub walk_arg-returns-in_err-walk_ty-in-Ty : goal.walk_arg-returns-in_err-walk_ty-in-Ty
 walk_arg-returns-in_err-walk_ty-in-Ty g t c =
     record {
-      keeps = c.walk_ty.ensures.keeps;
-      limit = c.walk_ty.ensures.limit;
+      grew = c.walk_ty.ensures.grew;
       held = no-value _ _ c.from_residual-in_err-walk_ty-in-Ty.result c.from_residual-in_err-walk_ty-in-Ty.ensures.1;
       folded = no-value _ _ c.from_residual-in_err-walk_ty-in-Ty.result c.from_residual-in_err-walk_ty-in-Ty.ensures.1;
       known = no-value _ _ c.from_residual-in_err-walk_ty-in-Ty.result c.from_residual-in_err-walk_ty-in-Ty.ensures.1;
@@ -708,8 +672,7 @@ walk_arg-returns-in_err-walk_ty-in-Ty g t c =
 pub walk_arg-returns-in_err-fold_const-in-Const : goal.walk_arg-returns-in_err-fold_const-in-Const
 walk_arg-returns-in_err-fold_const-in-Const g t c =
     record {
-      keeps = c.fold_const.ensures.keeps;
-      limit = c.fold_const.ensures.limit;
+      grew = c.fold_const.ensures.grew;
       held = no-value _ _ c.from_residual-in_err-fold_const-in-Const.result c.from_residual-in_err-fold_const-in-Const.ensures.1;
       folded = no-value _ _ c.from_residual-in_err-fold_const-in-Const.result c.from_residual-in_err-fold_const-in-Const.ensures.1;
       known = no-value _ _ c.from_residual-in_err-fold_const-in-Const.result c.from_residual-in_err-fold_const-in-Const.ensures.1;
@@ -719,8 +682,7 @@ walk_arg-returns-in_err-fold_const-in-Const g t c =
 pub walk_arg-returns-in_ok-fold_region-in-Lifetime : goal.walk_arg-returns-in_ok-fold_region-in-Lifetime
 walk_arg-returns-in_ok-fold_region-in-Lifetime g t c =
     record {
-      keeps = (λ i e h. h);
-      limit = refl;
+      grew = grew-none;
       held = c.in_ok-fold_region-in-Lifetime.ensures.held;
       folded = rw c.in-Lifetime.is c.in_ok-fold_region-in-Lifetime.ensures.folded;
       known = c.requires.known;
@@ -730,8 +692,7 @@ walk_arg-returns-in_ok-fold_region-in-Lifetime g t c =
 pub walk_arg-returns-in_ok-walk_ty-in-Ty : goal.walk_arg-returns-in_ok-walk_ty-in-Ty
 walk_arg-returns-in_ok-walk_ty-in-Ty g t c =
     record {
-      keeps = c.walk_ty.ensures.keeps;
-      limit = c.walk_ty.ensures.limit;
+      grew = c.walk_ty.ensures.grew;
       held = c.in_ok-walk_ty-in-Ty.ensures.folded.has;
       folded = rw c.in-Ty.is c.in_ok-walk_ty-in-Ty.ensures.folded.folded;
       known = c.in_ok-walk_ty-in-Ty.ensures.known;
@@ -741,22 +702,20 @@ walk_arg-returns-in_ok-walk_ty-in-Ty g t c =
 pub walk_arg-returns-in_ok-fold_const-in-Const : goal.walk_arg-returns-in_ok-fold_const-in-Const
 walk_arg-returns-in_ok-fold_const-in-Const g t c =
     record {
-      keeps = c.fold_const.ensures.keeps;
-      limit = c.fold_const.ensures.limit;
+      grew = c.fold_const.ensures.grew;
       held = c.in_ok-fold_const-in-Const.ensures.folded.has;
       folded = rw c.in-Const.is c.in_ok-fold_const-in-Const.ensures.folded.folded;
       known = (let es = c.args.cx.now.entries in
           let es1 = c.fold_const.new.cx.entries in
-          let law = g.met.F.FallibleTypeFolder.action_kept c.args.folder.now es es1 c.fold_const.ensures.keeps c.requires.ready in
-          remembers-later _ (g.F.FallibleTypeFolder.action c.args.folder.now es1) es es1 c.args.memo.now c.fold_const.ensures.keeps law c.requires.known);
+          let law = g.met.F.FallibleTypeFolder.action_kept c.args.folder.now es es1 c.fold_const.ensures.grew.keeps c.requires.ready in
+          remembers-later _ (g.F.FallibleTypeFolder.action c.args.folder.now es1) es es1 c.args.memo.now c.fold_const.ensures.grew.keeps law c.requires.known);
       failed = tt;
     }
 
 pub walk_ty-returns-in_err-try_fold_ty : goal.walk_ty-returns-in_err-try_fold_ty
 walk_ty-returns-in_err-try_fold_ty g t c =
     record {
-      keeps = c.try_fold_ty.ensures.keeps;
-      limit = c.try_fold_ty.ensures.limit;
+      grew = c.try_fold_ty.ensures.grew;
       folded = no-value _ _ c.from_residual.result c.from_residual.ensures.1;
       known = no-value _ _ c.from_residual.result c.from_residual.ensures.1;
       failed = same-error _ _ c.from_residual.result c.from_residual.ensures.1 c.in_err-try_fold_ty.ensures.failed;
@@ -765,8 +724,7 @@ walk_ty-returns-in_err-try_fold_ty g t c =
 pub walk_ty-returns-in_err-folded-in-Enter : goal.walk_ty-returns-in_err-folded-in-Enter
 walk_ty-returns-in_err-folded-in-Enter g t c =
     record {
-      keeps = (λ j e h. c.super_walk_ty.ensures.keeps j e (c.try_fold_ty.ensures.keeps j e h));
-      limit = c.super_walk_ty.ensures.limit ∙ c.try_fold_ty.ensures.limit;
+      grew = grew-on c.try_fold_ty.ensures.grew c.super_walk_ty.ensures.grew;
       folded = no-value _ _ c.from_residual-in_err-folded-in-Enter.result c.from_residual-in_err-folded-in-Enter.ensures.1;
       known = no-value _ _ c.from_residual-in_err-folded-in-Enter.result c.from_residual-in_err-folded-in-Enter.ensures.1;
       failed = same-error _ _ c.from_residual-in_err-folded-in-Enter.result c.from_residual-in_err-folded-in-Enter.ensures.1 c.in_err-folded-in-Enter.ensures.failed;
@@ -775,8 +733,7 @@ walk_ty-returns-in_err-folded-in-Enter g t c =
 pub super_walk_ty-returns-in_err-folded : goal.super_walk_ty-returns-in_err-folded
 super_walk_ty-returns-in_err-folded g t c =
     record {
-      keeps = c.walk_kind.ensures.keeps;
-      limit = c.walk_kind.ensures.limit;
+      grew = c.walk_kind.ensures.grew;
       folded = no-value _ _ c.from_residual.result c.from_residual.ensures.1;
       known = no-value _ _ c.from_residual.result c.from_residual.ensures.1;
       failed = same-error _ _ c.from_residual.result c.from_residual.ensures.1 c.in_err-folded.ensures.failed;
@@ -785,8 +742,7 @@ super_walk_ty-returns-in_err-folded g t c =
 pub walk_tys-returns-in_err-folded : goal.walk_tys-returns-in_err-folded
 walk_tys-returns-in_err-folded g t c =
     record {
-      keeps = (λ j e h. c.walk_ty.ensures.keeps j e (c.loop-ty.invariant.0 j e h));
-      limit = c.walk_ty.ensures.limit ∙ c.loop-ty.invariant.8;
+      grew = grew-on (record { keeps = c.loop-ty.invariant.0; limit = c.loop-ty.invariant.8 }) c.walk_ty.ensures.grew;
       folded = no-value _ _ c.from_residual-in_err-folded.result c.from_residual-in_err-folded.ensures.1;
       whole = no-value _ _ c.from_residual-in_err-folded.result c.from_residual-in_err-folded.ensures.1;
       known = no-value _ _ c.from_residual-in_err-folded.result c.from_residual-in_err-folded.ensures.1;
@@ -796,8 +752,7 @@ walk_tys-returns-in_err-folded g t c =
 pub walk_args-returns-in_err-folded : goal.walk_args-returns-in_err-folded
 walk_args-returns-in_err-folded g t c =
     record {
-      keeps = (λ j e h. c.walk_arg.ensures.keeps j e (c.loop-arg.invariant.0 j e h));
-      limit = c.walk_arg.ensures.limit ∙ c.loop-arg.invariant.7;
+      grew = grew-on (record { keeps = c.loop-arg.invariant.0; limit = c.loop-arg.invariant.7 }) c.walk_arg.ensures.grew;
       folded = no-value _ _ c.from_residual-in_err-folded.result c.from_residual-in_err-folded.ensures.1;
       known = no-value _ _ c.from_residual-in_err-folded.result c.from_residual-in_err-folded.ensures.1;
       failed = same-error _ _ c.from_residual-in_err-folded.result c.from_residual-in_err-folded.ensures.1 c.in_err-folded.ensures.failed;
@@ -806,8 +761,7 @@ walk_args-returns-in_err-folded g t c =
 pub walk_bounds-returns-in_err-principal : goal.walk_bounds-returns-in_err-principal
 walk_bounds-returns-in_err-principal g t c =
     record {
-      keeps = c.walk_principal.ensures.keeps;
-      limit = c.walk_principal.ensures.limit;
+      grew = c.walk_principal.ensures.grew;
       folded = no-value _ _ c.from_residual-in_err-principal.result c.from_residual-in_err-principal.ensures.1;
       known = no-value _ _ c.from_residual-in_err-principal.result c.from_residual-in_err-principal.ensures.1;
       failed = same-error _ _ c.from_residual-in_err-principal.result c.from_residual-in_err-principal.ensures.1 c.in_err-principal.ensures.failed;
@@ -816,8 +770,7 @@ walk_bounds-returns-in_err-principal g t c =
 pub walk_principal-returns-in_err-args-in-Some : goal.walk_principal-returns-in_err-args-in-Some
 walk_principal-returns-in_err-args-in-Some g t c =
     record {
-      keeps = c.walk_args.ensures.keeps;
-      limit = c.walk_args.ensures.limit;
+      grew = c.walk_args.ensures.grew;
       held = no-value _ _ c.from_residual.result c.from_residual.ensures.1;
       folded = no-value _ _ c.from_residual.result c.from_residual.ensures.1;
       known = no-value _ _ c.from_residual.result c.from_residual.ensures.1;

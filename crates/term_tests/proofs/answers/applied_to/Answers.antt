@@ -10,5 +10,5 @@ instantiate_and_apply_query_response-applied-requires-clause-values c =
 
 pub shallow_resolve-requires-clause-held : goal.shallow_resolve-requires-clause-held
 shallow_resolve-requires-clause-held c =
-    has-later c.bytes.new.cx.entries c.instantiate_and_apply_query_response-applied.new.cx.entries c.instantiate_and_apply_query_response-applied.ensures.grew.keeps types c.in_ok-unknown.unknown.0
+    has-later c.bytes.new.cx.entries c.instantiate_and_apply_query_response-applied.new.cx.entries c.instantiate_and_apply_query_response-applied.ensures.terms.grew.keeps types c.in_ok-unknown.unknown.0
     (has-later c.make-2.new.cx.entries c.bytes.new.cx.entries c.bytes.ensures.keeps types c.in_ok-unknown.unknown.0 c.in_ok-unknown.ensures.held)

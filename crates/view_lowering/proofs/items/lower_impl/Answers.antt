@@ -31,7 +31,7 @@ returns-clause-is c =
     let kept = named_in c.deref-2.result.now in
     join e.id.index e.owner.index _ _ _ _ _ _
     (sym (length-map c.in_ok-params.params.items sort_of_param) ∙ ap length (c.in_ok-params.ensures ∙ ap (map (λ p. sort_of_kind p.kind)) c.deref.ensures.value) ∙ length-map e.params.items (λ p. sort_of_kind p.kind))
-    (reference-same old new c.lower_references.ensures.grew.keeps c.in_ok-header.header c.in_ok-header.ensures.held ∙ c.in_ok-header.ensures.is)
+    (reference-same old new c.lower_references.ensures.terms.grew.keeps c.in_ok-header.header c.in_ok-header.ensures.held ∙ c.in_ok-header.ensures.is)
     (c.in_ok-clauses.ensures.are ∙ ap (λ x. map (plain_reference kept) (map reference_of x)) c.deref-3.ensures.value
     ∙ references-same kept (stands_in (reference_of e.header).args) (λ i. ap (λ x. named_in x i) c.deref-2.ensures.value ∙ named-stands is_arg cs c.requires.header i) (map reference_of e.clauses.items))
   where
@@ -43,7 +43,7 @@ pub returns-clause-held : goal.returns-clause-held
 returns-clause-held c =
     let old = c.lower_reference.new.cx.entries in
     let new = c.lower_references.new.cx.entries in
-    let k = c.lower_references.ensures.grew.keeps in
+    let k = c.lower_references.ensures.terms.grew.keeps in
     let r = c.in_ok-header.header in
     record {
       header = reference-kept old new k r c.in_ok-header.ensures.held;

@@ -1,5 +1,5 @@
 use Rattle.std.proofs.Common.{◌≡◌, List, arith, ap, sym, subst, ◌∙◌, map, Err}
-use Rattle.declarations.proofs.Bounded.{at-limit}
+use Rattle.type_terms.proofs.FailFacts.{at-limit}
 use Rattle.workspace.specs.Made.{AreMade, is_type}
 use Rattle.workspace.specs.TermCells.{trees_of}
 use Rattle.workspace.specs.Views.{cells_of}
@@ -22,8 +22,11 @@ returns-clause-is c =
     struct-lowered c.lower_types.new.cx.entries c.args.entry.now.id c.new.result c.args.entry.now.owner c.args.entry.now.is_fundamental c.in_ok-fields.fields (map (plain none_kept) (trees_of cs)) c.new.ensures.home c.new.ensures.is_fundamental c.new.ensures.fields
     (c.in_ok-fields.ensures.is ∙ ap (λ x. trees_of (cells_of x)) c.deref-3.ensures.value ∙ ap trees_of (c.in_ok-cells.ensures.are ∙ ap (λ x. map (plain_cell none_kept) (cells_of x)) c.deref-2.ensures.value) ∙ trees-plain none_kept cs)
 
-pub returns-in_err-fields-clause-full : goal.returns-in_err-fields-clause-full
-returns-in_err-fields-clause-full c = at-limit c.from_residual-in_err-fields.result c.from_residual-in_err-fields.ensures.1 (λ p. c.in_err-fields.ensures.full (ap Err p))
+pub returns-in_err-fields-clause-terms : goal.returns-in_err-fields-clause-terms
+returns-in_err-fields-clause-terms c = record {
+  grew = c.lower_types.ensures.terms.grew;
+  full = at-limit c.from_residual-in_err-fields.result c.from_residual-in_err-fields.ensures.1 c.in_err-fields.ensures.terms.full;
+}
 
 -- the fields are as many parts as they were
 same_parts : (plain_cells given : List TermCell) (fields : List TermCell) → plain_cells ≡ given → cells_of given ≡ map (plain_cell none_kept) (cells_of fields) → sum_by parts (trees_of (cells_of plain_cells)) ≡ sum_by parts (trees_of (cells_of fields))

@@ -42,7 +42,7 @@ loop-entry-preserved c =
     let new = c.lower_impl.new.cx in
     let lowered = c.in_ok-def.ensures in
     subst (λ ds. LaterAdded d k old.entries old.limit (i + 1) new.entries new.limit ds) (sym c.in_ok-push.ensures.items)
-    (later-taken d k old.entries old.limit i es.entries es.limit now (later_of x) new.entries new.limit x.entry.id c.in_ok-def.def at c.lower_impl.ensures.grew.keeps c.lower_impl.ensures.grew.limit lowered.is lowered.sorts lowered.held inv)
+    (later-taken d k old.entries old.limit i es.entries es.limit now (later_of x) new.entries new.limit x.entry.id c.in_ok-def.def at c.lower_impl.ensures.terms.grew.keeps c.lower_impl.ensures.terms.grew.limit lowered.is lowered.sorts lowered.held inv)
 
 pub returns-clause-impls : goal.returns-clause-impls
 returns-clause-impls c =

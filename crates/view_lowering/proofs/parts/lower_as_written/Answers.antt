@@ -1,12 +1,15 @@
 use Rattle.std.proofs.Common.{arith, ap, Err}
-use Rattle.declarations.proofs.Bounded.{at-limit}
+use Rattle.type_terms.proofs.FailFacts.{at-limit}
 use Rattle.workspace.specs.TermCells.{trees_of, joined}
 use Rattle.workspace.specs.TermCounts.{parts}
 use Rattle.workspace.specs.Views.{cells_of}
 use Rattle.view_lowering.proofs.parts.lower_as_written.Goals as goal
 
-pub returns-in_err-args-clause-full : goal.returns-in_err-args-clause-full
-returns-in_err-args-clause-full c = at-limit c.from_residual.result c.from_residual.ensures.1 (λ p. c.in_err-args.ensures.full (ap Err p))
+pub returns-in_err-args-clause-terms : goal.returns-in_err-args-clause-terms
+returns-in_err-args-clause-terms c = record {
+  grew = c.lower_args.ensures.terms.grew;
+  full = at-limit c.from_residual.result c.from_residual.ensures.1 c.in_err-args.ensures.terms.full;
+}
 
 pub returns-in_err-args-clause-few : goal.returns-in_err-args-clause-few
 returns-in_err-args-clause-few c =

@@ -3,7 +3,7 @@ use Rattle.std.proofs.lemmas.Option.{slice_get_read}
 use Rattle.declarations.specs.Applied.{references_in, TraitRefsHeld}
 use Rattle.declarations.proofs.Bounded.{held-more}
 use Rattle.view_lowering.proofs.References.{one-more-lowered}
-use Rattle.term_folds.proofs.Grown.{grew-on}
+use Rattle.type_terms.proofs.Grown.{grew-on}
 use Rattle.workspace.specs.TermCounts.{reference_terms}
 use Rattle.workspace.specs.Views.{reference_of}
 use Rattle.view_lowering.specs.PlainCells.{is_kept}
@@ -24,11 +24,11 @@ loop-cells-preserved c =
     let r = c.in_ok-trait_ref.trait_ref in
     let old = c.loop-cells.cx.entries in
     let new = c.lower_reference.new.cx.entries in
-    let k = c.lower_reference.ensures.grew.keeps in
+    let k = c.lower_reference.ensures.terms.grew.keeps in
     let inv = c.loop-cells.invariant in
     let put = c.in_ok-push.ensures.items in
     record {
-      grew = grew-on inv.grew c.lower_reference.ensures.grew;
+      grew = grew-on inv.grew c.lower_reference.ensures.terms.grew;
       few = let more = one-more reference_terms reference_of c.args.list.now i x c.loop-cells-test.true c.cells-item.is in omega (arith, more, inv.few, c.lower_reference.ensures.few);
       are = ap (references_in new) put ∙ one-more-lowered (is_kept c.args.kept) old new k rs r c.args.list.now i x inv.held e inv.are c.in_ok-trait_ref.ensures.is;
       held = subst (TraitRefsHeld new) (sym put) (held-more old new k rs r inv.held c.in_ok-trait_ref.ensures.held);

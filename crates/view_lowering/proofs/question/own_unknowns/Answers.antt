@@ -1,7 +1,7 @@
 use Rattle.std.proofs.Common.{◌∙◌, ◌+◌, ◌++◌, ◌∷◌, ap, sym, subst, map, drop, ◌≡◌, refl}
 use Rattle.text_definitions.specs.Names.{own_from}
 use Rattle.type_terms.specs.Kinds.{arg_trees, ArgsHeld}
-use Rattle.term_folds.proofs.Grown.{grew-on}
+use Rattle.type_terms.proofs.Grown.{grew-on}
 use Rattle.workspace.specs.Views.{variable_of}
 use Rattle.view_lowering.proofs.Unknowns.{unknowns-further, args-more, next-left}
 use Rattle.view_lowering.proofs.question.own_unknowns.Goals as goal
@@ -13,7 +13,7 @@ loop-variable-preserved c =
     let vs = c.args.variables.now in
     let old = c.loop-variable.cx.entries in
     let new = c.next_unknown.new.cx.entries in
-    let k = c.next_unknown.ensures.grew.keeps in
+    let k = c.next_unknown.ensures.terms.grew.keeps in
     let inv = c.loop-variable.invariant in
     let before = c.loop-variable.counts in
     let behind = c.next_unknown.new.counts in
@@ -26,7 +26,7 @@ loop-variable-preserved c =
     ap (λ l. own_from before.types before.consts (map variable_of l)) (next-left vs i x c.loop-variable-test.true c.variable-item.is)
     ∙ c.in_ok-unknown.ensures.is (variable_of x) (map variable_of (drop (i + 1) vs)) refl in
     record {
-      grew = grew-on inv.grew c.next_unknown.ensures.grew;
+      grew = grew-on inv.grew c.next_unknown.ensures.terms.grew;
       are = ap (λ l. map (arg_trees new) l ++ rest) put ∙ unknowns-further old new k us u left rest (own_from 0 0 (map variable_of vs)) inv.held inv.are cut;
       held = subst (ArgsHeld new) (sym put) (args-more old new k us u inv.held c.in_ok-unknown.ensures.held);
     }

@@ -2,7 +2,7 @@ use Rattle.std.proofs.Common.{◌≡◌, ◌++◌, map, drop}
 use Rattle.text_definitions.specs.Names.{own_from}
 use Rattle.type_terms.specs.Kinds.{arg_trees, ArgsHeld}
 use Rattle.workspace.specs.Views.{variable_of}
-use Rattle.term_folds.specs.Growth.{Grew}
+use Rattle.type_terms.specs.Growth.{Grew}
 use Rattle.view_lowering.proofs.question.own_unknowns.Given as goal
 
 abbrev pub invariant-loop-variable : goal.invariant-loop-variable

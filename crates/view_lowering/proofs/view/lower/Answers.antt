@@ -1,5 +1,7 @@
 use Rattle.std.proofs.Common.{◌++◌, map, None, ap, ◌∙◌, arith}
 use Rattle.declarations.specs.Items.{Items, struct_in, trait_in}
+use Rattle.type_terms.proofs.Grown.{grew-on}
+use Rattle.type_terms.proofs.FailFacts.{at-limit}
 use Rattle.view_lowering.specs.Behind.{is_new, new_structs, new_traits, new_impls, new_struct_sorts, new_trait_sorts, new_impl_sorts}
 use Rattle.view_lowering.specs.Seen.{struct_sorts, trait_sorts, impl_sorts}
 use Rattle.view_lowering.proofs.Rows.{nothing-before}
@@ -30,7 +32,7 @@ returns-clause-written c =
     let second = c.in_ok-lower_traits.ensures in
     let last = c.in_ok-lower_impls.ensures in
     let none = c.reserve_seen.ensures.same ∙ c.new-decls.ensures in
-    view-written c.lower_structs.new.cx.entries c.lower_traits.new.cx.entries c.lower_impls.new.cx.entries c.lower_traits.ensures.grew.keeps c.lower_impls.ensures.grew.keeps c.lower_structs.new.decls c.lower_traits.new.decls
+    view-written c.lower_structs.new.cx.entries c.lower_traits.new.cx.entries c.lower_impls.new.cx.entries c.lower_traits.ensures.terms.grew.keeps c.lower_impls.ensures.terms.grew.keeps c.lower_structs.new.decls c.lower_traits.new.decls
     c.lower_impls.new.decls second.others last.others first.held second.held _ _ _
     (first.structs ∙ ap (λ (l : Items). map (struct_in c.args.cx.now.entries) l.structs ++ new_structs d n None) none)
     (second.traits ∙ ap (λ (l : Items). map (trait_in c.lower_structs.new.cx.entries) l.traits ++ new_traits d n None) first.others
@@ -70,3 +72,17 @@ returns-in_err-lower_impls-clause-few c = omega (arith, c.lower_structs.ensures.
 
 pub returns-clause-few : goal.returns-clause-few
 returns-clause-few c = omega (arith, c.lower_structs.ensures.few, c.lower_traits.ensures.few, c.lower_impls.ensures.few)
+
+pub returns-in_err-lower_traits-clause-terms : goal.returns-in_err-lower_traits-clause-terms
+returns-in_err-lower_traits-clause-terms c = record {
+  grew = grew-on c.lower_structs.ensures.terms.grew c.lower_traits.ensures.terms.grew;
+  full =
+      at-limit c.from_residual-in_err-lower_traits.result c.from_residual-in_err-lower_traits.ensures.1 c.in_err-lower_traits.ensures.terms.full;
+}
+
+pub returns-in_err-lower_impls-clause-terms : goal.returns-in_err-lower_impls-clause-terms
+returns-in_err-lower_impls-clause-terms c = record {
+  grew = grew-on (grew-on c.lower_structs.ensures.terms.grew c.lower_traits.ensures.terms.grew) c.lower_impls.ensures.terms.grew;
+  full =
+      at-limit c.from_residual-in_err-lower_impls.result c.from_residual-in_err-lower_impls.ensures.1 c.in_err-lower_impls.ensures.terms.full;
+}

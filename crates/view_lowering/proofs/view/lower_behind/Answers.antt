@@ -28,7 +28,7 @@ returns-clause-written c =
     let second = c.in_ok-lower_traits.ensures in
     let last = c.in_ok-lower_impls.ensures in
     written-behind c.args.workspace.now c.args.crate_id.index c.args.earlier c.requires.begins c.args.cx.now.entries c.lower_structs.new.cx.entries c.lower_traits.new.cx.entries c.lower_impls.new.cx.entries
-    c.lower_structs.ensures.grew.keeps c.lower_traits.ensures.grew.keeps c.lower_impls.ensures.grew.keeps c.ask_in.new.self c.lower_structs.new.decls c.lower_traits.new.decls c.lower_impls.new.decls
+    c.lower_structs.ensures.terms.grew.keeps c.lower_traits.ensures.terms.grew.keeps c.lower_impls.ensures.terms.grew.keeps c.ask_in.new.self c.lower_structs.new.decls c.lower_traits.new.decls c.lower_impls.new.decls
     (c.ask_in.ensures.held c.args.cx.now.entries c.requires.held) first.held second.held (ap (written c.args.cx.now.entries) c.ask_in.ensures.asked ∙ c.requires.written) first.others second.others last.others first.structs second.traits last.impls
 
 pub returns-clause-rules : goal.returns-clause-rules

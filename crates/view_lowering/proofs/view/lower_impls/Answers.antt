@@ -57,12 +57,12 @@ loop-entry-preserved c =
       | then-is_new+in_ok-def+in_ok-add_impl w ↦
           let new = w.lower_impl.new.cx in
           let next = w.add_impl.new.self in
-          let k = w.lower_impl.ensures.grew.keeps in
+          let k = w.lower_impl.ensures.terms.grew.keeps in
           let held = w.in_ok-add_impl.ensures.held (all-held es.entries new.entries k now inv.held) in
           subst (λ y. ImplsAdded d n e old.entries old.limit c.args.decls.now (i + 1) y.entries y.limit c.if-is_new.decls) (sym w.cx-is)
           (subst (λ ds. ImplsAdded d n e old.entries old.limit c.args.decls.now (i + 1) new.entries new.limit ds) (sym w.decls-is)
           (impls-taken d n e old.entries old.limit c.args.decls.now i es.entries es.limit now (impl_of x) new.entries new.limit (held_impl new.entries x.id w.in_ok-def.def) next at (sym c.is_new.ensures ∙ w.if-is_new.true)
-          (c.crates.ensures.numbered.impls i (impl_of x) at).0 k w.lower_impl.ensures.grew.limit w.in_ok-def.ensures.is w.in_ok-def.ensures.sorts w.in_ok-add_impl.ensures.added held w.lower_impl.ensures.few inv))
+          (c.crates.ensures.numbered.impls i (impl_of x) at).0 k w.lower_impl.ensures.terms.grew.limit w.in_ok-def.ensures.is w.in_ok-def.ensures.sorts w.in_ok-add_impl.ensures.added held w.lower_impl.ensures.few inv))
       | else-is_new w ↦
           subst (λ y. ImplsAdded d n e old.entries old.limit c.args.decls.now (i + 1) y.entries y.limit c.if-is_new.decls) (sym w.cx-is)
           (subst (λ ds. ImplsAdded d n e old.entries old.limit c.args.decls.now (i + 1) es.entries es.limit ds) (sym w.decls-is)

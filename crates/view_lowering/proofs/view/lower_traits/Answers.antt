@@ -43,12 +43,12 @@ loop-entry-preserved c =
       | then-is_new+in_ok-def+in_ok-add_trait w ↦
           let new = w.lower_trait.new.cx in
           let next = w.add_trait.new.self in
-          let k = w.lower_trait.ensures.grew.keeps in
+          let k = w.lower_trait.ensures.terms.grew.keeps in
           let held = w.in_ok-add_trait.ensures.held new.entries (all-held es.entries new.entries k now inv.held) w.in_ok-def.ensures.held in
           subst (λ y. TraitsAdded d n e old.entries old.limit c.args.decls.now (i + 1) y.entries y.limit c.if-is_new.decls) (sym w.cx-is)
           (subst (λ ds. TraitsAdded d n e old.entries old.limit c.args.decls.now (i + 1) new.entries new.limit ds) (sym w.decls-is)
           (traits-taken d n e old.entries old.limit c.args.decls.now i es.entries es.limit now (trait_of x) new.entries new.limit x.id w.in_ok-def.def next at (sym c.is_new.ensures ∙ w.if-is_new.true) (c.crates.ensures.numbered.traits i (trait_of x) at).0 k
-          w.lower_trait.ensures.grew.limit w.in_ok-def.ensures.is w.in_ok-def.ensures.sorts w.in_ok-add_trait.ensures.added held w.lower_trait.ensures.few inv))
+          w.lower_trait.ensures.terms.grew.limit w.in_ok-def.ensures.is w.in_ok-def.ensures.sorts w.in_ok-add_trait.ensures.added held w.lower_trait.ensures.few inv))
       | else-is_new w ↦
           subst (λ y. TraitsAdded d n e old.entries old.limit c.args.decls.now (i + 1) y.entries y.limit c.if-is_new.decls) (sym w.cx-is)
           (subst (λ ds. TraitsAdded d n e old.entries old.limit c.args.decls.now (i + 1) es.entries es.limit ds) (sym w.decls-is)

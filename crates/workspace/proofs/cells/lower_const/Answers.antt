@@ -7,12 +7,12 @@ use Rattle.workspace.proofs.Refusals.{refused-term}
 use Rattle.workspace.proofs.cells.lower_const.Goals as goal
 
 pub returns-clause-lowers : goal.returns-clause-lowers
-returns-clause-lowers c = const-lowers c.args.kind c.args.cx.now.entries _ c.in_ok-value.value c.in_ok-value.ensures.is c.in_ok-value.ensures.keeps (stack_of c.args.stack.now.items) c.requires.held
+returns-clause-lowers c = const-lowers c.args.kind c.args.cx.now.entries _ c.in_ok-value.value c.in_ok-value.ensures.is c.in_ok-value.ensures.grew.keeps (stack_of c.args.stack.now.items) c.requires.held
 
-pub returns-in_err-value-clause-full : goal.returns-in_err-value-clause-full
-returns-in_err-value-clause-full c =
+pub returns-in_err-value-clause-terms : goal.returns-in_err-value-clause-terms
+returns-in_err-value-clause-terms c =
     let refused = c.in_err-value.ensures in
-    refused-term consts c.from_residual.result (omega arith) c.from_residual.ensures.1 (λ p. refused.full (ap Err p)) refused.limit refused.refused
+    record { grew = c.mk_const.ensures.grew; full = refused-term consts c.from_residual.result (omega arith) c.from_residual.ensures.1 (λ q. refused.full (ap Err q)) refused.grew.limit refused.refused }
 
 pub returns-in_err-value-clause-few : goal.returns-in_err-value-clause-few
 returns-in_err-value-clause-few c = let same = none-added c.in_err-value.ensures.refused in omega (arith, same)

@@ -1,5 +1,6 @@
 use Rattle.std.proofs.Common.{arith, ap, Err}
 use Rattle.type_terms.specs.Terms.{bounds_lists, types}
+use Rattle.type_terms.proofs.Grown.{grew-on}
 use Rattle.workspace.specs.Stack.{stack_of}
 use Rattle.workspace.proofs.Lowering.{dyn-lowers, principal-made, principal-held}
 use Rattle.workspace.proofs.Counting.{at-most-one, none-added}
@@ -20,17 +21,17 @@ pub returns-clause-lowers : goal.returns-clause-lowers
 returns-clause-lowers c =
     dyn-lowers c.args.has_principal c.args.autos c.in_ok-autos.autos.items c.pop_lifetime-region.result c.pop_principal-principal.result c.args.cx.now.entries _ _ (stack_of c.args.stack.now.items) _ _ _ c.in_ok-bounds.bounds.0 c.in_ok-ty.ty c.requires.made
     c.pop_lifetime-region.ensures c.in_ok-autos.ensures.count c.in_ok-autos.ensures.pushed c.pop_principal-principal.ensures c.requires.held
-    c.in_ok-bounds.ensures.is c.in_ok-bounds.ensures.keeps c.in_ok-ty.ensures.is c.in_ok-ty.ensures.keeps
+    c.in_ok-bounds.ensures.is c.in_ok-bounds.ensures.grew.keeps c.in_ok-ty.ensures.is c.in_ok-ty.ensures.grew.keeps
 
-pub returns-in_err-bounds-clause-full : goal.returns-in_err-bounds-clause-full
-returns-in_err-bounds-clause-full c =
+pub returns-in_err-bounds-clause-terms : goal.returns-in_err-bounds-clause-terms
+returns-in_err-bounds-clause-terms c =
     let refused = c.in_err-bounds.ensures in
-    refused-term bounds_lists c.from_residual-in_err-bounds.result (omega arith) c.from_residual-in_err-bounds.ensures.1 (λ p. refused.full (ap Err p)) refused.limit refused.refused
+    record { grew = c.mk_bounds.ensures.grew; full = refused-term bounds_lists c.from_residual-in_err-bounds.result (omega arith) c.from_residual-in_err-bounds.ensures.1 (λ q. refused.full (ap Err q)) refused.grew.limit refused.refused }
 
-pub returns-in_err-ty-clause-full : goal.returns-in_err-ty-clause-full
-returns-in_err-ty-clause-full c =
+pub returns-in_err-ty-clause-terms : goal.returns-in_err-ty-clause-terms
+returns-in_err-ty-clause-terms c =
     let refused = c.in_err-ty.ensures in
-    refused-term types c.from_residual-in_err-ty.result (omega arith) c.from_residual-in_err-ty.ensures.1 (λ p. refused.full (ap Err p)) refused.limit refused.refused
+    record { grew = grew-on c.mk_bounds.ensures.grew c.mk_ty.ensures.grew; full = refused-term types c.from_residual-in_err-ty.result (omega arith) c.from_residual-in_err-ty.ensures.1 (λ q. refused.full (ap Err q)) refused.grew.limit refused.refused }
 
 pub returns-in_err-bounds-clause-few : goal.returns-in_err-bounds-clause-few
 returns-in_err-bounds-clause-few c = let same = none-added c.in_err-bounds.ensures.refused in omega (arith, same)

@@ -10,12 +10,12 @@ pub mk_ty-requires : goal.mk_ty-requires
 mk_ty-requires c = leaf-held c.args.cell c.args.kind c.args.cx.now.entries c.requires.leaf
 
 pub returns-clause-lowers : goal.returns-clause-lowers
-returns-clause-lowers c = leaf-lowers c.args.cell c.args.kind c.args.cx.now.entries _ c.in_ok-ty.ty c.requires.leaf c.in_ok-ty.ensures.is c.in_ok-ty.ensures.keeps (stack_of c.args.stack.now.items) c.requires.ready.held
+returns-clause-lowers c = leaf-lowers c.args.cell c.args.kind c.args.cx.now.entries _ c.in_ok-ty.ty c.requires.leaf c.in_ok-ty.ensures.is c.in_ok-ty.ensures.grew.keeps (stack_of c.args.stack.now.items) c.requires.ready.held
 
-pub returns-in_err-ty-clause-full : goal.returns-in_err-ty-clause-full
-returns-in_err-ty-clause-full c =
+pub returns-in_err-ty-clause-terms : goal.returns-in_err-ty-clause-terms
+returns-in_err-ty-clause-terms c =
     let refused = c.in_err-ty.ensures in
-    refused-term types c.from_residual.result (omega arith) c.from_residual.ensures.1 (λ p. refused.full (ap Err p)) refused.limit refused.refused
+    record { grew = c.mk_ty.ensures.grew; full = refused-term types c.from_residual.result (omega arith) c.from_residual.ensures.1 (λ q. refused.full (ap Err q)) refused.grew.limit refused.refused }
 
 pub returns-in_err-ty-clause-few : goal.returns-in_err-ty-clause-few
 returns-in_err-ty-clause-few c = let same = none-added c.in_err-ty.ensures.refused in omega (arith, same)

@@ -12,12 +12,12 @@ mk_args-requires c = args-held c.args.cx.now.entries c.in_ok-list.list.items (he
 pub returns-clause-lowers : goal.returns-clause-lowers
 returns-clause-lowers c =
     principal-lowers c.args.bound_vars c.args.def_id c.args.args c.in_ok-list.list.items _ c.args.cx.now.entries _ (stack_of c.args.stack.now.items) _ refl refl c.in_ok-list.ensures.pushed c.in_ok-list.ensures.count c.requires.held
-    c.in_ok-args.ensures.is c.in_ok-args.ensures.keeps
+    c.in_ok-args.ensures.is c.in_ok-args.ensures.grew.keeps
 
-pub returns-in_err-args-clause-full : goal.returns-in_err-args-clause-full
-returns-in_err-args-clause-full c =
+pub returns-in_err-args-clause-terms : goal.returns-in_err-args-clause-terms
+returns-in_err-args-clause-terms c =
     let refused = c.in_err-args.ensures in
-    refused-term args_lists c.from_residual-in_err-args.result (omega arith) c.from_residual-in_err-args.ensures.1 (λ p. refused.full (ap Err p)) refused.limit refused.refused
+    record { grew = c.mk_args.ensures.grew; full = refused-term args_lists c.from_residual-in_err-args.result (omega arith) c.from_residual-in_err-args.ensures.1 (λ q. refused.full (ap Err q)) refused.grew.limit refused.refused }
 
 pub returns-in_err-args-clause-few : goal.returns-in_err-args-clause-few
 returns-in_err-args-clause-few c = let same = none-added c.in_err-args.ensures.refused in omega (arith, same)

@@ -7,12 +7,12 @@ use Rattle.workspace.proofs.Refusals.{refused-term}
 use Rattle.workspace.proofs.cells.lower_ref.Goals as goal
 
 pub returns-clause-lowers : goal.returns-clause-lowers
-returns-clause-lowers c = ref-lowers c.args.region c.args.mutability c.pop_type-referred.result c.args.cx.now.entries _ (stack_of c.args.stack.now.items) _ c.in_ok-ty.ty c.pop_type-referred.ensures c.requires.held c.in_ok-ty.ensures.is c.in_ok-ty.ensures.keeps
+returns-clause-lowers c = ref-lowers c.args.region c.args.mutability c.pop_type-referred.result c.args.cx.now.entries _ (stack_of c.args.stack.now.items) _ c.in_ok-ty.ty c.pop_type-referred.ensures c.requires.held c.in_ok-ty.ensures.is c.in_ok-ty.ensures.grew.keeps
 
-pub returns-in_err-ty-clause-full : goal.returns-in_err-ty-clause-full
-returns-in_err-ty-clause-full c =
+pub returns-in_err-ty-clause-terms : goal.returns-in_err-ty-clause-terms
+returns-in_err-ty-clause-terms c =
     let refused = c.in_err-ty.ensures in
-    refused-term types c.from_residual.result (omega arith) c.from_residual.ensures.1 (λ p. refused.full (ap Err p)) refused.limit refused.refused
+    record { grew = c.mk_ty.ensures.grew; full = refused-term types c.from_residual.result (omega arith) c.from_residual.ensures.1 (λ q. refused.full (ap Err q)) refused.grew.limit refused.refused }
 
 pub returns-in_err-ty-clause-few : goal.returns-in_err-ty-clause-few
 returns-in_err-ty-clause-few c = let same = none-added c.in_err-ty.ensures.refused in omega (arith, same)

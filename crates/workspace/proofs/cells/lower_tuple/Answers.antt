@@ -1,5 +1,6 @@
 use Rattle.std.proofs.Common.{subst, arith, ap, Err}
 use Rattle.type_terms.specs.Terms.{type_lists, types}
+use Rattle.type_terms.proofs.Grown.{grew-on}
 use Rattle.workspace.specs.Stack.{stack_of, StackHeld}
 use Rattle.workspace.proofs.Lowering.{held-pushed, tys-held, tuple-lowers}
 use Rattle.workspace.proofs.Counting.{at-most-one, none-added}
@@ -12,17 +13,17 @@ mk_tys-requires c = tys-held c.args.cx.now.entries c.in_ok-list.list.items (held
 pub returns-clause-lowers : goal.returns-clause-lowers
 returns-clause-lowers c =
     tuple-lowers c.args.items c.in_ok-list.list.items c.args.cx.now.entries _ _ (stack_of c.args.stack.now.items) _ c.in_ok-tys.tys.0 c.in_ok-ty.ty c.in_ok-list.ensures.pushed c.in_ok-list.ensures.count c.requires.held
-    c.in_ok-tys.ensures.is c.in_ok-tys.ensures.keeps c.in_ok-ty.ensures.is c.in_ok-ty.ensures.keeps
+    c.in_ok-tys.ensures.is c.in_ok-tys.ensures.grew.keeps c.in_ok-ty.ensures.is c.in_ok-ty.ensures.grew.keeps
 
-pub returns-in_err-tys-clause-full : goal.returns-in_err-tys-clause-full
-returns-in_err-tys-clause-full c =
+pub returns-in_err-tys-clause-terms : goal.returns-in_err-tys-clause-terms
+returns-in_err-tys-clause-terms c =
     let refused = c.in_err-tys.ensures in
-    refused-term type_lists c.from_residual-in_err-tys.result (omega arith) c.from_residual-in_err-tys.ensures.1 (λ p. refused.full (ap Err p)) refused.limit refused.refused
+    record { grew = c.mk_tys.ensures.grew; full = refused-term type_lists c.from_residual-in_err-tys.result (omega arith) c.from_residual-in_err-tys.ensures.1 (λ q. refused.full (ap Err q)) refused.grew.limit refused.refused }
 
-pub returns-in_err-ty-clause-full : goal.returns-in_err-ty-clause-full
-returns-in_err-ty-clause-full c =
+pub returns-in_err-ty-clause-terms : goal.returns-in_err-ty-clause-terms
+returns-in_err-ty-clause-terms c =
     let refused = c.in_err-ty.ensures in
-    refused-term types c.from_residual-in_err-ty.result (omega arith) c.from_residual-in_err-ty.ensures.1 (λ p. refused.full (ap Err p)) refused.limit refused.refused
+    record { grew = grew-on c.mk_tys.ensures.grew c.mk_ty.ensures.grew; full = refused-term types c.from_residual-in_err-ty.result (omega arith) c.from_residual-in_err-ty.ensures.1 (λ q. refused.full (ap Err q)) refused.grew.limit refused.refused }
 
 pub returns-in_err-tys-clause-few : goal.returns-in_err-tys-clause-few
 returns-in_err-tys-clause-few c = let same = none-added c.in_err-tys.ensures.refused in omega (arith, same)

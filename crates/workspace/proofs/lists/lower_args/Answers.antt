@@ -1,12 +1,14 @@
 use Rattle.std.proofs.Common.{subst, sym, ap, ◌∙◌, Err, arith}
 use Rattle.type_terms.specs.Terms.{Is, args_lists}
+use Rattle.type_terms.proofs.Grown.{grew-on}
+use Rattle.type_terms.proofs.FailFacts.{at-limit}
 use Rattle.workspace.specs.Made.{is_arg}
 use Rattle.workspace.specs.Stack.{StackHeld, AllParts}
 use Rattle.workspace.proofs.Lowering.{args-held}
 use Rattle.workspace.proofs.CellCounts.{joined-cells-are-few}
 use Rattle.workspace.proofs.CellLists.{all-parts, args-are, stack-held}
 use Rattle.workspace.proofs.Counting.{at-most-one, none-added}
-use Rattle.workspace.proofs.Refusals.{handed-on, refused-term}
+use Rattle.workspace.proofs.Refusals.{refused-term}
 use Rattle.workspace.proofs.lists.lower_args.Goals as goal
 
 pub args_in-requires : goal.args_in-requires
@@ -23,13 +25,13 @@ returns-clause-is c =
     subst (λ t. Is c.mk_args.new.self.entries args_lists c.in_ok-args.args.0 t)
     (args-are es c.args.cells.now c.in_ok-stack.stack.items c.in_ok-list.list.items c.in_ok-stack.ensures.trees (c.in_ok-list.ensures ∙ c.deref.ensures.value)) c.in_ok-args.ensures.is
 
-pub returns-in_err-stack-clause-full : goal.returns-in_err-stack-clause-full
-returns-in_err-stack-clause-full c = handed-on c.from_residual.result c.from_residual.ensures.1 (λ p. c.in_err-stack.ensures.full (ap Err p))
+pub returns-in_err-stack-clause-terms : goal.returns-in_err-stack-clause-terms
+returns-in_err-stack-clause-terms c = record { grew = c.lower_cells.ensures.terms.grew; full = at-limit c.from_residual.result c.from_residual.ensures.1 c.in_err-stack.ensures.terms.full }
 
-pub returns-in_err-args-clause-full : goal.returns-in_err-args-clause-full
-returns-in_err-args-clause-full c =
+pub returns-in_err-args-clause-terms : goal.returns-in_err-args-clause-terms
+returns-in_err-args-clause-terms c =
     let refused = c.in_err-args.ensures in
-    refused-term args_lists c.from_residual-in_err-args.result (omega arith) c.from_residual-in_err-args.ensures.1 (λ p. refused.full (ap Err p)) refused.limit refused.refused
+    record { grew = grew-on c.lower_cells.ensures.terms.grew c.mk_args.ensures.grew; full = refused-term args_lists c.from_residual-in_err-args.result (omega arith) c.from_residual-in_err-args.ensures.1 (λ q. refused.full (ap Err q)) refused.grew.limit refused.refused }
 
 pub returns-in_err-stack-clause-few : goal.returns-in_err-stack-clause-few
 returns-in_err-stack-clause-few c = let cells = joined-cells-are-few is_arg c.args.cells.now c.requires in omega (arith, cells, c.lower_cells.ensures.few)

@@ -1,10 +1,11 @@
 use Rattle.std.proofs.Common.{◌≡◌, [], ◌∷◌, suc, ◌+◌, length, map, drop, sym, ◌∙◌, subst, ap, arith, Some, Err}
+use Rattle.type_terms.proofs.Grown.{grew-on}
+use Rattle.type_terms.proofs.FailFacts.{at-limit}
 use Rattle.workspace.specs.Made.{parts_of}
 use Rattle.workspace.specs.TermCells.{behind_cells}
 use Rattle.workspace.specs.Views.{cells_of}
 use Rattle.workspace.specs.Stack.{part_of, stack_of, parts_in, trees_of_stack, StackHeld}
 use Rattle.workspace.proofs.CellLists.{drop-more, drop-all, next-made, cell-held, parts-further, trees-further}
-use Rattle.workspace.proofs.Refusals.{handed-on}
 use Rattle.workspace.proofs.lists.lower_cells.Goals as goal
 
 pub lower_cell-requires : goal.lower_cell-requires
@@ -21,8 +22,8 @@ lower_cell-requires c =
       range = cell-held cells i x c.loop-cell-test.true c.cell-item.is c.requires.range;
     }
 
-pub returns-in_err-term-clause-full : goal.returns-in_err-term-clause-full
-returns-in_err-term-clause-full c = handed-on c.from_residual.result c.from_residual.ensures.1 (λ p. c.in_err-term.ensures.full (ap Err p))
+pub returns-in_err-term-clause-terms : goal.returns-in_err-term-clause-terms
+returns-in_err-term-clause-terms c = record { grew = grew-on c.loop-cell.invariant.grew c.lower_cell.ensures.terms.grew; full = at-limit c.from_residual.result c.from_residual.ensures.1 c.in_err-term.ensures.terms.full }
 
 pub loop-cell-preserved : goal.loop-cell-preserved
 loop-cell-preserved c =
@@ -48,8 +49,7 @@ loop-cell-preserved c =
           (ap (λ s. behind_cells (cells_of rest) (trees_of_stack es1 s)) c.in_ok-push.ensures ∙ trees-further x rest es es1 S R t low
           ∙ ap (λ cs. behind_cells (cells_of cs) (trees_of_stack es S)) (sym more) ∙ inv.trees);
       held = subst (StackHeld es1) (sym c.in_ok-push.ensures) (low.term_held, low.stack_held);
-      keeps = λ j e h. c.lower_cell.ensures.keeps j e (inv.keeps j e h);
-      limit = c.lower_cell.ensures.limit ∙ inv.limit;
+      grew = grew-on inv.grew c.lower_cell.ensures.terms.grew;
       few = omega (arith, c.lower_cell.ensures.few, inv.few);
     }
 

@@ -1,5 +1,5 @@
 use Rattle.std.proofs.Common.{◌≡◌, ◌+◌, ◌*◌, ◌≤◌, [], drop, length}
-use Rattle.type_terms.specs.Terms.{Keeps}
+use Rattle.type_terms.specs.Growth.{Grew}
 use Rattle.workspace.specs.Made.{parts_of}
 use Rattle.workspace.specs.TermCells.{behind_cells}
 use Rattle.workspace.specs.Views.{cells_of}
@@ -11,7 +11,6 @@ invariant-loop-cell l = record {
   parts : parts_of (drop l.cell-index l.cells) (parts_in l.stack.items) ≡ parts_of l.cells [];
   trees : behind_cells (cells_of (drop l.cell-index l.cells)) (trees_of_stack l.cx.entries (stack_of l.stack.items)) ≡ behind_cells (cells_of l.cells) [];
   held : StackHeld l.cx.entries (stack_of l.stack.items);
-  keeps : Keeps l.fn.cx.entries l.cx.entries;
-  limit : l.cx.limit ≡ l.fn.cx.limit;
+  grew : Grew l.fn.cx l.cx;
   few : length l.cx.entries ≤ length l.fn.cx.entries + 2 * l.cell-index;
 }

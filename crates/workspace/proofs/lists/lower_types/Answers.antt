@@ -1,10 +1,10 @@
 use Rattle.std.proofs.Common.{arith, subst, sym, ap, ◌∙◌, Err}
+use Rattle.type_terms.proofs.FailFacts.{at-limit}
 use Rattle.workspace.specs.Made.{is_type}
 use Rattle.workspace.specs.Stack.{StackHeld, AllParts}
 use Rattle.workspace.proofs.Lowering.{tys-held}
 use Rattle.workspace.proofs.CellCounts.{cells-are-few}
 use Rattle.workspace.proofs.CellLists.{all-parts, types-are, stack-held}
-use Rattle.workspace.proofs.Refusals.{handed-on}
 use Rattle.workspace.proofs.lists.lower_types.Goals as goal
 
 pub types_in-requires : goal.types_in-requires
@@ -19,8 +19,8 @@ returns-clause-held c =
     let es = c.lower_cells.new.cx.entries in
     tys-held es c.in_ok-tys.tys.items (subst (StackHeld es) (sym (c.in_ok-tys.ensures ∙ c.deref.ensures.value)) (stack-held es c.in_ok-stack.stack.items c.in_ok-stack.ensures.held))
 
-pub returns-in_err-stack-clause-full : goal.returns-in_err-stack-clause-full
-returns-in_err-stack-clause-full c = handed-on c.from_residual.result c.from_residual.ensures.1 (λ p. c.in_err-stack.ensures.full (ap Err p))
+pub returns-in_err-stack-clause-terms : goal.returns-in_err-stack-clause-terms
+returns-in_err-stack-clause-terms c = record { grew = c.lower_cells.ensures.terms.grew; full = at-limit c.from_residual.result c.from_residual.ensures.1 c.in_err-stack.ensures.terms.full }
 
 pub returns-in_err-stack-clause-few : goal.returns-in_err-stack-clause-few
 returns-in_err-stack-clause-few c = let cells = cells-are-few is_type c.args.cells.now c.requires in omega (arith, cells, c.lower_cells.ensures.few)

@@ -2,7 +2,7 @@ use Rattle.std.proofs.Common.{refl, sym, subst}
 use Rattle.declarations.specs.declared.elaborate.Elaborator.{Elaborator}
 use Rattle.declarations.specs.Stacked.{StacksUnseen}
 use Rattle.declarations.proofs.Growth.{all-held, references-kept}
-use Rattle.term_folds.proofs.Grown.{grew-none, grew-on}
+use Rattle.type_terms.proofs.Grown.{grew-none, grew-on}
 use Rattle.declarations.proofs.Elaborating.{Elaborates, have-bounds-later, elaborates-first, elaborates-next, elaborates-falls, popped-held, popped-applied}
 use Rattle.declarations.proofs.declarations.Declarations.elaborate.Goals as goal
 
@@ -31,7 +31,7 @@ written_supertraits-requires-clause-applied c =
     popped-applied c.args.cx.now.entries c.args.self.now c.args.references.now c.stack.cx.entries c.stack.elaborator c.stack.found.items c.pop.new.self.items c.in-Some.next c.stack.invariant.elaborates c.in-Some.ensures.items
 
 pub extend_deduped-requires-in-Some-clause-visited : goal.extend_deduped-requires-in-Some-clause-visited
-extend_deduped-requires-in-Some-clause-visited c = references-kept c.stack.cx.entries c.written_supertraits.new.cx.entries c.written_supertraits.ensures.grew.keeps c.stack.elaborator.visited.items c.stack.invariant.elaborates.visited_held
+extend_deduped-requires-in-Some-clause-visited c = references-kept c.stack.cx.entries c.written_supertraits.new.cx.entries c.written_supertraits.ensures.terms.grew.keeps c.stack.elaborator.visited.items c.stack.invariant.elaborates.visited_held
 
 pub stack-smaller : goal.stack-smaller
 stack-smaller c =
@@ -43,7 +43,7 @@ stack-smaller c =
     let ws = c.in_ok-supertraits.supertraits.items in
     let x = subst (λ l. StacksUnseen es2 l mid c.extend_deduped-in-Some.new.self) c.deref.ensures.value c.in_ok-extend_deduped-2.ensures.extends in
     elaborates-falls es0 d c.args.references.now c.requires.bounds c.requires.held es1 es2 c.stack.elaborator mid c.extend_deduped-in-Some.new.self c.in-Some.next c.stack.found.items ws c.stack.invariant.elaborates
-    c.in-Some.ensures.items refl c.written_supertraits.ensures.grew.keeps c.in_ok-supertraits.ensures.held c.in_ok-supertraits.ensures.applied c.in_ok-supertraits.ensures.are x
+    c.in-Some.ensures.items refl c.written_supertraits.ensures.terms.grew.keeps c.in_ok-supertraits.ensures.held c.in_ok-supertraits.ensures.applied c.in_ok-supertraits.ensures.are x
 
 pub stack-preserved : goal.stack-preserved
 stack-preserved c =
@@ -55,8 +55,8 @@ stack-preserved c =
     let ws = c.in_ok-supertraits.supertraits.items in
     let x = subst (λ l. StacksUnseen es2 l mid c.extend_deduped-in-Some.new.self) c.deref.ensures.value c.in_ok-extend_deduped-2.ensures.extends in
     record {
-      grew = grew-on c.stack.invariant.grew c.written_supertraits.ensures.grew;
+      grew = grew-on c.stack.invariant.grew c.written_supertraits.ensures.terms.grew;
       elaborates = subst (Elaborates es0 d c.args.references.now es2 c.extend_deduped-in-Some.new.self) (sym c.in_ok-put.ensures.put)
           (elaborates-next es0 d c.args.references.now c.requires.bounds c.requires.held es1 es2 c.stack.elaborator mid c.extend_deduped-in-Some.new.self c.in-Some.next c.stack.found.items ws c.stack.invariant.elaborates
-          c.in-Some.ensures.items refl c.written_supertraits.ensures.grew.keeps c.in_ok-supertraits.ensures.held c.in_ok-supertraits.ensures.applied c.in_ok-supertraits.ensures.are x);
+          c.in-Some.ensures.items refl c.written_supertraits.ensures.terms.grew.keeps c.in_ok-supertraits.ensures.held c.in_ok-supertraits.ensures.applied c.in_ok-supertraits.ensures.are x);
     }

@@ -1,4 +1,4 @@
-use Rattle.term_folds.specs.Growth.{Grew}
+use Rattle.type_terms.specs.Growth.{Grew}
 use Rattle.declarations.proofs.Elaborating.{Elaborates, to_come}
 use Rattle.declarations.proofs.declarations.Declarations.elaborate.Given as goal
 

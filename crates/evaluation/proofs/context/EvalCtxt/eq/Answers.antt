@@ -17,7 +17,7 @@ eq-requires-clause-ready c = subst (λ (x : Context). Ready c.args.cx.now.entrie
 
 pub returns-clause-ready : goal.returns-clause-ready
 returns-clause-ready c =
-    ready-with-table c.args.cx.now.entries c.eq.new.cx.entries _ c.eq.new.self c.eq.ensures.grew.keeps
+    ready-with-table c.args.cx.now.entries c.eq.new.cx.entries _ c.eq.new.self c.eq.ensures.terms.grew.keeps
     (subst (λ (x : Context). IsReadyContext c.args.cx.now.entries x) (sym c.self.view_is) c.requires.ready)
     c.eq.ensures.ready
 
@@ -31,11 +31,14 @@ returns-clause-older c =
       | in-Err w ↦ subst (λ r. OnOk r (Stays c.self.inside.table)) (sym w.result-is) tt
     ])
 
-pub returns-clause-full : goal.returns-clause-full
-returns-clause-full c =
-    let AtLimit = λ (r : Result (Unit {0}) EvalError). IfErr r (EvalFullAtLimit c.eq.new.cx) in
-    elim c.match-eq.branch [
-      | in-Ok w ↦ subst AtLimit (sym w.result-is) tt
-      | in-Err w ↦ subst AtLimit (sym w.result-is)
-          (λ q. subst (λ r. IfErr r (EqFullAtLimit c.eq.new.cx)) w.in-Err.is c.eq.ensures.full (given-up w.in-Err.error _ w.from.ensures q))
-    ]
+pub returns-clause-terms : goal.returns-clause-terms
+returns-clause-terms c = record {
+  grew = c.eq.ensures.terms.grew;
+  full =
+      let AtLimit = λ (r : Result (Unit {0}) EvalError). IfErr r (EvalFullAtLimit c.eq.new.cx) in
+      elim c.match-eq.branch [
+        | in-Ok w ↦ subst AtLimit (sym w.result-is) tt
+        | in-Err w ↦ subst AtLimit (sym w.result-is)
+            (λ q. subst (λ r. IfErr r (EqFullAtLimit c.eq.new.cx)) w.in-Err.is c.eq.ensures.terms.full (given-up w.in-Err.error _ w.from.ensures q))
+      ];
+}

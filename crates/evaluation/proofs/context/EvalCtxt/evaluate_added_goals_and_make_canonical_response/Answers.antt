@@ -1,5 +1,6 @@
 use Rattle.std.proofs.Common.{◌≡◌, rules, subst, map, ◌∙◌, Ok}
 use Rattle.infer_table.proofs.PairFacts.{table-kept}
+use Rattle.type_terms.proofs.Grown.{grew-on}
 use Rattle.evaluation.specs.Context.{NestedHeld, nested_goal}
 use Rattle.infer_table.specs.Unification.{table_trees}
 use Rattle.evaluation.specs.Replays.{run}
@@ -23,7 +24,7 @@ returns-in-Ok-clause-ready c =
     let mid = c.evaluate_nested_goals.new.self in
     let left = map nested_goal c.in-Ended.left.items in
     let held : NestedHeld es1 left = subst (RoundsHeld es1) c.in-Ended.is c.in_ok-evaluated.ensures.held in
-    ready-settled es2 mid c.settle.new.self left c.settle.ensures (context-later es1 es2 c.answer.ensures.grew.keeps mid c.evaluate_nested_goals.ensures.ready) (nested-later es1 es2 c.answer.ensures.grew.keeps left held)
+    ready-settled es2 mid c.settle.new.self left c.settle.ensures (context-later es1 es2 c.answer.ensures.terms.grew.keeps mid c.evaluate_nested_goals.ensures.ready) (nested-later es1 es2 c.answer.ensures.terms.grew.keeps left held)
 
 pub returns-in-Ok-clause-runs : goal.returns-in-Ok-clause-runs
 returns-in-Ok-clause-runs c =
@@ -34,7 +35,7 @@ returns-in-Ok-clause-runs c =
     let mid = c.evaluate_nested_goals.new.self in
     let left = map nested_goal c.in-Ended.left.items in
     let held : NestedHeld es1 left = subst (RoundsHeld es1) c.in-Ended.is c.in_ok-evaluated.ensures.held in
-    let keeps = c.answer.ensures.grew.keeps in
+    let keeps = c.answer.ensures.terms.grew.keeps in
     let r = run (rounds (evaluation old.mode) FIXPOINT_STEP_LIMIT (goals_trees es old.nested) (table_trees es old.table)) (replies_trees es old.replies) in
     call-answered old.mode es2 old mid c.settle.new.self left c.evaluate_nested_goals.ensures.rest c.settle.ensures es1 keeps
     (table-kept es1 es2 keeps mid.table c.evaluate_nested_goals.ensures.ready.table) (goals-trees-later es1 es2 keeps left held)
@@ -46,7 +47,10 @@ returns-in-Ok-clause-runs c =
 
 pub returns-in-Err-clause-ready : goal.returns-in-Err-clause-ready
 returns-in-Err-clause-ready c =
-    ready-same c.args.cx.now.entries c.answer.new.cx.entries c.args.self.now _ (λ i x h. c.answer.ensures.grew.keeps i x (c.evaluate_nested_goals.ensures.grew.keeps i x h)) (search rules) c.requires.ready
+    ready-same c.args.cx.now.entries c.answer.new.cx.entries c.args.self.now _ (λ i x h. c.answer.ensures.terms.grew.keeps i x (c.evaluate_nested_goals.ensures.terms.grew.keeps i x h)) (search rules) c.requires.ready
 
-pub returns-in-Err-clause-full : goal.returns-in-Err-clause-full
-returns-in-Err-clause-full c = λ q. c.in-Err.ensures.full (same-fault c.in-Err.fault q)
+pub returns-in-Err-clause-terms : goal.returns-in-Err-clause-terms
+returns-in-Err-clause-terms c = record {
+  grew = grew-on c.evaluate_nested_goals.ensures.terms.grew c.answer.ensures.terms.grew;
+  full = λ q. c.in-Err.ensures.terms.full (same-fault c.in-Err.fault q);
+}

@@ -21,7 +21,7 @@ rounds-requires-clause-goals c =
 
 pub returns-clause-ready : goal.returns-clause-ready
 returns-clause-ready c =
-    ready-with-table c.args.cx.now.entries c.rounds.new.cx.entries _ c.rounds.new.table c.rounds.ensures.grew.keeps
+    ready-with-table c.args.cx.now.entries c.rounds.new.cx.entries _ c.rounds.new.table c.rounds.ensures.terms.grew.keeps
     (subst (λ (x : Context). IsReadyContext c.args.cx.now.entries x) (sym c.self.view_is) c.requires.ready)
     c.rounds.ensures.ready
 

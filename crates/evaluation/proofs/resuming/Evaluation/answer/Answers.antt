@@ -16,5 +16,8 @@ answer-requires c =
           (subst (ArgsHeld es) (sym (ap (λ (z : Context). z.values) made)) c.requires.evaluation.own);
     }
 
-pub returns-in_err-answer-clause-full : goal.returns-in_err-answer-clause-full
-returns-in_err-answer-clause-full c = eval-at-limit c.from_residual.result c.from_residual.ensures.1 c.in_err-answer.ensures.full
+pub returns-in_err-answer-clause-terms : goal.returns-in_err-answer-clause-terms
+returns-in_err-answer-clause-terms c = record {
+  grew = c.answer.ensures.terms.grew;
+  full = eval-at-limit c.from_residual.result c.from_residual.ensures.1 c.in_err-answer.ensures.terms.full;
+}

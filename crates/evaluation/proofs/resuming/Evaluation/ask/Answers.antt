@@ -12,7 +12,7 @@ pub returns-clause-held : goal.returns-clause-held
 returns-clause-held c =
     let es = c.args.cx.now.entries in
     let new = c.question_for.new.cx.entries in
-    let k = c.question_for.ensures.grew.keeps in
+    let k = c.question_for.ensures.terms.grew.keeps in
     let e = c.args.self in (
       record {
         evaluation = record { table = c.question_for.ensures.ready; own = args-held-later es new k e.own.items c.requires.evaluation.own };
@@ -28,8 +28,11 @@ returns-clause-held c =
 pub returns-clause-stands : goal.returns-clause-stands
 returns-clause-stands c =
     let waiting : OpenCandidate = record { evaluation = c.args.self; rounds_left = c.args.rounds_left; round = c.args.round; goal = c.args.goal; values = c.in_ok-asked.asked.values; goals = c.args.goals } in
-    asks-next c.args.cx.now.entries c.question_for.new.cx.entries c.question_for.ensures.grew.keeps waiting
+    asks-next c.args.cx.now.entries c.question_for.new.cx.entries c.question_for.ensures.terms.grew.keeps waiting
     c.requires.evaluation c.requires.left c.requires.goal c.requires.goals c.in_ok-asked.asked.input c.in_ok-asked.ensures.question
 
-pub returns-in_err-asked-clause-full : goal.returns-in_err-asked-clause-full
-returns-in_err-asked-clause-full c = eval-at-limit c.from_residual.result c.from_residual.ensures.1 c.in_err-asked.ensures.full
+pub returns-in_err-asked-clause-terms : goal.returns-in_err-asked-clause-terms
+returns-in_err-asked-clause-terms c = record {
+  grew = c.question_for.ensures.terms.grew;
+  full = eval-at-limit c.from_residual.result c.from_residual.ensures.1 c.in_err-asked.ensures.terms.full;
+}

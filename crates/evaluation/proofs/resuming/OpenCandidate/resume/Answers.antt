@@ -10,42 +10,45 @@ use Rattle.evaluation.proofs.Contexts.{nested-later}
 use Rattle.evaluation.specs.declared.resuming.CandidateStep.{CandidateStep}
 use Rattle.evaluation.proofs.OpenCandidates.{left-held, resumed}
 use Rattle.evaluation.proofs.OpenQuestions.{most-falls, one-more-left, ok-more, asks-fewer, fewer-than}
-use Rattle.term_folds.proofs.Grown.{grew-on}
+use Rattle.type_terms.proofs.Grown.{grew-on}
 use Rattle.evaluation.proofs.resuming.OpenCandidate.resume.Goals as goal
 
 pub judge-requires : goal.judge-requires
 judge-requires c =
     let es = c.args.cx.now.entries in
     let hr : ResponseHeld es c.in-Some.response = subst (ResultHeld es) c.in-Some.is c.requires.reply in
-    args-held-later es c.apply_response.new.cx.entries c.apply_response.ensures.grew.keeps c.in-Some.response.var_values.items hr.values
+    args-held-later es c.apply_response.new.cx.entries c.apply_response.ensures.terms.grew.keeps c.in-Some.response.var_values.items hr.values
 
 pub go_on-requires-clause-evaluation : goal.go_on-requires-clause-evaluation
 go_on-requires-clause-evaluation c =
     record {
       table = c.apply_response.ensures.ready;
-      own = args-held-later c.args.cx.now.entries c.apply_response.new.cx.entries c.apply_response.ensures.grew.keeps c.args.self.evaluation.own.items c.requires.held.evaluation.own;
+      own = args-held-later c.args.cx.now.entries c.apply_response.new.cx.entries c.apply_response.ensures.terms.grew.keeps c.args.self.evaluation.own.items c.requires.held.evaluation.own;
     }
 
 pub go_on-requires-clause-left : goal.go_on-requires-clause-left
 go_on-requires-clause-left c =
     let es = c.args.cx.now.entries in
     let es2 = c.apply_response.new.cx.entries in
-    let k = c.apply_response.ensures.grew.keeps in
+    let k = c.apply_response.ensures.terms.grew.keeps in
     let o = c.args.self in
     left-held es2 o c.in_ok-round.round (is_definite es2 c.in-Some.response) (is_definite es2 c.in-Some.response) refl c.in_ok-round.ensures.dropped c.in_ok-round.ensures.left
     (nested-later es es2 k (map nested_goal o.round.left.items) c.requires.held.left) (nested-later es es2 k (nested_goal o.goal ∷ []) (c.requires.held.goal, tt)).0
 
 pub go_on-requires-clause-goals : goal.go_on-requires-clause-goals
-go_on-requires-clause-goals c = nested-later c.args.cx.now.entries c.apply_response.new.cx.entries c.apply_response.ensures.grew.keeps (map nested_goal c.args.self.goals.items) c.requires.held.goals
+go_on-requires-clause-goals c = nested-later c.args.cx.now.entries c.apply_response.new.cx.entries c.apply_response.ensures.terms.grew.keeps (map nested_goal c.args.self.goals.items) c.requires.held.goals
 
-pub returns-clause-grew : goal.returns-clause-grew
-returns-clause-grew c = grew-on c.apply_response.ensures.grew c.go_on.ensures.grew
+pub returns-clause-terms : goal.returns-clause-terms
+returns-clause-terms c = record {
+  grew = grew-on c.apply_response.ensures.terms.grew c.go_on.ensures.terms.grew;
+  full = c.go_on.ensures.terms.full;
+}
 
 pub returns-clause-stands : goal.returns-clause-stands
 returns-clause-stands c =
     let es = c.args.cx.now.entries in
     let es2 = c.apply_response.new.cx.entries in
-    let k : Keeps es es2 = c.apply_response.ensures.grew.keeps in
+    let k : Keeps es es2 = c.apply_response.ensures.terms.grew.keeps in
     let o = c.args.self in
     let r = c.in-Some.response in
     let T = c.apply_response.new.table in

@@ -14,7 +14,7 @@ returns-in-Consider-clause-held g c =
     let f = c.args.self.now in
     let held = subst (HandlerStepHeld c.step.new.cx.entries) c.in-Consider.is c.in_ok-spec.ensures.held in
     let fits = subst (StepFits f.goal.variables.items c.step.new.cx.entries) c.in-Consider.is c.in_ok-spec.ensures.fits in
-    (frame-at c.args.cx.now.entries c.step.new.cx.entries c.step.ensures.grew.keeps f c.requires.held (Entering c.in-Consider.spec) (held, fits), tt)
+    (frame-at c.args.cx.now.entries c.step.new.cx.entries c.step.ensures.terms.grew.keeps f c.requires.held (Entering c.in-Consider.spec) (held, fits), tt)
 
 pub returns-in-Consider-clause-asks : goal.returns-in-Consider-clause-asks
 returns-in-Consider-clause-asks g c =
@@ -23,7 +23,7 @@ returns-in-Consider-clause-asks g c =
     let new = c.step.new.cx.entries in
     let h = g.H.GoalHandler.meaning.goals.handled (g.H.GoalHandler.meaning.world c.args.handler.now old) f.goal.mode (form_of old f.goal) in
     λ p b.
-    considers-next h f.goal.mode old new c.step.ensures.grew.keeps f.considered.items c.requires.held.considered c.in-Consider.spec p
+    considers-next h f.goal.mode old new c.step.ensures.terms.grew.keeps f.considered.items c.requires.held.considered c.in-Consider.spec p
     (subst (ComesNext h new (map (shown_by old) f.considered.items)) c.in-Consider.is (rw (← c.deref.ensures.value) c.in_ok-spec.ensures.next)) b
 
 pub returns-in-Answer-clause-held : goal.returns-in-Answer-clause-held
@@ -31,7 +31,7 @@ returns-in-Answer-clause-held g c =
     let f = c.args.self.now in
     let old = c.args.cx.now.entries in
     let new = c.step.new.cx.entries in
-    c.ignore_from.ensures.held new (frame-later old new c.step.ensures.grew.keeps f c.requires.held) (subst (HandlerStepHeld new) c.in-Answer.is c.in_ok-spec.ensures.held)
+    c.ignore_from.ensures.held new (frame-later old new c.step.ensures.terms.grew.keeps f c.requires.held) (subst (HandlerStepHeld new) c.in-Answer.is c.in_ok-spec.ensures.held)
     (subst (StepFits f.goal.variables.items new) c.in-Answer.is c.in_ok-spec.ensures.fits)
 
 pub returns-in-Answer-clause-asks : goal.returns-in-Answer-clause-asks
@@ -52,7 +52,7 @@ returns-in-NoSolution-clause-held g c =
     let f = c.args.self.now in
     let old = c.args.cx.now.entries in
     let new = c.step.new.cx.entries in
-    c.ignore_from-in-NoSolution.ensures.held new (frame-later old new c.step.ensures.grew.keeps f c.requires.held) tt tt
+    c.ignore_from-in-NoSolution.ensures.held new (frame-later old new c.step.ensures.terms.grew.keeps f c.requires.held) tt tt
 
 pub returns-in-NoSolution-clause-asks : goal.returns-in-NoSolution-clause-asks
 returns-in-NoSolution-clause-asks g c =

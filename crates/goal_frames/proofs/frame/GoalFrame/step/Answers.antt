@@ -111,7 +111,7 @@ returns-in-Entering-Entered-clause-held g c =
     let came = λ (heard : FrameHistory) (b : HasHeard es h f heard) (o : CameInOrder (Anything frame_tables h) (frame_of_goal frame_tables h) (entered ∷ heard)).
     begun-comes h f.goal (map (shown_by es) f.considered.items) new step.result es x.spec (subst (PlaceHeld f.goal es) is held.place).1 step.ensures.stands
     (position (frame_of_goal frame_tables h) (entered ∷ heard)) (inside-there h es f heard b x.spec is) in
-    open-held h es new step.ensures.grew.keeps f c.replace.new.dest after x.spec.source step.result entered due came moving step.ensures.held c.go_on_with.result (goes-at _ es new c.go_on_with.result c.go_on_with.ensures.goes_on)
+    open-held h es new step.ensures.terms.grew.keeps f c.replace.new.dest after x.spec.source step.result entered due came moving step.ensures.held c.go_on_with.result (goes-at _ es new c.go_on_with.result c.go_on_with.ensures.goes_on)
 
 pub returns-in-Entering-Entered-clause-steps : goal.returns-in-Entering-Entered-clause-steps
 returns-in-Entering-Entered-clause-steps g c =
@@ -131,7 +131,7 @@ returns-in-Entering-Entered-clause-steps g c =
     begun-comes h f.goal (map (shown_by es) f.considered.items) new step.result es x.spec (subst (PlaceHeld f.goal es) is held.place).1 step.ensures.stands
     (position (frame_of_goal frame_tables h) (entered ∷ heard)) (inside-there h es f heard b x.spec is) in
     subst (λ r. IfOk c.go_on_with.result (FrameSteps es h f (reply_read es r) new after)) (sym x.is-1)
-    (open-steps h es new step.ensures.grew.keeps f c.replace.new.dest after x.spec.source step.result entered due came moving step.ensures.held c.go_on_with.result (goes-at _ es new c.go_on_with.result c.go_on_with.ensures.goes_on))
+    (open-steps h es new step.ensures.terms.grew.keeps f c.replace.new.dest after x.spec.source step.result entered due came moving step.ensures.held c.go_on_with.result (goes-at _ es new c.go_on_with.result c.go_on_with.ensures.goes_on))
 
 pub returns-in-Entering-Entered-clause-fewer : goal.returns-in-Entering-Entered-clause-fewer
 returns-in-Entering-Entered-clause-fewer g c =
@@ -159,7 +159,7 @@ returns-in-Inside-Result-clause-held g c =
     resumed-comes h f.goal (map (shown_by es) f.considered.items) new step.result es x.source x.waiting (result_read es x.answer) (position (frame_of_goal frame_tables h) heard) there.0
     (result-fits es x.answer (subst (ReplyIsMade es) x.is-1 c.requires.reply).1) step.ensures.stands
     (position (frame_of_goal frame_tables h) (evaluated (result_read es x.answer) ∷ heard)) there.1 in
-    open-held h es new step.ensures.grew.keeps f c.replace.new.dest after x.source step.result (evaluated (result_read es x.answer)) due came moving step.ensures.held c.go_on_with-in-Inside-Result.result (goes-at _ es new c.go_on_with-in-Inside-Result.result c.go_on_with-in-Inside-Result.ensures.goes_on)
+    open-held h es new step.ensures.terms.grew.keeps f c.replace.new.dest after x.source step.result (evaluated (result_read es x.answer)) due came moving step.ensures.held c.go_on_with-in-Inside-Result.result (goes-at _ es new c.go_on_with-in-Inside-Result.result c.go_on_with-in-Inside-Result.ensures.goes_on)
 
 pub returns-in-Inside-Result-clause-steps : goal.returns-in-Inside-Result-clause-steps
 returns-in-Inside-Result-clause-steps g c =
@@ -181,7 +181,7 @@ returns-in-Inside-Result-clause-steps g c =
     (result-fits es x.answer (subst (ReplyIsMade es) x.is-1 c.requires.reply).1) step.ensures.stands
     (position (frame_of_goal frame_tables h) (evaluated (result_read es x.answer) ∷ heard)) there.1 in
     subst (λ r. IfOk c.go_on_with-in-Inside-Result.result (FrameSteps es h f (reply_read es r) new after)) (sym x.is-1)
-    (open-steps h es new step.ensures.grew.keeps f c.replace.new.dest after x.source step.result (evaluated (result_read es x.answer)) due came moving step.ensures.held c.go_on_with-in-Inside-Result.result (goes-at _ es new c.go_on_with-in-Inside-Result.result c.go_on_with-in-Inside-Result.ensures.goes_on))
+    (open-steps h es new step.ensures.terms.grew.keeps f c.replace.new.dest after x.source step.result (evaluated (result_read es x.answer)) due came moving step.ensures.held c.go_on_with-in-Inside-Result.result (goes-at _ es new c.go_on_with-in-Inside-Result.result c.go_on_with-in-Inside-Result.ensures.goes_on))
 
 pub returns-in-Inside-Result-clause-fewer : goal.returns-in-Inside-Result-clause-fewer
 returns-in-Inside-Result-clause-fewer g c =
@@ -240,12 +240,18 @@ returns-in-Ignoring-Ignored-clause-steps g c =
     (c.ignore_from.ensures.held es (record { goal = held.goal; considered = held.considered; fits = held.fits; place = subst (PlaceHeld f.goal es) (sym c.replace.ensures.after) tt }) place.0 place.1).0)
 
 -- ---- where it ends for want of room
-pub returns-in-Entering-Entered-clause-full : goal.returns-in-Entering-Entered-clause-full
-returns-in-Entering-Entered-clause-full g c = candidate-fault c.begin_candidate-step.new.cx c.go_on_with.result c.begin_candidate-step.result c.go_on_with.ensures.fault c.begin_candidate-step.ensures.full
+pub returns-in-Entering-Entered-clause-terms : goal.returns-in-Entering-Entered-clause-terms
+returns-in-Entering-Entered-clause-terms g c = record {
+  grew = c.begin_candidate-step.ensures.terms.grew;
+  full = candidate-fault c.begin_candidate-step.new.cx c.go_on_with.result c.begin_candidate-step.result c.go_on_with.ensures.fault c.begin_candidate-step.ensures.terms.full;
+}
 
-pub returns-in-Inside-Result-clause-full : goal.returns-in-Inside-Result-clause-full
-returns-in-Inside-Result-clause-full g c =
-    candidate-fault c.resume-step.new.cx c.go_on_with-in-Inside-Result.result c.resume-step.result c.go_on_with-in-Inside-Result.ensures.fault c.resume-step.ensures.full
+pub returns-in-Inside-Result-clause-terms : goal.returns-in-Inside-Result-clause-terms
+returns-in-Inside-Result-clause-terms g c = record {
+  grew = c.resume-step.ensures.terms.grew;
+  full =
+      candidate-fault c.resume-step.new.cx c.go_on_with-in-Inside-Result.result c.resume-step.result c.go_on_with-in-Inside-Result.ensures.fault c.resume-step.ensures.terms.full;
+}
 
 -- ---- at the other places no candidate is open
 pub returns-in-Begun-Begin-clause-fewer : goal.returns-in-Begun-Begin-clause-fewer

@@ -7,4 +7,4 @@ pub returns-in_err-variable-clause-full : goal.returns-in_err-variable-clause-fu
 returns-in_err-variable-clause-full c =
     let refused = c.in_err-variable.ensures in
     faulted _ c.from_residual-in_err-variable.result c.from_residual-in_err-variable.ensures.1
-    (λ q. refused-term consts (omega arith) (refused.full (ap Err q)) refused.limit refused.refused)
+    (λ q. refused-term consts (omega arith) (refused.full (ap Err q)) refused.grew.limit refused.refused)

@@ -20,7 +20,7 @@ fold_with-requires-clause-held g c = has-later c.args.cx.now.entries c.fold_clau
 
 pub returns-clause-held : goal.returns-clause-held
 returns-clause-held g c = record {
-  environment = clauses-held-later c.fold_clauses.new.cx.entries c.fold_with.new.cx.entries c.fold_with.ensures.keeps c.in_ok-param_env.param_env.items c.in_ok-param_env.ensures.held;
+  environment = clauses-held-later c.fold_clauses.new.cx.entries c.fold_with.new.cx.entries c.fold_with.ensures.grew.keeps c.in_ok-param_env.param_env.items c.in_ok-param_env.ensures.held;
   predicate = c.in_ok-predicate.ensures.held;
 }
 
@@ -39,7 +39,7 @@ returns-clause-folded g c =
     let after : ClausesFold f es c.args.self.now.param_env.items mid c.in_ok-param_env.param_env.items =
     subst (λ z. ClausesFold f es z mid c.in_ok-param_env.param_env.items) c.deref.ensures.value c.in_ok-param_env.ensures.folded in
     record {
-      environment = clauses-fold-later f es mid end c.fold_with.ensures.keeps c.args.self.now.param_env.items c.in_ok-param_env.param_env.items c.in_ok-param_env.ensures.held after;
+      environment = clauses-fold-later f es mid end c.fold_with.ensures.grew.keeps c.args.self.now.param_env.items c.in_ok-param_env.param_env.items c.in_ok-param_env.ensures.held after;
       def_id = head _ _ c.in_ok-predicate.ensures.outline;
       predicate = subst (λ t. FoldsEach f [] (one_piece t) (one_piece (trees_at end q))) (trees-later es mid k args_lists p c.requires.held.predicate)
           (subst (λ (w : List ℕ → Trees → Does). FoldsEach w [] (one_piece (trees_at mid p)) (one_piece (trees_at end q))) (g.met.F.TypeFolder.action_kept c.args.folder.now es mid k c.requires.ready) c.in_ok-predicate.ensures.folded);

@@ -47,7 +47,7 @@ returns-clause-tracked c =
     let left = c.equate.new.todo.items in
     let on : (new : Related) → new.settled ≡ c.args.related.now.settled → Begins c.args.equation (length before) t.region_vars c.args.related.now.begun.items new.begun.items → Tracks fs u (worklist fs left) new =
     λ new.
-    step-tracks es fs c.lawful.ensures c.equate.ensures.grew.keeps t u c.requires.ready c.equate.ensures.grows c.args.equation c.requires.left c.requires.right before left c.in_ok-found.found c.in_ok-found.ensures.exact
+    step-tracks es fs c.lawful.ensures c.equate.ensures.terms.grew.keeps t u c.requires.ready c.equate.ensures.grows c.args.equation c.requires.left c.requires.right before left c.in_ok-found.found c.in_ok-found.ensures.exact
     c.args.related.now new c.requires.tracked in
     c.finish-2.ensures.tracks fs u (worklist fs left)
     (elim c.if-len-left.branch [

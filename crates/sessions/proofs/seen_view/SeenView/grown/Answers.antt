@@ -1,6 +1,6 @@
 use Rattle.std.proofs.Common.{◌∙◌, ◌+◌, refl, subst, length, arith}
 use Rattle.type_terms.specs.Failures.{SomeKindIsFull}
-use Rattle.term_folds.specs.Growth.{FullAtLimit}
+use Rattle.type_terms.specs.Growth.{FullAtLimit}
 use Rattle.view_lowering.specs.MostTerms.{most_terms}
 use Rattle.view_lowering.specs.Ready.{AreSeen}
 use Rattle.solver_context.proofs.Shortages.{handed}
@@ -24,8 +24,8 @@ lower_behind-requires c = record {
 pub returns-in_err-lower_behind-clause-full : goal.returns-in_err-lower_behind-clause-full
 returns-in_err-lower_behind-clause-full c = λ q.
     let new = c.lower_behind.new.cx in
-    let is-full = at-err (FullAtLimit new) c.from_residual.result (handed (FullAtLimit new) c.from_residual.result c.from_residual.ensures.1 c.in_err-lower_behind.ensures.full) q refl in
-    let limit = c.lower_behind.ensures.grew.limit ∙ c.requires.view.limit in
+    let is-full = at-err (FullAtLimit new) c.from_residual.result (handed (FullAtLimit new) c.from_residual.result c.from_residual.ensures.1 c.in_err-lower_behind.ensures.terms.full) q refl in
+    let limit = c.lower_behind.ensures.terms.grew.limit ∙ c.requires.view.limit in
     let few = c.lower_behind.ensures.few in
     let fewer = new-are-fewer c.args.workspace.now c.args.crate_id.index c.args.self.crate_id in
     many-terms new.entries c.args.handles (length c.args.self.interner.entries + most_terms c.args.workspace.now c.args.crate_id.index) (subst (SomeKindIsFull new.entries) limit is-full) (omega (arith, few, fewer))
@@ -42,6 +42,6 @@ returns-clause-view c =
       rules = view.rules;
       local = view.local;
       ready = c.declarations_are_ready.ensures c.requires.text.0 c.args.workspace.now c.requires.text.1 c.args.crate_id.index es decls seen view.held;
-      limit = view.grew.limit ∙ c.requires.view.limit;
+      limit = view.terms.grew.limit ∙ c.requires.view.limit;
       declared = c.requires.declared;
     }

@@ -1,6 +1,6 @@
 use Rattle.std.proofs.Common.{◌∙◌, refl, ap, subst, length, arith}
 use Rattle.type_terms.specs.Failures.{SomeKindIsFull}
-use Rattle.term_folds.specs.Growth.{FullAtLimit}
+use Rattle.type_terms.specs.Growth.{FullAtLimit}
 use Rattle.view_lowering.specs.MostTerms.{most_terms}
 use Rattle.solver_context.proofs.Shortages.{handed}
 use Rattle.sessions.proofs.ShortCalls.{at-err, many-terms}

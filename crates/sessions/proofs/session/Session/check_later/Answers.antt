@@ -2,7 +2,7 @@ use Rattle.std.proofs.Common.{refl, sym, subst, length}
 use Rattle.goal_frames.specs.Stores.{kept_inputs, kept_responses}
 use Rattle.std.specs.Prelude.{IfOk}
 use Rattle.type_terms.specs.Failures.{SomeKindIsFull}
-use Rattle.term_folds.specs.Growth.{FullAtLimit}
+use Rattle.type_terms.specs.Growth.{FullAtLimit}
 use Rattle.sessions.specs.Given.{later_of}
 use Rattle.sessions.specs.Releases.{IsSectionOf, IsLaterAnswer}
 use Rattle.sessions.specs.Subjects.{Subject, StaysOn}

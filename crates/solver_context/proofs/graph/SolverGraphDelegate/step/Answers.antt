@@ -28,14 +28,14 @@ returns-in_err-asked-clause-keeps g c =
     let cx = c.args.cx.now in
     let mid : SolverCx g.row.H.Denot = record cx { interner = c.step-asked.new.cx } in
     let now = c.requires.due.2.ready in
-    keeps h.meaning m.lawful.world_kept cx mid now (later h.meaning.IsReady m.lawful.ready_kept cx mid now refl refl c.step-asked.ensures.grew.keeps c.lawful.ensures c.step-asked.ensures.grew.limit)
+    keeps h.meaning m.lawful.world_kept cx mid now (later h.meaning.IsReady m.lawful.ready_kept cx mid now refl refl c.step-asked.ensures.terms.grew.keeps c.lawful.ensures c.step-asked.ensures.terms.grew.limit)
 
 pub keep_request-requires-clause-ready : goal.keep_request-requires-clause-ready
 keep_request-requires-clause-ready g c =
     let h = g.H.GoalHandler in
     let cx = c.args.cx.now in
     let mid : SolverCx g.row.H.Denot = record cx { interner = c.step-asked.new.cx } in
-    (later h.meaning.IsReady g.met.H.GoalHandler.lawful.ready_kept cx mid c.requires.due.2.ready refl refl c.step-asked.ensures.grew.keeps c.lawful.ensures c.step-asked.ensures.grew.limit).ready
+    (later h.meaning.IsReady g.met.H.GoalHandler.lawful.ready_kept cx mid c.requires.due.2.ready refl refl c.step-asked.ensures.terms.grew.keeps c.lawful.ensures c.step-asked.ensures.terms.grew.limit).ready
 
 pub returns-clause-keeps : goal.returns-clause-keeps
 returns-clause-keeps g c =
@@ -44,7 +44,7 @@ returns-clause-keeps g c =
     let cx = c.args.cx.now in
     let mid : SolverCx g.row.H.Denot = record cx { interner = c.step-asked.new.cx } in
     let now = c.requires.due.2.ready in
-    let first = later h.meaning.IsReady m.lawful.ready_kept cx mid now refl refl c.step-asked.ensures.grew.keeps c.lawful.ensures c.step-asked.ensures.grew.limit in
+    let first = later h.meaning.IsReady m.lawful.ready_kept cx mid now refl refl c.step-asked.ensures.terms.grew.keeps c.lawful.ensures c.step-asked.ensures.terms.grew.limit in
     keeps h.meaning m.lawful.world_kept cx c.keep_request.new.cx now (further h.meaning.IsReady cx mid c.keep_request.new.cx first c.keep_request.ensures.advances)
 
 pub returns-clause-steps : goal.returns-clause-steps
@@ -62,7 +62,7 @@ returns-clause-steps g c =
     let world = h.meaning.world cx.handler cx.interner.entries in
     let same = c.in_ok-reply.ensures.is in
     let told = told-kept h.meaning cx reply c.args.reply same c.requires.reply in
-    let first = later h.meaning.IsReady m.lawful.ready_kept cx mid c.requires.due.2.ready refl refl c.step-asked.ensures.grew.keeps c.lawful.ensures c.step-asked.ensures.grew.limit in
+    let first = later h.meaning.IsReady m.lawful.ready_kept cx mid c.requires.due.2.ready refl refl c.step-asked.ensures.terms.grew.keeps c.lawful.ensures c.step-asked.ensures.terms.grew.limit in
     both-ok (Search.IsRequest meaning new) (λ q. Search.request_of meaning new q ≡ request_read c.step-asked.new.cx.entries asked) (Search.Steps meaning cx before c.args.reply new after) c.keep_request.result
     (λ q known is. (
       known,
@@ -94,7 +94,7 @@ returns-clause-falls g c =
     let due = c.requires.due in
     let told = told-kept h.meaning cx reply c.args.reply c.in_ok-reply.ensures.is c.requires.reply in
     let now = due.2.ready in
-    let first = later h.meaning.IsReady m.lawful.ready_kept cx mid now refl refl c.step-asked.ensures.grew.keeps c.lawful.ensures c.step-asked.ensures.grew.limit in
+    let first = later h.meaning.IsReady m.lawful.ready_kept cx mid now refl refl c.step-asked.ensures.terms.grew.keeps c.lawful.ensures c.step-asked.ensures.terms.grew.limit in
     let here = subst (λ y. Search.IsDueAfter meaning (h.meaning.world cx.handler cx.interner.entries) due.0 due.1 y) (sym c.in_ok-reply.ensures.is) due.3 in
     let there =
     hears-more h.meaning m.lawful.world_kept cx before reply due.0 due.1 due.2 mid first after asked c.in_ok-reply.ensures.held told c.in_ok-asked.ensures.fewer c.step-asked.ensures.goal c.in_ok-asked.ensures.steps here
@@ -110,4 +110,4 @@ returns-clause-falls g c =
 pub returns-in_err-asked-clause-full : goal.returns-in_err-asked-clause-full
 returns-in_err-asked-clause-full g c = λ q.
     let again = c.from_residual-in_err-asked in
-    interner (handed-on again.result again.ensures.1 c.in_err-asked.ensures.full q)
+    interner (handed-on again.result again.ensures.1 c.in_err-asked.ensures.terms.full q)

@@ -50,10 +50,10 @@ returns-clause-is c =
     rw (← c.self.view_is)
     (last-added c.self.inside after c.args.node c.args.info (added c) c.len-index.result c.len-index.ensures.len)
 
-pub returns-clause-keeps : goal.returns-clause-keeps
-returns-clause-keeps c =
+pub returns-clause-grew : goal.returns-clause-grew
+returns-clause-grew c =
     let after : Inside = record { nodes = c.insert.new.self; counts = c.raised-self-inside.result; limit = c.self.inside.limit } in
-    rw (← c.self.view_is) (keeps-added c.self.inside after c.args.node c.args.info (added c))
+    rw (← c.self.view_is) (record { keeps = keeps-added c.self.inside after c.args.node c.args.info (added c); limit = refl })
 
 on_err : {T E : Type 0} (P : Type 0) (r : Result T E) → P → OnErr r P
 on_err P (Ok x) p = tt

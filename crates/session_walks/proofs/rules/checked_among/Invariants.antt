@@ -1,13 +1,14 @@
 use Rattle.declarations.specs.Items.{declared}
 use Rattle.declarations.specs.Merges.{Each}
 use Rattle.infer_table.specs.Content.{Ready}
-use Rattle.term_folds.specs.Growth.{Grew}
-use Rattle.session_walks.specs.Rules.{IsRuleAt}
-use Rattle.session_walks.proofs.rules.rules_among.Given as goal
+use Rattle.type_terms.specs.Growth.{Grew}
+use Rattle.session_walks.specs.Rules.{IsRuleAt, MayApplyAt}
+use Rattle.session_walks.proofs.rules.checked_among.Given as goal
 
 abbrev pub invariant-loop-at : goal.invariant-loop-at
 invariant-loop-at l = record {
   grew : Grew l.fn.cx l.cx;
   table : Ready l.cx.entries l.table;
   rules : Each (IsRuleAt l.fn.cx.entries (declared l.fn.cx.entries l.fn.declarations) l.walk) l.rules.items;
+  chances : Each (MayApplyAt l.fn.cx.entries (declared l.fn.cx.entries l.fn.declarations) l.walk) l.chances.items;
 }

@@ -1,7 +1,7 @@
 -- Interners that grow.
 use Rattle.std.proofs.Common.{refl, ◌∙◌}
 use Rattle.type_terms.specs.Terms.{Terms}
-use Rattle.term_folds.specs.Growth.{Grew}
+use Rattle.type_terms.specs.Growth.{Grew}
 
 pub grew-none : {a : Terms} → Grew a a
 grew-none = record { keeps = λ i e h. h; limit = refl }

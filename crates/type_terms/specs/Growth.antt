@@ -1,5 +1,6 @@
 -- What a call leaves of an interner, and why it may refuse.
-use Rattle.std.specs.Prelude.{◌≡◌}
+use Rattle.std.specs.Prelude.{◌≡◌, IfErr}
+use Rattle.std.specs.declared.result.Result.{Result}
 use Rattle.type_terms.specs.Failures.{SomeKindIsFull}
 use Rattle.type_terms.specs.Terms.{Terms, Keeps}
 use Rattle.type_terms.specs.declared.Fault.{Fault}
@@ -13,3 +14,8 @@ pub record Grew (old new : Terms) : Type 0 where
 -- the fault is `Full` only where some kind of term has reached the limit
 abbrev pub FullAtLimit : Terms → Fault → Type 0
 FullAtLimit t fault = fault ≡ Full → SomeKindIsFull t.entries t.limit
+
+-- and what else a call leaves that may refuse: `Full` is its fault only where some kind of term has reached the limit
+pub record GrewOrFull {A : Type 0} (old new : Terms) (result : Result A Fault) : Type 0 where
+  pub grew : Grew old new
+  pub full : IfErr result (FullAtLimit new)

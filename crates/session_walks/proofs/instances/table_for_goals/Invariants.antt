@@ -1,0 +1,9 @@
+use Rattle.type_terms.specs.Growth.{Grew}
+use Rattle.infer_table.specs.Content.{Ready}
+use Rattle.session_walks.proofs.instances.table_for_goals.Given as goal
+
+abbrev pub invariant-taken : goal.invariant-taken
+invariant-taken l = record {
+  ready : Ready l.cx.entries l.table;
+  grew : Grew l.fn.cx l.cx;
+}
