@@ -32,7 +32,7 @@ use Rattle.declarations.proofs.Fixed.{no-flags, top, child, next, three, fixed-l
 use Rattle.declarations.proofs.MeetingLaws.{Reads, ReadNode, erased-again, instantiate-reads, meet, not-apart}
 use Rattle.infer_table.specs.Solutions.{Assignment, instance}
 use Rattle.overlap_check.proofs.Tops.{erased-reads}
-use Rattle.session_walks.specs.Rules.{HasNoImpl, with_unknowns, begins_known}
+use Rattle.session_walks.specs.Rules.{HasNoImpl, assigned, begins_known}
 
 -- ---- what is apart
 -- an unknown is a variable of types, constants or lifetimes
@@ -99,8 +99,8 @@ instance-relevant s A t (tree k p q) b e =
 abbrev pub HasInstance : Reference → ImplDecl → Type 0
 HasInstance r i = (impl_rules r i ≡ []) ⊎ ((A : Trees) × (with_args A i.header ≡ r))
 
-unmatched : (s : Assignment) (r : Reference) → begins_known r.args ≡ true → (i : ImplDecl) → HasInstance (with_unknowns s (erased_reference r)) (erased_impl i) → is_match r.trait r.args i ≡ false
-    → impl_rules (with_unknowns s (erased_reference r)) (erased_impl i) ≡ []
+unmatched : (s : Assignment) (r : Reference) → begins_known r.args ≡ true → (i : ImplDecl) → HasInstance (assigned s (erased_reference r)) (erased_impl i) → is_match r.trait r.args i ≡ false
+    → impl_rules (assigned s (erased_reference r)) (erased_impl i) ≡ []
 unmatched s r n i (inl e) m = e
 unmatched s r n i (inr x) m = absurd (false-true (sym m ∙ matches))
   where
@@ -131,8 +131,8 @@ pub none-fits : (es : List Entry) (d : Items) (r : Reference) → begins_known r
     → None ≡ next_above None (matches_in es d r) → HasNoImpl (declared es d) (erased_reference r)
 none-fits es d r n law e s i j =
     let x = map-in erased_impl (written es d).impls i j in
-    subst (λ z. impl_rules (with_unknowns s (erased_reference r)) z ≡ []) x.2
-    (unmatched s r n x.0 (law (with_unknowns s (erased_reference r)) (erased_impl x.0)) (passes-none (is_match r.trait r.args) (written es d).impls e x.0 x.1))
+    subst (λ z. impl_rules (assigned s (erased_reference r)) z ≡ []) x.2
+    (unmatched s r n x.0 (law (assigned s (erased_reference r)) (erased_impl x.0)) (passes-none (is_match r.trait r.args) (written es d).impls e x.0 x.1))
 
 -- ---- self types
 begins : (t u : Trees) → IsA of_type t → StartsWithType (t +++ u)

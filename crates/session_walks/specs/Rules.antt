@@ -9,7 +9,7 @@ use Rattle.type_terms.specs.Terms.{Entry}
 use Rattle.type_terms.specs.Worlds.{World, Reference, ImplDecl}
 use Rattle.type_terms.specs.declared.ImplId.{ImplId}
 use Rattle.term_folds.specs.declared.predicate.TraitRef.{TraitRef}
-use Rattle.infer_table.specs.Solutions.{Assignment, instance}
+use Rattle.infer_table.specs.Solutions.{Assignment, IsSorted, instance}
 use Rattle.evaluation.specs.declared.candidate.CandidateSource.{CandidateSource}
 use Rattle.evaluation.specs.declared.candidate.CandidateSource.TheVariants.{Impl, BuiltinImpl}
 use Rattle.goal_walk.specs.declared.nodes.CandidateNode.{CandidateNode}
@@ -46,16 +46,16 @@ IsRuleAt es W w x =
     × IsRuleCandidate es W w.references.items x.0 c
 
 -- The reference with trees in place of its type and const unknowns.
-abbrev pub with_unknowns : Assignment → Reference → Reference
-with_unknowns s r = record r { args = instance s r.args }
+abbrev pub assigned : Assignment → Reference → Reference
+assigned s r = record r { args = instance s r.args }
 
--- It is the reference with some trees in the place of its unknowns.
+-- It is the reference with trees of their sorts in the place of its unknowns.
 abbrev pub IsInstanceOf : Reference → Reference → Type 0
-IsInstanceOf r q = (s : Assignment) × (with_unknowns s r ≡ q)
+IsInstanceOf r q = (s : Assignment) × IsSorted s × (assigned s r ≡ q)
 
 -- Whatever its unknowns stand for, no impl of W has a rule for r.
 abbrev pub HasNoImpl : World → Reference → Type 0
-HasNoImpl W r = (s : Assignment) (i : ImplDecl) → In i W.impls → impl_rules (with_unknowns s r) i ≡ []
+HasNoImpl W r = (s : Assignment) (i : ImplDecl) → In i W.impls → impl_rules (assigned s r) i ≡ []
 
 -- None has one for the goal at place p of rs.
 abbrev pub HasNoImplAt : List Entry → World → List TraitRef → ℕ → Type 0
@@ -63,7 +63,7 @@ HasNoImplAt es W rs p = (r : TraitRef) × (slice_get rs p ≡ Some r) × HasNoIm
 
 -- Whatever its unknowns stand for, no built-in row of W concludes r.
 abbrev pub HasNoRow : World → Reference → Type 0
-HasNoRow W r = (s : Assignment) → built_in_rules W (with_unknowns s r) ≡ []
+HasNoRow W r = (s : Assignment) → built_in_rules W (assigned s r) ≡ []
 
 -- None concludes the goal at place p of rs.
 abbrev pub HasNoRowAt : List Entry → World → List TraitRef → ℕ → Type 0

@@ -178,8 +178,7 @@ fn is_rule_at(
     is_rule(alloc, cx, declarations, table, walk, at.0, candidate)
 }
 
-/// Whether the candidate with a number, of the goal at a place, may apply: it is by an impl that was not passed over, and by that an instance
-/// of the goal follows.
+/// Whether the candidate with a number, of the goal at a place, may apply: it is by an impl, and an instance of the goal follows by that.
 fn may_apply_at(
     alloc: Global,
     cx: &mut Interner,
