@@ -1,7 +1,9 @@
 //! What is said of a later version that may break users.
 
-use diagnostics::{Diagnostic, Level, SpanLabel, on_line};
-use explanation_texts::{Name, Texts, crate_name, is_fundamental, push_note, trait_name};
+use diagnostics::{Diagnostic, Level};
+use explanation_texts::{
+    Piece, Sentence, Telling, Texts, crate_name, is_fundamental, plain, trait_name, with_one,
+};
 use session_walks::BreakingCause;
 use std::alloc::{AllocError, Global};
 use type_terms::{CrateId, TraitId};
@@ -14,39 +16,35 @@ fn added_trait(texts: Texts<'_>, section: u32, number: u32) -> Option<TraitId> {
 }
 
 /// That users rely on what a trait is not implemented for, since it is fundamental, or else since it is an auto trait.
-fn relied_text(
-    alloc: Global,
-    texts: Texts<'_>,
-    relied: Option<TraitId>,
-) -> Result<String, AllocError> {
+fn relied_said(texts: Texts<'_>, relied: Option<TraitId>) -> Sentence<'_> {
     let Some(id) = relied else {
-        return String::from_str(alloc, "users rely on what the trait is not implemented for");
+        return plain("users rely on what the trait is not implemented for");
     };
-    let name = trait_name(texts, id);
-    let sort = if is_fundamental(texts, id) {
-        "fundamental"
+    let template = if is_fundamental(texts, id) {
+        "`{}` is fundamental: users rely on what it is not implemented for"
     } else {
-        "an auto trait"
+        "`{}` is an auto trait: users rely on what it is not implemented for"
     };
-    format!(in alloc; "`{name}` is {sort}: users rely on what it is not implemented for")
+    with_one(template, Piece::Name(trait_name(texts, id)))
 }
 
-/// What is said at the header.
-fn label_of(
-    alloc: Global,
-    texts: Texts<'_>,
-    name: Name<'_>,
+/// What is said at the header of an impl of this trait.
+fn label_of<'w>(
+    texts: Texts<'w>,
+    crate_id: CrateId,
     cause: BreakingCause,
     added: Option<TraitId>,
-) -> Result<String, AllocError> {
+) -> Sentence<'w> {
+    let name = Piece::Name(crate_name(texts, crate_id));
     match cause {
         BreakingCause::Orphan => {
-            format!(in alloc; "this header breaks the orphan rule of crate `{name}`")
+            with_one("this header breaks the orphan rule of crate `{}`", name)
         }
-        BreakingCause::ReliedOn => relied_text(alloc, texts, added),
-        BreakingCause::OpenWalk => {
-            format!(in alloc; "a crate that uses `{name}` may have an impl that overlaps this one")
-        }
+        BreakingCause::ReliedOn => relied_said(texts, added),
+        BreakingCause::OpenWalk => with_one(
+            "a crate that uses `{}` may have an impl that overlaps this one",
+            name,
+        ),
     }
 }
 
@@ -61,41 +59,6 @@ fn meaning(cause: BreakingCause) -> Option<&'static str> {
     }
 }
 
-/// Puts a mark at the header of the impl of a section with a number.
-fn mark_added(
-    texts: Texts<'_>,
-    section: u32,
-    number: u32,
-    label: String,
-    told: &mut Diagnostic,
-) -> Result<(), AllocError> {
-    if let Some(found) = texts.lines.added_impl(section, number) {
-        let span = on_line(found.line, found.parts.header);
-        told.spans.push(SpanLabel::primary(span, label))?;
-    }
-    Ok(())
-}
-
-/// Marks the header of the impl of a section with a number, and adds what the cause means.
-fn tell_cause(
-    alloc: Global,
-    texts: Texts<'_>,
-    name: Name<'_>,
-    section: u32,
-    number: u32,
-    cause: BreakingCause,
-    told: &mut Diagnostic,
-) -> Result<(), AllocError> {
-    let added = added_trait(texts, section, number);
-    let label = label_of(alloc, texts, name, cause, added)?;
-    mark_added(texts, section, number, label, told)?;
-    let Some(said) = meaning(cause) else {
-        return Ok(());
-    };
-    let message = String::from_str(alloc, said)?;
-    push_note(alloc, message, &mut told.children)
-}
-
 /// What is said of the impl of a section with a number, from 1, that a later version of a crate may not add.
 pub(crate) fn breaking(
     alloc: Global,
@@ -105,9 +68,17 @@ pub(crate) fn breaking(
     number: u32,
     cause: BreakingCause,
 ) -> Result<Diagnostic, AllocError> {
-    let name = crate_name(texts, crate_id);
-    let message = format!(in alloc; "a later version of crate `{name}` may not add this impl")?;
-    let mut told = Diagnostic::new(alloc, Level::Error, None, message);
-    tell_cause(alloc, texts, name, section, number, cause, &mut told)?;
-    Ok(told)
+    let message = with_one(
+        "a later version of crate `{}` may not add this impl",
+        Piece::Name(crate_name(texts, crate_id)),
+    );
+    let mut telling = Telling::begin(alloc, Level::Error, None, message);
+    if let Some(found) = texts.lines.added_impl(section, number) {
+        let added = added_trait(texts, section, number);
+        telling.mark(found.header(), label_of(texts, crate_id, cause, added));
+    }
+    if let Some(said) = meaning(cause) {
+        telling.note(plain(said));
+    }
+    telling.finish()
 }

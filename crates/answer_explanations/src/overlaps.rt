@@ -6,9 +6,10 @@ ghost use Rattle.session_walks.specs.Walked.{PairWalkHeld};
 
 use crate::checked::none_checked;
 use answer_lines::ShownNames;
-use diagnostics::{Diagnostic, ErrCode, Level, SpanLabel, Subdiagnostic, on_line};
+use diagnostics::{Diagnostic, ErrCode, Level};
 use explanation_texts::{
-    Spoken, Story, Texts, conflict_text, impl_line, note, push_note, speak, tell,
+    Piece, Sentence, Spoken, Story, Telling, Texts, conflict_said, impl_line, plain, speak, tell,
+    with_one, with_two,
 };
 use session_walks::{Answer, Conflict, PairWalk, explain_overlap, impl_header, unseen_at};
 use sessions::Session;
@@ -35,8 +36,8 @@ struct Conflicting<'w> {
     is_checked: bool,
     story: Story<'w>,
     clauses: Vec<Clause>,
-    /// The header of the earlier impl as text; empty where it is not told.
-    header: String,
+    /// The header of the earlier impl, where the crate sees it.
+    header: Option<Spoken>,
 }
 
 // Written, so that what owns one drops it by one call at each way out, and not field by field.
@@ -92,18 +93,18 @@ fn clauses_of(
     Ok(clauses)
 }
 
-/// The header of an impl as a text; empty where the crate does not see it.
-fn header_text(
+/// The header of an impl, where the crate sees it.
+fn speak_header(
     alloc: Global,
     texts: Texts<'_>,
     session: &Session<'_>,
     id: ImplId,
-) -> Result<String, AllocError> {
+) -> Result<Option<Spoken>, AllocError> {
     let Some(header) = impl_header(session, id) else {
-        return Ok(String::new(alloc));
+        return Ok(None);
     };
     let Some(entry) = texts.workspace.impls().get(id.index as usize) else {
-        return Ok(String::new(alloc));
+        return Ok(None);
     };
     let names = ShownNames {
         workspace: texts.workspace,
@@ -111,13 +112,13 @@ fn header_text(
         variables: &[],
     };
     let spoken = speak(alloc, session.interner(), &names, header)?;
-    String::from_str(alloc, spoken.reference.as_str())
+    Ok(Some(spoken))
 }
 
 /// A pair's walk, told.
 fn tell_pair<'w>(
     alloc: Global,
-    texts: Texts<'_>,
+    texts: Texts<'w>,
     session: &Session<'_>,
     later: ImplId,
     earlier: ImplId,
@@ -131,10 +132,11 @@ fn tell_pair<'w>(
         variables: &[],
     };
     let clauses = clauses_of(alloc, session, pair, later, earlier)?;
-    let header = header_text(alloc, texts, session, earlier)?;
+    let header = speak_header(alloc, texts, session, earlier)?;
     let common = speak(alloc, session.interner(), &names, pair.common)?;
     let story = tell(
         alloc,
+        texts,
         session.interner(),
         &names,
         &pair.walk,
@@ -152,119 +154,77 @@ fn tell_pair<'w>(
 }
 
 /// Why a where-clause does not keep the impls apart.
-fn clause_text(alloc: Global, story: &Story<'_>, clause: Clause) -> Result<String, AllocError> {
+fn clause_said<'s>(story: &'s Story<'_>, clause: Clause) -> Sentence<'s> {
     let reference = story.reference(clause.place);
     if story.answer(clause.place) == Answer::Yes {
-        return format!(in alloc; "`{reference}` holds");
+        return with_one("`{}` holds", reference);
     }
     match (clause.unseen, story.spoken(clause.place)) {
-        (Some(conflict), Some(spoken)) => conflict_text(alloc, spoken, conflict),
-        _ => format!(in alloc; "`{reference}` is not refused"),
+        (Some(conflict), Some(spoken)) => conflict_said(spoken, conflict),
+        _ => with_one("`{}` is not refused", reference),
     }
 }
 
-/// What is said of a where-clause, with its place.
-fn clause_note(
-    alloc: Global,
-    texts: Texts<'_>,
-    story: &Story<'_>,
-    clause: Clause,
-) -> Result<Subdiagnostic, AllocError> {
-    let said = clause_text(alloc, story, clause)?;
-    let mut told = note(alloc, said);
-    if let Some(found) = impl_line(texts, clause.id) {
-        if let Some(place) = found.parts.clauses.get(clause.number) {
-            let span = on_line(found.line, *place);
-            told.spans
-                .push(SpanLabel::primary(span, String::new(alloc)))?;
-        }
-    }
-    Ok(told)
-}
-
-/// Puts a mark at the header of an impl, and says whether it stands in the text.
-fn mark(
-    texts: Texts<'_>,
-    id: ImplId,
-    label: String,
-    is_primary: bool,
-    told: &mut Diagnostic,
-) -> Result<bool, AllocError> {
-    let Some(found) = impl_line(texts, id) else {
-        return Ok(false);
+/// Tells why a where-clause does not keep the impls apart, with its place.
+fn tell_clause(story: &Story<'_>, clause: Clause, telling: &mut Telling) {
+    telling.note(clause_said(story, clause));
+    let Some(found) = impl_line(story.texts, clause.id) else {
+        return;
     };
-    let span = on_line(found.line, found.parts.header);
-    told.spans.push(SpanLabel {
-        span,
-        is_primary,
-        label,
-    })?;
-    Ok(true)
+    if let Some(span) = found.clause(clause.number) {
+        telling.mark_child(span);
+    }
 }
 
 /// What is said of an impl of `core`, which has no line.
-fn core_text(alloc: Global, found: &Conflicting<'_>) -> Result<String, AllocError> {
-    let bound = &found.common.bound;
-    let header = &found.header;
-    if header.is_empty() {
-        format!(in alloc; "conflicting implementation of `{bound}` in crate `core`")
-    } else {
-        format!(in alloc; "conflicting implementation in crate `core`: `{header}`")
+fn core_said<'s>(found: &'s Conflicting<'_>) -> Sentence<'s> {
+    match &found.header {
+        None => with_one(
+            "conflicting implementation of `{}` in crate `core`",
+            found.common.bound_piece(),
+        ),
+        Some(header) => with_one(
+            "conflicting implementation in crate `core`: `{}`",
+            header.reference_piece(),
+        ),
     }
 }
 
-/// Marks both headers.
-fn mark_headers(
-    alloc: Global,
-    texts: Texts<'_>,
-    found: &Conflicting<'_>,
-    told: &mut Diagnostic,
-) -> Result<(), AllocError> {
-    let first = String::from_str(alloc, "first implementation here")?;
-    let has_line = mark(texts, found.earlier, first, false, told)?;
-    let subject = &found.common.subject;
-    let second = format!(in alloc; "conflicting implementation for `{subject}`")?;
-    let _marked = mark(texts, found.later, second, true, told)?;
-    if !has_line {
-        let said = core_text(alloc, found)?;
-        push_note(alloc, said, &mut told.children)?;
+/// Marks both headers, and tells of the earlier one where it has no line.
+fn tell_headers(found: &Conflicting<'_>, telling: &mut Telling) {
+    let texts = found.story.texts;
+    let earlier = impl_line(texts, found.earlier);
+    if let Some(line) = earlier {
+        telling.mark_beside(line.header(), plain("first implementation here"));
     }
-    Ok(())
-}
-
-/// Adds what is said of the where-clauses.
-fn push_clause_notes(
-    alloc: Global,
-    texts: Texts<'_>,
-    found: &Conflicting<'_>,
-    children: &mut Vec<Subdiagnostic>,
-) -> Result<(), AllocError> {
-    for clause in &found.clauses {
-        let said = clause_note(alloc, texts, &found.story, *clause)?;
-        children.push(said)?;
+    if let Some(line) = impl_line(texts, found.later) {
+        let subject = found.common.subject_piece();
+        telling.mark(
+            line.header(),
+            with_one("conflicting implementation for `{}`", subject),
+        );
     }
-    Ok(())
+    if earlier.is_none() {
+        telling.note(core_said(found));
+    }
 }
 
 /// What is said of the overlap.
-fn diagnose(
-    alloc: Global,
-    texts: Texts<'_>,
-    found: &Conflicting<'_>,
-) -> Result<Diagnostic, AllocError> {
-    let bound = &found.common.bound;
-    let subject = &found.common.subject;
-    let message = format!(in alloc;
-        "conflicting implementations of trait `{bound}` for type `{subject}`"
-    )?;
-    let mut told = Diagnostic::new(alloc, Level::Error, Some(ErrCode::E0119), message);
-    mark_headers(alloc, texts, found, &mut told)?;
+fn diagnose(alloc: Global, found: &Conflicting<'_>) -> Result<Diagnostic, AllocError> {
+    let message = with_two(
+        "conflicting implementations of trait `{}` for type `{}`",
+        found.common.bound_piece(),
+        found.common.subject_piece(),
+    );
+    let mut telling = Telling::begin(alloc, Level::Error, Some(ErrCode::E0119), message);
+    tell_headers(found, &mut telling);
     if !found.is_checked {
-        let said = String::from_str(alloc, "that both headers have this instance is not checked")?;
-        push_note(alloc, said, &mut told.children)?;
+        telling.note(plain("that both headers have this instance is not checked"));
     }
-    push_clause_notes(alloc, texts, found, &mut told.children)?;
-    Ok(told)
+    for clause in &found.clauses {
+        tell_clause(&found.story, *clause, &mut telling);
+    }
+    telling.finish()
 }
 
 /// What is said of two impls that overlap.
@@ -281,6 +241,6 @@ pub(crate) fn overlap(
         return Ok(None);
     };
     let found = tell_pair(alloc, texts, session, later, earlier, &pair)?;
-    let told = diagnose(alloc, texts, &found)?;
+    let told = diagnose(alloc, &found)?;
     Ok(Some(told))
 }

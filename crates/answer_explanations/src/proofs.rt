@@ -4,9 +4,10 @@ ghost use Rattle.session_walks.specs.Walked.{AllStepsHeld, ProofWalkHeld};
 
 use crate::checked::none_checked;
 use answer_lines::ShownNames;
-use diagnostics::{Diagnostic, Level, ProofRow, Span};
+use diagnostics::{Diagnostic, Level, Span};
 use explanation_texts::{
-    Spoken, Story, Texts, impl_name, message_at, push_note, source_name, speak, tell,
+    Piece, Sentence, Spoken, Story, Telling, Texts, impl_piece, plain, source_piece, speak, tell,
+    with_one,
 };
 use session_walks::{ProofWalk, Step, Way};
 use std::alloc::{AllocError, Global};
@@ -58,6 +59,7 @@ fn speak_steps(
 /// A proof over the terms of an interner, told.
 pub(crate) fn tell_proof<'w>(
     alloc: Global,
+    texts: Texts<'w>,
     cx: &Interner,
     names: &ShownNames<'_>,
     proof: &'w ProofWalk,
@@ -65,7 +67,7 @@ pub(crate) fn tell_proof<'w>(
     requires { ProofWalkHeld cx.now.entries proof.now }
 {
     let goals = speak_steps(alloc, cx, names, &proof.steps)?;
-    let story = tell(alloc, cx, names, &proof.walk, none_checked())?;
+    let story = tell(alloc, texts, cx, names, &proof.walk, none_checked())?;
     Ok(ToldProof {
         proof,
         story,
@@ -118,11 +120,11 @@ impl Reason {
 }
 
 impl ToldProof<'_> {
-    /// The reference of a step as text.
-    fn goal(&self, step: usize) -> &str {
+    /// The reference of a step, in a sentence.
+    fn goal(&self, step: usize) -> Piece<'_> {
         match self.goals.get(step) {
-            Some(spoken) => spoken.reference.as_str(),
-            None => "",
+            Some(spoken) => spoken.reference_piece(),
+            None => Piece::Text(""),
         }
     }
 
@@ -162,37 +164,28 @@ impl ToldProof<'_> {
     }
 
     /// What is said of a rule by which the search has a goal.
-    fn searched_text(
-        &self,
-        alloc: Global,
-        texts: Texts<'_>,
-        place: usize,
-    ) -> Result<String, AllocError> {
-        let Some(candidate) = self.story.candidates(place).first() else {
-            return String::from_str(alloc, NOT_SHOWN);
-        };
-        let name = source_name(alloc, texts, candidate.source)?;
-        format!(in alloc; "{name}, not checked")
+    fn searched_said(&self, place: usize) -> Sentence<'static> {
+        match self.story.candidates(place).first() {
+            Some(candidate) => with_one(
+                "{}, not checked",
+                source_piece(self.story.texts, candidate.source),
+            ),
+            None => plain(NOT_SHOWN),
+        }
     }
 
     /// What is said of a reason.
-    fn reason_text(
-        &self,
-        alloc: Global,
-        texts: Texts<'_>,
-        reason: Reason,
-    ) -> Result<String, AllocError> {
-        let said = match reason {
-            Reason::Impl(id) => return impl_name(alloc, texts, id),
-            Reason::Searched(place) => return self.searched_text(alloc, texts, place),
-            Reason::NotShown => NOT_SHOWN,
-            Reason::Assumed => "assumed: it is the goal above, and its trait is coinductive",
-            Reason::ShownAbove => "shown above",
-            Reason::Clause => "where-clause",
-            Reason::Supertrait => "supertrait of a where-clause",
-            Reason::BuiltIn => "built-in rule",
-        };
-        String::from_str(alloc, said)
+    fn reason_said(&self, reason: Reason) -> Sentence<'static> {
+        match reason {
+            Reason::Impl(id) => with_one("{}", impl_piece(self.story.texts, id)),
+            Reason::Searched(place) => self.searched_said(place),
+            Reason::NotShown => plain(NOT_SHOWN),
+            Reason::Assumed => plain("assumed: it is the goal above, and its trait is coinductive"),
+            Reason::ShownAbove => plain("shown above"),
+            Reason::Clause => plain("where-clause"),
+            Reason::Supertrait => plain("supertrait of a where-clause"),
+            Reason::BuiltIn => plain("built-in rule"),
+        }
     }
 
     /// Notes that the premises of a step are to be shown, the first one next.
@@ -210,18 +203,15 @@ impl ToldProof<'_> {
         Ok(())
     }
 
-    /// Adds the row of a step.
-    fn push_row(
+    /// Tells the row of a step, and notes what is to be shown below it.
+    fn tell_row(
         &self,
-        alloc: Global,
-        texts: Texts<'_>,
         row: Row,
         course: &mut Course,
-        rows: &mut Vec<ProofRow>,
+        telling: &mut Telling,
     ) -> Result<(), AllocError> {
         let reason = self.reason_of(row, course);
-        let said = self.reason_text(alloc, texts, reason)?;
-        push_told(alloc, self.goal(row.step), row.depth, said, rows)?;
+        telling.row(row.depth, self.goal(row.step), self.reason_said(reason));
         course.shown.push(row.step)?;
         if reason.goes_on() {
             self.push_premises(row, &mut course.left)?;
@@ -229,37 +219,26 @@ impl ToldProof<'_> {
         Ok(())
     }
 
-    /// Adds the rows that are left, as many as are shown.
-    fn push_left(
-        &self,
-        alloc: Global,
-        texts: Texts<'_>,
-        course: &mut Course,
-        rows: &mut Vec<ProofRow>,
-    ) -> Result<(), AllocError> {
+    /// Tells the rows of the proof, as many as are shown.
+    fn tell_rows(&self, last: usize, telling: &mut Telling) -> Result<(), AllocError> {
+        let mut course = Course {
+            shown: Vec::new(telling.alloc()),
+            left: Vec::new(telling.alloc()),
+        };
+        course.left.push(Row {
+            step: last,
+            depth: 0,
+            is_assumed: false,
+        })?;
         for _row in 0..ROW_LIMIT {
             if let Some(row) = course.left.pop() {
-                self.push_row(alloc, texts, row, course, rows)?;
+                self.tell_row(row, &mut course, telling)?;
             }
         }
-        Ok(())
-    }
-
-    /// Adds the rows of the proof to a diagnostic.
-    fn push_rows(
-        &self,
-        alloc: Global,
-        texts: Texts<'_>,
-        last: usize,
-        told: &mut Diagnostic,
-    ) -> Result<(), AllocError> {
-        let mut course = begin(alloc, last)?;
-        self.push_left(alloc, texts, &mut course, &mut told.proof)?;
-        if course.left.is_empty() {
-            return Ok(());
+        if !course.left.is_empty() {
+            telling.note(plain("the rest of the proof is not shown"));
         }
-        let said = String::from_str(alloc, "the rest of the proof is not shown")?;
-        push_note(alloc, said, &mut told.children)
+        Ok(())
     }
 
     /// The last step of the proof, if the proof was checked.
@@ -271,65 +250,27 @@ impl ToldProof<'_> {
         }
     }
 
-    /// Adds the proof to a diagnostic, or that it is not shown.
-    fn push_proof(
-        &self,
-        alloc: Global,
-        texts: Texts<'_>,
-        told: &mut Diagnostic,
-    ) -> Result<(), AllocError> {
+    /// Tells the proof, or that it is not shown.
+    fn tell_all(&self, telling: &mut Telling) {
         match self.last_step() {
-            Some(last) => self.push_rows(alloc, texts, last, told),
-            None => {
-                let said = String::from_str(alloc, NOT_SHOWN)?;
-                push_told(alloc, self.story.reference(0), 0, said, &mut told.proof)
+            Some(last) => {
+                let told = self.tell_rows(last, telling);
+                telling.granted(told);
             }
+            None => telling.row(0, self.story.reference(0), plain(NOT_SHOWN)),
         }
     }
-}
-
-/// Nothing is shown yet, and the last step is to be.
-fn begin(alloc: Global, last: usize) -> Result<Course, AllocError> {
-    let mut left = Vec::new(alloc);
-    left.push(Row {
-        step: last,
-        depth: 0,
-        is_assumed: false,
-    })?;
-    Ok(Course {
-        shown: Vec::new(alloc),
-        left,
-    })
-}
-
-/// Adds a row.
-fn push_told(
-    alloc: Global,
-    goal: &str,
-    depth: usize,
-    reason: String,
-    rows: &mut Vec<ProofRow>,
-) -> Result<(), AllocError> {
-    let goal = String::from_str(alloc, goal)?;
-    rows.push(ProofRow {
-        depth,
-        goal,
-        reason,
-    })?;
-    Ok(())
 }
 
 /// What is said of a question that was answered yes, at a span.
 pub(crate) fn proved(
     alloc: Global,
-    texts: Texts<'_>,
     proof: &ToldProof<'_>,
     span: Span,
 ) -> Result<Diagnostic, AllocError> {
-    let reference = proof.story.reference(0);
-    let message = format!(in alloc; "`{reference}` holds")?;
-    let label = String::new(alloc);
-    let mut told = message_at(alloc, Level::Note, None, message, span, label)?;
-    proof.push_proof(alloc, texts, &mut told)?;
-    Ok(told)
+    let message = with_one("`{}` holds", proof.story.reference(0));
+    let mut telling = Telling::begin(alloc, Level::Note, None, message);
+    telling.mark(span, plain(""));
+    proof.tell_all(&mut telling);
+    telling.finish()
 }

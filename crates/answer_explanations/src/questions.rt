@@ -79,6 +79,16 @@ impl<'s> Questioned<'s> {
         let questions = &self.texts.lines.questions;
         questions.get(self.place).copied().unwrap_or(none)
     }
+
+    /// Who asks.
+    fn asking(self) -> Asking<'s> {
+        Asking {
+            span: self.span(),
+            depth: self.depth,
+            seen: self.seen,
+            supertrait: None,
+        }
+    }
 }
 
 /// What is said of a question that was proved.
@@ -90,9 +100,8 @@ fn tell_proved(
 ) -> Result<Diagnostic, AllocError>
     requires { ProofWalkHeld cx.now.entries proof.now }
 {
-    let told = tell_proof(alloc, cx, &question.names(), proof)?;
-    let span = question.span();
-    proved(alloc, question.texts, &told, span)
+    let told = tell_proof(alloc, question.texts, cx, &question.names(), proof)?;
+    proved(alloc, &told, question.span())
 }
 
 /// Why a question is answered yes, with these values.
@@ -125,17 +134,17 @@ fn tell_not_proved(
 ) -> Result<Diagnostic, AllocError>
     requires { WalkHeld cx.now.entries walk.now }
 {
-    let story = tell(alloc, cx, &question.names(), walk, of_checked(checked))?;
-    let span = question.span();
+    let story = tell(
+        alloc,
+        question.texts,
+        cx,
+        &question.names(),
+        walk,
+        of_checked(checked),
+    )?;
     match answer {
-        NotProved::Unproved => {
-            let asking = Asking {
-                seen: question.seen,
-                supertrait: None,
-            };
-            unproved(alloc, question.texts, &story, span, asking)
-        }
-        NotProved::Maybe => { unsettled(alloc, question.texts, &story, span, question.depth, None) }
+        NotProved::Unproved => unproved(alloc, &story, question.asking()),
+        NotProved::Maybe => unsettled(alloc, &story, question.asking()),
     }
 }
 
@@ -211,7 +220,14 @@ fn tell_refutation(
 ) -> Result<Diagnostic, AllocError>
     requires { WalkHeld cx.now.entries walk.now }
 {
-    let story = tell(alloc, cx, &question.names(), walk, of_checked(checked))?;
+    let story = tell(
+        alloc,
+        question.texts,
+        cx,
+        &question.names(),
+        walk,
+        of_checked(checked),
+    )?;
     let span = question.span();
     let Refuting {
         answer,
@@ -219,8 +235,8 @@ fn tell_refutation(
         checked,
     } = refuting;
     match answer {
-        RefuteAnswer::No => refuted(alloc, question.texts, &story, span, unseen, checked),
-        RefuteAnswer::Open => left_open(alloc, question.texts, &story, span, unseen),
+        RefuteAnswer::No => refuted(alloc, &story, span, unseen, checked),
+        RefuteAnswer::Open => left_open(alloc, &story, span, unseen),
     }
 }
 

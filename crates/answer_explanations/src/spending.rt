@@ -3,6 +3,7 @@
 ghost use Rattle.std.specs.Prelude.{◌≡◌, ◌≤◌, ◌+◌, false};
 
 use diagnostics::{Diagnostic, Level};
+use explanation_texts::{Telling, plain};
 use std::alloc::{AllocError, Global};
 
 /// So many frames may explanations take in any case.
@@ -74,9 +75,8 @@ pub(crate) enum Next {
 
 /// What is said of the first question that is not explained, since that would take too long.
 pub(crate) fn too_long(alloc: Global) -> Result<Diagnostic, AllocError> {
-    let message = String::from_str(
-        alloc,
+    let message = plain(
         "no explanation of this question and those behind it: those before took as long as they may",
-    )?;
-    Ok(Diagnostic::new(alloc, Level::Note, None, message))
+    );
+    Telling::begin(alloc, Level::Note, None, message).finish()
 }

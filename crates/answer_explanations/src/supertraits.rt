@@ -7,7 +7,7 @@ ghost use Rattle.sessions.specs.Subjects.{StaysOn};
 use crate::checked::of_checked;
 use answer_lines::ShownNames;
 use diagnostics::{Diagnostic, Place, Span, on_line};
-use explanation_texts::{Asking, Story, Texts, impl_line, tell, unproved, unsettled};
+use explanation_texts::{Asking, Texts, impl_line, tell, unproved, unsettled};
 use session_walks::{CheckedCandidates, GoalWalk, checked_candidates, explain_supertrait};
 use sessions::{Session, SupersAnswer};
 use std::alloc::{AllocError, Global};
@@ -50,27 +50,8 @@ fn params_of(texts: Texts<'_>, id: ImplId) -> &[Param] {
 /// The span of the header of an impl; an empty one where it has no line.
 fn header_span(texts: Texts<'_>, id: ImplId) -> Span {
     match impl_line(texts, id) {
-        Some(found) => on_line(found.line, found.parts.header),
+        Some(found) => found.header(),
         None => on_line(0, Place { start: 0, end: 0 }),
-    }
-}
-
-/// What is said of the supertrait.
-fn diagnose(
-    alloc: Global,
-    texts: Texts<'_>,
-    story: &Story<'_>,
-    unheld: Unheld,
-    depth: u32,
-    seen: &[ImplId],
-) -> Result<Diagnostic, AllocError> {
-    let span = header_span(texts, unheld.id);
-    let supertrait = Some(unheld.number);
-    if unheld.is_missing {
-        let asking = Asking { seen, supertrait };
-        unproved(alloc, texts, story, span, asking)
-    } else {
-        unsettled(alloc, texts, story, span, depth, supertrait)
     }
 }
 
@@ -92,8 +73,25 @@ fn explain_walk(
         params: params_of(texts, unheld.id),
         variables: &[],
     };
-    let story = tell(alloc, session.interner(), &names, walk, of_checked(checked))?;
-    diagnose(alloc, texts, &story, unheld, depth, seen)
+    let story = tell(
+        alloc,
+        texts,
+        session.interner(),
+        &names,
+        walk,
+        of_checked(checked),
+    )?;
+    let asking = Asking {
+        span: header_span(texts, unheld.id),
+        depth,
+        seen,
+        supertrait: Some(unheld.number),
+    };
+    if unheld.is_missing {
+        unproved(alloc, &story, asking)
+    } else {
+        unsettled(alloc, &story, asking)
+    }
 }
 
 /// Why a supertrait is not held; nothing where there is no such.

@@ -29,4 +29,4 @@ pub use rendering::render;
 pub use source::SourceFile;
 pub use span::{Place, Span, on_line};
 pub use tokens::{text_of, token_places};
-pub use writer::shown_byte;
+pub use writer::{TextWriter, shown_byte};

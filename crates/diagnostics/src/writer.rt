@@ -22,14 +22,15 @@ pub fn shown_byte(byte: u8) -> u8
 /// A text that is being written. When a request for memory is refused it is kept in mind, and nothing is appended from then on: so who
 /// writes goes on, and asks once, at the end.
 #[derive(Drop)]
-pub(crate) struct TextWriter {
-    pub alloc: Global,
-    pub text: String,
-    pub is_refused: bool,
+pub struct TextWriter {
+    pub(crate) alloc: Global,
+    pub(crate) text: String,
+    pub(crate) is_refused: bool,
 }
 
 impl TextWriter {
-    pub(crate) fn new(alloc: Global) -> TextWriter
+    /// A text of which nothing is written.
+    pub fn new(alloc: Global) -> TextWriter
         ensures { string_bytes result.text ≡ [] }
     {
         TextWriter {
@@ -40,7 +41,7 @@ impl TextWriter {
     }
 
     /// The text, if no request was refused.
-    pub(crate) fn finish(self) -> Result<String, AllocError>
+    pub fn finish(self) -> Result<String, AllocError>
         ensures whole { IfOk result (λ t. t ≡ self.text) }
         ensures granted { IfOk result (λ t. self.is_refused ≡ false) }
     {
@@ -64,7 +65,7 @@ impl TextWriter {
     }
 
     /// Appends a text.
-    pub(crate) fn push_str(&mut self, text: &str)
+    pub fn push_str(&mut self, text: &str)
         ensures bytes { self.new.is_refused ≡ false → string_bytes self.new.text ≡ string_bytes self.old.text ++ text.now }
         ensures stays { self.new.is_refused ≡ false → self.old.is_refused ≡ false }
         ensures len { string_len self.new.text ≤ string_len self.old.text + length text.now }
@@ -75,13 +76,13 @@ impl TextWriter {
     }
 
     /// Appends what stands before a number, and the number.
-    pub(crate) fn push_number(&mut self, before: &str, number: usize) {
+    pub fn push_number(&mut self, before: &str, number: usize) {
         self.push_str(before);
         self.push_str(InlineText::<20>::of(number).as_str());
     }
 
     /// Appends a byte as it is shown.
-    pub(crate) fn push_byte(&mut self, byte: u8)
+    pub fn push_byte(&mut self, byte: u8)
         ensures bytes { self.new.is_refused ≡ false → string_bytes self.new.text ≡ string_bytes self.old.text ++ shown byte ∷ [] }
         ensures stays { self.new.is_refused ≡ false → self.old.is_refused ≡ false }
         ensures len { string_len self.new.text ≤ string_len self.old.text + 1 }
@@ -92,7 +93,7 @@ impl TextWriter {
     }
 
     /// Appends the bytes of a text, each as it is shown.
-    pub(crate) fn push_shown(&mut self, text: &[u8])
+    pub fn push_shown(&mut self, text: &[u8])
         ensures bytes { self.new.is_refused ≡ false → string_bytes self.new.text ≡ string_bytes self.old.text ++ map shown text.now }
         ensures len { string_len self.new.text ≤ string_len self.old.text + length text.now }
     {

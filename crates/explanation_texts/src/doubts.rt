@@ -2,15 +2,15 @@
 
 ghost use Rattle.std.specs.Prelude.{◌≡◌, ◌<◌, ◌≤◌, ◌⊎◌, IfSome};
 
-use crate::items::{Texts, impl_line, push_header_marks};
-use crate::links::{last_of, push_links, push_supertrait};
+use crate::failures::Asking;
+use crate::items::{Texts, impl_line, mark_parts};
+use crate::links::{last_of, tell_links, tell_supertrait};
 use crate::open_questions::chance;
-use crate::sentences::{
-    Piece, Sentence, plain, tell_at, tell_help, tell_note, told_note, with_one, with_three,
-};
+use crate::sentences::{Piece, Sentence, plain, with_one, with_three};
 use crate::sources::source_piece;
 use crate::story::{Story, unsure_premise};
-use diagnostics::{Diagnostic, ErrCode, LIST_LIMIT, Level, Span, Subdiagnostic};
+use crate::telling::Telling;
+use diagnostics::{Diagnostic, ErrCode, LIST_LIMIT, Level};
 use evaluation::{CandidateSource, MaybeCause};
 use goal_walk::{Answer, CandidateNode};
 use std::alloc::{AllocError, Global};
@@ -104,18 +104,19 @@ fn doubtful_premise(story: &Story<'_>, place: usize) -> Option<usize> {
     }
 }
 
-/// Follows the goals from place 0 down, each one for which the one above is not settled, to the first that is not settled by itself: with
-/// more than one way left, an unknown, or as deep as goals are looked at.
-fn follow_doubts(story: &Story<'_>, path: &mut Vec<usize>) -> Result<(), AllocError> {
+/// The goals from place 0 down, each one for which the one above is not settled, to the first that is not settled by itself: with more than
+/// one way left, an unknown, or as deep as goals are looked at.
+fn doubtful_path(alloc: Global, story: &Story<'_>) -> Result<Vec<usize>, AllocError> {
+    let mut path = Vec::new(alloc);
     let mut at = 0usize;
     for _goal in 0..story.len() {
         path.push(at)?;
         match doubtful_premise(story, at) {
             Some(premise) => at = premise,
-            None => return Ok(()),
+            None => return Ok(path),
         }
     }
-    Ok(())
+    Ok(path)
 }
 
 /// Why the goal at place 0 is not settled, where its path of goals ends here.
@@ -153,12 +154,12 @@ fn message_of<'s>(story: &'s Story<'_>, doubt: Doubt, leaf: usize) -> Sentence<'
             leaf,
         ),
     };
-    with_one(template, Piece::Text(story.reference(place)))
+    with_one(template, story.reference(place))
 }
 
-/// What is said at the question.
+/// What is said where it is asked for.
 fn said_at<'s>(story: &'s Story<'_>, doubt: Doubt, leaf: usize, depth: u32) -> Sentence<'s> {
-    let reference = Piece::Text(story.reference(leaf));
+    let reference = story.reference(leaf);
     match doubt {
         Doubt::Depth => with_one(
             "not settled within the depth limit {}",
@@ -178,40 +179,26 @@ fn said_at<'s>(story: &'s Story<'_>, doubt: Doubt, leaf: usize, depth: u32) -> S
     }
 }
 
-/// A way that is left: a candidate that may apply, and where that was not checked, this too.
-fn way_note(
-    alloc: Global,
-    texts: Texts<'_>,
-    source: CandidateSource,
-    may_apply: bool,
-) -> Result<Subdiagnostic, AllocError> {
-    let name = source_piece(texts, source);
-    let mut told = told_note(alloc, with_one(chance(may_apply), name))?;
+/// Tells a way that is left: a candidate that may apply, and where that was not checked, this too.
+fn tell_way(texts: Texts<'_>, source: CandidateSource, may_apply: bool, telling: &mut Telling) {
+    telling.note(with_one(chance(may_apply), source_piece(texts, source)));
     if let CandidateSource::Impl(id) = source {
         if let Some(found) = impl_line(texts, id) {
-            push_header_marks(alloc, found, &mut told.spans)?;
+            mark_parts(found, telling);
         }
     }
-    Ok(told)
 }
 
-/// Adds the ways that are left of the goal at a place.
-fn push_ways(
-    alloc: Global,
-    texts: Texts<'_>,
-    story: &Story<'_>,
-    place: usize,
-    children: &mut Vec<Subdiagnostic>,
-) -> Result<(), AllocError> {
+/// Tells the ways that are left of the goal at a place.
+fn tell_ways(story: &Story<'_>, place: usize, telling: &mut Telling) {
     for (index, candidate) in story.candidates(place).iter().enumerate() {
         if index == LIST_LIMIT {
-            return tell_note(alloc, plain("others may apply too"), children);
+            telling.note(plain("others may apply too"));
+            return;
         }
         let may_apply = story.may_apply(place, index);
-        let told = way_note(alloc, texts, candidate.source, may_apply)?;
-        children.push(told)?;
+        tell_way(story.texts, candidate.source, may_apply, telling);
     }
-    Ok(())
 }
 
 /// The greatest depth limit that a program takes.
@@ -227,113 +214,42 @@ fn deeper(depth: u32) -> Option<u32>
     if twice > depth { Some(twice) } else { None }
 }
 
-/// Adds the advice to ask with a greater depth limit, where there is one.
-fn push_deeper(
-    alloc: Global,
-    depth: u32,
-    advice: &'static str,
-    children: &mut Vec<Subdiagnostic>,
-) -> Result<(), AllocError> {
-    let Some(other) = deeper(depth) else {
-        return Ok(());
-    };
-    let sentence = with_three(
-        "{}: `{}` in place of `{}`",
-        Piece::Text(advice),
-        Piece::Number(other as usize),
-        Piece::Number(depth as usize),
-    );
-    tell_help(alloc, sentence, children)
-}
-
-/// Adds what follows from why the goal is not settled.
-fn push_doubt(
-    alloc: Global,
-    texts: Texts<'_>,
-    story: &Story<'_>,
-    doubt: Doubt,
-    leaf: usize,
-    depth: u32,
-    children: &mut Vec<Subdiagnostic>,
-) -> Result<(), AllocError> {
-    match doubt {
-        Doubt::Ways => push_ways(alloc, texts, story, leaf, children),
-        Doubt::Depth => push_deeper(alloc, depth, "ask with a greater depth limit", children),
-        Doubt::Limits => push_deeper(
-            alloc,
-            depth,
-            "a greater depth limit may settle it",
-            children,
-        ),
-        Doubt::Cycle | Doubt::Open | Doubt::Other => Ok(()),
+/// Tells to ask with a greater depth limit, where there is one.
+fn tell_deeper(depth: u32, advice: &'static str, telling: &mut Telling) {
+    if let Some(other) = deeper(depth) {
+        telling.help(with_three(
+            "{}: `{}` in place of `{}`",
+            Piece::Text(advice),
+            Piece::Number(other as usize),
+            Piece::Number(depth as usize),
+        ));
     }
 }
 
-/// Adds why the goal is not settled, and what follows from that.
-fn push_doubts(
-    alloc: Global,
-    texts: Texts<'_>,
-    story: &Story<'_>,
-    path: &[usize],
-    depth: u32,
-    supertrait: Option<u32>,
-    children: &mut Vec<Subdiagnostic>,
-) -> Result<(), AllocError> {
-    let leaf = last_of(path);
-    push_links(alloc, texts, story, path, children)?;
-    push_supertrait(alloc, story, supertrait, children)?;
-    push_doubt(
-        alloc,
-        texts,
-        story,
-        doubt_of(story, leaf),
-        leaf,
-        depth,
-        children,
-    )
+/// Tells what follows from why the goal is not settled.
+fn tell_doubt(story: &Story<'_>, doubt: Doubt, leaf: usize, depth: u32, telling: &mut Telling) {
+    match doubt {
+        Doubt::Ways => tell_ways(story, leaf, telling),
+        Doubt::Depth => tell_deeper(depth, "ask with a greater depth limit", telling),
+        Doubt::Limits => tell_deeper(depth, "a greater depth limit may settle it", telling),
+        Doubt::Cycle | Doubt::Open | Doubt::Other => {}
+    }
 }
 
-/// That a goal is not settled, at a span, where its path of goals ends here.
-fn unsettled_at(
-    alloc: Global,
-    story: &Story<'_>,
-    leaf: usize,
-    span: Span,
-    depth: u32,
-) -> Result<Diagnostic, AllocError> {
-    let doubt = doubt_of(story, leaf);
-    let message = message_of(story, doubt, leaf);
-    let label = said_at(story, doubt, leaf, depth);
-    tell_at(
-        alloc,
-        Level::Error,
-        Some(code_of(doubt)),
-        message,
-        span,
-        label,
-    )
-}
-
-/// What is said of a goal that is not settled, at a span: of a question, or of the supertrait of a header with a number.
+/// What is said of a goal that is not settled.
 pub fn unsettled(
     alloc: Global,
-    texts: Texts<'_>,
     story: &Story<'_>,
-    span: Span,
-    depth: u32,
-    supertrait: Option<u32>,
+    asking: Asking<'_>,
 ) -> Result<Diagnostic, AllocError> {
-    let mut path = Vec::new(alloc);
-    follow_doubts(story, &mut path)?;
-    let mut told = unsettled_at(alloc, story, last_of(&path), span, depth)?;
-    push_doubts(
-        alloc,
-        texts,
-        story,
-        &path,
-        depth,
-        supertrait,
-        &mut told.children,
-    )?;
-    Ok(told)
+    let path = doubtful_path(alloc, story)?;
+    let leaf = last_of(&path);
+    let doubt = doubt_of(story, leaf);
+    let message = message_of(story, doubt, leaf);
+    let mut telling = Telling::begin(alloc, Level::Error, Some(code_of(doubt)), message);
+    telling.mark(asking.span, said_at(story, doubt, leaf, asking.depth));
+    tell_links(story, &path, &mut telling);
+    tell_supertrait(story, asking.supertrait, &mut telling);
+    tell_doubt(story, doubt, leaf, asking.depth, &mut telling);
+    telling.finish()
 }

@@ -1,15 +1,12 @@
 //! What is said of a text with a fault.
 
-use crate::lines::whole_line;
-use crate::offending::{
-    Offence, above, hidden, misplaced, other_byte, other_space, reads_above, taken, unknown,
-};
-use crate::sentences::{plain, push_primary, tell, tell_help};
-use diagnostics::{Diagnostic, ErrCode, Level, SourceFile, Subdiagnostic, on_line};
+use crate::offending::tell_offence;
+use crate::sentences::plain;
+use crate::telling::Telling;
+use diagnostics::{Diagnostic, ErrCode, Level, SourceFile};
 use name_resolution::FaultKind;
 use std::alloc::{AllocError, Global};
 use text_reader::TextFault;
-use workspace::Workspace;
 
 /// What a fault is.
 fn message(kind: FaultKind) -> &'static str {
@@ -59,101 +56,6 @@ fn advice(kind: FaultKind) -> Option<&'static str> {
     }
 }
 
-/// The token that a fault is about, by the lines above.
-fn offence_above<'t>(
-    alloc: Global,
-    file: &SourceFile<'t>,
-    fault: TextFault,
-    workspace: &'t Workspace,
-) -> Result<Option<Offence<'t>>, AllocError> {
-    match fault.kind {
-        FaultKind::Taken => taken(alloc, file.line(fault.line), workspace),
-        FaultKind::Unknown => unknown(alloc, file, fault.line, workspace),
-        FaultKind::Hidden => hidden(alloc, file, fault.line, workspace),
-        _ => Ok(None),
-    }
-}
-
-/// The token that a fault is about, by its line alone or by what the lines above are.
-fn offence<'t>(
-    alloc: Global,
-    file: &SourceFile<'t>,
-    fault: TextFault,
-) -> Result<Option<Offence<'t>>, AllocError> {
-    match fault.kind {
-        FaultKind::OtherByte => Ok(other_byte(file.line(fault.line))),
-        FaultKind::Syntax => Ok(other_space(file.line(fault.line))),
-        FaultKind::Misplaced => Ok(Some(misplaced(alloc, file, fault.line)?)),
-        _ => Ok(None),
-    }
-}
-
-/// Adds what is said of the token that a fault is about; a mark at the whole line where it is not found.
-fn push_offence(
-    alloc: Global,
-    file: &SourceFile<'_>,
-    line: u32,
-    found: Option<Offence<'_>>,
-    told: &mut Diagnostic,
-) -> Result<(), AllocError> {
-    let offence = found.unwrap_or(Offence {
-        place: whole_line(file.line(line)),
-        label: plain(""),
-        help: None,
-    });
-    push_primary(
-        alloc,
-        on_line(line, offence.place),
-        offence.label,
-        &mut told.spans,
-    )?;
-    match offence.help {
-        Some(help) => tell_help(alloc, help, &mut told.children),
-        None => Ok(()),
-    }
-}
-
-/// Adds what is said of the token that a fault is about, by the lines above.
-fn push_offence_above(
-    alloc: Global,
-    file: &SourceFile<'_>,
-    fault: TextFault,
-    workspace: &Workspace,
-    told: &mut Diagnostic,
-) -> Result<(), AllocError> {
-    let found = offence_above(alloc, file, fault, workspace)?;
-    push_offence(alloc, file, fault.line, found, told)
-}
-
-/// Adds where the fault is, and what is said there.
-fn push_place(
-    alloc: Global,
-    text: &[u8],
-    file: &SourceFile<'_>,
-    fault: TextFault,
-    told: &mut Diagnostic,
-) -> Result<(), AllocError> {
-    if reads_above(fault.kind) {
-        if let Some(workspace) = above(alloc, text, file, fault.line) {
-            return push_offence_above(alloc, file, fault, &workspace, told);
-        }
-    }
-    let found = offence(alloc, file, fault)?;
-    push_offence(alloc, file, fault.line, found, told)
-}
-
-/// Adds what to do about a fault of a kind.
-fn push_advice(
-    alloc: Global,
-    kind: FaultKind,
-    children: &mut Vec<Subdiagnostic>,
-) -> Result<(), AllocError> {
-    match advice(kind) {
-        Some(advice) => tell_help(alloc, plain(advice), children),
-        None => Ok(()),
-    }
-}
-
 /// What is said of a text with a fault.
 pub fn fault_diagnostic(
     alloc: Global,
@@ -161,13 +63,11 @@ pub fn fault_diagnostic(
     file: &SourceFile<'_>,
     fault: TextFault,
 ) -> Result<Diagnostic, AllocError> {
-    let mut told = tell(
-        alloc,
-        Level::Error,
-        code(fault.kind),
-        plain(message(fault.kind)),
-    )?;
-    push_place(alloc, text, file, fault, &mut told)?;
-    push_advice(alloc, fault.kind, &mut told.children)?;
-    Ok(told)
+    let message = plain(message(fault.kind));
+    let mut telling = Telling::begin(alloc, Level::Error, code(fault.kind), message);
+    tell_offence(text, file, fault, &mut telling);
+    if let Some(advice) = advice(fault.kind) {
+        telling.help(plain(advice));
+    }
+    telling.finish()
 }

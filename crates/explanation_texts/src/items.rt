@@ -1,14 +1,9 @@
 //! What items are called, and where they stand.
 
 use crate::lines::{ImplLine, ItemLines};
-use crate::sentences::{Piece, piece_text, plain, push_primary};
-use diagnostics::{
-    Diagnostic, ErrCode, Level, Place, SourceFile, Span, SpanLabel, Subdiagnostic, TYPE_LIMIT,
-    on_line, shown_byte, text_of,
-};
-use std::alloc::{AllocError, Global};
-use std::fmt;
-use std::fmt::Display;
+use crate::sentences::Piece;
+use crate::telling::Telling;
+use diagnostics::{Place, SourceFile, on_line, text_of};
 use type_terms::{CrateId, ImplId, TraitId};
 use workspace::Workspace;
 
@@ -34,7 +29,7 @@ pub(crate) fn written<'w>(texts: Texts<'w>, line: u32, place: Place) -> Name<'w>
 }
 
 /// What an impl is called: its line, or its number in `core`.
-pub(crate) fn impl_piece(texts: Texts<'_>, id: ImplId) -> Piece<'static> {
+pub fn impl_piece(texts: Texts<'_>, id: ImplId) -> Piece<'static> {
     if let Some(found) = impl_line(texts, id) {
         return Piece::ImplAtLine(found.line);
     }
@@ -44,28 +39,10 @@ pub(crate) fn impl_piece(texts: Texts<'_>, id: ImplId) -> Piece<'static> {
     }
 }
 
-/// What an impl is called: its line, or its number in `core`.
-pub fn impl_name(alloc: Global, texts: Texts<'_>, id: ImplId) -> Result<String, AllocError> {
-    piece_text(alloc, impl_piece(texts, id))
-}
-
-/// A name as it is shown: as `cut_text` shows it, but by no request for memory.
+/// A name, which is shown as `cut_text` shows a text.
 #[derive(Clone, Copy)]
 pub struct Name<'w> {
-    bytes: &'w [u8],
-}
-
-impl Display for Name<'_> {
-    fn fmt<W: fmt::Write>(&self, f: &mut fmt::Formatter<W>) -> fmt::Result {
-        let shown = self.bytes.get(..TYPE_LIMIT).unwrap_or(self.bytes);
-        for byte in shown {
-            f.write_char(char::from(shown_byte(*byte)))?;
-        }
-        if shown.len() < self.bytes.len() {
-            f.write_str("..")?;
-        }
-        Ok(())
-    }
+    pub(crate) bytes: &'w [u8],
 }
 
 /// A name in a text.
@@ -119,43 +96,8 @@ pub fn is_fundamental(texts: Texts<'_>, id: TraitId) -> bool {
     }
 }
 
-/// A note without a place.
-pub fn note(alloc: Global, message: String) -> Subdiagnostic {
-    Subdiagnostic::new(alloc, Level::Note, message)
-}
-
-/// Adds a note without a place.
-pub fn push_note(
-    alloc: Global,
-    message: String,
-    children: &mut Vec<Subdiagnostic>,
-) -> Result<(), AllocError> {
-    children.push(note(alloc, message))?;
-    Ok(())
-}
-
-/// A message that is about a span, with what is said there.
-pub fn message_at(
-    alloc: Global,
-    level: Level,
-    code: Option<ErrCode>,
-    message: String,
-    span: Span,
-    label: String,
-) -> Result<Diagnostic, AllocError> {
-    let mut told = Diagnostic::new(alloc, level, code, message);
-    told.spans.push(SpanLabel::primary(span, label))?;
-    Ok(told)
-}
-
-/// Adds marks at the trait and the type of an impl, which say nothing beside them.
-pub(crate) fn push_header_marks(
-    alloc: Global,
-    found: &ImplLine,
-    spans: &mut Vec<SpanLabel>,
-) -> Result<(), AllocError> {
-    let bound = on_line(found.line, found.parts.bound);
-    let subject = on_line(found.line, found.parts.subject);
-    push_primary(alloc, bound, plain(""), spans)?;
-    push_primary(alloc, subject, plain(""), spans)
+/// Marks the trait and the type of an impl in the last child, with nothing beside them.
+pub(crate) fn mark_parts(found: &ImplLine, telling: &mut Telling) {
+    telling.mark_child(on_line(found.line, found.parts.bound));
+    telling.mark_child(on_line(found.line, found.parts.subject));
 }

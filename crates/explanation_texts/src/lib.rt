@@ -21,19 +21,19 @@ mod similar;
 mod sources;
 mod spoken;
 mod story;
+mod telling;
 mod words;
 
 pub use doubts::unsettled;
 pub use failures::{Asking, unproved};
 pub use faults::fault_diagnostic;
-pub use items::{
-    Name, Texts, crate_name, impl_line, impl_name, is_fundamental, message_at, note, push_note,
-    trait_name,
-};
+pub use items::{Name, Texts, crate_name, impl_line, impl_piece, is_fundamental, trait_name};
 pub use lines::{ImplLine, ItemLines, item_lines};
 pub use open_questions::left_open;
 pub use orphans::orphan;
 pub use refutations::{NothingFits, refuted};
-pub use sources::source_name;
-pub use spoken::{Spoken, conflict_text, speak};
+pub use sentences::{Piece, Sentence, plain, with_four, with_one, with_three, with_two};
+pub use sources::source_piece;
+pub use spoken::{Spoken, conflict_said, speak};
 pub use story::{Checked, Story, tell};
+pub use telling::Telling;

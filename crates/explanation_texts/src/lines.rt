@@ -12,6 +12,19 @@ pub struct ImplLine {
     pub parts: LineParts,
 }
 
+impl ImplLine {
+    /// Its header.
+    pub fn header(&self) -> Span {
+        on_line(self.line, self.parts.header)
+    }
+
+    /// Its where-clause with a number, from 0.
+    pub fn clause(&self, number: usize) -> Option<Span> {
+        let place = self.parts.clauses.get(number)?;
+        Some(on_line(self.line, *place))
+    }
+}
+
 /// Where the impls and the questions of a text stand, in order.
 pub struct ItemLines {
     /// The impls of crates.

@@ -1,15 +1,12 @@
 //! For what the goals of a path are required.
 
-use crate::items::{Texts, impl_line, push_header_marks};
-use crate::sentences::{
-    Piece, Sentence, plain, push_secondary, tell_note, told_note, with_one, with_three, with_two,
-};
+use crate::items::{impl_line, mark_parts};
+use crate::sentences::{Piece, Sentence, plain, with_one, with_three, with_two};
 use crate::sources::source_piece;
 use crate::story::Story;
-use diagnostics::{SpanLabel, Subdiagnostic, on_line};
+use crate::telling::Telling;
 use evaluation::CandidateSource;
 use goal_walk::CandidateNode;
-use std::alloc::{AllocError, Global};
 use type_terms::ImplId;
 
 /// The last goal of a path.
@@ -71,34 +68,14 @@ fn bound_label(story: &Story<'_>, link: Link) -> &'static str {
     }
 }
 
-/// Adds marks at the header of an impl, and at one of its clauses, by its number from 0.
-fn push_marks(
-    alloc: Global,
-    texts: Texts<'_>,
-    id: ImplId,
-    clause: usize,
-    label: &'static str,
-    spans: &mut Vec<SpanLabel>,
-) -> Result<(), AllocError> {
-    let Some(found) = impl_line(texts, id) else {
-        return Ok(());
-    };
-    push_header_marks(alloc, found, spans)?;
-    match found.parts.clauses.get(clause) {
-        Some(place) => push_secondary(alloc, on_line(found.line, *place), plain(label), spans),
-        None => Ok(()),
-    }
-}
-
 /// What the asked goal of a link is required for, by a candidate of which it is said where it is no impl, and where it was not checked.
 fn required_for<'s>(
-    texts: Texts<'_>,
     story: &'s Story<'_>,
     link: Link,
     asks: Option<CandidateLink<'_>>,
 ) -> Sentence<'s> {
-    let subject = Piece::Text(story.subject(link.asker));
-    let bound = Piece::Text(story.bound(link.asker));
+    let subject = story.subject(link.asker);
+    let bound = story.bound(link.asker);
     match asks {
         Some(asks) if !matches!(asks.candidate.source, CandidateSource::Impl(_)) => {
             let template = if asks.is_rule {
@@ -110,7 +87,7 @@ fn required_for<'s>(
                 template,
                 subject,
                 bound,
-                source_piece(texts, asks.candidate.source),
+                source_piece(story.texts, asks.candidate.source),
             )
         }
         Some(asks) if !asks.is_rule => with_two(
@@ -122,37 +99,37 @@ fn required_for<'s>(
     }
 }
 
-/// What is said of one link: what the asked goal is required for, with the bound that asks it marked.
-fn link_note(
-    alloc: Global,
-    texts: Texts<'_>,
-    story: &Story<'_>,
-    link: Link,
-    is_marked: bool,
-) -> Result<Subdiagnostic, AllocError> {
-    let asks = asking(story, link);
-    let mut told = told_note(alloc, required_for(texts, story, link, asks))?;
-    if let (true, Some(asks)) = (is_marked, asks) {
-        if let CandidateSource::Impl(id) = asks.candidate.source {
-            let label = bound_label(story, link);
-            push_marks(alloc, texts, id, asks.clause, label, &mut told.spans)?;
-        }
+/// Marks the header of the impl that asks, and the bound by which it does, in the last child.
+fn mark_asking(story: &Story<'_>, link: Link, asks: CandidateLink<'_>, telling: &mut Telling) {
+    let CandidateSource::Impl(id) = asks.candidate.source else {
+        return;
+    };
+    let Some(found) = impl_line(story.texts, id) else {
+        return;
+    };
+    mark_parts(found, telling);
+    if let Some(span) = found.clause(asks.clause) {
+        telling.mark_child_beside(span, plain(bound_label(story, link)));
     }
-    Ok(told)
 }
 
-/// Adds that so many links in a row are not told.
-fn push_hidden(
-    alloc: Global,
-    hidden: usize,
-    children: &mut Vec<Subdiagnostic>,
-) -> Result<(), AllocError> {
+/// Tells one link: what the asked goal is required for, with the bound that asks it marked.
+fn tell_link(story: &Story<'_>, link: Link, is_marked: bool, telling: &mut Telling) {
+    let asks = asking(story, link);
+    telling.note(required_for(story, link, asks));
+    if let (true, Some(asks)) = (is_marked, asks) {
+        mark_asking(story, link, asks, telling);
+    }
+}
+
+/// Tells how many links in a row are not told.
+fn tell_hidden(hidden: usize, telling: &mut Telling) {
     let template = match hidden {
-        0 => return Ok(()),
+        0 => return,
         1 => "{} redundant requirement hidden",
         _ => "{} redundant requirements hidden",
     };
-    tell_note(alloc, with_one(template, Piece::Number(hidden)), children)
+    telling.note(with_one(template, Piece::Number(hidden)));
 }
 
 /// The impl that asks.
@@ -171,63 +148,35 @@ fn is_asked_by(story: &Story<'_>, link: Option<Link>, id: Option<ImplId>) -> boo
     }
 }
 
-/// Adds that the goal at place 0 is the supertrait of a header with a number, from 1; nothing of a question.
-pub(crate) fn push_supertrait(
-    alloc: Global,
-    story: &Story<'_>,
-    supertrait: Option<u32>,
-    children: &mut Vec<Subdiagnostic>,
-) -> Result<(), AllocError> {
+/// Tells that the goal at place 0 is the supertrait of a header with a number, from 1; nothing of a question.
+pub(crate) fn tell_supertrait(story: &Story<'_>, supertrait: Option<u32>, telling: &mut Telling) {
     let Some(number) = supertrait else {
-        return Ok(());
+        return;
     };
-    let sentence = with_two(
+    telling.note(with_two(
         "`{}` is supertrait {} of the header: an impl of a trait needs its supertraits to hold",
-        Piece::Text(story.reference(0)),
+        story.reference(0),
         Piece::Number(number as usize),
-    );
-    tell_note(alloc, sentence, children)
+    ));
 }
 
-/// Adds what the asked goal of a link is required for, behind how many links before it are not told.
-fn push_link(
-    alloc: Global,
-    texts: Texts<'_>,
-    story: &Story<'_>,
-    link: Link,
-    is_marked: bool,
-    hidden: usize,
-    children: &mut Vec<Subdiagnostic>,
-) -> Result<(), AllocError> {
-    push_hidden(alloc, hidden, children)?;
-    let told = link_note(alloc, texts, story, link, is_marked)?;
-    children.push(told)?;
-    Ok(())
-}
-
-/// Adds what the goals of a path are required for, from the inside out. Of goals in a row by one impl the first and the last are told.
-pub(crate) fn push_links(
-    alloc: Global,
-    texts: Texts<'_>,
-    story: &Story<'_>,
-    path: &[usize],
-    children: &mut Vec<Subdiagnostic>,
-) -> Result<(), AllocError> {
+/// Tells what the goals of a path are required for, from the inside out. Of goals in a row by one impl the first and the last are told.
+pub(crate) fn tell_links(story: &Story<'_>, path: &[usize], telling: &mut Telling) {
     let mut hidden = 0usize;
     let mut last: Option<ImplId> = None;
     for number in 0..path.len() {
         let Some(link) = link_at(path, number) else {
-            return Ok(());
+            return;
         };
         let used = asking_impl(story, link);
         let is_same = used.is_some() && used == last;
         if is_same && is_asked_by(story, link_at(path, number.saturating_add(1)), used) {
             hidden = hidden.saturating_add(1);
         } else {
-            push_link(alloc, texts, story, link, !is_same, hidden, children)?;
+            tell_hidden(hidden, telling);
+            tell_link(story, link, !is_same, telling);
             hidden = 0;
         }
         last = used;
     }
-    Ok(())
 }

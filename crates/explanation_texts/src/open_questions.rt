@@ -1,11 +1,12 @@
 //! What is said of a question that was answered open.
 
 use crate::items::{Texts, trait_home, trait_name};
-use crate::sentences::{Piece, Sentence, plain, tell_at, tell_note, with_four, with_one, with_two};
+use crate::sentences::{Piece, Sentence, plain, with_four, with_one, with_two};
 use crate::sources::source_piece;
 use crate::spoken::Spoken;
 use crate::story::Story;
-use diagnostics::{Diagnostic, LIST_LIMIT, Level, Span, Subdiagnostic};
+use crate::telling::Telling;
+use diagnostics::{Diagnostic, LIST_LIMIT, Level, Span};
 use evaluation::{CandidateSource, Certainty};
 use goal_walk::{Answer, CandidateNode};
 use orphan_check::errors::Conflict;
@@ -46,83 +47,64 @@ pub(crate) fn chance(may_apply: bool) -> &'static str {
     }
 }
 
-/// What is said of a candidate that is left: that it applies, where the goal holds by it, or may, and where that was not checked, this too.
+/// What is said of the candidate with a number, which is left: that it applies, where the goal holds by it, or may, and where that was not
+/// checked, this too.
 fn way_said(
-    texts: Texts<'_>,
+    story: &Story<'_>,
     candidate: &CandidateNode,
     holds: bool,
-    is_rule: bool,
-    may_apply: bool,
+    number: usize,
 ) -> Sentence<'static> {
     let template = if !holds || candidate.certainty != Some(Certainty::Yes) {
-        chance(may_apply)
-    } else if is_rule {
+        chance(story.may_apply(0, number))
+    } else if story.is_rule(0, number) {
         "the {} applies"
     } else {
         "the {} applies, not checked"
     };
-    with_one(template, source_piece(texts, candidate.source))
+    with_one(template, source_piece(story.texts, candidate.source))
 }
 
-/// Adds the candidates that apply, or may. Of a type that is not known nothing is added: the one candidate stands for all of them.
-fn push_ways(
-    alloc: Global,
-    texts: Texts<'_>,
-    story: &Story<'_>,
-    children: &mut Vec<Subdiagnostic>,
-) -> Result<(), AllocError> {
+/// Tells the candidates that apply, or may. Of a type that is not known none is told: the one candidate stands for all of them.
+fn tell_ways(story: &Story<'_>, telling: &mut Telling) {
     if story.is_unknown(0) {
-        return Ok(());
+        return;
     }
     let holds = story.answer(0) == Answer::Yes;
     let mut count = 0usize;
     for (number, candidate) in story.candidates(0).iter().enumerate() {
         if is_left(candidate) {
             if count == LIST_LIMIT {
-                return tell_note(alloc, plain("others may apply too"), children);
+                telling.note(plain("others may apply too"));
+                return;
             }
             count = count.saturating_add(1);
-            let is_rule = story.is_rule(0, number);
-            let may_apply = story.may_apply(0, number);
-            let said = way_said(texts, candidate, holds, is_rule, may_apply);
-            tell_note(alloc, said, children)?;
+            telling.note(way_said(story, candidate, holds, number));
         }
     }
-    Ok(())
 }
 
-/// Adds which crate that is not seen may add which impl, where one may.
-fn push_unseen(
-    alloc: Global,
-    texts: Texts<'_>,
-    story: &Story<'_>,
-    unseen: Option<Conflict>,
-    children: &mut Vec<Subdiagnostic>,
-) -> Result<(), AllocError> {
-    match (unseen, story.spoken(0)) {
-        (Some(conflict), Some(spoken)) => tell_note(
-            alloc,
-            unseen_said(texts, spoken, conflict),
-            children,
-        ),
-        _ => Ok(()),
+/// Tells which crate that is not seen may add which impl, where one may.
+fn tell_unseen(story: &Story<'_>, unseen: Option<Conflict>, telling: &mut Telling) {
+    if let (Some(conflict), Some(spoken)) = (unseen, story.spoken(0)) {
+        telling.note(unseen_said(story.texts, spoken, conflict));
     }
 }
 
 /// What is said of a question that was answered open, at a span, with which unseen crates may have an impl.
 pub fn left_open(
     alloc: Global,
-    texts: Texts<'_>,
     story: &Story<'_>,
     span: Span,
     unseen: Option<Conflict>,
 ) -> Result<Diagnostic, AllocError> {
     let message = with_one(
         "`{}` holds, or some crate could make it hold",
-        Piece::Text(story.reference(0)),
+        story.reference(0),
     );
-    let mut told = tell_at(alloc, Level::Note, None, message, span, plain(""))?;
-    push_unseen(alloc, texts, story, unseen, &mut told.children)?;
-    push_ways(alloc, texts, story, &mut told.children)?;
-    Ok(told)
+    let mut telling = Telling::begin(alloc, Level::Note, None, message);
+    telling.mark(span, plain(""));
+    tell_unseen(story, unseen, &mut telling);
+    tell_ways(story, &mut telling);
+    telling.finish()
 }

@@ -5,13 +5,11 @@ ghost use Rattle.type_terms.specs.Terms.{Has, types};
 ghost use Rattle.orphan_check.specs.Held.{ErrorHeld, LeavesHeld, TypeHeld};
 
 use crate::items::{Texts, crate_name, impl_line, trait_home};
-use crate::sentences::{
-    Piece, Sentence, plain, push_primary, sentence_text, tell, tell_help, tell_note, with_one,
-    with_two,
-};
+use crate::sentences::{Piece, Sentence, plain, with_one, with_two};
+use crate::telling::Telling;
 use crate::words::type_text;
 use answer_lines::HeaderNames;
-use diagnostics::{Diagnostic, ErrCode, LIST_LIMIT, Level, SpanLabel, Subdiagnostic, on_line};
+use diagnostics::{Diagnostic, ErrCode, LIST_LIMIT, Level};
 use orphan_check::errors::{IsFirstInputType, OrphanCheckErr, UncoveredTyParams};
 use std::alloc::{AllocError, Global};
 use type_terms::interner::Interner;
@@ -66,53 +64,38 @@ fn home_said<'s>(texts: Texts<'s>, cx: &Interner, ty: Ty, name: &'s str) -> Sent
     }
 }
 
-/// Adds what is said of a type that the walk met.
-fn push_met_type(
-    alloc: Global,
-    refused: Refused<'_>,
-    cx: &Interner,
-    ty: Ty,
-    children: &mut Vec<Subdiagnostic>,
-) -> Result<(), AllocError>
+/// Tells what is said of a type that the walk met.
+fn tell_met_type(refused: Refused<'_>, cx: &Interner, ty: Ty, telling: &mut Telling)
     requires { Has cx.now.entries types ty.0 }
 {
-    let name = type_text(alloc, cx, &refused.names(), ty)?;
-    tell_note(
-        alloc,
-        home_said(refused.texts, cx, ty, name.as_str()),
-        children,
-    )
+    let asked = type_text(telling.alloc(), cx, &refused.names(), ty);
+    if let Some(name) = telling.granted(asked) {
+        telling.note(home_said(refused.texts, cx, ty, name.as_str()));
+    }
 }
 
-/// Adds what is said of each type that the walk met.
-fn push_met(
-    alloc: Global,
+/// Tells what is said of each type that the walk met.
+fn tell_met(
     refused: Refused<'_>,
     cx: &Interner,
     types: &[(Ty, IsFirstInputType)],
-    children: &mut Vec<Subdiagnostic>,
-) -> Result<(), AllocError>
+    telling: &mut Telling,
+)
     requires { LeavesHeld cx.now.entries types.now }
 {
     for (place, met) in types.iter().enumerate() {
         if place == LIST_LIMIT {
-            return tell_note(alloc, plain(".."), children);
+            telling.note(plain(".."));
+            return;
         }
-        push_met_type(alloc, refused, cx, met.0, children)?;
+        tell_met_type(refused, cx, met.0, telling);
     }
-    Ok(())
 }
 
-/// Adds a mark at the header of the impl, if it stands in the text.
-fn push_header(
-    alloc: Global,
-    refused: Refused<'_>,
-    label: Sentence<'_>,
-    spans: &mut Vec<SpanLabel>,
-) -> Result<(), AllocError> {
-    match impl_line(refused.texts, refused.id) {
-        Some(found) => push_primary(alloc, on_line(found.line, found.parts.header), label, spans),
-        None => Ok(()),
+/// Marks the header of the impl, if it stands in the text.
+fn mark_header(refused: Refused<'_>, label: Sentence<'_>, telling: &mut Telling) {
+    if let Some(found) = impl_line(refused.texts, refused.id) {
+        telling.mark(found.header(), label);
     }
 }
 
@@ -130,29 +113,6 @@ fn nonlocal_message(cx: &Interner, types: &[(Ty, IsFirstInputType)]) -> Sentence
     )
 }
 
-/// Adds what is said where no type of the header is of the crate.
-fn push_nonlocal(
-    alloc: Global,
-    refused: Refused<'_>,
-    cx: &Interner,
-    types: &[(Ty, IsFirstInputType)],
-    told: &mut Diagnostic,
-) -> Result<(), AllocError>
-    requires { LeavesHeld cx.now.entries types.now }
-{
-    let own = Piece::Name(crate_name(refused.texts, refused.crate_id));
-    let home = Piece::Name(trait_home(refused.texts, refused.entry.header.trait_id));
-    let label = with_one("no type here is of crate `{}`", own);
-    let advice = with_two(
-        "the trait is of crate `{}`: write this impl there, or for a struct of crate `{}`",
-        home,
-        own,
-    );
-    push_header(alloc, refused, label, &mut told.spans)?;
-    push_met(alloc, refused, cx, types, &mut told.children)?;
-    tell_help(alloc, advice, &mut told.children)
-}
-
 /// What is said where no type of the header is of the crate.
 fn nonlocal(
     alloc: Global,
@@ -163,56 +123,68 @@ fn nonlocal(
     requires { LeavesHeld cx.now.entries types.now }
 {
     let message = nonlocal_message(cx, types);
-    let mut told = tell(alloc, Level::Error, Some(ErrCode::E0117), message)?;
-    push_nonlocal(alloc, refused, cx, types, &mut told)?;
-    Ok(told)
+    let mut telling = Telling::begin(alloc, Level::Error, Some(ErrCode::E0117), message);
+    let own = Piece::Name(crate_name(refused.texts, refused.crate_id));
+    mark_header(
+        refused,
+        with_one("no type here is of crate `{}`", own),
+        &mut telling,
+    );
+    tell_met(refused, cx, types, &mut telling);
+    telling.help(with_two(
+        "the trait is of crate `{}`: write this impl there, or for a struct of crate `{}`",
+        Piece::Name(trait_home(refused.texts, refused.entry.header.trait_id)),
+        own,
+    ));
+    telling.finish()
 }
 
 /// The message where a parameter comes before the first local type, or there is no such type.
-fn uncovered_message(
-    alloc: Global,
-    refused: Refused<'_>,
-    cx: &Interner,
-    param: &str,
-    local: Option<Ty>,
-) -> Result<String, AllocError>
-    requires { IfSome local (TypeHeld cx.now.entries) }
-{
+fn uncovered_message<'s>(param: &'s str, local: Option<&'s str>) -> Sentence<'s> {
     let param = Piece::Text(param);
-    let Some(ty) = local else {
-        let template =
-            "type parameter `{}` must be used as the type parameter for some local type (e.g., `MyStruct<{}>`)";
-        return sentence_text(alloc, with_two(template, param, param));
-    };
-    let local = type_text(alloc, cx, &refused.names(), ty)?;
-    let template =
-        "type parameter `{}` must be covered by another type when it appears before the first local type (`{}`)";
-    sentence_text(
-        alloc,
-        with_two(template, param, Piece::Text(local.as_str())),
-    )
+    match local {
+        None => with_two(
+            "type parameter `{}` must be used as the type parameter for some local type (e.g., `MyStruct<{}>`)",
+            param,
+            param,
+        ),
+        Some(ty) => with_two(
+            "type parameter `{}` must be covered by another type when it appears before the first local type (`{}`)",
+            param,
+            Piece::Text(ty),
+        ),
+    }
 }
 
-/// Adds what is said where a parameter comes before the first local type, or there is no such type.
-fn push_uncovered(
-    alloc: Global,
-    refused: Refused<'_>,
-    param: &str,
-    has_local: bool,
-    told: &mut Diagnostic,
-) -> Result<(), AllocError> {
+/// What is said of the header where a parameter comes before the first local type, or there is no such type.
+fn uncovered_label<'s>(param: &'s str, has_local: bool) -> Sentence<'s> {
     let template = if has_local {
         "type parameter `{}` comes before the first local type"
     } else {
         "type parameter `{}` stands in no local type"
     };
-    let label = with_one(template, Piece::Text(param));
-    let said = with_one(
+    with_one(template, Piece::Text(param))
+}
+
+/// What is said where a parameter comes before the first local type, or there is no such type.
+fn uncovered_param(
+    alloc: Global,
+    refused: Refused<'_>,
+    param: &str,
+    local: Option<&str>,
+) -> Result<Diagnostic, AllocError> {
+    let message = uncovered_message(param, local);
+    let mut telling = Telling::begin(alloc, Level::Error, Some(ErrCode::E0210), message);
+    mark_header(
+        refused,
+        uncovered_label(param, local.is_some()),
+        &mut telling,
+    );
+    telling.note(with_one(
         "the trait is of crate `{}`, so a crate may write an impl of it only where a struct of its own comes before any parameter that stands alone",
         Piece::Name(trait_home(refused.texts, refused.entry.header.trait_id)),
-    );
-    push_header(alloc, refused, label, &mut told.spans)?;
-    tell_note(alloc, said, &mut told.children)
+    ));
+    telling.finish()
 }
 
 /// What is said where a parameter comes before the first local type, or there is no such type.
@@ -225,12 +197,15 @@ fn uncovered(
     requires uncovered { TypeHeld cx.now.entries error.now.uncovered }
     requires local { IfSome error.now.local_ty (TypeHeld cx.now.entries) }
 {
-    let param = type_text(alloc, cx, &refused.names(), error.uncovered)?;
-    let message = uncovered_message(alloc, refused, cx, param.as_str(), error.local_ty)?;
-    let mut told = Diagnostic::new(alloc, Level::Error, Some(ErrCode::E0210), message);
-    let has_local = error.local_ty.is_some();
-    push_uncovered(alloc, refused, param.as_str(), has_local, &mut told)?;
-    Ok(told)
+    let names = refused.names();
+    let param = type_text(alloc, cx, &names, error.uncovered)?;
+    match error.local_ty {
+        None => uncovered_param(alloc, refused, param.as_str(), None),
+        Some(ty) => {
+            let local = type_text(alloc, cx, &names, ty)?;
+            uncovered_param(alloc, refused, param.as_str(), Some(local.as_str()))
+        }
+    }
 }
 
 /// What is said of a header that breaks the orphan rule.

@@ -1,23 +1,21 @@
 //! Why the candidates of a goal are refused.
 
-use crate::items::Texts;
-use crate::sentences::{Piece, Sentence, plain, tell_note, with_one, with_three, with_two};
+use crate::sentences::{Piece, Sentence, plain, with_one, with_three, with_two};
 use crate::sources::source_piece;
 use crate::story::{Story, refused_premise};
-use diagnostics::{LIST_LIMIT, Subdiagnostic};
+use crate::telling::Telling;
+use diagnostics::LIST_LIMIT;
 use evaluation::CandidateSource;
 use goal_walk::CandidateNode;
-use std::alloc::{AllocError, Global};
 
 /// Why a candidate is refused: what it needs, and what is to be said of that. Where it was not checked that it fits, that is said too.
 fn refusal<'s>(
-    texts: Texts<'_>,
     story: &'s Story<'_>,
     candidate: &CandidateNode,
     is_rule: bool,
     why: &'static str,
 ) -> Sentence<'s> {
-    let name = source_piece(texts, candidate.source);
+    let name = source_piece(story.texts, candidate.source);
     let Some(premise) = refused_premise(story, candidate) else {
         let template = match (candidate.certainty.is_some(), is_rule) {
             (true, true) => "the {} fits, and is not settled",
@@ -27,7 +25,7 @@ fn refusal<'s>(
         };
         return with_one(template, name);
     };
-    let needs = Piece::Text(story.reference(premise));
+    let needs = story.reference(premise);
     if candidate.source == CandidateSource::CoherenceUnknowable {
         let template = "an impl of a crate that is not seen would need `{}`, {}";
         with_two(template, needs, Piece::Text(why))
@@ -41,25 +39,19 @@ fn refusal<'s>(
     }
 }
 
-/// Adds why each candidate of a goal is refused.
-pub(crate) fn push_refused(
-    alloc: Global,
-    texts: Texts<'_>,
+/// Tells why each candidate of a goal is refused.
+pub(crate) fn tell_refused(
     story: &Story<'_>,
     place: usize,
     why: &'static str,
-    children: &mut Vec<Subdiagnostic>,
-) -> Result<(), AllocError> {
+    telling: &mut Telling,
+) {
     for (index, candidate) in story.candidates(place).iter().enumerate() {
         if index == LIST_LIMIT {
-            return tell_note(alloc, plain("others fit too"), children);
+            telling.note(plain("others fit too"));
+            return;
         }
         let is_rule = story.is_rule(place, index);
-        tell_note(
-            alloc,
-            refusal(texts, story, candidate, is_rule, why),
-            children,
-        )?;
+        telling.note(refusal(story, candidate, is_rule, why));
     }
-    Ok(())
 }

@@ -1,13 +1,12 @@
 //! What is said of a question that was answered no.
 
 use crate::items::{Texts, has_rules, is_fundamental, trait_name};
-use crate::refused::push_refused;
-use crate::sentences::{
-    Piece, Sentence, plain, tell_at, tell_note, with_one, with_three, with_two,
-};
+use crate::refused::tell_refused;
+use crate::sentences::{Piece, Sentence, plain, with_one, with_three, with_two};
 use crate::spoken::Spoken;
 use crate::story::Story;
-use diagnostics::{Diagnostic, Level, Span, Subdiagnostic};
+use crate::telling::Telling;
+use diagnostics::{Diagnostic, Level, Span};
 use orphan_check::errors::Conflict;
 use std::alloc::{AllocError, Global};
 
@@ -43,7 +42,7 @@ fn nothing_fits<'s>(texts: Texts<'s>, spoken: &Spoken, checked: NothingFits) -> 
 /// Why no crate that is not seen may add an impl.
 fn known_said<'s>(texts: Texts<'s>, spoken: &'s Spoken) -> Sentence<'s> {
     let name = Piece::Name(trait_name(texts, spoken.trait_id));
-    let reference = Piece::Text(spoken.reference.as_str());
+    let reference = spoken.reference_piece();
     if is_fundamental(texts, spoken.trait_id) {
         with_two(
             "no other crate may add an impl: `{}` is fundamental, and the orphan rule lets no other crate write one for `{}`",
@@ -78,37 +77,27 @@ fn unseen_why<'s>(texts: Texts<'s>, spoken: &'s Spoken, unseen: Option<Conflict>
     }
 }
 
-/// Adds why nothing that is seen, and nothing that is not, proves the reference.
-fn push_whys(
-    alloc: Global,
-    texts: Texts<'_>,
+/// Tells why nothing that is seen, and nothing that is not, proves the reference.
+fn tell_whys(
     story: &Story<'_>,
     unseen: Option<Conflict>,
     checked: NothingFits,
-    children: &mut Vec<Subdiagnostic>,
-) -> Result<(), AllocError> {
-    push_refused(
-        alloc,
-        texts,
-        story,
-        0,
-        "which no such crate can give",
-        children,
-    )?;
+    telling: &mut Telling,
+) {
+    tell_refused(story, 0, "which no such crate can give", telling);
     let Some(spoken) = story.spoken(0) else {
-        return Ok(());
+        return;
     };
     if story.candidates(0).is_empty() && story.is_whole(0) {
-        tell_note(alloc, nothing_fits(texts, spoken, checked), children)?;
+        telling.note(nothing_fits(story.texts, spoken, checked));
     }
-    tell_note(alloc, unseen_why(texts, spoken, unseen), children)
+    telling.note(unseen_why(story.texts, spoken, unseen));
 }
 
 /// What is said of a question that was answered no, at a span, with which unseen crates may have an impl, and whether it was checked that
 /// nothing that is seen has its reference.
 pub fn refuted(
     alloc: Global,
-    texts: Texts<'_>,
     story: &Story<'_>,
     span: Span,
     unseen: Option<Conflict>,
@@ -116,9 +105,10 @@ pub fn refuted(
 ) -> Result<Diagnostic, AllocError> {
     let message = with_one(
         "no crate that may be linked with this one can make `{}` hold",
-        Piece::Text(story.reference(0)),
+        story.reference(0),
     );
-    let mut told = tell_at(alloc, Level::Note, None, message, span, plain(""))?;
-    push_whys(alloc, texts, story, unseen, checked, &mut told.children)?;
-    Ok(told)
+    let mut telling = Telling::begin(alloc, Level::Note, None, message);
+    telling.mark(span, plain(""));
+    tell_whys(story, unseen, checked, &mut telling);
+    telling.finish()
 }

@@ -1,9 +1,8 @@
 //! By what a candidate holds, in words.
 
 use crate::items::{Texts, impl_piece};
-use crate::sentences::{Piece, piece_text};
+use crate::sentences::Piece;
 use evaluation::{BuiltinImplSource, CandidateSource};
-use std::alloc::{AllocError, Global};
 
 /// What a built-in rule is called.
 fn rule_name(source: BuiltinImplSource) -> &'static str {
@@ -16,20 +15,11 @@ fn rule_name(source: BuiltinImplSource) -> &'static str {
 }
 
 /// By what a candidate holds, as in "by a built-in rule".
-pub(crate) fn source_piece(texts: Texts<'_>, source: CandidateSource) -> Piece<'static> {
+pub fn source_piece(texts: Texts<'_>, source: CandidateSource) -> Piece<'static> {
     match source {
         CandidateSource::Impl(id) => impl_piece(texts, id),
         CandidateSource::BuiltinImpl(source) => Piece::Text(rule_name(source)),
         CandidateSource::ParamEnv(_) => Piece::Text("where-clause"),
         CandidateSource::CoherenceUnknowable => Piece::Text("impl of a crate that is not seen"),
     }
-}
-
-/// By what a candidate holds, as in "by a built-in rule".
-pub fn source_name(
-    alloc: Global,
-    texts: Texts<'_>,
-    source: CandidateSource,
-) -> Result<String, AllocError> {
-    piece_text(alloc, source_piece(texts, source))
 }

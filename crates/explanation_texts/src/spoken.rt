@@ -4,7 +4,7 @@ ghost use Rattle.std.specs.Prelude.{IfSome};
 ghost use Rattle.type_terms.specs.Kinds.{ArgHeld};
 ghost use Rattle.type_terms.specs.Terms.{Has, args_lists, types};
 
-use crate::sentences::{Piece, sentence_text, with_two};
+use crate::sentences::{Piece, Sentence, with_two};
 use crate::words::type_text;
 use answer_lines::{PrintNames, ShownNames, print_const, print_type_within};
 use diagnostics::{TYPE_LIMIT, cut_text};
@@ -17,14 +17,12 @@ use type_terms::kinds::{GenericArgKind, Ty, TyKind};
 
 /// A reference with its self type and its bound, as texts.
 pub struct Spoken {
-    /// `V<u8>: Show`
-    pub reference: String,
     /// `V<u8>`
-    pub subject: String,
+    subject: String,
     /// `Show`
-    pub bound: String,
+    bound: String,
     /// The first argument that is an unknown, the self type among them: `?x`. Empty where none is.
-    pub unknown: String,
+    pub(crate) unknown: String,
     pub trait_id: TraitId,
     /// Whether the self type is an unknown.
     pub is_unknown: bool,
@@ -36,7 +34,6 @@ pub struct Spoken {
 impl Drop for Spoken {
     fn drop(self) {
         let Spoken {
-            reference: _,
             subject: _,
             bound: _,
             unknown: _,
@@ -48,13 +45,18 @@ impl Drop for Spoken {
 }
 
 impl Spoken {
+    /// The whole reference, in a sentence.
+    pub fn reference_piece(&self) -> Piece<'_> {
+        Piece::Reference(self.subject.as_str(), self.bound.as_str())
+    }
+
     /// The bound, in a sentence.
-    pub(crate) fn bound_piece(&self) -> Piece<'_> {
+    pub fn bound_piece(&self) -> Piece<'_> {
         Piece::Text(self.bound.as_str())
     }
 
     /// The self type, in a sentence.
-    pub(crate) fn subject_piece(&self) -> Piece<'_> {
+    pub fn subject_piece(&self) -> Piece<'_> {
         Piece::Text(self.subject.as_str())
     }
 }
@@ -202,14 +204,7 @@ pub fn speak(
     let subject = subject_text(alloc, cx, names, reference)?;
     let bound = bound_text(alloc, cx, names, reference)?;
     let unknown = unknown_text(alloc, cx, names, reference)?;
-    let sentence = with_two(
-        "{}: {}",
-        Piece::Text(subject.as_str()),
-        Piece::Text(bound.as_str()),
-    );
-    let whole = sentence_text(alloc, sentence)?;
     Ok(Spoken {
-        reference: whole,
         subject,
         bound,
         unknown,
@@ -220,18 +215,11 @@ pub fn speak(
 }
 
 /// Which crates may have an impl that is not seen, as the original says it.
-pub fn conflict_text(
-    alloc: Global,
-    spoken: &Spoken,
-    conflict: Conflict,
-) -> Result<String, AllocError> {
+pub fn conflict_said<'s>(spoken: &'s Spoken, conflict: Conflict) -> Sentence<'s> {
     let template = match conflict {
         Conflict::Upstream =>
             "upstream crates may add a new impl of trait `{}` for type `{}` in future versions",
         Conflict::Downstream => "downstream crates may implement trait `{}` for type `{}`",
     };
-    sentence_text(
-        alloc,
-        with_two(template, spoken.bound_piece(), spoken.subject_piece()),
-    )
+    with_two(template, spoken.bound_piece(), spoken.subject_piece())
 }

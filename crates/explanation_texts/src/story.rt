@@ -2,6 +2,8 @@
 
 ghost use Rattle.goal_walk.specs.Walking.{ReferencesHeld};
 
+use crate::items::Texts;
+use crate::sentences::{NONE, Piece};
 use crate::spoken::{Spoken, speak};
 use answer_lines::ShownNames;
 use goal_walk::{Answer, CandidateNode, GoalWalk, Standing};
@@ -18,12 +20,24 @@ pub struct Checked<'w> {
     pub chances: &'w [(usize, usize)],
 }
 
-/// A walk with its references as texts. Its goals are named by their places.
-#[derive(Drop)]
+/// A walk of a text's goal, with its references as texts. Its goals are named by their places.
 pub struct Story<'w> {
+    pub texts: Texts<'w>,
     spoken: Vec<Spoken>,
     walk: &'w GoalWalk,
     checked: Checked<'w>,
+}
+
+// Written, so that what owns one drops it by one call at each way out, and not field by field.
+impl Drop for Story<'_> {
+    fn drop(self) {
+        let Story {
+            texts: _,
+            spoken: _,
+            walk: _,
+            checked: _,
+        } = self;
+    }
 }
 
 /// The references as texts.
@@ -46,6 +60,7 @@ fn speak_all(
 /// A walk over the terms of an interner, told. Of its candidates these were checked. Of others it is said where they are told.
 pub fn tell<'w>(
     alloc: Global,
+    texts: Texts<'w>,
     cx: &Interner,
     names: &ShownNames<'_>,
     walk: &'w GoalWalk,
@@ -55,6 +70,7 @@ pub fn tell<'w>(
 {
     let spoken = speak_all(alloc, cx, names, &walk.references)?;
     Ok(Story {
+        texts,
         spoken,
         walk,
         checked,
@@ -82,27 +98,27 @@ impl Story<'_> {
         self.spoken.get(place)
     }
 
-    /// The reference of a goal as text.
-    pub fn reference(&self, place: usize) -> &str {
+    /// The reference of a goal, in a sentence.
+    pub fn reference(&self, place: usize) -> Piece<'_> {
         match self.spoken.get(place) {
-            Some(spoken) => spoken.reference.as_str(),
-            None => "",
+            Some(spoken) => spoken.reference_piece(),
+            None => NONE,
         }
     }
 
-    /// The self type of a goal.
-    pub(crate) fn subject(&self, place: usize) -> &str {
+    /// The self type of a goal, in a sentence.
+    pub(crate) fn subject(&self, place: usize) -> Piece<'_> {
         match self.spoken.get(place) {
-            Some(spoken) => spoken.subject.as_str(),
-            None => "",
+            Some(spoken) => spoken.subject_piece(),
+            None => NONE,
         }
     }
 
-    /// The bound of a goal.
-    pub(crate) fn bound(&self, place: usize) -> &str {
+    /// The bound of a goal, in a sentence.
+    pub(crate) fn bound(&self, place: usize) -> Piece<'_> {
         match self.spoken.get(place) {
-            Some(spoken) => spoken.bound.as_str(),
-            None => "",
+            Some(spoken) => spoken.bound_piece(),
+            None => NONE,
         }
     }
 
