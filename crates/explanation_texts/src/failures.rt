@@ -61,15 +61,6 @@ fn has_params(texts: Texts<'_>, id: TraitId) -> bool {
     }
 }
 
-/// The line of an impl of a trait. None of an impl of `core`, or of another trait.
-fn line_of_impl<'w>(texts: Texts<'w>, id: ImplId, of_trait: TraitId) -> Option<&'w ImplLine> {
-    if is_of_trait(texts, id, of_trait) {
-        impl_line(texts, id)
-    } else {
-        None
-    }
-}
-
 /// An impl as it is written, with its line: its type, and where the trait has parameters its whole header.
 fn written_impl<'w>(
     texts: Texts<'w>,
@@ -91,26 +82,6 @@ fn written_impl<'w>(
     with_two(template, header, Piece::Number(found.line as usize))
 }
 
-/// Whether one of these impls is of a trait, and stands in the text.
-fn is_written(texts: Texts<'_>, id: TraitId, seen: &[ImplId]) -> bool {
-    for other in seen {
-        if line_of_impl(texts, *other, id).is_some() {
-            return true;
-        }
-    }
-    false
-}
-
-/// Whether one of these impls is of a trait.
-fn is_implemented(texts: Texts<'_>, id: TraitId, seen: &[ImplId]) -> bool {
-    for other in seen {
-        if is_of_trait(texts, *other, id) {
-            return true;
-        }
-    }
-    false
-}
-
 /// That a trait has no impl.
 fn without_impls(texts: Texts<'_>, id: TraitId) -> Sentence<'_> {
     let template = if has_rules(texts, id) {
@@ -121,41 +92,46 @@ fn without_impls(texts: Texts<'_>, id: TraitId) -> Sentence<'_> {
     with_one(template, Piece::Name(trait_name(texts, id)))
 }
 
-/// Appends an impl to a list of so many: nothing where more than is shown stand before it.
-fn list_impl(
-    texts: Texts<'_>,
-    found: &ImplLine,
-    has_params: bool,
-    count: usize,
-    telling: &mut Telling,
-) {
-    if count < LIST_LIMIT {
-        telling.extend_child(written_impl(texts, found, has_params, count == 0));
-    } else if count == LIST_LIMIT {
-        telling.extend_child(plain(", .."));
-    }
-}
-
-/// Tells how a trait is implemented by these impls, as far as a list of them is shown.
-fn tell_impls(texts: Texts<'_>, id: TraitId, seen: &[ImplId], telling: &mut Telling) {
-    let has_params = has_params(texts, id);
-    let how = if has_params { "as" } else { "for" };
+/// Begins to tell how a trait is implemented.
+fn begin_impls(texts: Texts<'_>, id: TraitId, telling: &mut Telling) {
+    let how = if has_params(texts, id) { "as" } else { "for" };
     let name = Piece::Name(trait_name(texts, id));
     telling.help(with_two("`{}` is implemented {} ", name, Piece::Text(how)));
-    let mut count = 0usize;
-    for other in seen {
-        if let Some(found) = line_of_impl(texts, *other, id) {
-            list_impl(texts, found, has_params, count, telling);
-            count = count.saturating_add(1);
-        }
+}
+
+/// Tells an impl of a trait behind so many others: nothing where more than is shown stand before it.
+fn tell_impl(
+    texts: Texts<'_>,
+    id: TraitId,
+    found: &ImplLine,
+    before: usize,
+    telling: &mut Telling,
+) {
+    if before == 0 {
+        begin_impls(texts, id, telling);
+    }
+    if before < LIST_LIMIT {
+        let has_params = has_params(texts, id);
+        telling.extend_child(written_impl(texts, found, has_params, before == 0));
+    } else if before == LIST_LIMIT {
+        telling.extend_child(plain(", .."));
     }
 }
 
 /// Tells how a trait is implemented, by the impls that the crate sees. Those of `core` are not told.
 fn tell_implemented(texts: Texts<'_>, id: TraitId, seen: &[ImplId], telling: &mut Telling) {
-    if is_written(texts, id, seen) {
-        tell_impls(texts, id, seen, telling);
-    } else if !is_implemented(texts, id, seen) {
+    let mut is_implemented = false;
+    let mut count = 0usize;
+    for other in seen {
+        if is_of_trait(texts, *other, id) {
+            is_implemented = true;
+            if let Some(found) = impl_line(texts, *other) {
+                tell_impl(texts, id, found, count, telling);
+                count = count.saturating_add(1);
+            }
+        }
+    }
+    if !is_implemented {
         telling.help(without_impls(texts, id));
     }
 }

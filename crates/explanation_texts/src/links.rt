@@ -25,12 +25,13 @@ struct Link {
 
 /// The link of a path with a number, from the inside out: the link to the last goal has number 0.
 fn link_at(path: &[usize], number: usize) -> Option<Link> {
-    let asked = path.len().checked_sub(number.saturating_add(1))?;
-    let asker = asked.checked_sub(1)?;
-    Some(Link {
-        asker: *path.get(asker)?,
-        asked: *path.get(asked)?,
-    })
+    match path.get(..path.len().saturating_sub(number)) {
+        Some([.., asker, asked]) => Some(Link {
+            asker: *asker,
+            asked: *asked,
+        }),
+        _ => None,
+    }
 }
 
 /// A candidate that asks a goal.

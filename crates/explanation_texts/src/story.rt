@@ -100,7 +100,7 @@ impl Story<'_> {
 
     /// The reference of a goal, in a sentence.
     pub fn reference(&self, place: usize) -> Piece<'_> {
-        match self.spoken.get(place) {
+        match self.spoken(place) {
             Some(spoken) => spoken.reference_piece(),
             None => NONE,
         }
@@ -108,7 +108,7 @@ impl Story<'_> {
 
     /// The self type of a goal, in a sentence.
     pub(crate) fn subject(&self, place: usize) -> Piece<'_> {
-        match self.spoken.get(place) {
+        match self.spoken(place) {
             Some(spoken) => spoken.subject_piece(),
             None => NONE,
         }
@@ -116,7 +116,7 @@ impl Story<'_> {
 
     /// The bound of a goal, in a sentence.
     pub(crate) fn bound(&self, place: usize) -> Piece<'_> {
-        match self.spoken.get(place) {
+        match self.spoken(place) {
             Some(spoken) => spoken.bound_piece(),
             None => NONE,
         }
@@ -124,7 +124,7 @@ impl Story<'_> {
 
     /// Whether the self type of a goal is an unknown.
     pub(crate) fn is_unknown(&self, place: usize) -> bool {
-        match self.spoken.get(place) {
+        match self.spoken(place) {
             Some(spoken) => spoken.is_unknown,
             None => false,
         }
@@ -132,7 +132,7 @@ impl Story<'_> {
 
     /// The first argument of a goal that is an unknown; empty where none is.
     pub(crate) fn unknown(&self, place: usize) -> &str {
-        match self.spoken.get(place) {
+        match self.spoken(place) {
             Some(spoken) => spoken.unknown.as_str(),
             None => "",
         }

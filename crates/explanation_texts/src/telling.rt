@@ -1,6 +1,6 @@
 //! Diagnostics that are being told.
 
-ghost use Rattle.std.specs.Prelude.{◌≡◌, ◌+◌, vec_len, false, IfOk, IfSome, OnOk};
+ghost use Rattle.std.specs.Prelude.{◌≡◌, ◌+◌, vec_len, false, true, IfNone, IfOk, IfSome, OnOk, OnSome};
 ghost use Rattle.std.specs.declared.result.Result.TheVariants.{Ok};
 
 use crate::sentences::{Piece, Sentence, plain, sentence_text, with_one};
@@ -24,86 +24,6 @@ impl Drop for Telling {
             is_refused: _,
         } = self;
     }
-}
-
-/// Adds a mark, with what is said beside it.
-fn push_mark(
-    alloc: Global,
-    span: Span,
-    is_primary: bool,
-    label: Sentence<'_>,
-    spans: &mut Vec<SpanLabel>,
-) -> Result<(), AllocError>
-    ensures { OnOk result (vec_len spans.new ≡ vec_len spans.old + 1) }
-{
-    let label = sentence_text(alloc, label)?;
-    spans.push(SpanLabel {
-        span,
-        is_primary,
-        label,
-    })?;
-    Ok(())
-}
-
-/// Adds a mark to the last child, if there is one.
-fn mark_last(
-    alloc: Global,
-    span: Span,
-    is_primary: bool,
-    label: Sentence<'_>,
-    children: &mut Vec<Subdiagnostic>,
-) -> Result<(), AllocError> {
-    match children.last_mut() {
-        Some(child) => push_mark(alloc, span, is_primary, label, &mut child.spans),
-        None => Ok(()),
-    }
-}
-
-/// Appends to the message of the last child, if there is one.
-fn extend_last(
-    alloc: Global,
-    more: Sentence<'_>,
-    children: &mut Vec<Subdiagnostic>,
-) -> Result<(), AllocError> {
-    let more = sentence_text(alloc, more)?;
-    match children.last_mut() {
-        Some(child) => child.message.push_str(more.as_str()),
-        None => Ok(()),
-    }
-}
-
-/// Adds a child without a place.
-fn push_child(
-    alloc: Global,
-    level: Level,
-    message: Sentence<'_>,
-    children: &mut Vec<Subdiagnostic>,
-) -> Result<(), AllocError>
-    ensures { OnOk result (vec_len children.new ≡ vec_len children.old + 1) }
-{
-    let message = sentence_text(alloc, message)?;
-    children.push(Subdiagnostic::new(alloc, level, message))?;
-    Ok(())
-}
-
-/// Adds a row of a proof.
-fn push_row(
-    alloc: Global,
-    depth: usize,
-    goal: Piece<'_>,
-    reason: Sentence<'_>,
-    rows: &mut Vec<ProofRow>,
-) -> Result<(), AllocError>
-    ensures { OnOk result (vec_len rows.new ≡ vec_len rows.old + 1) }
-{
-    let goal = sentence_text(alloc, with_one("{}", goal))?;
-    let reason = sentence_text(alloc, reason)?;
-    rows.push(ProofRow {
-        depth,
-        goal,
-        reason,
-    })?;
-    Ok(())
 }
 
 impl Telling {
@@ -153,6 +73,7 @@ impl Telling {
     /// What was asked for beside the telling; where it was refused this is kept in mind.
     pub fn granted<T>(&mut self, asked: Result<T, AllocError>) -> Option<T>
         ensures value { IfSome result (λ given. asked ≡ Ok given) }
+        ensures refused { IfNone result (self.new.is_refused ≡ true) }
         ensures stays { self.new.is_refused ≡ false → self.old.is_refused ≡ false }
         ensures told { self.new.told ≡ self.old.told }
     {
@@ -165,20 +86,40 @@ impl Telling {
         }
     }
 
+    /// A sentence as text, if no request was refused.
+    fn text_of(&mut self, sentence: Sentence<'_>) -> Option<String>
+        ensures refused { IfNone result (self.new.is_refused ≡ true) }
+        ensures stays { OnSome result (self.old.is_refused ≡ false) }
+        ensures told { self.new.told ≡ self.old.told }
+    {
+        if self.is_refused {
+            return None;
+        }
+        let asked = sentence_text(self.alloc, sentence);
+        self.granted(asked)
+    }
+
+    /// Adds a mark to the message, with what is said beside it.
+    fn add_mark(&mut self, span: Span, is_primary: bool, label: Sentence<'_>)
+        ensures told { self.new.is_refused ≡ false → vec_len self.new.told.spans ≡ vec_len self.old.told.spans + 1 }
+        ensures stays { self.new.is_refused ≡ false → self.old.is_refused ≡ false }
+    {
+        if let Some(label) = self.text_of(label) {
+            let mark = SpanLabel {
+                span,
+                is_primary,
+                label,
+            };
+            self.is_refused = self.told.spans.push(mark).is_err();
+        }
+    }
+
     /// Marks what the message is about, with what is said beside it.
     pub fn mark(&mut self, span: Span, label: Sentence<'_>)
         ensures told { self.new.is_refused ≡ false → vec_len self.new.told.spans ≡ vec_len self.old.told.spans + 1 }
         ensures stays { self.new.is_refused ≡ false → self.old.is_refused ≡ false }
     {
-        if !self.is_refused {
-            self.is_refused = push_mark(
-                self.alloc,
-                span,
-                true,
-                label,
-                &mut self.told.spans,
-            ).is_err();
-        }
+        self.add_mark(span, true, label);
     }
 
     /// Marks what stands beside what the message is about, with what is said there.
@@ -186,15 +127,7 @@ impl Telling {
         ensures told { self.new.is_refused ≡ false → vec_len self.new.told.spans ≡ vec_len self.old.told.spans + 1 }
         ensures stays { self.new.is_refused ≡ false → self.old.is_refused ≡ false }
     {
-        if !self.is_refused {
-            self.is_refused = push_mark(
-                self.alloc,
-                span,
-                false,
-                label,
-                &mut self.told.spans,
-            ).is_err();
-        }
+        self.add_mark(span, false, label);
     }
 
     /// Adds a child without a place.
@@ -202,13 +135,9 @@ impl Telling {
         ensures told { self.new.is_refused ≡ false → vec_len self.new.told.children ≡ vec_len self.old.told.children + 1 }
         ensures stays { self.new.is_refused ≡ false → self.old.is_refused ≡ false }
     {
-        if !self.is_refused {
-            self.is_refused = push_child(
-                self.alloc,
-                level,
-                message,
-                &mut self.told.children,
-            ).is_err();
+        if let Some(message) = self.text_of(message) {
+            let child = Subdiagnostic::new(self.alloc, level, message);
+            self.is_refused = self.told.children.push(child).is_err();
         }
     }
 
@@ -228,43 +157,44 @@ impl Telling {
         self.add_child(Level::Help, message);
     }
 
+    /// Adds a mark to the last child, with what is said beside it.
+    fn mark_last(&mut self, span: Span, is_primary: bool, label: Sentence<'_>)
+        ensures { self.new.is_refused ≡ false → self.old.is_refused ≡ false }
+    {
+        if let Some(label) = self.text_of(label) {
+            if let Some(child) = self.told.children.last_mut() {
+                let mark = SpanLabel {
+                    span,
+                    is_primary,
+                    label,
+                };
+                self.is_refused = child.spans.push(mark).is_err();
+            }
+        }
+    }
+
     /// Marks what the last child is about, with nothing beside it.
     pub fn mark_child(&mut self, span: Span)
         ensures { self.new.is_refused ≡ false → self.old.is_refused ≡ false }
     {
-        if !self.is_refused {
-            let label = plain("");
-            self.is_refused = mark_last(
-                self.alloc,
-                span,
-                true,
-                label,
-                &mut self.told.children,
-            ).is_err();
-        }
+        self.mark_last(span, true, plain(""));
     }
 
     /// Marks what stands beside what the last child is about, with what is said there.
     pub(crate) fn mark_child_beside(&mut self, span: Span, label: Sentence<'_>)
         ensures { self.new.is_refused ≡ false → self.old.is_refused ≡ false }
     {
-        if !self.is_refused {
-            self.is_refused = mark_last(
-                self.alloc,
-                span,
-                false,
-                label,
-                &mut self.told.children,
-            ).is_err();
-        }
+        self.mark_last(span, false, label);
     }
 
     /// Appends to the message of the last child.
     pub(crate) fn extend_child(&mut self, more: Sentence<'_>)
         ensures { self.new.is_refused ≡ false → self.old.is_refused ≡ false }
     {
-        if !self.is_refused {
-            self.is_refused = extend_last(self.alloc, more, &mut self.told.children).is_err();
+        if let Some(more) = self.text_of(more) {
+            if let Some(child) = self.told.children.last_mut() {
+                self.is_refused = child.message.push_str(more.as_str()).is_err();
+            }
         }
     }
 
@@ -273,14 +203,15 @@ impl Telling {
         ensures told { self.new.is_refused ≡ false → vec_len self.new.told.proof ≡ vec_len self.old.told.proof + 1 }
         ensures stays { self.new.is_refused ≡ false → self.old.is_refused ≡ false }
     {
-        if !self.is_refused {
-            self.is_refused = push_row(
-                self.alloc,
+        let goal = self.text_of(with_one("{}", goal));
+        let reason = self.text_of(reason);
+        if let (Some(goal), Some(reason)) = (goal, reason) {
+            let row = ProofRow {
                 depth,
                 goal,
                 reason,
-                &mut self.told.proof,
-            ).is_err();
+            };
+            self.is_refused = self.told.proof.push(row).is_err();
         }
     }
 }
