@@ -8,3 +8,4 @@ mod UnseenCrates
 mod Unmatched
 mod Rowless
 mod InstanceFacts
+mod OwnTerms

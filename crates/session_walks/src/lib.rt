@@ -18,6 +18,7 @@ mod rules;
 mod shown;
 mod steps;
 mod supertraits;
+mod unknowns;
 mod unseen;
 mod walking;
 mod walks;

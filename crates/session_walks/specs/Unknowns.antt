@@ -1,0 +1,32 @@
+-- Terms that speak of a table's own unknowns.
+use Rattle.std.specs.Prelude.{ℕ, Bool, true, not, nat_lt}
+use Rattle.type_terms.specs.Label.{Label, Sort, of_type, of_const, of_lifetime, infer, canonical, principal, auto_trait}
+use Rattle.type_terms.specs.Trees.{Trees, none, tree, erase_label, some_node}
+use Rattle.type_terms.specs.Answers.{is_open}
+use Rattle.type_terms.specs.Visits.{IsBound}
+use Rattle.type_terms.specs.declared.visit.Seen.TheVariants.{Enter}
+use Rattle.candidate_assembly.specs.Finding.{BreaksAt, at_root}
+use Rattle.session_walks.specs.declared.unknowns.FindsForeign.{FindsForeign}
+
+-- An open place that is no unknown with a number below these. Lifetimes that a binder binds or a declaration names are none.
+abbrev pub is_foreign : (Sort → ℕ) → Label → Bool
+is_foreign counts (infer s v) = not (nat_lt v (counts s))
+is_foreign counts (canonical s i) = true
+is_foreign counts l = is_open (erase_label l)
+
+-- No such place is in the trees.
+abbrev pub speaks_of : (Sort → ℕ) → Trees → Bool
+speaks_of counts t = not (some_node (is_foreign counts) t)
+
+-- How many unknowns of each sort the visitor knows.
+abbrev pub known_to : FindsForeign → Sort → ℕ
+known_to v of_type = v.ty_vars
+known_to v of_const = v.const_vars
+known_to v of_lifetime = v.region_vars
+
+-- The bounds of a `dyn` are no open places.
+pub bounds-are-own : (B : Type 0) (counts : Sort → ℕ) (t : Trees) → IsBound t → BreaksAt {B = B} (at_root (is_foreign counts) t) Enter
+bounds-are-own B counts (tree (principal m i) c o) h = tt
+bounds-are-own B counts (tree (auto_trait i) c o) h = tt
+bounds-are-own B counts none h = tt
+bounds-are-own B counts (tree l c o) h = absurd h
