@@ -263,7 +263,7 @@ fn explain_refuting(
         answer,
         unseen: unseen_at(session, &walk, 0)?,
         checked: NothingFits {
-            no_impl: no_impl_fits(session, &walk, 0),
+            no_impl: no_impl_fits(session, &walk, 0)?,
             no_built_in_rule: no_built_in_rule_fits(session, &walk, 0),
         },
     };

@@ -9,3 +9,5 @@ mod Unmatched
 mod Rowless
 mod InstanceFacts
 mod OwnTerms
+mod HeadersApart
+mod PassedImpls

@@ -1,11 +1,9 @@
--- An impl that cannot match a reference has no rule for it, whatever its unknowns stand for.
-use Rattle.std.proofs.Common.{◌≡◌, ◌==◌, ℕ, zero, Bool, true, false, not, List, [], ◌∷◌, map, cond, Option, Some, None, refl, sym, ap, ◌∙◌, subst, ◌⊎◌, inl, inr}
-use Rattle.std.specs.Prelude.{filter}
+-- An impl that cannot match a reference has no rule for any instance of it.
+use Rattle.std.proofs.Common.{◌≡◌, ◌==◌, ℕ, zero, true, false, not, List, [], ◌∷◌, Some, refl, sym, ap, ◌∙◌, subst, ◌⊎◌, inl, inr}
 use Rattle.type_terms.specs.Label.{Label, Sort, of_type, of_const, of_lifetime, param, placeholder, infer, canonical, bound}
 use Rattle.type_terms.specs.Trees.{Trees, none, tree, ◌+++◌, IsA, Fits, erase, erase_label, instantiate, flags, label_flags}
 use Rattle.type_terms.specs.Codes.{same_label}
 use Rattle.type_terms.specs.Rules.{by_impl, impl_rules}
-use Rattle.type_terms.specs.Proofs.{In}
 use Rattle.type_terms.specs.Terms.{Entry, Lawful, Has, Is, trees_at, types, args_lists}
 use Rattle.type_terms.specs.Kinds.{ArgHeld, ArgsHeld, arg_trees, args_trees}
 use Rattle.type_terms.specs.Kept.{is-at}
@@ -14,25 +12,21 @@ use Rattle.type_terms.specs.declared.kinds.GenericArgKind.{GenericArgKind}
 use Rattle.type_terms.specs.declared.kinds.GenericArgKind.TheVariants.{Ty as AType}
 use Rattle.term_folds.specs.Signatures.{StartsWithType}
 use Rattle.std.specs.List.{slice_get}
-use Rattle.std.specs.Option.{is_some, option_map}
-use Rattle.type_terms.specs.declared.ImplId.{ImplId}
 use Rattle.overlap_check.specs.ImplRules.{ImplRulesAreInstances}
 use Rattle.type_terms.specs.Worlds.{Reference, ImplDecl, with_args, all_with_args}
 use Rattle.type_terms.specs.Erased.{erased_reference, erased_impl}
 use Rattle.type_terms.proofs.Applies.{same-complete, same-label-itself}
 use Rattle.type_terms.proofs.Made.{false-true}
-use Rattle.type_terms.proofs.Members.{in-cases, in-nothing, self-number}
-use Rattle.type_terms.proofs.ProofEntries.{map-in}
+use Rattle.type_terms.proofs.Members.{self-number}
 use Rattle.type_terms.proofs.Walking.{both}
 use Rattle.declarations.specs.Apart.{levels, are_apart}
 use Rattle.declarations.specs.Heads.{head_of}
-use Rattle.declarations.specs.Items.{Items, declared, written}
-use Rattle.declarations.specs.Relevant.{is_relevant_to, is_match, matches_in, next_above}
+use Rattle.declarations.specs.Relevant.{is_relevant_to, is_match}
 use Rattle.declarations.proofs.Fixed.{no-flags, top, child, next, three, fixed-label, fixed-erased, fixed-instance}
 use Rattle.declarations.proofs.MeetingLaws.{Reads, ReadNode, erased-again, instantiate-reads, meet, not-apart}
 use Rattle.infer_table.specs.Solutions.{Assignment, instance}
 use Rattle.overlap_check.proofs.Tops.{erased-reads}
-use Rattle.session_walks.specs.Rules.{HasNoImpl, assigned, begins_known}
+use Rattle.session_walks.specs.Rules.{HasNoRuleBy, assigned, begins_known}
 
 -- ---- what is apart
 -- an unknown is a variable of types, constants or lifetimes
@@ -113,26 +107,8 @@ unmatched s r n i (inr x) m = absurd (false-true (sym m ∙ matches))
         (both (is_relevant_to (erase r.args) (erase i.header.args)) _ (instance-relevant s x.0 (erase i.header.args) r.args n args)
         (ap not (apart-no-instance s x.0 r.args i.header.args args)))
 
--- ---- all of them
-passes-none : (p : ImplDecl → Bool) (is : List ImplDecl) → None ≡ next_above None (map (λ (i : ImplDecl). i.name) (filter p is)) → (i : ImplDecl) → In i is → p i ≡ false
-passes-none p [] e i j = absurd (in-nothing i j)
-passes-none p (x ∷ is) e i j = by (p x) refl e (in-cases i x is j) (passes-none p is)
-  where
-    differ : (n : ℕ) → (let o : Option ℕ = None in o) ≡ Some n → ⊥
-    differ n z = cc
-
-    by : (b : Bool) → p x ≡ b → None ≡ next_above None (map (λ (i : ImplDecl). i.name) (cond b (x ∷ filter p is) (filter p is))) → (x ≡ i) ⊎ In i is
-        → (None ≡ next_above None (map (λ (i : ImplDecl). i.name) (filter p is)) → (i : ImplDecl) → In i is → p i ≡ false) → p i ≡ false
-    by true q f o go = absurd (differ x.name f)
-    by false q f (inl s) go = subst (λ z. p z ≡ false) s q
-    by false q f (inr k) go = go f i k
-
-pub none-fits : (es : List Entry) (d : Items) (r : Reference) → begins_known r.args ≡ true → ((q : Reference) (i : ImplDecl) → HasInstance q i)
-    → None ≡ next_above None (matches_in es d r) → HasNoImpl (declared es d) (erased_reference r)
-none-fits es d r n law e s i j =
-    let x = map-in erased_impl (written es d).impls i j in
-    subst (λ z. impl_rules (assigned s (erased_reference r)) z ≡ []) x.2
-    (unmatched s r n x.0 (law (assigned s (erased_reference r)) (erased_impl x.0)) (passes-none (is_match r.trait r.args) (written es d).impls e x.0 x.1))
+pub no-match : ((q : Reference) (i : ImplDecl) → HasInstance q i) → (r : Reference) → begins_known r.args ≡ true → (i : ImplDecl) → is_match r.trait r.args i ≡ false → HasNoRuleBy (erased_reference r) (erased_impl i)
+no-match law r n i m q x = subst (λ z. impl_rules z (erased_impl i) ≡ []) x.2 (unmatched x.0 r n i (law (assigned x.0 (erased_reference r)) (erased_impl i)) m)
 
 -- ---- self types
 begins : (t u : Trees) → IsA of_type t → StartsWithType (t +++ u)
@@ -182,12 +158,6 @@ pub head-of-first : (es : List Entry) → Lawful es → (i : ℕ) (xs : List Gen
 head-of-first es law i xs t at held e =
     let b = begins-with es i xs t at e in
     ap head_of b.1 ∙ heads-first (trees_at es t.0) b.0 (type-is es law t.0 (held-type es xs t held e))
-
--- ---- what a look at the impls tells
-pub nothing-next : (o : Option ImplId) (b : Bool) → is_some o ≡ not b → b ≡ true → None ≡ option_map (λ (i : ImplId). i.index) o
-nothing-next None b h q = refl
-nothing-next (Some i) true h q = cc
-nothing-next (Some i) false h q = cc
 
 pub instance-of : ImplRulesAreInstances → (r : Reference) (i : ImplDecl) → HasInstance r i
 instance-of law r i = by (law r i).0

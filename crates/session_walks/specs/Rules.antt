@@ -53,9 +53,17 @@ assigned s r = record r { args = instance s r.args }
 abbrev pub IsInstanceOf : Reference → Reference → Type 0
 IsInstanceOf r q = (s : Assignment) × IsSorted s × (assigned s r ≡ q)
 
+-- The impl has no rule for any instance of r.
+abbrev pub HasNoRuleBy : Reference → ImplDecl → Type 0
+HasNoRuleBy r i = (q : Reference) → IsInstanceOf r q → impl_rules q i ≡ []
+
 -- Whatever its unknowns stand for, no impl of W has a rule for r.
 abbrev pub HasNoImpl : World → Reference → Type 0
-HasNoImpl W r = (s : Assignment) (i : ImplDecl) → In i W.impls → impl_rules (assigned s r) i ≡ []
+HasNoImpl W r = (i : ImplDecl) → In i W.impls → HasNoRuleBy r i
+
+-- The impl of W with this number has none.
+abbrev pub HasNoRuleByImpl : World → Reference → ℕ → Type 0
+HasNoRuleByImpl W r n = (i : ImplDecl) → In i W.impls → i.name ≡ n → HasNoRuleBy r i
 
 -- None has one for the goal at place p of rs.
 abbrev pub HasNoImplAt : List Entry → World → List TraitRef → ℕ → Type 0

@@ -1,27 +1,41 @@
 //! Which goals no impl and no built-in rule has.
 
-ghost use Rattle.std.specs.Prelude.{◌≡◌, true, List, IfSome};
+ghost use Rattle.std.specs.Prelude.{◌≡◌, true, List, IfOk, IfSome};
 ghost use Rattle.type_terms.specs.Terms.{Has, types, trees_at};
+ghost use Rattle.type_terms.specs.Growth.{Grew};
 ghost use Rattle.type_terms.specs.Worlds.{CrateDecl};
 ghost use Rattle.term_folds.specs.Signatures.{StartsWithType};
 ghost use Rattle.declarations.specs.Heads.{head_of, label_of};
-ghost use Rattle.declarations.specs.Held.{AreHeld, ReferenceHeld};
+ghost use Rattle.declarations.specs.Held.{ReferenceHeld};
 ghost use Rattle.declarations.specs.Items.{declared};
+ghost use Rattle.candidate_assembly.specs.Ready.{AreReadyDeclarations};
+ghost use Rattle.goal_walk.specs.Walking.{ReferencesHeld};
 ghost use Rattle.proof_checker.specs.Steps.{term_of};
+ghost use Rattle.sessions.specs.Checking.{rules_in};
 ghost use Rattle.sessions.specs.Promises.{view_in};
+ghost use Rattle.sessions.specs.Proving.{SolverAdvances, SolverIsReady};
+ghost use Rattle.sessions.specs.Subjects.{StaysOn};
 ghost use Rattle.session_walks.specs.Rules.{HasNoImpl, HasNoImplAt, HasNoRow, HasNoRowAt, begins_known, is_bare};
 ghost use Rattle.session_walks.specs.Walked.{WalkHeld};
 
+use crate::apart::all_are_apart;
+use crate::instances::table_for_goals;
 use crate::places::reference_at;
+use crate::unknowns::is_of_table;
 use built_in_candidates::built_in::SIZED;
 use built_in_candidates::built_in_rules::is_auto;
 use built_in_candidates::unsize_struct::UNSIZE;
+use candidate_assembly::solver::Solver;
 use declarations::declarations::Declarations;
+use declarations::laws::declarations_are_kept;
 use declarations::simplify::{SimplifiedType, simplify_type};
 use goal_walk::GoalWalk;
 use overlap_check::impl_rules_are_instances;
 use sessions::Session;
+use solver_context::SolverCx;
+use std::alloc::Global;
 use term_folds::predicate::TraitRef;
+use type_terms::Fault;
 use type_terms::interner::Interner;
 use type_terms::kinds::{GenericArgKind, Ty, TyKind};
 
@@ -67,22 +81,54 @@ fn is_known(cx: &Interner, ty: Ty) -> bool
     }
 }
 
-/// Whether heads, and the first levels of the arguments, tell that no impl has a rule for a reference, whatever its unknowns stand for.
-fn has_no_impl(cx: &Interner, declarations: &Declarations, reference: TraitRef) -> bool
-    requires held { AreHeld cx.now.entries declarations.now }
-    requires reference { ReferenceHeld cx.now.entries reference }
-    ensures { result ≡ true → HasNoImpl (declared cx.now.entries declarations.now) (term_of cx.now.entries reference) }
+/// Whether no impl has a rule for a reference, whatever its unknowns stand for: heads, and the first levels of the arguments, tell them apart,
+/// or equations of headers do.
+fn has_no_impl(
+    alloc: Global,
+    cx: &mut Interner,
+    declarations: &Declarations,
+    reference: TraitRef,
+) -> Result<bool, Fault>
+    requires ready { AreReadyDeclarations cx.old.entries declarations.now }
+    requires reference { ReferenceHeld cx.old.entries reference }
+    ensures grew { Grew cx.old cx.new }
+    ensures none { IfOk result (λ b. b ≡ true
+        → HasNoImpl (declared cx.old.entries declarations.now) (term_of cx.old.entries reference)) }
 {
     impl_rules_are_instances();
-    match self_type(cx, reference) {
-        Some(ty) => {
-            is_known(cx, ty)
-                && declarations
-                    .next_matching_impl(cx, reference, None)
-                    .is_none()
-        }
-        None => false,
+    declarations_are_kept();
+    let Some(ty) = self_type(cx, reference) else {
+        return Ok(false);
+    };
+    if !is_known(cx, ty) {
+        return Ok(false);
     }
+    let matching = declarations.next_matching_impl(cx, reference, None);
+    if matching.is_none() {
+        return Ok(true);
+    }
+    let mut table = table_for_goals(alloc, cx)?;
+    if !is_of_table(cx, &table, reference.args) {
+        return Ok(false);
+    }
+    all_are_apart(alloc, cx, declarations, &mut table, reference)
+}
+
+/// Whether no impl has a rule for the goal at a place of a walk.
+fn has_no_impl_at(cx: &mut SolverCx<Solver>, walk: &GoalWalk, place: usize) -> Result<bool, Fault>
+    requires ready { SolverIsReady cx.old }
+    requires walked { ReferencesHeld cx.old.interner.entries walk.now.references.items }
+    ensures advances { SolverAdvances cx.old cx.new }
+    ensures none { IfOk result (λ b. b ≡ true
+        → HasNoImplAt cx.old.interner.entries (rules_in cx.old) walk.now.references.items place) }
+{
+    let Some(reference) = reference_at(&walk.references, place) else {
+        return Ok(false);
+    };
+    let declarations = &cx.handler.declarations;
+    let told = has_no_impl(cx.alloc, &mut cx.interner, declarations, reference);
+    cx.interner.lawful();
+    told
 }
 
 /// Whether types of this head are no tuples, no `fn` pointers and no `dyn`.
@@ -133,22 +179,17 @@ fn has_no_row(cx: &Interner, declarations: &Declarations, reference: TraitRef) -
 /// Whether no impl that the session's crate sees has a rule for the goal at a place of a walk, whatever types, lifetimes and constants its
 /// unknowns stand for.
 ///
-/// `false` says nothing: heads and the first levels of the arguments are compared, and no more; and the walk may have no such place.
-pub fn no_impl_fits(session: &Session<'_>, walk: &GoalWalk, place: usize) -> bool
-    requires { WalkHeld session.now.terms walk.now }
-    ensures { result ≡ true
-        → HasNoImplAt session.now.terms (view_in session.now.declarations session.now.of_crate) walk.now.references.items place }
+/// `false` says nothing: of a goal whose self type is unknown nothing is told, and of one with a parameter, or with an unknown whose number is
+/// 64 or more, only what heads tell. And the walk may have no such place. The fault is `Memory` where memory is refused, or `Full` where a
+/// table of the session is full.
+pub fn no_impl_fits(session: &mut Session<'_>, walk: &GoalWalk, place: usize) -> Result<bool, Fault>
+    requires { WalkHeld session.old.terms walk.now }
+    ensures none { IfOk result (λ b. b ≡ true
+        → HasNoImplAt session.old.terms (view_in session.old.declarations session.old.of_crate) walk.now.references.items place) }
+    ensures held { WalkHeld session.new.terms walk.now }
+    ensures stays { StaysOn session.old session.new }
 {
-    match reference_at(&walk.references, place) {
-        Some(reference) => {
-            has_no_impl(
-                &session.cx.interner,
-                &session.cx.handler.declarations,
-                reference,
-            )
-        }
-        None => false,
-    }
+    has_no_impl_at(&mut session.cx, walk, place)
 }
 
 /// Whether no built-in rule concludes the goal at a place of a walk, by what the session's crate sees and whatever its unknowns stand for.

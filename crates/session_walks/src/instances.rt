@@ -1,6 +1,6 @@
 //! Impls that may apply: they have rules for instances of goals.
 
-ghost use Rattle.std.specs.Prelude.{◌≡◌, true, IfOk};
+ghost use Rattle.std.specs.Prelude.{◌≡◌, true, [], IfOk};
 ghost use Rattle.type_terms.specs.Growth.{Grew};
 ghost use Rattle.declarations.specs.Held.{ReferenceHeld};
 ghost use Rattle.declarations.specs.Items.{declared};
@@ -21,18 +21,20 @@ use type_terms::interner::Interner;
 use type_terms::{Fault, ImplId};
 
 /// How many unknowns of each sort a goal may have so that an impl's parameters are told apart from them. Where it has more, a parameter may be
-/// taken for one of them, and then the impl may be missed.
+/// taken for one of them: then an impl that may apply may be missed, and one that is kept out is not told.
 const GOAL_UNKNOWNS: usize = 64;
 
 /// A table in which the numbers of a goal's unknowns are taken, without values.
-fn table_for_goals(alloc: Global, cx: &mut Interner) -> Result<InferCtxt, Fault>
+pub(crate) fn table_for_goals(alloc: Global, cx: &mut Interner) -> Result<InferCtxt, Fault>
     ensures ready { IfOk result (Ready cx.new.entries) }
+    ensures no_values { IfOk result (λ table. table.values ≡ []) }
     ensures grew { Grew cx.old cx.new }
 {
     let mut table = InferCtxt::new(alloc);
     'taken: for _taken in 0..GOAL_UNKNOWNS {
         table.next_ty_var(cx)?;
         table.next_const_var(cx)?;
+        table.next_region_var()?;
     }
     Ok(table)
 }

@@ -2,10 +2,11 @@
 //!
 //! What a walk shows is how the search answers each goal, and no more is proved of it than that its terms are the session's. But the
 //! steps of a proof that it finds go through the checker (`Session::is_proof_of`), so what is shown as checked is a proof; and so do
-//! candidates (`checked_candidates`), and what two overlapping impls have in common. That no impl and no built-in rule fits a
-//! goal is looked up (`no_impl_fits`, `no_built_in_rule_fits`).
+//! candidates (`checked_candidates`), and what two overlapping impls have in common. That no impl fits a goal is told by heads and by
+//! equations (`no_impl_fits`), and that no built-in rule does is looked up (`no_built_in_rule_fits`).
 #![tactic(auto)]
 
+mod apart;
 mod breaking;
 mod explained;
 mod fitting;

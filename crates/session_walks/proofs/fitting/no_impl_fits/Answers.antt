@@ -1,27 +1,45 @@
-use Rattle.std.proofs.Common.{◌≡◌, Some, sym, subst}
-use Rattle.std.specs.List.{slice_get}
+use Rattle.std.proofs.Common.{◌≡◌, true, sym, subst}
+use Rattle.std.specs.Prelude.{IfOk}
 use Rattle.type_terms.specs.Worlds.{World}
-use Rattle.declarations.specs.Held.{ReferenceHeld}
-use Rattle.proof_checker.specs.Steps.{term_of}
+use Rattle.proof_checker.proofs.Results.{mapped}
+use Rattle.goal_walk.proofs.Walks.{references-later}
 use Rattle.sessions.specs.Promises.{view_in}
 use Rattle.sessions.specs.Subjects.{Subject}
-use Rattle.session_walks.specs.Rules.{HasNoImpl, HasNoImplAt}
-use Rattle.session_walks.proofs.RuleCandidates.{there-held}
+use Rattle.sessions.proofs.Keeping.{session-rests}
+use Rattle.session_walks.specs.Rules.{HasNoImplAt}
+use Rattle.session_walks.specs.Walked.{WalkHeld}
+use Rattle.session_walks.proofs.Rests.{rests-advanced}
+use Rattle.session_walks.proofs.Staying.{kept-within, stays}
 use Rattle.session_walks.proofs.fitting.no_impl_fits.Goals as goal
 
-pub has_no_impl-requires-clause-held : goal.has_no_impl-requires-clause-held
-has_no_impl-requires-clause-held c = c.session.invariant.session.rest.ready.handler.held
+pub has_no_impl_at-requires-clause-ready : goal.has_no_impl_at-requires-clause-ready
+has_no_impl_at-requires-clause-ready c = c.session.invariant.session.rest.ready
 
-pub has_no_impl-requires-clause-reference : goal.has_no_impl-requires-clause-reference
-has_no_impl-requires-clause-reference c =
-    subst (λ (s : Subject). ReferenceHeld s.terms c.in-Some.reference) (sym c.session.view_is)
-    (there-held c.args.session.now.terms c.args.walk.now.references.items c.args.place c.in-Some.reference c.requires (subst (λ l. slice_get l c.args.place ≡ Some c.in-Some.reference) c.deref.ensures.value c.in-Some.ensures))
+pub has_no_impl_at-requires-clause-walked : goal.has_no_impl_at-requires-clause-walked
+has_no_impl_at-requires-clause-walked c = subst (λ (s : Subject). WalkHeld s.terms c.args.walk.now) (sym c.session.view_is) c.requires
 
-pub returns-in-Some : goal.returns-in-Some
-returns-in-Some c = λ q.
+pub invariant_of-session : goal.invariant_of-session
+invariant_of-session c =
     let i = c.session.inside in
-    let r = c.in-Some.reference in
+    let new = c.has_no_impl_at.new.cx in
+    kept-within i.workspace.now i.crate_id.index i.limits.depth i.limits.handles i.cx new i.graph i.graph i.cache i.cache c.session.invariant
+    (rests-advanced i.graph.root_depth i.cx new i.graph i.cache (session-rests i.workspace.now i.crate_id.index i.limits.depth i.cx i.graph i.cache c.session.invariant.session) c.has_no_impl_at.ensures.advances)
+
+pub returns-clause-none : goal.returns-clause-none
+returns-clause-none c =
+    let i = c.session.inside in
+    let es = i.cx.interner.entries in
     let rs = c.args.walk.now.references.items in
-    let at = subst (λ l. slice_get l c.args.place ≡ Some r) c.deref.ensures.value c.in-Some.ensures in
-    subst (λ (s : Subject). HasNoImplAt s.terms (view_in s.declarations s.of_crate) rs c.args.place) c.session.view_is
-    (r, at, subst (λ (V : World). HasNoImpl V (term_of i.cx.interner.entries r)) c.session.invariant.session.view.rules (c.has_no_impl.ensures q))
+    let p = c.args.place in
+    subst (λ (s : Subject). IfOk c.has_no_impl_at.result (λ b. b ≡ true → HasNoImplAt s.terms (view_in s.declarations s.of_crate) rs p)) c.session.view_is
+    (mapped _ _ c.has_no_impl_at.result (λ b f q. subst (λ (V : World). HasNoImplAt es V rs p) c.session.invariant.session.view.rules (f q)) c.has_no_impl_at.ensures.none)
+
+pub returns-clause-held : goal.returns-clause-held
+returns-clause-held c =
+    references-later c.session.inside.cx.interner.entries c.has_no_impl_at.new.cx.interner.entries c.has_no_impl_at.ensures.advances.entries c.args.walk.now.references.items
+    (subst (λ (s : Subject). WalkHeld s.terms c.args.walk.now) (sym c.session.view_is) c.requires)
+
+pub returns-clause-stays : goal.returns-clause-stays
+returns-clause-stays c =
+    let i = c.session.inside in
+    stays i.workspace.now i.crate_id.index i.limits.depth i.limits.handles i.cx c.has_no_impl_at.new.cx i.graph i.graph _ c.session.view_is c.has_no_impl_at.ensures.advances.entries

@@ -1,3 +1,4 @@
+use Rattle.std.proofs.Common.{◌≡◌, []}
 use Rattle.type_terms.specs.Growth.{Grew}
 use Rattle.infer_table.specs.Content.{Ready}
 use Rattle.session_walks.proofs.instances.table_for_goals.Given as goal
@@ -5,5 +6,6 @@ use Rattle.session_walks.proofs.instances.table_for_goals.Given as goal
 abbrev pub invariant-taken : goal.invariant-taken
 invariant-taken l = record {
   ready : Ready l.cx.entries l.table;
+  no_values : l.table.values ≡ [];
   grew : Grew l.fn.cx l.cx;
 }

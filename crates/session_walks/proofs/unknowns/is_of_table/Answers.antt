@@ -14,8 +14,8 @@ returns-in-Break c =
     let t = trees_at es c.args.args.0 in
     ap (λ z. not (is_some (break_value z))) (sym c.in-Break.is)
     ∙ ap not (once-finds (λ (v : FindsForeign) x. at_root (is_foreign (known_to v)) x) es c.visit_args.ensures.visited c.new-finds.ensures.visitor (c.new-finds.ensures.entered es))
-    ∙ ap not (some-at-root (is_foreign (known_to (visitor_at c.snapshot.result))) t)
-    ∙ ap (λ counts. speaks_of counts t) (same-counts c.args.table.now c.snapshot.result c.snapshot.ensures)
+    ∙ ap not (some-at-root (is_foreign (known_to (visitor_at c.snapshot-known.result))) t)
+    ∙ ap (λ counts. speaks_of counts t) (same-counts c.args.table.now c.snapshot-known.result c.snapshot-known.ensures)
 
 pub returns : goal.returns
 returns c =
@@ -23,5 +23,5 @@ returns c =
     let t = trees_at es c.args.args.0 in
     ap (λ z. not (is_some (break_value z))) (sym c.in-Continue.is)
     ∙ ap not (once-finds (λ (v : FindsForeign) x. at_root (is_foreign (known_to v)) x) es c.visit_args.ensures.visited c.new-finds.ensures.visitor (c.new-finds.ensures.entered es))
-    ∙ ap not (some-at-root (is_foreign (known_to (visitor_at c.snapshot.result))) t)
-    ∙ ap (λ counts. speaks_of counts t) (same-counts c.args.table.now c.snapshot.result c.snapshot.ensures)
+    ∙ ap not (some-at-root (is_foreign (known_to (visitor_at c.snapshot-known.result))) t)
+    ∙ ap (λ counts. speaks_of counts t) (same-counts c.args.table.now c.snapshot-known.result c.snapshot-known.ensures)
