@@ -2,21 +2,21 @@
 
 ghost use Rattle.std.specs.Prelude.{◌≡◌, IfOk};
 ghost use Rattle.sessions.specs.Subjects.{StaysOn};
+ghost use Rattle.session_walks.specs.Claims.{ClaimsHold};
 ghost use Rattle.session_walks.specs.Walked.{PairWalkHeld};
 
-use crate::checked::none_checked;
 use answer_lines::ShownNames;
 use diagnostics::{Diagnostic, ErrCode, Level};
 use explanation_texts::{
     Piece, Sentence, Spoken, Story, Telling, Texts, conflict_said, impl_line, plain, speak, tell,
     with_one, with_two,
 };
-use session_walks::{Answer, Conflict, PairWalk, explain_overlap, impl_header, unseen_at};
+use session_walks::{Answer, Claims, PairWalk, explain_overlap, impl_header, pair_claims};
 use sessions::Session;
 use std::alloc::{AllocError, Global};
 use type_terms::{Fault, ImplId};
 
-/// A where-clause of one of the impls, and which unseen crates may have an impl for it.
+/// A where-clause of one of the impls.
 #[derive(Clone, Copy)]
 struct Clause {
     id: ImplId,
@@ -24,7 +24,6 @@ struct Clause {
     number: usize,
     /// The place of its goal.
     place: usize,
-    unseen: Option<Conflict>,
 }
 
 /// Two impls that overlap, told.
@@ -56,22 +55,12 @@ impl Drop for Conflicting<'_> {
 }
 
 /// Adds the where-clauses of an impl.
-fn push_clauses(
-    session: &Session<'_>,
-    pair: &PairWalk,
-    id: ImplId,
-    places: &[usize],
-    clauses: &mut Vec<Clause>,
-) -> Result<(), Fault>
-    requires { PairWalkHeld session.now.terms pair.now }
-{
+fn push_clauses(id: ImplId, places: &[usize], clauses: &mut Vec<Clause>) -> Result<(), AllocError> {
     for (number, place) in places.iter().enumerate() {
-        let unseen = unseen_at(session, &pair.walk, *place)?;
         clauses.push(Clause {
             id,
             number,
             place: *place,
-            unseen,
         })?;
     }
     Ok(())
@@ -80,16 +69,13 @@ fn push_clauses(
 /// The where-clauses of both impls.
 fn clauses_of(
     alloc: Global,
-    session: &Session<'_>,
     pair: &PairWalk,
     later: ImplId,
     earlier: ImplId,
-) -> Result<Vec<Clause>, Fault>
-    requires { PairWalkHeld session.now.terms pair.now }
-{
+) -> Result<Vec<Clause>, AllocError> {
     let mut clauses = Vec::new(alloc);
-    push_clauses(session, pair, later, &pair.left, &mut clauses)?;
-    push_clauses(session, pair, earlier, &pair.right, &mut clauses)?;
+    push_clauses(later, &pair.left, &mut clauses)?;
+    push_clauses(earlier, &pair.right, &mut clauses)?;
     Ok(clauses)
 }
 
@@ -123,25 +109,20 @@ fn tell_pair<'w>(
     later: ImplId,
     earlier: ImplId,
     pair: &'w PairWalk,
-) -> Result<Conflicting<'w>, Fault>
-    requires { PairWalkHeld session.now.terms pair.now }
+    claims: &'w Claims,
+) -> Result<Conflicting<'w>, AllocError>
+    requires walked { PairWalkHeld session.now.terms pair.now }
+    requires claims { ClaimsHold session.now pair.now.walk claims.now }
 {
     let names = ShownNames {
         workspace: texts.workspace,
         params: &[],
         variables: &[],
     };
-    let clauses = clauses_of(alloc, session, pair, later, earlier)?;
+    let clauses = clauses_of(alloc, pair, later, earlier)?;
     let header = speak_header(alloc, texts, session, earlier)?;
     let common = speak(alloc, session.interner(), &names, pair.common)?;
-    let story = tell(
-        alloc,
-        texts,
-        session.interner(),
-        &names,
-        &pair.walk,
-        none_checked(),
-    )?;
+    let story = tell(alloc, texts, session, &names, &pair.walk, claims)?;
     Ok(Conflicting {
         later,
         earlier,
@@ -156,11 +137,14 @@ fn tell_pair<'w>(
 /// Why a where-clause does not keep the impls apart.
 fn clause_said<'s>(story: &'s Story<'_>, clause: Clause) -> Sentence<'s> {
     let reference = story.reference(clause.place);
-    if story.answer(clause.place) == Answer::Yes {
+    if story.is_held(clause.place) {
         return with_one("`{}` holds", reference);
     }
-    match (clause.unseen, story.spoken(clause.place)) {
-        (Some(conflict), Some(spoken)) => conflict_said(spoken, conflict),
+    if story.answer(clause.place) == Answer::Yes {
+        return with_one("`{}` holds, not checked", reference);
+    }
+    match (story.unseen(clause.place), story.spoken(clause.place)) {
+        (Some(Some(conflict)), Some(spoken)) => conflict_said(spoken, conflict),
         _ => with_one("`{}` is not refused", reference),
     }
 }
@@ -240,7 +224,8 @@ pub(crate) fn overlap(
     let Some(pair) = explain_overlap(session, later, earlier)? else {
         return Ok(None);
     };
-    let found = tell_pair(alloc, texts, session, later, earlier, &pair)?;
+    let claims = pair_claims(session, &pair)?;
+    let found = tell_pair(alloc, texts, session, later, earlier, &pair, &claims)?;
     let told = diagnose(alloc, &found)?;
     Ok(Some(told))
 }

@@ -1,15 +1,16 @@
 //! What is said of a question that was answered yes.
 
+ghost use Rattle.session_walks.specs.Claims.{ClaimsHold};
 ghost use Rattle.session_walks.specs.Walked.{AllStepsHeld, ProofWalkHeld};
 
-use crate::checked::none_checked;
 use answer_lines::ShownNames;
 use diagnostics::{Diagnostic, Level, Span};
 use explanation_texts::{
     Piece, Sentence, Spoken, Story, Telling, Texts, impl_piece, plain, source_piece, speak, tell,
     with_one,
 };
-use session_walks::{ProofWalk, Step, Way};
+use session_walks::{Claims, ProofWalk, Step, Way};
+use sessions::Session;
 use std::alloc::{AllocError, Global};
 use type_terms::ImplId;
 use type_terms::interner::Interner;
@@ -56,18 +57,20 @@ fn speak_steps(
     Ok(spoken)
 }
 
-/// A proof over the terms of an interner, told.
+/// A proof that a session found, told, with what is claimed of its walk.
 pub(crate) fn tell_proof<'w>(
     alloc: Global,
     texts: Texts<'w>,
-    cx: &Interner,
+    session: &Session<'_>,
     names: &ShownNames<'_>,
     proof: &'w ProofWalk,
+    claims: &'w Claims,
 ) -> Result<ToldProof<'w>, AllocError>
-    requires { ProofWalkHeld cx.now.entries proof.now }
+    requires walked { ProofWalkHeld session.now.terms proof.now }
+    requires claims { ClaimsHold session.now proof.now.walk claims.now }
 {
-    let goals = speak_steps(alloc, cx, names, &proof.steps)?;
-    let story = tell(alloc, texts, cx, names, &proof.walk, none_checked())?;
+    let goals = speak_steps(alloc, session.interner(), names, &proof.steps)?;
+    let story = tell(alloc, texts, session, names, &proof.walk, claims)?;
     Ok(ToldProof {
         proof,
         story,

@@ -2,26 +2,23 @@
 
 ghost use Rattle.std.specs.Prelude.{◌≡◌};
 ghost use Rattle.answer_explanations.specs.Asked.{IsAskedOf};
+ghost use Rattle.session_walks.specs.Claims.{ClaimsHold};
 ghost use Rattle.session_walks.specs.Walked.{ProofWalkHeld, WalkHeld};
 ghost use Rattle.sessions.specs.Subjects.{AsksProof, AsksRefutation, StaysOn};
 ghost use Rattle.text_definitions.specs.Declarations.{Question};
 ghost use Rattle.type_terms.specs.Kinds.{ArgsHeld};
 
-use crate::checked::of_checked;
 use crate::proofs::{proved, tell_proof};
 use crate::spending::{Next, Spending, too_long};
 use answer_lines::ShownNames;
 use diagnostics::{Diagnostic, Span};
-use explanation_texts::{
-    Asking, NothingFits, Texts, left_open, refuted, tell, unproved, unsettled,
-};
+use explanation_texts::{Asking, Texts, left_open, refuted, tell, unproved, unsettled};
 use session_walks::{
-    CheckedCandidates, Conflict, GoalWalk, ProofWalk, checked_candidates, explain_proof,
-    explain_question, explain_refutation, no_built_in_rule_fits, no_impl_fits, unseen_at,
+    Claims, GoalWalk, ProofWalk, explain_proof, explain_question, explain_refutation, no_claims,
+    question_claims, refutation_claims,
 };
 use sessions::{ProveAnswer, RefuteAnswer, Session};
 use std::alloc::{AllocError, Global};
-use type_terms::interner::Interner;
 use type_terms::kinds::GenericArgKind;
 use type_terms::{Fault, ImplId};
 use workspace::{Asked, Param};
@@ -95,12 +92,20 @@ impl<'s> Questioned<'s> {
 fn tell_proved(
     alloc: Global,
     question: Questioned<'_>,
-    cx: &Interner,
+    session: &Session<'_>,
     proof: &ProofWalk,
 ) -> Result<Diagnostic, AllocError>
-    requires { ProofWalkHeld cx.now.entries proof.now }
+    requires { ProofWalkHeld session.now.terms proof.now }
 {
-    let told = tell_proof(alloc, question.texts, cx, &question.names(), proof)?;
+    let claims = no_claims(alloc);
+    let told = tell_proof(
+        alloc,
+        question.texts,
+        session,
+        &question.names(),
+        proof,
+        &claims,
+    )?;
     proved(alloc, &told, question.span())
 }
 
@@ -120,28 +125,23 @@ fn explain_yes(
     let before = session.frames();
     let proof = explain_proof(session, number, values)?;
     spending.add_explanation(before, session.frames(), proof.walk.nodes.len());
-    Ok(tell_proved(alloc, question, session.interner(), &proof)?)
+    Ok(tell_proved(alloc, question, session, &proof)?)
 }
 
 /// What is said of a question that was not proved.
 fn tell_not_proved(
     alloc: Global,
     question: Questioned<'_>,
-    cx: &Interner,
+    session: &Session<'_>,
     walk: &GoalWalk,
-    checked: &CheckedCandidates,
+    claims: &Claims,
     answer: NotProved,
 ) -> Result<Diagnostic, AllocError>
-    requires { WalkHeld cx.now.entries walk.now }
+    requires walked { WalkHeld session.now.terms walk.now }
+    requires claims { ClaimsHold session.now walk.now claims.now }
 {
-    let story = tell(
-        alloc,
-        question.texts,
-        cx,
-        &question.names(),
-        walk,
-        of_checked(checked),
-    )?;
+    let names = question.names();
+    let story = tell(alloc, question.texts, session, &names, walk, claims)?;
     match answer {
         NotProved::Unproved => unproved(alloc, &story, question.asking()),
         NotProved::Maybe => unsettled(alloc, &story, question.asking()),
@@ -162,9 +162,9 @@ fn explain_not_proved(
 {
     let before = session.frames();
     let walk = explain_question(session, number)?;
-    let checked = checked_candidates(session, &walk)?;
+    let claims = question_claims(session, &walk)?;
     spending.add_explanation(before, session.frames(), walk.nodes.len());
-    Ok(tell_not_proved(alloc, question, session.interner(), &walk, &checked, answer)?)
+    Ok(tell_not_proved(alloc, question, session, &walk, &claims, answer)?)
 }
 
 /// Why a `prove` question is answered as it is.
@@ -201,42 +201,24 @@ fn explain_proving(
     }
 }
 
-/// How a `refute` question is answered, with what was checked beside its walk.
-#[derive(Clone, Copy)]
-struct Refuting {
-    answer: RefuteAnswer,
-    unseen: Option<Conflict>,
-    checked: NothingFits,
-}
-
 /// What is said of a `refute` question.
 fn tell_refutation(
     alloc: Global,
     question: Questioned<'_>,
-    cx: &Interner,
+    session: &Session<'_>,
     walk: &GoalWalk,
-    checked: &CheckedCandidates,
-    refuting: Refuting,
+    claims: &Claims,
+    answer: RefuteAnswer,
 ) -> Result<Diagnostic, AllocError>
-    requires { WalkHeld cx.now.entries walk.now }
+    requires walked { WalkHeld session.now.terms walk.now }
+    requires claims { ClaimsHold session.now walk.now claims.now }
 {
-    let story = tell(
-        alloc,
-        question.texts,
-        cx,
-        &question.names(),
-        walk,
-        of_checked(checked),
-    )?;
+    let names = question.names();
+    let story = tell(alloc, question.texts, session, &names, walk, claims)?;
     let span = question.span();
-    let Refuting {
-        answer,
-        unseen,
-        checked,
-    } = refuting;
     match answer {
-        RefuteAnswer::No => refuted(alloc, &story, span, unseen, checked),
-        RefuteAnswer::Open => left_open(alloc, &story, span, unseen),
+        RefuteAnswer::No => refuted(alloc, &story, span),
+        RefuteAnswer::Open => left_open(alloc, &story, span),
     }
 }
 
@@ -257,24 +239,9 @@ fn explain_refuting(
     spending.add_answer(before, between);
     let answer = answer?;
     let walk = explain_refutation(session, number)?;
-    let checked = checked_candidates(session, &walk)?;
+    let claims = refutation_claims(session, &walk)?;
     spending.add_explanation(between, session.frames(), walk.nodes.len());
-    let refuting = Refuting {
-        answer,
-        unseen: unseen_at(session, &walk, 0)?,
-        checked: NothingFits {
-            no_impl: no_impl_fits(session, &walk, 0)?,
-            no_built_in_rule: no_built_in_rule_fits(session, &walk, 0),
-        },
-    };
-    Ok(tell_refutation(
-        alloc,
-        question,
-        session.interner(),
-        &walk,
-        &checked,
-        refuting,
-    )?)
+    Ok(tell_refutation(alloc, question, session, &walk, &claims, answer)?)
 }
 
 /// Why a question of the session's crate is answered as it is, unless explanations took as long as they may. Questions count from 1.

@@ -1,14 +1,14 @@
 //! What is said of a supertrait that is not held.
 
 ghost use Rattle.std.specs.Prelude.{◌≡◌};
+ghost use Rattle.session_walks.specs.Claims.{ClaimsHold};
 ghost use Rattle.session_walks.specs.Walked.{WalkHeld};
 ghost use Rattle.sessions.specs.Subjects.{StaysOn};
 
-use crate::checked::of_checked;
 use answer_lines::ShownNames;
 use diagnostics::{Diagnostic, Place, Span, on_line};
 use explanation_texts::{Asking, Texts, impl_line, tell, unproved, unsettled};
-use session_walks::{CheckedCandidates, GoalWalk, checked_candidates, explain_supertrait};
+use session_walks::{Claims, GoalWalk, explain_supertrait, question_claims};
 use sessions::{Session, SupersAnswer};
 use std::alloc::{AllocError, Global};
 use type_terms::{Fault, ImplId};
@@ -61,26 +61,20 @@ fn explain_walk(
     texts: Texts<'_>,
     session: &Session<'_>,
     walk: &GoalWalk,
-    checked: &CheckedCandidates,
+    claims: &Claims,
     unheld: Unheld,
     depth: u32,
     seen: &[ImplId],
 ) -> Result<Diagnostic, AllocError>
-    requires { WalkHeld session.now.terms walk.now }
+    requires walked { WalkHeld session.now.terms walk.now }
+    requires claims { ClaimsHold session.now walk.now claims.now }
 {
     let names = ShownNames {
         workspace: texts.workspace,
         params: params_of(texts, unheld.id),
         variables: &[],
     };
-    let story = tell(
-        alloc,
-        texts,
-        session.interner(),
-        &names,
-        walk,
-        of_checked(checked),
-    )?;
+    let story = tell(alloc, texts, session, &names, walk, claims)?;
     let asking = Asking {
         span: header_span(texts, unheld.id),
         depth,
@@ -108,8 +102,8 @@ fn explain_unheld(
     let Some(walk) = explain_supertrait(session, unheld.id, unheld.number)? else {
         return Ok(None);
     };
-    let checked = checked_candidates(session, &walk)?;
-    let told = explain_walk(alloc, texts, session, &walk, &checked, unheld, depth, seen)?;
+    let claims = question_claims(session, &walk)?;
+    let told = explain_walk(alloc, texts, session, &walk, &claims, unheld, depth, seen)?;
     Ok(Some(told))
 }
 

@@ -3,7 +3,7 @@
 use crate::items::{Texts, has_rules, impl_line, trait_name, written};
 use crate::lines::ImplLine;
 use crate::links::{last_of, tell_links, tell_supertrait};
-use crate::refused::tell_refused;
+use crate::refused::{Refusal, tell_refused};
 use crate::sentences::{Piece, Sentence, plain, with_one, with_two};
 use crate::spoken::Spoken;
 use crate::story::{Story, refused_premise};
@@ -165,7 +165,7 @@ fn tell_leaf(story: &Story<'_>, leaf: usize, telling: &mut Telling) {
     if let Some(said) = standing_said(story, leaf) {
         telling.note(said);
     }
-    tell_refused(story, leaf, "which was not proved", telling);
+    tell_refused(story, leaf, Refusal::NotProved, telling);
 }
 
 /// Tells what may help.

@@ -2,7 +2,9 @@
 //! items are called, and where they stand.
 //!
 //! The token that a fault is about is looked for in its line, by what the lines above declare; what is said of a header is read off its
-//! orphan error, and what is said of a goal off its walk (`goal_walk`). Whether a sentence is true is no part of a contract here.
+//! orphan error, and what is said of a goal off its walk (`goal_walk`). What is told of a walk as checked is claimed of it
+//! (`session_walks::Claims`): `tell`, through which alone a walk is told, takes claims that hold and no others. That a sentence says no more
+//! than its claim is no part of a contract here.
 #![tactic(auto)]
 
 mod doubts;
@@ -31,9 +33,9 @@ pub use items::{Name, Texts, crate_name, impl_line, impl_piece, is_fundamental, 
 pub use lines::{ImplLine, ItemLines, item_lines};
 pub use open_questions::left_open;
 pub use orphans::orphan;
-pub use refutations::{NothingFits, refuted};
+pub use refutations::refuted;
 pub use sentences::{Piece, Sentence, plain, with_four, with_one, with_three, with_two};
 pub use sources::source_piece;
 pub use spoken::{Spoken, conflict_said, speak};
-pub use story::{Checked, Story, tell};
+pub use story::{Story, tell};
 pub use telling::Telling;

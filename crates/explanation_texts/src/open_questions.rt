@@ -85,26 +85,21 @@ fn tell_ways(story: &Story<'_>, telling: &mut Telling) {
 }
 
 /// Tells which crate that is not seen may add which impl, where one may.
-fn tell_unseen(story: &Story<'_>, unseen: Option<Conflict>, telling: &mut Telling) {
-    if let (Some(conflict), Some(spoken)) = (unseen, story.spoken(0)) {
+fn tell_unseen(story: &Story<'_>, telling: &mut Telling) {
+    if let (Some(Some(conflict)), Some(spoken)) = (story.unseen(0), story.spoken(0)) {
         telling.note(unseen_said(story.texts, spoken, conflict));
     }
 }
 
-/// What is said of a question that was answered open, at a span, with which unseen crates may have an impl.
-pub fn left_open(
-    alloc: Global,
-    story: &Story<'_>,
-    span: Span,
-    unseen: Option<Conflict>,
-) -> Result<Diagnostic, AllocError> {
+/// What is said of a question that was answered open, at a span.
+pub fn left_open(alloc: Global, story: &Story<'_>, span: Span) -> Result<Diagnostic, AllocError> {
     let message = with_one(
         "`{}` holds, or some crate could make it hold",
         story.reference(0),
     );
     let mut telling = Telling::begin(alloc, Level::Note, None, message);
     telling.mark(span, plain(""));
-    tell_unseen(story, unseen, &mut telling);
+    tell_unseen(story, &mut telling);
     tell_ways(story, &mut telling);
     telling.finish()
 }

@@ -8,12 +8,35 @@ use diagnostics::LIST_LIMIT;
 use evaluation::CandidateSource;
 use goal_walk::CandidateNode;
 
+/// How goals are refused.
+#[derive(Clone, Copy)]
+pub(crate) enum Refusal {
+    /// They were not proved.
+    NotProved,
+    /// No crate that may be linked with the asking one can give them.
+    NoCrate,
+}
+
+/// What is said of a goal that is refused so, and where that was not checked, this too.
+fn why_said(story: &Story<'_>, place: usize, refusal: Refusal) -> &'static str {
+    match refusal {
+        Refusal::NotProved => "which was not proved",
+        Refusal::NoCrate => {
+            if story.is_refused_everywhere(place) {
+                "which no such crate can give"
+            } else {
+                "which no such crate can give, not checked"
+            }
+        }
+    }
+}
+
 /// Why a candidate is refused: what it needs, and what is to be said of that. Where it was not checked that it fits, that is said too.
-fn refusal<'s>(
+fn candidate_said<'s>(
     story: &'s Story<'_>,
     candidate: &CandidateNode,
     is_rule: bool,
-    why: &'static str,
+    refusal: Refusal,
 ) -> Sentence<'s> {
     let name = source_piece(story.texts, candidate.source);
     let Some(premise) = refused_premise(story, candidate) else {
@@ -26,16 +49,17 @@ fn refusal<'s>(
         return with_one(template, name);
     };
     let needs = story.reference(premise);
+    let why = Piece::Text(why_said(story, premise, refusal));
     if candidate.source == CandidateSource::CoherenceUnknowable {
         let template = "an impl of a crate that is not seen would need `{}`, {}";
-        with_two(template, needs, Piece::Text(why))
+        with_two(template, needs, why)
     } else {
         let template = if is_rule {
             "the {} fits, but needs `{}`, {}"
         } else {
             "the {} fits, not checked, but needs `{}`, {}"
         };
-        with_three(template, name, needs, Piece::Text(why))
+        with_three(template, name, needs, why)
     }
 }
 
@@ -43,7 +67,7 @@ fn refusal<'s>(
 pub(crate) fn tell_refused(
     story: &Story<'_>,
     place: usize,
-    why: &'static str,
+    refusal: Refusal,
     telling: &mut Telling,
 ) {
     for (index, candidate) in story.candidates(place).iter().enumerate() {
@@ -52,6 +76,6 @@ pub(crate) fn tell_refused(
             return;
         }
         let is_rule = story.is_rule(place, index);
-        telling.note(refusal(story, candidate, is_rule, why));
+        telling.note(candidate_said(story, candidate, is_rule, refusal));
     }
 }

@@ -1,7 +1,7 @@
 //! What is said of a question that was answered no.
 
 use crate::items::{Texts, has_rules, is_fundamental, trait_name};
-use crate::refused::tell_refused;
+use crate::refused::{Refusal, tell_refused};
 use crate::sentences::{Piece, Sentence, plain, with_one, with_three, with_two};
 use crate::spoken::Spoken;
 use crate::story::Story;
@@ -10,28 +10,16 @@ use diagnostics::{Diagnostic, Level, Span};
 use orphan_check::errors::Conflict;
 use std::alloc::{AllocError, Global};
 
-/// What was checked of a goal that nothing fits.
-#[derive(Clone, Copy)]
-pub struct NothingFits {
-    /// Whether it was checked that no impl has it.
-    pub no_impl: bool,
-    /// Whether it was checked that no built-in rule has it.
-    pub no_built_in_rule: bool,
-}
-
 /// That nothing fits, and where that was not checked, this too.
-fn nothing_fits<'s>(texts: Texts<'s>, spoken: &Spoken, checked: NothingFits) -> Sentence<'s> {
-    let NothingFits {
-        no_impl,
-        no_built_in_rule,
-    } = checked;
+fn nothing_fits<'s>(story: &Story<'s>, spoken: &Spoken) -> Sentence<'s> {
+    let texts = story.texts;
     let template = if !has_rules(texts, spoken.trait_id) {
-        if no_impl {
+        if story.has_no_impl() {
             "no impl of `{}` fits"
         } else {
             "no impl of `{}` fits, not checked"
         }
-    } else if no_impl && no_built_in_rule {
+    } else if story.has_no_impl() && story.has_no_built_in_rule() {
         "no impl and no built-in rule of `{}` fits"
     } else {
         "no impl and no built-in rule of `{}` fits, not checked"
@@ -78,37 +66,27 @@ fn unseen_why<'s>(texts: Texts<'s>, spoken: &'s Spoken, unseen: Option<Conflict>
 }
 
 /// Tells why nothing that is seen, and nothing that is not, proves the reference.
-fn tell_whys(
-    story: &Story<'_>,
-    unseen: Option<Conflict>,
-    checked: NothingFits,
-    telling: &mut Telling,
-) {
-    tell_refused(story, 0, "which no such crate can give", telling);
+fn tell_whys(story: &Story<'_>, telling: &mut Telling) {
+    tell_refused(story, 0, Refusal::NoCrate, telling);
     let Some(spoken) = story.spoken(0) else {
         return;
     };
     if story.candidates(0).is_empty() && story.is_whole(0) {
-        telling.note(nothing_fits(story.texts, spoken, checked));
+        telling.note(nothing_fits(story, spoken));
     }
-    telling.note(unseen_why(story.texts, spoken, unseen));
+    if let Some(unseen) = story.unseen(0) {
+        telling.note(unseen_why(story.texts, spoken, unseen));
+    }
 }
 
-/// What is said of a question that was answered no, at a span, with which unseen crates may have an impl, and whether it was checked that
-/// nothing that is seen has its reference.
-pub fn refuted(
-    alloc: Global,
-    story: &Story<'_>,
-    span: Span,
-    unseen: Option<Conflict>,
-    checked: NothingFits,
-) -> Result<Diagnostic, AllocError> {
+/// What is said of a question that was answered no, at a span.
+pub fn refuted(alloc: Global, story: &Story<'_>, span: Span) -> Result<Diagnostic, AllocError> {
     let message = with_one(
         "no crate that may be linked with this one can make `{}` hold",
         story.reference(0),
     );
     let mut telling = Telling::begin(alloc, Level::Note, None, message);
     telling.mark(span, plain(""));
-    tell_whys(story, unseen, checked, &mut telling);
+    tell_whys(story, &mut telling);
     telling.finish()
 }

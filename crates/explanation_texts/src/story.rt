@@ -1,31 +1,27 @@
 //! A walk with its references as texts.
 
 ghost use Rattle.goal_walk.specs.Walking.{ReferencesHeld};
+ghost use Rattle.session_walks.specs.Claims.{ClaimsHold};
+ghost use Rattle.session_walks.specs.Walked.{WalkHeld};
 
 use crate::items::Texts;
 use crate::sentences::{NONE, Piece};
 use crate::spoken::{Spoken, speak};
 use answer_lines::ShownNames;
 use goal_walk::{Answer, CandidateNode, GoalWalk, Standing};
+use orphan_check::errors::Conflict;
+use session_walks::Claims;
+use sessions::Session;
 use std::alloc::{AllocError, Global};
 use term_folds::predicate::TraitRef;
 use type_terms::interner::Interner;
-
-/// The candidates of a walk that were checked, each by the place of its goal and its number among the candidates there.
-#[derive(Clone, Copy)]
-pub struct Checked<'w> {
-    /// Those that are rules of their goals.
-    pub rules: &'w [(usize, usize)],
-    /// Those that may apply.
-    pub chances: &'w [(usize, usize)],
-}
 
 /// A walk of a text's goal, with its references as texts. Its goals are named by their places.
 pub struct Story<'w> {
     pub texts: Texts<'w>,
     spoken: Vec<Spoken>,
     walk: &'w GoalWalk,
-    checked: Checked<'w>,
+    claims: &'w Claims,
 }
 
 // Written, so that what owns one drops it by one call at each way out, and not field by field.
@@ -35,7 +31,7 @@ impl Drop for Story<'_> {
             texts: _,
             spoken: _,
             walk: _,
-            checked: _,
+            claims: _,
         } = self;
     }
 }
@@ -57,23 +53,25 @@ fn speak_all(
     Ok(spoken)
 }
 
-/// A walk over the terms of an interner, told. Of its candidates these were checked. Of others it is said where they are told.
+/// A walk of a session, told, with what is claimed of it: what the crate's view does not make true cannot be handed on here, and so is not
+/// told as checked.
 pub fn tell<'w>(
     alloc: Global,
     texts: Texts<'w>,
-    cx: &Interner,
+    session: &Session<'_>,
     names: &ShownNames<'_>,
     walk: &'w GoalWalk,
-    checked: Checked<'w>,
+    claims: &'w Claims,
 ) -> Result<Story<'w>, AllocError>
-    requires { ReferencesHeld cx.now.entries walk.now.references.items }
+    requires walked { WalkHeld session.now.terms walk.now }
+    requires claims { ClaimsHold session.now walk.now claims.now }
 {
-    let spoken = speak_all(alloc, cx, names, &walk.references)?;
+    let spoken = speak_all(alloc, session.interner(), names, &walk.references)?;
     Ok(Story {
         texts,
         spoken,
         walk,
-        checked,
+        claims,
     })
 }
 
@@ -196,14 +194,48 @@ impl Story<'_> {
         }
     }
 
-    /// Whether the candidate of a goal with a number was checked to be a rule.
+    /// Whether the candidate of a goal with a number is claimed to be a rule.
     pub(crate) fn is_rule(&self, place: usize, number: usize) -> bool {
-        is_among(self.checked.rules, self.shown_at(place), number)
+        is_among(&self.claims.candidates.rules, self.shown_at(place), number)
     }
 
-    /// Whether it was checked that the candidate of a goal with a number may apply.
+    /// Whether it is claimed that the candidate of a goal with a number may apply.
     pub(crate) fn may_apply(&self, place: usize, number: usize) -> bool {
-        is_among(self.checked.chances, self.shown_at(place), number)
+        is_among(
+            &self.claims.candidates.chances,
+            self.shown_at(place),
+            number,
+        )
+    }
+
+    /// Whether it is claimed that a goal has no proof in any linked set with the asking crate.
+    pub(crate) fn is_refused_everywhere(&self, place: usize) -> bool {
+        self.claims.refused.contains(&place)
+    }
+
+    /// Whether it is claimed that a goal has a proof.
+    pub fn is_held(&self, place: usize) -> bool {
+        self.claims.held.contains(&place)
+    }
+
+    /// Which crates that are not seen may have an impl for a goal, where that is claimed; none of them, where all impls for it are known.
+    pub fn unseen(&self, place: usize) -> Option<Option<Conflict>> {
+        for found in &self.claims.unseen {
+            if found.0 == place {
+                return Some(found.1);
+            }
+        }
+        None
+    }
+
+    /// Whether it is claimed that no impl fits the goal at place 0.
+    pub(crate) fn has_no_impl(&self) -> bool {
+        self.claims.no_impl
+    }
+
+    /// Whether it is claimed that no built-in rule fits the goal at place 0.
+    pub(crate) fn has_no_built_in_rule(&self) -> bool {
+        self.claims.no_built_in_rule
     }
 
     /// The candidate of a goal, if there is just one.

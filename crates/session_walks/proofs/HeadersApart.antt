@@ -24,7 +24,7 @@ use Rattle.overlap_check.specs.declared.header.ImplHeader.{ImplHeader}
 use Rattle.overlap_check.proofs.Instances.{node, joined, shut-stays, nth-shut, instance-put, closing, closed_off, shut_by, shut-by-sorted}
 use Rattle.overlap_check.proofs.Standing.{default_node, default-sorted, assigned as taking, assigned-sorted, assigned-older, fresh-gives, all-no-fewer}
 use Rattle.session_walks.specs.Rules.{HasNoRuleBy}
-use Rattle.session_walks.specs.Unknowns.{speaks_of}
+use Rattle.session_walks.specs.Unknowns.{speaks_of_known}
 use Rattle.session_walks.proofs.OwnTerms.{IsOwn, here, below, behind, own, speaks-known}
 
 -- ---- open places closed
@@ -129,7 +129,7 @@ module _ (t : Table) (ks : List Sort) where
   abbrev I : Trees
   I = fresh_unknowns t ks
 
-  unequal : (h r : Trees) → HasArguments I h → Plain (erase h) → speaks_of (variables_of t) r ≡ true → HasNoSolution [] (instantiate zero I h) r
+  unequal : (h r : Trees) → HasArguments I h → Plain (erase h) → speaks_of_known (variables_of t) r ≡ true → HasNoSolution [] (instantiate zero I h) r
       → (s : Assignment) → IsSorted s → (A : Trees) → Fits A (erase h) → instantiate zero A (erase h) ≡ instance s (erase r) → ⊥
   unequal h r speaks plain mine none-solves s sorted A fits e = none-solves S (assigned-sorted t ks B (shut_by s) (shut-by-sorted s sorted)) (left ∙ sym right)
     where
@@ -150,7 +150,7 @@ module _ (t : Table) (ks : List Sort) where
           ∙ closed-instance (variables_of t) s r (own (variables_of t) r mine)
 
   -- no instance of the reference is one of the header, up to lifetimes
-  pub no-rule : ImplRulesAreInstances → (i : ImplDecl) (r : Reference) → HasArguments I i.header.args → some_node is_stray (erase i.header.args) ≡ false → speaks_of (variables_of t) r.args ≡ true
+  pub no-rule : ImplRulesAreInstances → (i : ImplDecl) (r : Reference) → HasArguments I i.header.args → some_node is_stray (erase i.header.args) ≡ false → speaks_of_known (variables_of t) r.args ≡ true
       → (i.header.trait ≢ r.trait) ⊎ HasNoSolution [] (instantiate zero I i.header.args) r.args → HasNoRuleBy (erased_reference r) (erased_impl i)
   no-rule law i r speaks plain mine apart q x = by (law q (erased_impl i)).0
     where

@@ -9,5 +9,8 @@ mod Unmatched
 mod Rowless
 mod InstanceFacts
 mod OwnTerms
+mod RefusedGoals
+mod HeldGoals
+mod ClaimsLater
 mod HeadersApart
 mod PassedImpls

@@ -11,8 +11,8 @@ use Rattle.infer_table.specs.Covers.{AreKnown}
 use Rattle.infer_table.specs.declared.terms.Snapshot.{Snapshot}
 use Rattle.candidate_assembly.specs.Finding.{at_root}
 use Rattle.candidate_assembly.proofs.Finding.{some_tree}
-use Rattle.session_walks.specs.Unknowns.{is_foreign, known_to, speaks_of}
-use Rattle.session_walks.specs.declared.unknowns.FindsForeign.{FindsForeign}
+use Rattle.session_walks.specs.Unknowns.{is_other_place, known_to, speaks_of_known}
+use Rattle.session_walks.specs.declared.unknowns.FindsOther.{FindsOther}
 
 -- ---- what a visit finds
 -- a test of labels
@@ -21,7 +21,7 @@ some-at-root p none = refl
 some-at-root p (tree l c o) =
     ap (λ x. p l || x || some_tree (at_root p) o) (some-at-root p c) ∙ ap (λ x. p l || some_node p c || x) (some-at-root p o)
 
-abbrev pub visitor_at : Snapshot → FindsForeign
+abbrev pub visitor_at : Snapshot → FindsOther
 visitor_at p = record { ty_vars = p.ty_vars; const_vars = p.const_vars; region_vars = p.region_vars }
 
 -- the visitor knows what the table has
@@ -36,16 +36,16 @@ same-counts t p e = ap (λ (q : Snapshot). known_to (visitor_at q)) e ∙ (λ i 
 -- ---- what that says
 module _ (counts : Sort → ℕ) where
   abbrev pub IsOwn : Trees → Type 0
-  IsOwn t = some_node (is_foreign counts) t ≡ false
+  IsOwn t = some_node (is_other_place counts) t ≡ false
 
-  pub here : (l : Label) (c o : Trees) → IsOwn (tree l c o) → is_foreign counts l ≡ false
-  here l c o h = no-left (is_foreign counts l) (some_node (is_foreign counts) c) (no-left (is_foreign counts l || some_node (is_foreign counts) c) (some_node (is_foreign counts) o) h)
+  pub here : (l : Label) (c o : Trees) → IsOwn (tree l c o) → is_other_place counts l ≡ false
+  here l c o h = no-left (is_other_place counts l) (some_node (is_other_place counts) c) (no-left (is_other_place counts l || some_node (is_other_place counts) c) (some_node (is_other_place counts) o) h)
 
   pub below : (l : Label) (c o : Trees) → IsOwn (tree l c o) → IsOwn c
-  below l c o h = child-shut (is_foreign counts) l c o h
+  below l c o h = child-shut (is_other_place counts) l c o h
 
   pub behind : (l : Label) (c o : Trees) → IsOwn (tree l c o) → IsOwn o
-  behind l c o h = next-shut (is_foreign counts) l c o h
+  behind l c o h = next-shut (is_other_place counts) l c o h
 
   less : (v n : ℕ) → not (nat_lt v n) ≡ false → v < n
   less v n h = grind (arith, nat_tests)
@@ -60,12 +60,12 @@ module _ (counts : Sort → ℕ) where
   clean (tree (canonical s i) c o) h = absurd cc
   clean (tree l c o) h = (clean c (below l c o h), clean o (behind l c o h))
 
-  pub own : (t : Trees) → speaks_of counts t ≡ true → IsOwn t
-  own t h = not-true (some_node (is_foreign counts) t) h
+  pub own : (t : Trees) → speaks_of_known counts t ≡ true → IsOwn t
+  own t h = not-true (some_node (is_other_place counts) t) h
 
   -- such a term has no other unknowns, and no canonical variable
-  pub speaks-known : (t : Trees) → speaks_of counts t ≡ true → AreKnown counts t
+  pub speaks-known : (t : Trees) → speaks_of_known counts t ≡ true → AreKnown counts t
   speaks-known t h = known t (own t h)
 
-  pub speaks-clean : (t : Trees) → speaks_of counts t ≡ true → HasNoCanonical t
+  pub speaks-clean : (t : Trees) → speaks_of_known counts t ≡ true → HasNoCanonical t
   speaks-clean t h = clean t (own t h)

@@ -1,4 +1,6 @@
 pub mod Causes
+pub mod Claims
+pub mod Refusals
 pub mod Rules
 pub mod Shown
 pub mod Unknowns

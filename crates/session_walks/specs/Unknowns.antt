@@ -6,27 +6,27 @@ use Rattle.type_terms.specs.Answers.{is_open}
 use Rattle.type_terms.specs.Visits.{IsBound}
 use Rattle.type_terms.specs.declared.visit.Seen.TheVariants.{Enter}
 use Rattle.candidate_assembly.specs.Finding.{BreaksAt, at_root}
-use Rattle.session_walks.specs.declared.unknowns.FindsForeign.{FindsForeign}
+use Rattle.session_walks.specs.declared.unknowns.FindsOther.{FindsOther}
 
 -- An open place that is no unknown with a number below these. Lifetimes that a binder binds or a declaration names are none.
-abbrev pub is_foreign : (Sort → ℕ) → Label → Bool
-is_foreign counts (infer s v) = not (nat_lt v (counts s))
-is_foreign counts (canonical s i) = true
-is_foreign counts l = is_open (erase_label l)
+abbrev pub is_other_place : (Sort → ℕ) → Label → Bool
+is_other_place counts (infer s v) = not (nat_lt v (counts s))
+is_other_place counts (canonical s i) = true
+is_other_place counts l = is_open (erase_label l)
 
 -- No such place is in the trees.
-abbrev pub speaks_of : (Sort → ℕ) → Trees → Bool
-speaks_of counts t = not (some_node (is_foreign counts) t)
+abbrev pub speaks_of_known : (Sort → ℕ) → Trees → Bool
+speaks_of_known counts t = not (some_node (is_other_place counts) t)
 
 -- How many unknowns of each sort the visitor knows.
-abbrev pub known_to : FindsForeign → Sort → ℕ
+abbrev pub known_to : FindsOther → Sort → ℕ
 known_to v of_type = v.ty_vars
 known_to v of_const = v.const_vars
 known_to v of_lifetime = v.region_vars
 
 -- The bounds of a `dyn` are no open places.
-pub bounds-are-own : (B : Type 0) (counts : Sort → ℕ) (t : Trees) → IsBound t → BreaksAt {B = B} (at_root (is_foreign counts) t) Enter
-bounds-are-own B counts (tree (principal m i) c o) h = tt
-bounds-are-own B counts (tree (auto_trait i) c o) h = tt
-bounds-are-own B counts none h = tt
-bounds-are-own B counts (tree l c o) h = absurd h
+pub bounds-are-closed : (B : Type 0) (counts : Sort → ℕ) (t : Trees) → IsBound t → BreaksAt {B = B} (at_root (is_other_place counts) t) Enter
+bounds-are-closed B counts (tree (principal m i) c o) h = tt
+bounds-are-closed B counts (tree (auto_trait i) c o) h = tt
+bounds-are-closed B counts none h = tt
+bounds-are-closed B counts (tree l c o) h = absurd h

@@ -12,7 +12,7 @@ ghost use Rattle.overlap_check.specs.Written.{IsWrittenWell};
 ghost use Rattle.candidate_assembly.specs.Ready.{AreReadyDeclarations};
 ghost use Rattle.proof_checker.specs.Steps.{term_of};
 ghost use Rattle.session_walks.specs.Rules.{HasNoImpl, HasNoRuleBy, HasNoRuleByImpl, begins_known};
-ghost use Rattle.session_walks.specs.Unknowns.{speaks_of};
+ghost use Rattle.session_walks.specs.Unknowns.{speaks_of_known};
 
 use declarations::declarations::Declarations;
 use declarations::items::ImplDef;
@@ -41,7 +41,7 @@ fn is_apart(
     requires held { ImplHeld cx.old.entries def.now }
     requires written { IsWrittenWell cx.old.entries def.now }
     requires reference { ReferenceHeld cx.old.entries reference }
-    requires own { speaks_of (variables_of table.old) (trees_at cx.old.entries reference.args.0) ≡ true }
+    requires own { speaks_of_known (variables_of table.old) (trees_at cx.old.entries reference.args.0) ≡ true }
     ensures grew { Grew cx.old cx.new }
     ensures table { OnOk result (table.new ≡ table.old) }
     ensures apart { IfOk result (λ b. b ≡ true
@@ -77,7 +77,7 @@ fn impl_is_apart(
     requires table { Ready cx.old.entries table.old }
     requires no_values { table.old.values ≡ [] }
     requires reference { ReferenceHeld cx.old.entries reference }
-    requires own { speaks_of (variables_of table.old) (trees_at cx.old.entries reference.args.0) ≡ true }
+    requires own { speaks_of_known (variables_of table.old) (trees_at cx.old.entries reference.args.0) ≡ true }
     ensures grew { Grew cx.old cx.new }
     ensures table { OnOk result (table.new ≡ table.old) }
     ensures apart { IfOk result (λ b. b ≡ true
@@ -102,7 +102,7 @@ pub(crate) fn all_are_apart(
     requires table { Ready cx.old.entries table.old }
     requires no_values { table.old.values ≡ [] }
     requires reference { ReferenceHeld cx.old.entries reference }
-    requires own { speaks_of (variables_of table.old) (trees_at cx.old.entries reference.args.0) ≡ true }
+    requires own { speaks_of_known (variables_of table.old) (trees_at cx.old.entries reference.args.0) ≡ true }
     requires first { StartsWithType (trees_at cx.old.entries reference.args.0) }
     requires known { begins_known (trees_at cx.old.entries reference.args.0) ≡ true }
     ensures grew { Grew cx.old cx.new }

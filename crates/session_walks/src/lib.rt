@@ -8,13 +8,16 @@
 
 mod apart;
 mod breaking;
+mod claims;
 mod explained;
 mod fitting;
 mod headers;
+mod holding;
 mod instances;
 mod pairs;
 mod places;
 mod questions;
+mod refusals;
 mod rules;
 mod shown;
 mod steps;
@@ -25,13 +28,12 @@ mod walking;
 mod walks;
 
 pub use breaking::BreakingCause;
+pub use claims::{Claims, no_claims, pair_claims, question_claims, refutation_claims};
 pub use explained::{
     explain_breaking, explain_overlap, explain_proof, explain_question, explain_refutation,
     explain_supertrait,
 };
-pub use fitting::{no_built_in_rule_fits, no_impl_fits};
-pub use rules::checked_candidates;
-pub use unseen::{impl_header, unseen_at, unseen_crates};
+pub use unseen::impl_header;
 pub use walks::{CheckedCandidates, PairWalk, ProofWalk, ShownStep};
 
 // What walks are made of, so that who reads one names no crate below.

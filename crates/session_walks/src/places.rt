@@ -1,7 +1,9 @@
-//! References by their places.
+//! Goals by their places.
 
-ghost use Rattle.std.specs.Prelude.{◌≡◌, IfSome, Some, slice_get};
+ghost use Rattle.std.specs.Prelude.{◌≡◌, ◌++◌, ◌∷◌, [], IfSome, OnOk, Some, slice_get, if◌then◌else◌};
 
+use goal_walk::{Answer, GoalWalk};
+use std::alloc::AllocError;
 use term_folds::predicate::TraitRef;
 
 /// The reference at a place, if there is one.
@@ -13,4 +15,22 @@ pub(crate) fn reference_at(references: &[TraitRef], place: usize) -> Option<Trai
     } else {
         None
     }
+}
+
+/// Whether the goal at a place of a walk is answered so.
+pub(crate) fn is_answered(walk: &GoalWalk, place: usize, answer: Answer) -> bool {
+    match walk.node(place) {
+        Some(node) => node.answer == answer,
+        None => false,
+    }
+}
+
+/// Puts one more behind others, if it is to stand there.
+pub(crate) fn push_if<T: Copy>(list: &mut Vec<T>, next: T, stands: bool) -> Result<(), AllocError>
+    ensures { OnOk result (list.new.items ≡ if stands then list.old.items ++ next ∷ [] else list.old.items) }
+{
+    if stands {
+        list.push(next)?;
+    }
+    Ok(())
 }

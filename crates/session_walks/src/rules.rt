@@ -22,7 +22,7 @@ ghost use Rattle.session_walks.specs.Rules.{AreChecked, Concludes, IsRuleAt, IsR
 ghost use Rattle.session_walks.specs.Walked.{WalkHeld};
 
 use crate::instances::may_follow;
-use crate::places::reference_at;
+use crate::places::{push_if, reference_at};
 use crate::steps::impl_args;
 use crate::walks::CheckedCandidates;
 use candidate_assembly::solver::Solver;
@@ -217,20 +217,6 @@ fn candidates_of(alloc: Global, walk: &GoalWalk) -> Result<Vec<(usize, usize)>, 
         }
     }
     Ok(found)
-}
-
-/// Puts a candidate behind others, if it is to stand there.
-fn push_if(
-    list: &mut Vec<(usize, usize)>,
-    at: (usize, usize),
-    stands: bool,
-) -> Result<(), AllocError>
-    ensures { OnOk result (list.new.items ≡ if stands then list.old.items ++ at ∷ [] else list.old.items) }
-{
-    if stands {
-        list.push(at)?;
-    }
-    Ok(())
 }
 
 /// Those of these candidates that are rules, and of the others those that may apply.

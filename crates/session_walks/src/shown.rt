@@ -102,14 +102,14 @@ impl ProofOrder {
     }
 }
 
-/// The places of the goals that a proof of the goal at place 0 needs, each behind those that it asks but for cycles; that goal is the last.
-fn places_of(alloc: Global, walk: &GoalWalk) -> Result<ProofOrder, AllocError> {
+/// The places of the goals that a proof of the goal at a place needs, each behind those that it asks but for cycles; that goal is the last.
+fn places_of(alloc: Global, walk: &GoalWalk, place: usize) -> Result<ProofOrder, AllocError> {
     let mut order = ProofOrder {
         entered: Vec::new(alloc),
         visits: Vec::new(alloc),
         places: Vec::new(alloc),
     };
-    order.enter(walk, 0)?;
+    order.enter(walk, place)?;
     for _visit in 0..VISIT_LIMIT {
         if !order.visit(walk)? {
             break;
@@ -132,15 +132,19 @@ fn shown_at(
     Ok(ShownStep { place, premises })
 }
 
-/// The proof of the goal at place 0, as it is shown; nothing where the walk has none.
-pub(crate) fn shown_steps(alloc: Global, walk: &GoalWalk) -> Result<Vec<ShownStep>, AllocError> {
+/// The proof of the goal at a place, as it is shown; nothing where the walk has none.
+pub(crate) fn shown_steps(
+    alloc: Global,
+    walk: &GoalWalk,
+    place: usize,
+) -> Result<Vec<ShownStep>, AllocError> {
     let mut shown = Vec::new(alloc);
-    if !walk.is_founded(0) {
+    if !walk.is_founded(place) {
         return Ok(shown);
     }
-    let order = places_of(alloc, walk)?;
-    for place in &order.places {
-        let step = shown_at(alloc, walk, &order.places, *place)?;
+    let order = places_of(alloc, walk, place)?;
+    for next in &order.places {
+        let step = shown_at(alloc, walk, &order.places, *next)?;
         shown.push(step)?;
     }
     Ok(shown)

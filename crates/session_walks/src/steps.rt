@@ -287,7 +287,7 @@ fn steps_of(
 }
 
 /// The same over the interner of a context.
-fn steps_in(
+pub(crate) fn steps_in(
     cx: &mut SolverCx<Solver>,
     table: &mut InferCtxt,
     clauses: &[TraitRef],
@@ -331,7 +331,7 @@ pub(crate) fn with_steps(
     ensures held { IfOk result (ProofWalkHeld cx.new.interner.entries) }
     ensures shown { IfOk result ShowsItsSteps }
 {
-    let shown = shown_steps(cx.alloc, &walk)?;
+    let shown = shown_steps(cx.alloc, &walk, 0)?;
     match steps_in(cx, table, clauses, &walk, &shown)? {
         Some(steps) => Ok(ProofWalk {
             walk,

@@ -4,7 +4,7 @@ ghost use Rattle.std.specs.Prelude.{◌≡◌};
 ghost use Rattle.type_terms.specs.Terms.{Has, args_lists, trees_at};
 ghost use Rattle.infer_table.specs.Content.{variables_of};
 ghost use Rattle.candidate_assembly.specs.Finding.{BreaksAt};
-ghost use Rattle.session_walks.specs.Unknowns.{speaks_of};
+ghost use Rattle.session_walks.specs.Unknowns.{speaks_of_known};
 
 use infer_table::infer_ctxt::InferCtxt;
 use std::ops::ControlFlow;
@@ -24,24 +24,24 @@ fn break_if(found: bool) -> Seen<()>
 
 /// Breaks at an open place that is none of so many unknowns of each sort; of lifetimes, at unknowns and canonical variables alone.
 #[derive(Clone, Copy)]
-struct FindsForeign {
+struct FindsOther {
     ty_vars: u32,
     const_vars: u32,
     region_vars: u32,
 }
 
-impl TypeVisitor for FindsForeign {
+impl TypeVisitor for FindsOther {
     type Break = ();
 
     ghost use Rattle.std.proofs.Common.{refl};
     ghost use Rattle.candidate_assembly.specs.Finding.{BreaksAt, at_root};
-    ghost use Rattle.session_walks.specs.Unknowns.{is_foreign, known_to, bounds-are-own};
+    ghost use Rattle.session_walks.specs.Unknowns.{is_other_place, known_to, bounds-are-closed};
 
     ghost ready = { λ _ _. Unit {0} };
 
-    ghost sees = { λ es bs t v w a. (w ≡ v) × BreaksAt (at_root (is_foreign (known_to v)) t) a };
+    ghost sees = { λ es bs t v w a. (w ≡ v) × BreaksAt (at_root (is_other_place (known_to v)) t) a };
 
-    ghost enters_bounds = { λ v es bs t h. (refl, bounds-are-own _ (known_to v) t h) };
+    ghost enters_bounds = { λ v es bs t h. (refl, bounds-are-closed _ (known_to v) t h) };
 
     fn visit_ty(&mut self, cx: &Interner, ty: Ty, _binders: &Binders) -> Seen<()> {
         match cx.kind(ty) {
@@ -90,10 +90,10 @@ impl TypeVisitor for FindsForeign {
 /// declares. A type that stands in many places is entered once.
 pub(crate) fn is_of_table(cx: &Interner, table: &InferCtxt, args: GenericArgs) -> bool
     requires { Has cx.now.entries args_lists args.0 }
-    ensures { result ≡ speaks_of (variables_of table.now) (trees_at cx.now.entries args.0) }
+    ensures { result ≡ speaks_of_known (variables_of table.now) (trees_at cx.now.entries args.0) }
 {
     let known = table.snapshot();
-    let visitor = FindsForeign {
+    let visitor = FindsOther {
         ty_vars: known.ty_vars,
         const_vars: known.const_vars,
         region_vars: known.region_vars,

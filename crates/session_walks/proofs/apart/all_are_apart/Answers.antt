@@ -10,7 +10,7 @@ use Rattle.infer_table.specs.Kept.{ready-later}
 use Rattle.candidate_assembly.specs.Kept.{ready-kept}
 use Rattle.proof_checker.specs.Steps.{term_of}
 use Rattle.proof_checker.proofs.Later.{term-same}
-use Rattle.session_walks.specs.Unknowns.{speaks_of}
+use Rattle.session_walks.specs.Unknowns.{speaks_of_known}
 use Rattle.session_walks.proofs.PassedImpls.{one-more, all-considered, same-matches, no-rule-before, fewer-left}
 use Rattle.session_walks.proofs.Unmatched.{instance-of}
 use Rattle.session_walks.proofs.apart.all_are_apart.Goals as goal
@@ -39,8 +39,8 @@ impl_is_apart-requires-clause-own c =
     let es = c.args.cx.now.entries in
     let now = c.impls.cx.entries in
     let r = c.args.reference in
-    subst (λ (t : Table). speaks_of (variables_of t) (trees_at now r.args.0) ≡ true) (sym c.impls.invariant.table)
-    (subst (λ x. speaks_of (variables_of c.args.table.now) x ≡ true) (sym (args-same es now c.impls.invariant.grew.keeps r c.requires.reference)) c.requires.own)
+    subst (λ (t : Table). speaks_of_known (variables_of t) (trees_at now r.args.0) ≡ true) (sym c.impls.invariant.table)
+    (subst (λ x. speaks_of_known (variables_of c.args.table.now) x ≡ true) (sym (args-same es now c.impls.invariant.grew.keeps r c.requires.reference)) c.requires.own)
 
 pub impl_is_apart-requires-clause-ready : goal.impl_is_apart-requires-clause-ready
 impl_is_apart-requires-clause-ready c = ready-kept c.args.declarations.now c.args.cx.now.entries c.impls.cx.entries c.impls.invariant.grew.keeps c.requires.ready

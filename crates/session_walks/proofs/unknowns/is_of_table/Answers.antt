@@ -3,8 +3,8 @@ use Rattle.std.specs.ControlFlow.{break_value}
 use Rattle.type_terms.specs.Terms.{trees_at}
 use Rattle.candidate_assembly.specs.Finding.{at_root}
 use Rattle.candidate_assembly.proofs.FindingOnce.{once-finds}
-use Rattle.session_walks.specs.Unknowns.{is_foreign, known_to, speaks_of}
-use Rattle.session_walks.specs.declared.unknowns.FindsForeign.{FindsForeign}
+use Rattle.session_walks.specs.Unknowns.{is_other_place, known_to, speaks_of_known}
+use Rattle.session_walks.specs.declared.unknowns.FindsOther.{FindsOther}
 use Rattle.session_walks.proofs.OwnTerms.{some-at-root, visitor_at, same-counts}
 use Rattle.session_walks.proofs.unknowns.is_of_table.Goals as goal
 
@@ -13,15 +13,15 @@ returns-in-Break c =
     let es = c.args.cx.now.entries in
     let t = trees_at es c.args.args.0 in
     ap (λ z. not (is_some (break_value z))) (sym c.in-Break.is)
-    ∙ ap not (once-finds (λ (v : FindsForeign) x. at_root (is_foreign (known_to v)) x) es c.visit_args.ensures.visited c.new-finds.ensures.visitor (c.new-finds.ensures.entered es))
-    ∙ ap not (some-at-root (is_foreign (known_to (visitor_at c.snapshot-known.result))) t)
-    ∙ ap (λ counts. speaks_of counts t) (same-counts c.args.table.now c.snapshot-known.result c.snapshot-known.ensures)
+    ∙ ap not (once-finds (λ (v : FindsOther) x. at_root (is_other_place (known_to v)) x) es c.visit_args.ensures.visited c.new-finds.ensures.visitor (c.new-finds.ensures.entered es))
+    ∙ ap not (some-at-root (is_other_place (known_to (visitor_at c.snapshot-known.result))) t)
+    ∙ ap (λ counts. speaks_of_known counts t) (same-counts c.args.table.now c.snapshot-known.result c.snapshot-known.ensures)
 
 pub returns : goal.returns
 returns c =
     let es = c.args.cx.now.entries in
     let t = trees_at es c.args.args.0 in
     ap (λ z. not (is_some (break_value z))) (sym c.in-Continue.is)
-    ∙ ap not (once-finds (λ (v : FindsForeign) x. at_root (is_foreign (known_to v)) x) es c.visit_args.ensures.visited c.new-finds.ensures.visitor (c.new-finds.ensures.entered es))
-    ∙ ap not (some-at-root (is_foreign (known_to (visitor_at c.snapshot-known.result))) t)
-    ∙ ap (λ counts. speaks_of counts t) (same-counts c.args.table.now c.snapshot-known.result c.snapshot-known.ensures)
+    ∙ ap not (once-finds (λ (v : FindsOther) x. at_root (is_other_place (known_to v)) x) es c.visit_args.ensures.visited c.new-finds.ensures.visitor (c.new-finds.ensures.entered es))
+    ∙ ap not (some-at-root (is_other_place (known_to (visitor_at c.snapshot-known.result))) t)
+    ∙ ap (λ counts. speaks_of_known counts t) (same-counts c.args.table.now c.snapshot-known.result c.snapshot-known.ensures)

@@ -1,0 +1,17 @@
+use Rattle.std.proofs.Common.{◌≡◌, Some, sym, subst}
+use Rattle.std.specs.List.{slice_get}
+use Rattle.session_walks.specs.Claims.{UnseenHold}
+use Rattle.session_walks.proofs.ClaimsLater.{one-more}
+use Rattle.session_walks.proofs.RuleCandidates.{there-held}
+use Rattle.session_walks.proofs.claims.push_unseen.Goals as goal
+
+pub unseen_crates-requires : goal.unseen_crates-requires
+unseen_crates-requires c =
+    there-held c.args.session.now.terms c.args.walk.now.references.items c.args.place c.in-Some.reference c.requires.walked
+    (subst (λ xs. slice_get xs c.args.place ≡ Some c.in-Some.reference) c.deref.ensures.value c.in-Some.ensures)
+
+pub returns-in_ok-push : goal.returns-in_ok-push
+returns-in_ok-push c =
+    let at = subst (λ xs. slice_get xs c.args.place ≡ Some c.in-Some.reference) c.deref.ensures.value c.in-Some.ensures in
+    subst (UnseenHold c.args.session.now c.args.walk.now) (sym c.in_ok-push.ensures.items)
+    (one-more c.args.session.now c.args.walk.now _ _ c.requires.unseen (c.in-Some.reference, at, c.in_ok-found.ensures))

@@ -1,0 +1,13 @@
+use Rattle.declarations.specs.Merges.{Each}
+use Rattle.sessions.specs.Promises.{view_in}
+use Rattle.sessions.specs.Subjects.{StaysOn}
+use Rattle.session_walks.specs.Refusals.{HoldsAt}
+use Rattle.session_walks.specs.Walked.{WalkHeld}
+use Rattle.session_walks.proofs.holding.held_goals.Given as goal
+
+abbrev pub invariant-loop-place : goal.invariant-loop-place
+invariant-loop-place l = record {
+  stays : StaysOn l.fn.session l.session;
+  held : WalkHeld l.session.terms l.walk;
+  holds : Each (HoldsAt l.fn.session.terms (view_in l.fn.session.declarations l.fn.session.of_crate) l.walk.references.items) l.found.items;
+}

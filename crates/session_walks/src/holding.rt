@@ -1,0 +1,136 @@
+//! Which goals of a walk have a proof that the checker lets through.
+
+ghost use Rattle.std.specs.Prelude.{◌≡◌, [], true, false, List, IfOk};
+ghost use Rattle.type_terms.specs.Terms.{Entry};
+ghost use Rattle.type_terms.specs.Proofs.{HasProof};
+ghost use Rattle.term_folds.specs.declared.predicate.TraitRef.{TraitRef};
+ghost use Rattle.declarations.specs.Held.{ReferenceHeld};
+ghost use Rattle.declarations.specs.Merges.{Each};
+ghost use Rattle.proof_checker.specs.Steps.{StepHeld, assumed_by, assumed_in, term_of};
+ghost use Rattle.goal_walk.specs.Walking.{ReferencesHeld};
+ghost use Rattle.sessions.specs.Checking.{rules_in};
+ghost use Rattle.sessions.specs.Promises.{view_in};
+ghost use Rattle.sessions.specs.Proving.{SolverAdvances, SolverIsReady};
+ghost use Rattle.sessions.specs.Subjects.{StaysOn};
+ghost use Rattle.session_walks.specs.Refusals.{HoldsAt};
+ghost use Rattle.session_walks.specs.Walked.{WalkHeld};
+
+use crate::places::{is_answered, push_if, reference_at};
+use crate::shown::shown_steps;
+use crate::steps::steps_in;
+use candidate_assembly::solver::Solver;
+use goal_walk::{Answer, GoalWalk};
+use infer_table::infer_ctxt::InferCtxt;
+use proof_checker::checker::is_proof_of;
+use proof_checker::steps::{Step, Way};
+use sessions::{Session, ready_impls_are_written_well};
+use solver_context::SolverCx;
+use term_folds::predicate::TraitRef;
+use type_terms::Fault;
+
+/// Whether a step by this way is taken for granted.
+fn is_assumed(way: Way) -> bool
+    ensures { result ≡ false → (es : List Entry) (r : TraitRef) → assumed_by es r way ≡ [] }
+{
+    match way {
+        Way::Impl(_, _) => false,
+        Way::Clause(_) => false,
+        Way::Supertrait(_) => false,
+        Way::BuiltIn => false,
+        Way::Assumed => true,
+    }
+}
+
+/// Whether no step is taken for granted.
+fn assumes_nothing(steps: &[Step]) -> bool
+    ensures { result ≡ true → (es : List Entry) → assumed_in es steps.now ≡ [] }
+{
+    let mut left = steps;
+    'steps: while let Some((step, others)) = left.split_first() {
+        if is_assumed(step.way) {
+            return false;
+        }
+        left = others;
+    }
+    true
+}
+
+/// Whether steps are a proof of a reference by the declarations of a context, with nothing taken for granted.
+fn is_proved_by(
+    cx: &mut SolverCx<Solver>,
+    reference: TraitRef,
+    steps: &[Step],
+) -> Result<bool, Fault>
+    requires ready { SolverIsReady cx.old }
+    requires held { ReferenceHeld cx.old.interner.entries reference }
+    requires steps { Each (StepHeld cx.old.interner.entries) steps.now }
+    ensures advances { SolverAdvances cx.old cx.new }
+    ensures proof { IfOk result (λ b. b ≡ true → HasProof (rules_in cx.old) [] (term_of cx.old.interner.entries reference)) }
+{
+    ready_impls_are_written_well();
+    if !assumes_nothing(steps) {
+        return Ok(false);
+    }
+    let declarations = &cx.handler.declarations;
+    let found = is_proof_of(
+        cx.alloc,
+        &mut cx.interner,
+        declarations,
+        &[],
+        reference,
+        steps,
+    );
+    cx.interner.lawful();
+    found
+}
+
+/// Whether the steps of the goal at a place of a walk are such a proof.
+fn holds_at(cx: &mut SolverCx<Solver>, walk: &GoalWalk, place: usize) -> Result<bool, Fault>
+    requires ready { SolverIsReady cx.old }
+    requires walked { ReferencesHeld cx.old.interner.entries walk.now.references.items }
+    ensures advances { SolverAdvances cx.old cx.new }
+    ensures holds { IfOk result (λ b. b ≡ true → HoldsAt cx.old.interner.entries (rules_in cx.old) walk.now.references.items place) }
+{
+    let Some(reference) = reference_at(&walk.references, place) else {
+        return Ok(false);
+    };
+    let shown = shown_steps(cx.alloc, walk, place)?;
+    let mut table = InferCtxt::new(cx.alloc);
+    match steps_in(cx, &mut table, &[], walk, &shown)? {
+        Some(steps) => is_proved_by(cx, reference, &steps),
+        None => Ok(false),
+    }
+}
+
+/// The same by what a session's crate sees, where the walk shows the goal as proved.
+fn is_held_at(session: &mut Session<'_>, walk: &GoalWalk, place: usize) -> Result<bool, Fault>
+    requires { WalkHeld session.old.terms walk.now }
+    ensures holds { IfOk result (λ b. b ≡ true
+        → HoldsAt session.old.terms (view_in session.old.declarations session.old.of_crate) walk.now.references.items place) }
+    ensures held { WalkHeld session.new.terms walk.now }
+    ensures stays { StaysOn session.old session.new }
+{
+    if !is_answered(walk, place, Answer::Yes) {
+        return Ok(false);
+    }
+    holds_at(&mut session.cx, walk, place)
+}
+
+/// Which goals of a walk have a proof without where-clauses by what the session's crate sees, by their places. Unknowns stand for themselves.
+///
+/// Of those that the walk shows as proved the steps are checked. One that is not named may have a proof too, as where it needs a where-clause
+/// or a rule that is not checked. The fault is `Memory` where memory is refused, or `Full` where a table of the session is full.
+pub fn held_goals(session: &mut Session<'_>, walk: &GoalWalk) -> Result<Vec<usize>, Fault>
+    requires { WalkHeld session.old.terms walk.now }
+    ensures holds { IfOk result (λ ps. Each
+        (HoldsAt session.old.terms (view_in session.old.declarations session.old.of_crate) walk.now.references.items) ps.items) }
+    ensures held { WalkHeld session.new.terms walk.now }
+    ensures stays { StaysOn session.old session.new }
+{
+    let mut found = Vec::new(session.cx.alloc);
+    for place in 0..walk.nodes.len() {
+        let holds = is_held_at(session, walk, place)?;
+        push_if(&mut found, place, holds)?;
+    }
+    Ok(found)
+}

@@ -1,0 +1,104 @@
+//! Which goals have no proof wherever the session's crate is linked.
+
+ghost use Rattle.std.specs.Prelude.{◌≡◌, ℕ, true, [], IfOk};
+ghost use Rattle.declarations.specs.Held.{ReferenceHeld};
+ghost use Rattle.declarations.specs.Merges.{Each};
+ghost use Rattle.infer_table.specs.Content.{Ready};
+ghost use Rattle.proof_checker.specs.Steps.{term_of};
+ghost use Rattle.sessions.specs.Promises.{view_in};
+ghost use Rattle.sessions.specs.Proving.{SolverAdvances, SolverIsReady};
+ghost use Rattle.sessions.specs.Sessions.{SolverRests, SolvesView};
+ghost use Rattle.sessions.specs.Subjects.{StaysOn};
+ghost use Rattle.session_walks.specs.Refusals.{IsRefusedAt, IsRefusedGoal};
+ghost use Rattle.session_walks.specs.Walked.{RestsAfter, WalkHeld};
+ghost use Rattle.text_definitions.specs.Declarations.{Declarations};
+
+use crate::instances::table_for_goals;
+use crate::places::{is_answered, push_if, reference_at};
+use crate::unknowns::is_of_table;
+use candidate_assembly::solver::Solver;
+use goal_walk::{Answer, GoalWalk};
+use infer_table::infer_ctxt::InferCtxt;
+use search_graph::{GlobalCache, SearchGraph};
+use sessions::{Session, is_impossible};
+use solver_context::{SolverCx, SolverGraph};
+use term_folds::predicate::TraitRef;
+use type_terms::Fault;
+
+/// A table in which the numbers of a goal's unknowns are taken, over the interner of a context.
+fn goal_table_in(cx: &mut SolverCx<Solver>) -> Result<InferCtxt, Fault>
+    requires { SolverIsReady cx.old }
+    ensures advances { SolverAdvances cx.old cx.new }
+    ensures ready { IfOk result (Ready cx.new.interner.entries) }
+    ensures no_values { IfOk result (λ table. table.values ≡ []) }
+{
+    let table = table_for_goals(cx.alloc, &mut cx.interner);
+    cx.interner.lawful();
+    table
+}
+
+/// Whether a reference is refused in coherence, asked alone. Of one with other open places than unknowns, or with too many of these, that is
+/// not asked.
+///
+/// All stays at rest, after a fault too. The fault is a refusal of memory, or `Full`.
+fn is_refused(
+    graph: &mut SearchGraph<SolverGraph<Solver>>,
+    cache: &mut GlobalCache<SolverGraph<Solver>>,
+    cx: &mut SolverCx<Solver>,
+    reference: TraitRef,
+) -> Result<bool, Fault>
+    requires rest { SolverRests graph.old.root_depth cx.old graph.old cache.old }
+    requires held { ReferenceHeld cx.old.interner.entries reference }
+    ensures rests { RestsAfter graph.old.root_depth cx.old cx.new graph.new cache.new }
+    ensures refused { IfOk result (λ b. b ≡ true → (d : Declarations) (c : ℕ) → SolvesView d c cx.old
+        → IsRefusedGoal (view_in d c) c (term_of cx.old.interner.entries reference)) }
+{
+    let mut table = goal_table_in(cx)?;
+    if !is_of_table(&cx.interner, &table, reference.args) {
+        return Ok(false);
+    }
+    is_impossible(graph, cache, cx, &mut table, reference)
+}
+
+/// The same of the goal at a place of a walk, where that shows it as refused.
+fn is_refused_at(session: &mut Session<'_>, walk: &GoalWalk, place: usize) -> Result<bool, Fault>
+    requires { WalkHeld session.old.terms walk.now }
+    ensures refused { IfOk result (λ b. b ≡ true
+        → IsRefusedAt session.old.terms (view_in session.old.declarations session.old.of_crate) session.old.of_crate walk.now.references.items place) }
+    ensures held { WalkHeld session.new.terms walk.now }
+    ensures stays { StaysOn session.old session.new }
+{
+    if !is_answered(walk, place, Answer::Refused) {
+        return Ok(false);
+    }
+    let Some(reference) = reference_at(&walk.references, place) else {
+        return Ok(false);
+    };
+    is_refused(
+        &mut session.graph,
+        &mut session.cache,
+        &mut session.cx,
+        reference,
+    )
+}
+
+/// Which goals of a walk are refused as a `refute` question is that is answered `No`, by their places: they have no proof in any linked set
+/// with the session's crate, whatever types and constants their unknowns stand for.
+///
+/// Of those that the walk shows as refused each is asked once more in coherence, without where-clauses. One that is not named may be refused
+/// too: as where it has a parameter, or more unknowns than are looked at. The fault is `Memory` where memory is refused, or `Full` where a
+/// table of the session is full.
+pub fn refused_goals(session: &mut Session<'_>, walk: &GoalWalk) -> Result<Vec<usize>, Fault>
+    requires { WalkHeld session.old.terms walk.now }
+    ensures refused { IfOk result (λ ps. Each
+        (IsRefusedAt session.old.terms (view_in session.old.declarations session.old.of_crate) session.old.of_crate walk.now.references.items) ps.items) }
+    ensures held { WalkHeld session.new.terms walk.now }
+    ensures stays { StaysOn session.old session.new }
+{
+    let mut found = Vec::new(session.cx.alloc);
+    for place in 0..walk.nodes.len() {
+        let is_refused = is_refused_at(session, walk, place)?;
+        push_if(&mut found, place, is_refused)?;
+    }
+    Ok(found)
+}
