@@ -8,15 +8,24 @@
 ghost use Rattle.std.specs.Prelude.{◌≡◌};
 ghost use Rattle.celtisdarts_explain.specs.ExitStatus.{exit_status};
 
+mod breaking;
+mod checks;
+mod explaining;
 mod input;
 mod lines;
+mod overlaps;
+mod places;
 mod printed;
+mod proofs;
+mod questions;
+mod spending;
+mod supertraits;
 mod words;
 
+use crate::explaining::explain;
 use crate::input::read_text;
 use crate::printed::{Lack, Shown, Told, write_told};
 use crate::words::{ColorConfig, Options, read_words};
-use answer_explanations::{Fault, explain};
 use coherence::{Limits, RunFault, Status, run};
 use diagnostics::{Diagnostic, SourceFile};
 use std::alloc::{AllocError, Global};
@@ -24,6 +33,7 @@ use std::fs::File;
 use std::io::IsTerminal;
 use std::process::ExitCode;
 use std::{env, io};
+use type_terms::Fault;
 
 /// How many handles of each kind a session holds at most.
 const HANDLES: u32 = 16_777_216;

@@ -1,7 +1,7 @@
 //! The crates, checks and questions of a text, by their places.
 
 ghost use Rattle.std.specs.Prelude.{◌≡◌, ◌+◌, ◌<◌, length};
-ghost use Rattle.answer_explanations.specs.Asked.{IsAskedOf, IsCheckOf};
+ghost use Rattle.celtisdarts_explain.specs.Asked.{IsAskedOf, IsCheckOf};
 
 use type_terms::CrateId;
 use workspace::{Asked, Check, Workspace};

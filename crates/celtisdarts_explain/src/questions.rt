@@ -1,7 +1,7 @@
 //! Why a question is answered as it is.
 
 ghost use Rattle.std.specs.Prelude.{◌≡◌};
-ghost use Rattle.answer_explanations.specs.Asked.{IsAskedOf};
+ghost use Rattle.celtisdarts_explain.specs.Asked.{IsAskedOf};
 ghost use Rattle.session_walks.specs.Claims.{ClaimsHold};
 ghost use Rattle.session_walks.specs.Walked.{ProofWalkHeld, WalkHeld};
 ghost use Rattle.sessions.specs.Subjects.{AsksProof, AsksRefutation, StaysOn};

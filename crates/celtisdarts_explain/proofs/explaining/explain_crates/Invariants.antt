@@ -1,6 +1,6 @@
 use Rattle.std.specs.Prelude.{IfSome}
 use Rattle.sessions.specs.SeenViews.{IsLeftView}
-use Rattle.answer_explanations.proofs.explaining.explain_crates.Given as goal
+use Rattle.celtisdarts_explain.proofs.explaining.explain_crates.Given as goal
 
 abbrev pub invariant-loop-place : goal.invariant-loop-place
 invariant-loop-place l = IfSome l.view (IsLeftView l.fn.texts.workspace.now l.fn.limits.handles)

@@ -1,6 +1,6 @@
 //! Why what is checked of a crate is answered as it is.
 
-ghost use Rattle.answer_explanations.specs.Asked.{IsCheckOf};
+ghost use Rattle.celtisdarts_explain.specs.Asked.{IsCheckOf};
 ghost use Rattle.sessions.specs.Releases.{IsSectionOf};
 ghost use Rattle.sessions.specs.Subjects.{StaysOn};
 

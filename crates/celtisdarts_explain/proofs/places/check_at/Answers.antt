@@ -1,7 +1,7 @@
 use Rattle.text_definitions.specs.Declarations.{of_later}
 use Rattle.workspace.specs.declared.declared.Check.TheVariants.{Later}
-use Rattle.answer_explanations.proofs.TextPlaces.{check-at}
-use Rattle.answer_explanations.proofs.places.check_at.Goals as goal
+use Rattle.celtisdarts_explain.proofs.TextPlaces.{check-at}
+use Rattle.celtisdarts_explain.proofs.places.check_at.Goals as goal
 
 pub returns-in-Later : goal.returns-in-Later
 returns-in-Later c =

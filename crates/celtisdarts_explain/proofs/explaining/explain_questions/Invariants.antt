@@ -1,5 +1,5 @@
 use Rattle.sessions.specs.Subjects.{StaysOn}
-use Rattle.answer_explanations.proofs.explaining.explain_checks.Given as goal
+use Rattle.celtisdarts_explain.proofs.explaining.explain_questions.Given as goal
 
 abbrev pub invariant-loop-place : goal.invariant-loop-place
 invariant-loop-place l = StaysOn l.fn.session l.session

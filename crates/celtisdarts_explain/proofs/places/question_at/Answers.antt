@@ -1,6 +1,6 @@
 use Rattle.workspace.specs.declared.declared.Asked.TheVariants.{Prove, Refute}
-use Rattle.answer_explanations.proofs.TextPlaces.{asks-at, question-at}
-use Rattle.answer_explanations.proofs.places.question_at.Goals as goal
+use Rattle.celtisdarts_explain.proofs.TextPlaces.{asks-at, question-at}
+use Rattle.celtisdarts_explain.proofs.places.question_at.Goals as goal
 
 pub returns-in-Prove : goal.returns-in-Prove
 returns-in-Prove c =

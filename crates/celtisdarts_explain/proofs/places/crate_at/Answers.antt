@@ -3,8 +3,8 @@ use Rattle.std.proofs.lemmas.List.{length-map}
 use Rattle.std.proofs.lemmas.Option.{slice_get-get_or}
 use Rattle.text_definitions.specs.Declarations.{NamedCrate}
 use Rattle.type_terms.specs.declared.CrateId.{CrateId}
-use Rattle.answer_explanations.proofs.TextPlaces.{crate-number}
-use Rattle.answer_explanations.proofs.places.crate_at.Goals as goal
+use Rattle.celtisdarts_explain.proofs.TextPlaces.{crate-number}
+use Rattle.celtisdarts_explain.proofs.places.crate_at.Goals as goal
 
 pub returns : goal.returns
 returns c =

@@ -2,7 +2,7 @@ use Rattle.std.proofs.Common.{length, ap, arith}
 use Rattle.std.proofs.lemmas.List.{length-map}
 use Rattle.text_definitions.specs.Declarations.{NamedCrate}
 use Rattle.type_terms.specs.declared.CrateId.{CrateId}
-use Rattle.answer_explanations.proofs.places.crate_count.Goals as goal
+use Rattle.celtisdarts_explain.proofs.places.crate_count.Goals as goal
 
 pub returns : goal.returns
 returns c = omega (arith, ap length c.crates.ensures.crates, length-map c.crates.result.now (λ (i : CrateId). i.index), length-map c.args.workspace.now.crates (λ (n : NamedCrate). n.item.name))

@@ -1,4 +1,7 @@
 //! Each line of an answer, explained.
+//!
+//! What is said of a crate is read off its verdict, what is said of a question off a walk of its goal (`goal_walk`), which a session
+//! makes. Whether a sentence is true is no part of a contract here.
 
 ghost use Rattle.std.specs.Prelude.{◌≡◌, ◌<◌, length, IfSome, OnOk};
 ghost use Rattle.sessions.specs.SeenViews.{IsLeftView};

@@ -1,6 +1,6 @@
 use Rattle.std.proofs.Common.{◌∙◌}
 use Rattle.sessions.proofs.LeftViews.{left-view}
-use Rattle.answer_explanations.proofs.explaining.explain_crate.Goals as goal
+use Rattle.celtisdarts_explain.proofs.explaining.explain_crate.Goals as goal
 
 pub returns : goal.returns
 returns c =
