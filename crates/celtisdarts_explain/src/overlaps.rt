@@ -1,6 +1,7 @@
 //! What is said of two impls that overlap: an instance of both headers, and why no where-clause keeps them apart.
 
 ghost use Rattle.std.specs.Prelude.{◌≡◌, IfOk};
+ghost use Rattle.celtisdarts_explain.specs.Told.{ShowsCommonOf};
 ghost use Rattle.sessions.specs.Subjects.{StaysOn};
 ghost use Rattle.session_walks.specs.Claims.{ClaimsHold};
 ghost use Rattle.session_walks.specs.Walked.{PairWalkHeld};
@@ -112,6 +113,7 @@ fn tell_pair<'w>(
     claims: &'w Claims,
 ) -> Result<Conflicting<'w>, AllocError>
     requires walked { PairWalkHeld session.now.terms pair.now }
+    requires common { ShowsCommonOf session.now later earlier pair.now }
     requires claims { ClaimsHold session.now pair.now.walk claims.now }
 {
     let names = ShownNames {

@@ -1,5 +1,7 @@
 //! What is said of a question that was answered yes.
 
+ghost use Rattle.std.specs.Prelude.{ℕ};
+ghost use Rattle.celtisdarts_explain.specs.Told.{ShowsProofOf};
 ghost use Rattle.session_walks.specs.Claims.{ClaimsHold};
 ghost use Rattle.session_walks.specs.Walked.{AllStepsHeld, ProofWalkHeld};
 
@@ -67,6 +69,7 @@ pub(crate) fn tell_proof<'w>(
     claims: &'w Claims,
 ) -> Result<ToldProof<'w>, AllocError>
     requires walked { ProofWalkHeld session.now.terms proof.now }
+    requires proof { (n : ℕ) × ShowsProofOf session.now n proof.now }
     requires claims { ClaimsHold session.now proof.now.walk claims.now }
 {
     let goals = speak_steps(alloc, session.interner(), names, &proof.steps)?;

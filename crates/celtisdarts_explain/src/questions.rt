@@ -1,7 +1,8 @@
 //! Why a question is answered as it is.
 
-ghost use Rattle.std.specs.Prelude.{◌≡◌};
+ghost use Rattle.std.specs.Prelude.{◌≡◌, ℕ};
 ghost use Rattle.celtisdarts_explain.specs.Asked.{IsAskedOf};
+ghost use Rattle.celtisdarts_explain.specs.Told.{ShowsProofOf};
 ghost use Rattle.session_walks.specs.Claims.{ClaimsHold};
 ghost use Rattle.session_walks.specs.Walked.{ProofWalkHeld, WalkHeld};
 ghost use Rattle.sessions.specs.Subjects.{AsksProof, AsksRefutation, StaysOn};
@@ -95,7 +96,8 @@ fn tell_proved(
     session: &Session<'_>,
     proof: &ProofWalk,
 ) -> Result<Diagnostic, AllocError>
-    requires { ProofWalkHeld session.now.terms proof.now }
+    requires walked { ProofWalkHeld session.now.terms proof.now }
+    requires proof { (n : ℕ) × ShowsProofOf session.now n proof.now }
 {
     let claims = no_claims(alloc);
     let told = tell_proof(

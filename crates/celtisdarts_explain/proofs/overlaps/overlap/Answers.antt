@@ -1,0 +1,22 @@
+use Rattle.std.proofs.Common.{◌≡◌, true, ◌∙◌, sym, subst}
+use Rattle.std.specs.Prelude.{IfSome}
+use Rattle.proof_checker.specs.Steps.{term_of}
+use Rattle.proof_checker.proofs.Later.{term-same}
+use Rattle.sessions.specs.Promises.{view_in}
+use Rattle.session_walks.specs.Rules.{HasRulesByBoth}
+use Rattle.session_walks.specs.Walked.{PairWalkHeld}
+use Rattle.celtisdarts_explain.proofs.Staying.{same-view}
+use Rattle.celtisdarts_explain.proofs.overlaps.overlap.Goals as goal
+
+pub tell_pair-requires-clause-common : goal.tell_pair-requires-clause-common
+tell_pair-requires-clause-common c = λ t.
+    let first = c.args.session.now in
+    let second = c.explain_overlap.new.session in
+    let last = c.pair_claims.new.session in
+    let p = c.in-Some.pair in
+    let held = subst (λ o. IfSome o (PairWalkHeld second.terms)) c.in-Some.is c.in_ok-pair.ensures.held in
+    let rules = subst (λ o. IfSome o (λ x. x.is_checked ≡ true → HasRulesByBoth (view_in first.declarations first.of_crate) (term_of second.terms x.common) c.args.later.index c.args.earlier.index)) c.in-Some.is c.in_ok-pair.ensures.rules in
+    let here = subst (λ V. HasRulesByBoth V (term_of second.terms p.common) c.args.later.index c.args.earlier.index)
+    (same-view first second c.explain_overlap.ensures.stays ∙ same-view second last c.pair_claims.ensures.stays) (rules t) in
+    subst (λ r. HasRulesByBoth (view_in last.declarations last.of_crate) r c.args.later.index c.args.earlier.index)
+    (sym (term-same second.terms last.terms c.pair_claims.ensures.stays.terms p.common held.common)) here
