@@ -32,6 +32,8 @@ pub struct Dependencies {
     /// The depth that the goal needed, where it met no overflow.
     pub required_depth: usize,
     pub nested_goals: NestedGoals,
+    /// How many questions the goal asked in all its runs, or the greatest `usize` if there were more.
+    pub questions: usize,
 }
 
 impl Dependencies {
@@ -47,6 +49,7 @@ impl Dependencies {
             encountered_overflow: false,
             required_depth: 0,
             nested_goals: NestedGoals::new(alloc),
+            questions: 0,
         }
     }
 
@@ -90,11 +93,13 @@ impl Dependencies {
             encountered_overflow,
             required_depth,
             nested_goals,
+            questions: _,
         } = nested;
         merge_heads(&mut self.heads, &heads)?;
         self.nested_goals.extend(nested_goals)?;
         self.encountered_overflow = self.encountered_overflow || encountered_overflow;
         self.required_depth = self.required_depth.max(required_depth.saturating_add(1));
+        self.questions = self.questions.saturating_add(1);
         Ok(())
     }
 }

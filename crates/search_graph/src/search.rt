@@ -44,7 +44,7 @@ pub(crate) type Outcome<D> = Result<EvaluationResult<ResultOf<D>>, Stop>;
 /// asked after it, and in goals that ask each other by many paths that may happen exponentially often in the number of goals. A
 /// goal of them has at most `FIXPOINT_STEP_LIMIT` runs, and all other goals are kept. So this bounds the time of a call, to a second or two. Goals that form no
 /// cycle and whose chains fit the depth are never counted, whatever they cost.
-pub(crate) const OPEN_ENDS_LIMIT: usize = 1024;
+pub(crate) const OPEN_ENDS_LIMIT: usize = 65536;
 
 /// The goals that are being evaluated, and what was counted.
 pub struct Search<D: Delegate> {
@@ -134,7 +134,7 @@ impl<D: Delegate> Search<D> {
     /// that. Whether the call may go on after it.
     pub(crate) fn count_end(&mut self, is_open: bool, cost: usize) -> bool
         ensures limit { is_open ≡ true → result ≡ true → self.new.open_ends < open_ends_limit }
-        ensures count { is_open ≡ true → result ≡ true → self.new.open_ends ≡ self.old.open_ends + 1 + cost }
+        ensures count { is_open ≡ true → result ≡ true → self.new.open_ends ≡ self.old.open_ends + cost }
         ensures uncounted { is_open ≡ false → (result ≡ true) × (self.new.open_ends ≡ self.old.open_ends) }
         ensures stack { self.new.stack.items ≡ self.old.stack.items }
         ensures entries { self.new.entries ≡ self.old.entries }
@@ -145,7 +145,7 @@ impl<D: Delegate> Search<D> {
         if !is_open {
             return true;
         }
-        self.open_ends = self.open_ends.saturating_add(1).saturating_add(cost);
+        self.open_ends = self.open_ends.saturating_add(cost);
         self.open_ends < OPEN_ENDS_LIMIT
     }
 
@@ -346,6 +346,7 @@ impl<D: Delegate> Search<D> {
             encountered_overflow,
             required_depth,
             nested_goals,
+            questions,
         } = dependencies;
         let kind = kind_of_path(&self.stack, nearest, step_kind);
         let result = cx.copy_result(&answer)?;
@@ -368,6 +369,7 @@ impl<D: Delegate> Search<D> {
             encountered_overflow,
             required_depth,
             nested_goals,
+            questions,
         };
         Ok(EvaluationResult {
             result: answer,
@@ -645,6 +647,7 @@ pub fn finish<D: Delegate>(
         encountered_overflow,
         required_depth,
         nested_goals,
+        questions,
     } = dependencies;
     if heads.is_empty() {
         let kept_depth = if encountered_overflow {
@@ -669,6 +672,7 @@ pub fn finish<D: Delegate>(
             encountered_overflow,
             required_depth,
             nested_goals,
+            questions,
         };
         return Ok(EvaluationResult {
             result: answer,
@@ -683,6 +687,7 @@ pub fn finish<D: Delegate>(
         encountered_overflow,
         required_depth,
         nested_goals,
+        questions,
     };
     Ok(EvaluationResult {
         result: answer,

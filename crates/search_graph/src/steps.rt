@@ -278,7 +278,9 @@ pub(crate) fn conclude<D: Delegate>(
 {
     let found = &evaluation.dependencies;
     let is_open = found.encountered_overflow || !found.heads.is_empty();
-    let cost = D::cost_of(cx, &input);
+    let cost = D::cost_of(cx, &input)
+        .saturating_add(1)
+        .saturating_mul(found.questions);
     if !search.count_end(is_open, cost) {
         return Err(Stop::Exhausted);
     }

@@ -22,7 +22,7 @@ use std::marker::PhantomData;
 use type_terms::Fault;
 
 /// A goal whose types have fewer levels is a small one, and a larger one costs so much more for each so many of them.
-const LEVELS_OF_A_SMALL_GOAL: usize = 16;
+const LEVELS_OF_A_SMALL_GOAL: usize = 32;
 
 /// Evaluates goals by the rules of a handler.
 ///
