@@ -1,5 +1,5 @@
 -- Orders of places and of counts, on numbers alone.
-use Rattle.std.proofs.Common.{◌≡◌, ℕ, ◌+◌, ◌<◌, ◌≤◌, min, arith}
+use Rattle.std.proofs.Common.{◌≡◌, ℕ, ◌+◌, ◌-◌, ◌^◌, ◌<◌, ◌≤◌, min, arith}
 
 -- a place within the first n of a list of this length
 pub in_path : (low n length : ℕ) → low ≤ n → length ≡ n → low ≤ length
@@ -29,6 +29,15 @@ none_started now first x e = omega arith
 
 pub one_started : (now first x : ℕ) → now ≤ first + 1 → now ≤ first + (1 + x)
 one_started now first x h = omega arith
+
+pub none_counted : (now first : ℕ) → now ≡ first → first ≤ now
+none_counted now first e = omega arith
+
+pub one_counted : (now first : ℕ) → now ≡ min (first + 1) (2 ^ 64 - 1) → min (first + 1) (2 ^ 64 - 1) ≤ now
+one_counted now first e = omega arith
+
+pub counted_later : (first now then : ℕ) → first ≤ now → min (now + 1) (2 ^ 64 - 1) ≤ then → min (first + 1) (2 ^ 64 - 1) ≤ then
+counted_later first now then h k = omega arith
 
 pub not_less : (n : ℕ) → n < n → ⊥
 not_less n h = omega arith

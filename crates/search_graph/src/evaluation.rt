@@ -1,12 +1,12 @@
 //! The search itself: goals that ask goals.
 
-ghost use Rattle.std.specs.Prelude.{◌≡◌, [], ◌+◌, ◌*◌, ◌<◌, ◌≤◌, length, max, IfOk, OnOk, true, false, cond};
+ghost use Rattle.std.specs.Prelude.{◌≡◌, [], ◌+◌, ◌*◌, ◌<◌, ◌≤◌, ◌⊎◌, length, max, IfOk, OnOk, true, false, cond};
 ghost use Rattle.search_graph.specs.Meaning.{Keeps};
 ghost use Rattle.search_graph.specs.Chain.{AreInRange};
 ghost use Rattle.search_graph.specs.Nested.{covered, one_goal};
 ghost use Rattle.search_graph.specs.Computed.{MakesMisstep};
 ghost use Rattle.search_graph.specs.Cache.{known_results, HasConflict, IsNumberOf, KeepsNumbers, KeepsResults, HoldsResult};
-ghost use Rattle.search_graph.specs.Bound.{frame_bound, question_bound};
+ghost use Rattle.search_graph.specs.Bound.{frame_bound, question_bound, IsCounted};
 ghost use Rattle.search_graph.specs.KeptPaths.{AreBelow, indices};
 ghost use Rattle.search_graph.specs.Stack.{steps_of, span_of_newest, IsStack, IsEntry, AreCached, IfUsable, IfUsableAlone};
 ghost use Rattle.search_graph.specs.Question.{AllDescendTo, AreEntriesOver, AreEntriesStill, AreLeftOver, IsReplyOver, IsRunOver, IsFaithfulOver, IsUntouchedOver, IsNotPlainOver, AreFramesWithin, StaysWithin};
@@ -52,6 +52,8 @@ pub(crate) fn evaluate_root<D: Delegate>(
     ensures conflict { result ≡ Err GraphFault.Conflict → HasConflict D.meaning cx.new (known_results cache.new.entries.items) }
     ensures frames { AreFramesWithin D.meaning cx.old input search.old.frames search.new.frames
         (λ width. frame_bound (max D.FIXPOINT_STEP_LIMIT 1) width depth) }
+    ensures rises { search.old.frames ≤ search.new.frames }
+    ensures counted { IfOk result (λ o. HoldsResult cache.old.entries.items input depth o.result ⊎ IsCounted search.old.frames search.new.frames) }
     ensures full { result ≡ Err GraphFault.Full → D.meaning.IsFull cx.new }
     ensures limits { search.old.limits_met ≡ true → search.new.limits_met ≡ true }
     ensures no_limit { search.old.limits_met ≡ false → search.new.limits_met ≡ true → IsNotPlainOver D.meaning cx.old [] input (depth + 1) }
@@ -105,6 +107,10 @@ pub(crate) fn evaluate<D: Delegate>(
     ensures conflict { result ≡ Err (Stop.Fault GraphFault.Conflict) → HasConflict D.meaning cx.new (known_results cache.new.entries.items) }
     ensures frames { AreFramesWithin D.meaning cx.old input search.old.frames search.new.frames
         (λ width. frame_bound (max D.FIXPOINT_STEP_LIMIT 1) width depth) }
+    ensures rises { search.old.frames ≤ search.new.frames }
+    ensures counted { search.old.stack.items ≡ []
+        → IfOk result (λ o. HoldsResult cache.old.entries.items input depth o.result ⊎ IsCounted search.old.frames search.new.frames) }
+    ensures spent { result ≡ Err Stop.Exhausted → IsCounted search.old.frames search.new.frames }
     ensures full { result ≡ Err (Stop.Fault GraphFault.Full) → D.meaning.IsFull cx.new }
     ensures limits { search.old.limits_met ≡ true → search.new.limits_met ≡ true }
     ensures no_limit { search.old.limits_met ≡ false → search.new.limits_met ≡ true → IsNotPlainOver D.meaning cx.old search.old.stack.items input (depth + 1) }
@@ -162,6 +168,9 @@ fn evaluate_new<D: Delegate>(
     ensures conflict { result ≡ Err (Stop.Fault GraphFault.Conflict) → HasConflict D.meaning cx.new (known_results cache.new.entries.items) }
     ensures frames { AreFramesWithin D.meaning cx.old input search.old.frames search.new.frames
         (λ width. frame_bound (max D.FIXPOINT_STEP_LIMIT 1) width depth) }
+    ensures rises { search.old.frames ≤ search.new.frames }
+    ensures counted { OnOk result (IsCounted search.old.frames search.new.frames) }
+    ensures spent { result ≡ Err Stop.Exhausted → IsCounted search.old.frames search.new.frames }
     ensures full { result ≡ Err (Stop.Fault GraphFault.Full) → D.meaning.IsFull cx.new }
     ensures limits { search.old.limits_met ≡ true → search.new.limits_met ≡ true }
     ensures no_limit { search.old.limits_met ≡ false → search.new.limits_met ≡ true → IsNotPlainOver D.meaning cx.old search.old.stack.items input (depth + 1) }
@@ -270,6 +279,9 @@ fn run_once<D: Delegate>(
     ensures conflict { result ≡ Err (Stop.Fault GraphFault.Conflict) → HasConflict D.meaning cx.new (known_results cache.new.entries.items) }
     ensures frames { AreFramesWithin D.meaning cx.old entry.input search.old.frames search.new.frames
         (λ width. 1 + width * question_bound (max D.FIXPOINT_STEP_LIMIT 1) width depth) }
+    ensures rises { search.old.frames ≤ search.new.frames }
+    ensures counted { OnOk result (IsCounted search.old.frames search.new.frames) }
+    ensures spent { result ≡ Err Stop.Exhausted → IsCounted search.old.frames search.new.frames }
     ensures full { result ≡ Err (Stop.Fault GraphFault.Full) → D.meaning.IsFull cx.new }
     ensures limits { search.old.limits_met ≡ true → search.new.limits_met ≡ true }
     ensures no_limit { search.old.limits_met ≡ false → search.new.limits_met ≡ true
@@ -353,6 +365,7 @@ fn ask<D: Delegate>(
     ensures conflict { result ≡ Err (Stop.Fault GraphFault.Conflict) → HasConflict D.meaning cx.new (known_results cache.new.entries.items) }
     ensures frames { AreFramesWithin D.meaning cx.old input search.old.frames search.new.frames
         (λ width. question_bound (max D.FIXPOINT_STEP_LIMIT 1) width depth) }
+    ensures rises { search.old.frames ≤ search.new.frames }
     ensures full { result ≡ Err (Stop.Fault GraphFault.Full) → D.meaning.IsFull cx.new }
     ensures limits { search.old.limits_met ≡ true → search.new.limits_met ≡ true }
     ensures no_limit { search.old.limits_met ≡ false → search.new.limits_met ≡ true

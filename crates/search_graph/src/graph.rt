@@ -1,11 +1,11 @@
 //! The search graph: what a caller sees of a search.
 
-ghost use Rattle.std.specs.Prelude.{◌≡◌, ◌+◌, ◌≤◌, ◌↔◌, max, IfOk, IsOkAnd, IsTrue, true, false};
+ghost use Rattle.std.specs.Prelude.{◌≡◌, ◌+◌, ◌≤◌, ◌⊎◌, ◌↔◌, max, IfOk, IsOkAnd, IsTrue, true, false};
 ghost use Rattle.search_graph.specs.Meaning.{Keeps};
 ghost use Rattle.search_graph.specs.Computed.{IsComputedOrGiven, MakesMisstep};
 ghost use Rattle.search_graph.specs.Answer.{IsSound};
 ghost use Rattle.search_graph.specs.Plain.{IsPlain, IsNotPlain};
-ghost use Rattle.search_graph.specs.Bound.{frame_bound};
+ghost use Rattle.search_graph.specs.Bound.{frame_bound, IsCounted};
 ghost use Rattle.search_graph.specs.Cache.{AreJustified, AreConsistent, KeepsResults, HasConflict, IsKnown, IfKnown};
 ghost use Rattle.search_graph.specs.Question.{AreFramesWithin, IsWithinKnown};
 
@@ -129,6 +129,10 @@ impl<D: Delegate> SearchGraph<D> {
 
         ensures frames { AreFramesWithin D.meaning cx.old input self.old.frames self.new.frames
             (λ width. frame_bound (max D.FIXPOINT_STEP_LIMIT 1) width self.old.root_depth) }
+
+        // The count never falls, and an answer that the cache did not hold costs a frame.
+        ensures rises { self.old.frames ≤ self.new.frames }
+        ensures counted { IfOk result (λ r. IsKnown cache.old input self.old.root_depth r ⊎ IsCounted self.old.frames self.new.frames) }
 
         // The result of a goal that the cache holds, and that it may use, costs no frame, and is one that the cache holds.
         ensures cached { IfKnown cache.old input self.old.root_depth ((self.new.frames ≡ self.old.frames) × (cache.new ≡ cache.old)) }

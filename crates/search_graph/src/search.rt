@@ -192,6 +192,7 @@ impl<D: Delegate> Search<D> {
         ensures err { OnErr result (self.new.stack.items ≡ self.old.stack.items) }
         ensures met { self.new.overflow_met ≡ self.old.overflow_met }
         ensures frames { self.new.frames ≡ min (self.old.frames + 1) (2 ^ 64 - 1) }
+        ensures rises { self.old.frames ≤ self.new.frames }
         ensures limits { self.new.limits_met ≡ self.old.limits_met }
     {
         self.frames = self.frames.saturating_add(1);

@@ -145,7 +145,11 @@ pub(crate) fn start_run<D: Delegate>(
     ensures none { OnOk result ((list : _) × (search.new.entries.lists.items ≡ search.old.entries.lists.items ++ list ∷ []) × (list.items ≡ [])) }
     ensures begun { IfOk result (λ r. HasBegun D.meaning cx.old entry.input cx.new r.0 r.1) }
     ensures met { search.new.overflow_met ≡ search.old.overflow_met }
+    ensures counted { OnOk result (search.new.frames ≡ min (search.old.frames + 1) (2 ^ 64 - 1)) }
+
+    // After a refusal the frame may not have been started.
     ensures frames { search.new.frames ≤ search.old.frames + 1 }
+    ensures rises { search.old.frames ≤ search.new.frames }
     ensures limits { search.new.limits_met ≡ search.old.limits_met }
     ensures no_conflict { result ≡ Err GraphFault.Conflict → ⊥ }
     ensures in_order { result ≡ Err GraphFault.Protocol → ⊥ }

@@ -18,8 +18,8 @@ use Rattle.search_graph.specs.Cache.{HasConflict, known_results}
 use Rattle.search_graph.specs.Question.{IsFaithfulOver, IsNotPlainOver, IsWithinAsStack, AllStayWithin}
 use Rattle.search_graph.specs.Faithful.{HeadsDescend}
 use Rattle.search_graph.proofs.Errors.{err_passed, fault_passed, fault_goes_on, stop_refused, ok_not_err, OnOk-always}
-use Rattle.search_graph.proofs.Refusals.{IfOk-err, OnOk-err}
-use Rattle.search_graph.proofs.Orders.{from_zero, within_more, less_within, none_started, one_started, not_less}
+use Rattle.search_graph.proofs.Refusals.{IfOk-err, OnOk-err, IfOk-or}
+use Rattle.search_graph.proofs.Orders.{from_zero, within_more, less_within, none_started, one_started, none_counted, one_counted, counted_later, not_less}
 use Rattle.search_graph.proofs.HeadFacts.{indices-none, both_kept, both_below, below_more, below_last, root_alone}
 use Rattle.search_graph.proofs.Graphs.{IsStack-now, steps-now, IsEntry-now, run_ended, next_entry, IsAnswer-then, answer_of_run, running_next_counted, running_begun, running_other, running_done, asked_now, hears_other, hears_next, misstep_now, due_next, due_other, Keeps-refl, Keeps-trans, IsStack-push, steps_pushed, length-steps_of, AreCached-later, provisional_alone, overflow_answers, overflow_stands}
 use Rattle.search_graph.proofs.Faithfuls.{or_first, or_second, asked_descends, true_not_false, not_plain_at_zero, all_heads_descend, run_heads_descend, ends_not_plain, conflict_up, plain_first, plain_next_at, plain_done, untouched_first, untouched_not_plain, faithful_not_plain, faithful_taken, faithful_at_zero, kept_of_faithful, IsFaithful-less, reach_within}
@@ -56,6 +56,7 @@ ask-returns-then-depth-eq0 g t c =
       conflict = λ h. absurd (c.reply_with_overflow.ensures.no_conflict h);
       frames = λ width h. none_started _ _ _ c.reply_with_overflow.ensures.frames;
       full = c.reply_with_overflow.ensures.full;
+      rises = none_counted _ _ c.reply_with_overflow.ensures.frames;
       limits = c.reply_with_overflow.ensures.limits;
       no_limit = λ off on limit l d. not_plain_at_zero m (m.world first) c.args.overflowed limit (m.goal_of first c.args.input) (rw c.if-depth-eq0.true at l);
       within = IfOk-weaker c.reply_with_overflow.result _ _ (λ o noted before no last cached. absurd (true_not_false (sym noted ∙ no))) c.reply_with_overflow.ensures.noted;
@@ -88,6 +89,7 @@ ask-returns g t c =
       conflict = c.evaluate.ensures.conflict;
       frames = λ width h. let within = nested_within limit width c.nested_depth-nested.result c.args.depth c.nested_depth-nested.ensures.falls in let run = c.evaluate.ensures.frames width h in omega arith;
       full = c.evaluate.ensures.full;
+      rises = c.evaluate.ensures.rises;
       limits = c.evaluate.ensures.limits;
       no_limit = λ off on limit l d. c.evaluate.ensures.no_limit off on limit (omega (arith, reach, l)) d;
       within = c.evaluate.ensures.within;
@@ -116,6 +118,9 @@ evaluate-returns-in_err-number g t c =
       conflict = λ h. absurd (c.in_err-number.ensures.no_conflict (fault_passed _ _ _ _ p.1 p.2 h));
       frames = λ width h. none_started _ _ _ refl;
       full = λ h. absurd (c.in_err-number.ensures.room (fault_passed _ _ _ _ p.1 p.2 h));
+      rises = none_counted _ _ refl;
+      counted = λ empty. IfOk-err _ _ _ p.1;
+      spent = λ h. absurd (fault_goes_on _ _ _ p.1 p.2 h);
       limits = λ h. h;
       no_limit = λ off on. not_both c.args.search.now.limits_met off on;
       within = IfOk-err _ _ _ p.1;
@@ -149,6 +154,9 @@ evaluate-returns-in-Some g t c =
       conflict = λ h. absurd (ok_not_err _ _ h);
       frames = λ width h. none_started _ _ _ refl;
       full = λ h. absurd (ok_not_err _ _ h);
+      rises = none_counted _ _ refl;
+      counted = λ empty. inl ((rw c.in-Some.is at c.in_ok-number.ensures.kept) empty);
+      spent = λ h. absurd (ok_not_err _ _ h);
       limits = λ h. h;
       no_limit = λ off on. not_both c.args.search.now.limits_met off on;
       within = λ before no last cached. (rw c.look_up.ensures.entries cached, (rw c.in-Some.is at c.in_ok-number.ensures.within) before cached);
@@ -186,6 +194,9 @@ evaluate-returns-in-Some-find_cycle g t c =
       conflict = λ h. absurd (c.reply_in_cycle.ensures.no_conflict h);
       frames = λ width h. none_started _ _ _ refl;
       full = c.reply_in_cycle.ensures.full;
+      rises = none_counted _ _ refl;
+      counted = λ empty. absurd (none-some c.in-Some-find_cycle.cycle.index (rw empty at c.in-Some-find_cycle.ensures.place));
+      spent = λ h. absurd (c.reply_in_cycle.ensures.goes_on h);
       limits = λ h. h;
       no_limit = λ off on. not_both c.args.search.now.limits_met off on;
       within = IfOk-weaker c.reply_in_cycle.result (λ o. IsWithinAsStack m first es c.args.input c.reply_in_cycle.new.cx o.result)
@@ -224,6 +235,9 @@ evaluate-returns-in-None g t c =
       conflict = c.evaluate_new.ensures.conflict;
       frames = c.evaluate_new.ensures.frames;
       full = c.evaluate_new.ensures.full;
+      rises = c.evaluate_new.ensures.rises;
+      counted = λ empty. IfOk-or _ _ c.evaluate_new.result c.evaluate_new.ensures.counted;
+      spent = c.evaluate_new.ensures.spent;
       limits = c.evaluate_new.ensures.limits;
       no_limit = c.evaluate_new.ensures.no_limit;
       within = IfOk-weaker c.evaluate_new.result _ _ (λ o f before no last cached. f before no last (rw c.look_up.ensures.entries cached)) c.evaluate_new.ensures.within;
@@ -284,6 +298,8 @@ evaluate_new-loop-run-init g t c =
       untouched = untouched_first m w (c.args.depth + 1) steps x c.new-dependencies.result.encountered_overflow (indices c.new-dependencies.result.heads.items)
           c.new-dependencies.ensures.within (ap indices c.new-dependencies.ensures.unread);
       frames = λ width h. omega arith;
+      rises = none_counted _ _ refl;
+      counted = λ r. absurd (not_less 0 r);
       limits = λ h. h;
       noted = λ off on. not_both {P = IsNotPlainOver m first es c.args.input (c.args.depth + 1)} c.args.search.now.limits_met off on;
       within = λ before no last cached. (cached, rw c.new_entry-entry.ensures.first tt);
@@ -336,6 +352,8 @@ evaluate_new-loop-run-preserved g t c =
       untouched = untouched_not_plain m w (c.args.depth + 1) steps x c.in_ok-back.outcome.dependencies.encountered_overflow (indices less) never;
       frames = λ width h. one_more_run c.args.search.now.frames c.loop-run.search.frames c.run_once.new.search.frames c.loop-run._run (1 + width * question_bound limit width c.args.depth)
           (inv.frames width h) (c.run_once.ensures.frames width (rw (inv.keeps.world, inv.input, goal_is) h));
+      rises = within_more _ _ _ inv.rises c.run_once.ensures.rises;
+      counted = λ r. counted_later _ _ _ inv.rises c.in_ok-back.ensures.counted;
       limits = λ h. c.run_once.ensures.limits (inv.limits h);
       noted = λ off. either_noted c.loop-run.search.limits_met c.run_once.new.search.limits_met (inv.noted off)
           (rw (inv.keeps.world, steps-now m first c.loop-run.cx es c.loop-run.search.stack.items inv.keeps inv.stack c.requires.stack, inv.input, goal_is) at c.run_once.ensures.no_limit);
@@ -624,6 +642,9 @@ evaluate_new-returns-then-is_last_run g t c =
           (inv.frames width h) (c.run_once.ensures.frames width (rw (inv.keeps.world, inv.input, goal_is) h)) in
           rw (c.conclude.ensures.frames, frame_bound_runs limit width c.args.depth) (runs_within c.args.search.now.frames c.run_once.new.search.frames (c.loop-run._run + 1) limit (1 + width * question_bound limit width c.args.depth) counted more);
       full = λ h. absurd (c.conclude.ensures.room h);
+      rises = rw c.conclude.ensures.frames (within_more _ _ _ inv.rises c.run_once.ensures.rises);
+      counted = OnOk-always c.conclude.result (rw c.conclude.ensures.frames (counted_later _ _ _ inv.rises c.in_ok-back.ensures.counted));
+      spent = λ h. rw c.conclude.ensures.frames (counted_later _ _ _ inv.rises c.in_ok-back.ensures.counted);
       limits = λ h. c.conclude.ensures.limits ∙ c.run_once.ensures.limits (inv.limits h);
       no_limit = λ off on. either_noted c.loop-run.search.limits_met c.run_once.new.search.limits_met (inv.noted off)
           (rw (inv.keeps.world, steps-now m first c.loop-run.cx es c.loop-run.search.stack.items inv.keeps inv.stack c.requires.stack, inv.input, goal_is) at c.run_once.ensures.no_limit) (sym c.conclude.ensures.limits ∙ on);
@@ -669,6 +690,9 @@ evaluate_new-returns-in_err-back g t c =
           (inv.frames width h) (c.run_once.ensures.frames width (rw (inv.keeps.world, inv.input, goal_is) h)) in
           rw (frame_bound_runs limit width c.args.depth) (runs_within c.args.search.now.frames c.run_once.new.search.frames (c.loop-run._run + 1) limit (1 + width * question_bound limit width c.args.depth) counted more);
       full = λ h. c.in_err-back.ensures.full (err_passed _ _ _ _ p.1 p.2 h);
+      rises = within_more _ _ _ inv.rises c.run_once.ensures.rises;
+      counted = OnOk-err _ _ _ p.1;
+      spent = λ h. counted_later _ _ _ inv.rises (c.in_err-back.ensures.spent (err_passed _ _ _ _ p.1 p.2 h));
       limits = λ h. c.run_once.ensures.limits (inv.limits h);
       no_limit = λ off. either_noted c.loop-run.search.limits_met c.run_once.new.search.limits_met (inv.noted off)
           (rw (inv.keeps.world, steps-now m first c.loop-run.cx es c.loop-run.search.stack.items inv.keeps inv.stack c.requires.stack, inv.input, goal_is) at c.run_once.ensures.no_limit);
@@ -708,6 +732,9 @@ evaluate_new-returns-in_err-entry g t c =
           (inv.frames width h) (c.run_once.ensures.frames width (rw (inv.keeps.world, inv.input, goal_is) h)) in
           rw (frame_bound_runs limit width c.args.depth) (runs_within c.args.search.now.frames c.run_once.new.search.frames (c.loop-run._run + 1) limit (1 + width * question_bound limit width c.args.depth) counted more);
       full = λ h. absurd (stop_refused _ _ _ p.1 p.2.3 h);
+      rises = within_more _ _ _ inv.rises c.run_once.ensures.rises;
+      counted = OnOk-err _ _ _ p.1;
+      spent = λ h. absurd (stop_refused _ _ _ p.1 p.2.0 h);
       limits = λ h. c.run_once.ensures.limits (inv.limits h);
       no_limit = λ off. either_noted c.loop-run.search.limits_met c.run_once.new.search.limits_met (inv.noted off)
           (rw (inv.keeps.world, steps-now m first c.loop-run.cx es c.loop-run.search.stack.items inv.keeps inv.stack c.requires.stack, inv.input, goal_is) at c.run_once.ensures.no_limit);
@@ -765,6 +792,9 @@ evaluate_new-returns g t c =
       conflict = c.conclude-2.ensures.conflict;
       frames = λ width h. rw (c.conclude-2.ensures.frames, frame_bound_runs limit width c.args.depth) (runs_within c.args.search.now.frames c.loop-run.search.frames c.loop-run._run limit (1 + width * question_bound limit width c.args.depth) counted (inv.frames width h));
       full = λ h. absurd (c.conclude-2.ensures.room h);
+      rises = rw c.conclude-2.ensures.frames inv.rises;
+      counted = OnOk-always c.conclude-2.result (rw c.conclude-2.ensures.frames (inv.counted ran));
+      spent = λ h. rw c.conclude-2.ensures.frames (inv.counted ran);
       limits = λ h. c.conclude-2.ensures.limits;
       no_limit = λ off on limit l d. inv.again ran limit (inl l) (all_heads_descend m w limit (indices c.loop-run.dependencies.heads.items) steps x d);
       within = IfOk-weaker c.conclude-2.result _ _ (λ o s before no. absurd (true_not_false (sym c.conclude-2.ensures.limits ∙ no))) c.conclude-2.ensures.reply;
@@ -878,6 +908,9 @@ run_once-returns-in_err-frame g t c =
       conflict = λ h. absurd (c.in_err-frame.ensures.no_conflict (fault_passed _ _ _ _ p.1 p.2 h));
       frames = λ width h. one_started _ _ _ c.start_run.ensures.frames;
       full = λ h. c.in_err-frame.ensures.full (fault_passed _ _ _ _ p.1 p.2 h);
+      rises = c.start_run.ensures.rises;
+      counted = OnOk-err _ _ _ p.1;
+      spent = λ h. absurd (fault_goes_on _ _ _ p.1 p.2 h);
       limits = λ h. c.start_run.ensures.limits ∙ h;
       no_limit = λ off on. not_both c.args.search.now.limits_met off (sym c.start_run.ensures.limits ∙ on);
       within = IfOk-err _ _ _ p.1;
@@ -923,6 +956,9 @@ run_once-returns-in_err-request-in-Ask g t c =
       frames = λ width h. asked_within c.args.search.now.frames c.loop-candidates.search.frames c.ask.new.search.frames (question_bound limit width c.args.depth) (answer_count m inv.running.heard) (m.number_of w x) width
           (inv.frames width h) (c.ask.ensures.frames width (rw inv.keeps.world (within_more _ _ _ fair.1 h))) asked h;
       full = λ h. c.in_err-request-in-Ask.ensures.full (fault_passed _ _ _ _ p.1 p.2 h);
+      rises = within_more _ _ _ inv.rises c.ask.ensures.rises;
+      counted = OnOk-err _ _ _ p.1;
+      spent = λ h. within_more _ _ _ inv.counted c.ask.ensures.rises;
       limits = λ h. c.ask.ensures.limits (inv.limits h);
       no_limit = λ off. either_noted c.loop-candidates.search.limits_met c.ask.new.search.limits_met (inv.noted off)
           (λ before now. conflict_up m w c.args.depth steps x (m.goal_of c.loop-candidates.cx c.in-Ask.input) c.args.entry.step_kind c.in-Ask.step_kind c.loop-candidates.dependencies.encountered_overflow (indices c.loop-candidates.dependencies.heads.items) inv.running.heard
@@ -1015,6 +1051,8 @@ run_once-loop-candidates-preserved-in-Ask g t c =
       listed = rw next.1 (asks.2 ∙ inv.listed);
       frames = λ width h. rw next.1 (asked_more c.args.search.now.frames c.loop-candidates.search.frames c.ask.new.search.frames (question_bound limit width c.args.depth) (answer_count m inv.running.heard)
           (inv.frames width h) (c.ask.ensures.frames width (rw inv.keeps.world (within_more _ _ _ fair.1 h))));
+      rises = within_more _ _ _ inv.rises c.ask.ensures.rises;
+      counted = within_more _ _ _ inv.counted c.ask.ensures.rises;
       limits = λ h. c.ask.ensures.limits (inv.limits h);
       noted = λ off. either_noted c.loop-candidates.search.limits_met c.ask.new.search.limits_met (inv.noted off)
           (λ before now. conflict_up m w c.args.depth steps x (m.goal_of c.loop-candidates.cx c.in-Ask.input) c.args.entry.step_kind c.in-Ask.step_kind c.loop-candidates.dependencies.encountered_overflow (indices c.loop-candidates.dependencies.heads.items) inv.running.heard
@@ -1105,6 +1143,9 @@ run_once-returns-in_err-nested-in-Ask g t c =
       frames = λ width h. asked_within c.args.search.now.frames c.loop-candidates.search.frames c.ask.new.search.frames (question_bound limit width c.args.depth) (answer_count m inv.running.heard) (m.number_of w x) width
           (inv.frames width h) (c.ask.ensures.frames width (rw inv.keeps.world (within_more _ _ _ fair.1 h))) asked h;
       full = λ h. c.in_err-nested-in-Ask.ensures.full (err_passed _ _ _ _ p.1 p.2 h);
+      rises = within_more _ _ _ inv.rises c.ask.ensures.rises;
+      counted = OnOk-err _ _ _ p.1;
+      spent = λ h. within_more _ _ _ inv.counted c.ask.ensures.rises;
       limits = λ h. c.ask.ensures.limits (inv.limits h);
       no_limit = λ off. either_noted c.loop-candidates.search.limits_met c.ask.new.search.limits_met (inv.noted off)
           (λ before now. conflict_up m w c.args.depth steps x (m.goal_of c.loop-candidates.cx c.in-Ask.input) c.args.entry.step_kind c.in-Ask.step_kind c.loop-candidates.dependencies.encountered_overflow (indices c.loop-candidates.dependencies.heads.items) inv.running.heard
@@ -1141,6 +1182,8 @@ run_once-loop-candidates-init g t c =
       opened = rw start.1 c.new-candidates.ensures.open;
       listed = rw start.1 c.new-candidates.ensures.finished;
       frames = λ width h. rw start.1 (omega (arith, c.start_run.ensures.frames));
+      rises = c.start_run.ensures.rises;
+      counted = one_counted _ _ c.in_ok-frame.ensures.counted;
       limits = λ h. c.start_run.ensures.limits ∙ h;
       noted = λ off on. not_both {P = IsNotPlainOver m first es c.args.entry.input (c.args.depth + 1)} c.args.search.now.limits_met off (sym c.start_run.ensures.limits ∙ on);
       within = rw start.1 (λ before no last own cached.
@@ -1190,6 +1233,9 @@ run_once-returns-in_err-turn g t c =
       conflict = λ h. absurd {A = HasConflict g.D.Delegate.meaning c.loop-candidates.cx (known_results c.loop-candidates.cache.entries.items)} (c.in_err-turn.ensures.no_conflict (fault_passed _ _ _ _ p.1 p.2 h));
       frames = λ width h. done_within c.args.search.now.frames c.loop-candidates.search.frames (question_bound limit width c.args.depth) (answer_count m inv.running.heard) (m.number_of w x) width (inv.frames width h) inv.running.count h;
       full = λ h. absurd (c.in_err-turn.ensures.room (fault_passed _ _ _ _ p.1 p.2 h));
+      rises = inv.rises;
+      counted = OnOk-err _ _ _ p.1;
+      spent = λ h. inv.counted;
       limits = inv.limits;
       no_limit = c.loop-candidates.invariant.noted;
       within = IfOk-err _ _ _ p.1;
@@ -1269,6 +1315,8 @@ run_once-loop-candidates-preserved g t c =
       opened = rw next.1 told.open_after;
       listed = rw next.1 told.done_after;
       frames = λ width h. rw (next.1, told.counts) (inv.frames width h);
+      rises = inv.rises;
+      counted = inv.counted;
       limits = inv.limits;
       noted = inv.noted;
       within = rw next.1 (λ before no last own cached.
@@ -1539,3 +1587,37 @@ run_once-returns-in_err-request-in-Tell-clause-asked_before g t c =
 pub run_once-returns-in_err-request-in-Tell-clause-limits : goal.run_once-returns-in_err-request-in-Tell-clause-limits
 run_once-returns-in_err-request-in-Tell-clause-limits g t c =
     c.loop-candidates.invariant.limits
+
+pub evaluate_new-returns-in_err-answer-clause-rises : goal.evaluate_new-returns-in_err-answer-clause-rises
+evaluate_new-returns-in_err-answer-clause-rises g t c =
+    c.loop-run.invariant.rises
+
+pub run_once-returns-in_err-request-in-Tell-clause-rises : goal.run_once-returns-in_err-request-in-Tell-clause-rises
+run_once-returns-in_err-request-in-Tell-clause-rises g t c =
+    c.loop-candidates.invariant.rises
+
+pub run_once-returns-in_err-request-in-Tell-clause-spent : goal.run_once-returns-in_err-request-in-Tell-clause-spent
+run_once-returns-in_err-request-in-Tell-clause-spent g t c =
+    λ h. c.loop-candidates.invariant.counted
+
+pub run_once-returns-in-End-clause-rises : goal.run_once-returns-in-End-clause-rises
+run_once-returns-in-End-clause-rises g t c =
+    rw c.pop.ensures.frames c.loop-candidates.invariant.rises
+
+pub run_once-returns-in-End-clause-counted : goal.run_once-returns-in-End-clause-counted
+run_once-returns-in-End-clause-counted g t c =
+    rw c.pop.ensures.frames c.loop-candidates.invariant.counted
+
+pub run_once-returns-in-End-clause-spent : goal.run_once-returns-in-End-clause-spent
+run_once-returns-in-End-clause-spent g t c =
+    λ h. absurd (ok_not_err _ _ h)
+
+pub evaluate_new-returns-in_err-answer-clause-counted : goal.evaluate_new-returns-in_err-answer-clause-counted
+evaluate_new-returns-in_err-answer-clause-counted g t c =
+    let p = err_from_is_err_and c.from_residual-in_err-answer.result c.from_residual-in_err-answer.ensures.1 in
+    OnOk-err _ _ _ p.1
+
+pub run_once-returns-in_err-request-in-Tell-clause-counted : goal.run_once-returns-in_err-request-in-Tell-clause-counted
+run_once-returns-in_err-request-in-Tell-clause-counted g t c =
+    let p = err_from_is_err_and c.from_residual-in_err-request-in-Tell.result c.from_residual-in_err-request-in-Tell.ensures.1 in
+    OnOk-err _ _ _ p.1

@@ -8,7 +8,7 @@ use Rattle.search_graph.specs.Computed.{Hears, IsGivenWithin}
 use Rattle.search_graph.specs.Stack.{question_of, steps_of, span_of_newest, IsEntry, IsRunning, AreCached, IsLastWithin, AreLastWithin}
 use Rattle.search_graph.specs.Plain.{IsNotPlain}
 use Rattle.search_graph.specs.Faithful.{AllDescend, HeadsDescend, IsOnPlainTrack, IsUntouched}
-use Rattle.search_graph.specs.Bound.{question_bound}
+use Rattle.search_graph.specs.Bound.{question_bound, IsCounted}
 use Rattle.search_graph.specs.Provisional.{AreProvisional, AreKeptWithin}
 use Rattle.search_graph.proofs.evaluation.+search.Given as goal
 
@@ -47,6 +47,8 @@ invariant-evaluate_new-loop-run g l =
       untouched : IsUntouched m (m.world l.fn.cx) (l.depth + 1) (steps_of m l.fn.cx l.fn.search.stack.items) (m.goal_of l.fn.cx l.fn.input) l.dependencies.encountered_overflow (indices l.dependencies.heads.items);
       frames : (width : ℕ) → m.number_of (m.world l.fn.cx) (m.goal_of l.fn.cx l.fn.input) ≤ width
           → l.search.frames ≤ l.fn.search.frames + l._run * (1 + width * question_bound (max g.D.Delegate.FIXPOINT_STEP_LIMIT 1) width l.depth);
+      rises : l.fn.search.frames ≤ l.search.frames;
+      counted : 0 < l._run → IsCounted l.fn.search.frames l.search.frames;
       limits : l.fn.search.limits_met ≡ true → l.search.limits_met ≡ true;
       noted : l.fn.search.limits_met ≡ false → l.search.limits_met ≡ true → (limit : ℕ) → limit ≤ l.depth + 1
           → AllDescend m (m.world l.fn.cx) limit (steps_of m l.fn.cx l.fn.search.stack.items) (m.goal_of l.fn.cx l.fn.input) → IsNotPlain m (m.world l.fn.cx) limit (m.goal_of l.fn.cx l.fn.input);
@@ -75,6 +77,8 @@ invariant-run_once-loop-candidates g l =
       listed : l.candidates.finished.items ≡ finished m (m.world l.fn.cx) (m.goal_of l.fn.cx l.fn.entry.input) running.heard;
       frames : (width : ℕ) → m.number_of (m.world l.fn.cx) (m.goal_of l.fn.cx l.fn.entry.input) ≤ width
           → l.search.frames ≤ l.fn.search.frames + 1 + answer_count m running.heard * question_bound (max g.D.Delegate.FIXPOINT_STEP_LIMIT 1) width l.depth;
+      rises : l.fn.search.frames ≤ l.search.frames;
+      counted : IsCounted l.fn.search.frames l.search.frames;
       limits : l.fn.search.limits_met ≡ true → l.search.limits_met ≡ true;
       noted : l.fn.search.limits_met ≡ false → l.search.limits_met ≡ true → (limit : ℕ) → limit ≤ l.depth + 1
           → AllDescend m (m.world l.fn.cx) limit (steps_of m l.fn.cx l.fn.search.stack.items) (m.goal_of l.fn.cx l.fn.entry.input) → IsNotPlain m (m.world l.fn.cx) limit (m.goal_of l.fn.cx l.fn.entry.input);

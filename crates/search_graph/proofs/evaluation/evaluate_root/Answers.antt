@@ -6,6 +6,8 @@ use Rattle.search_graph.specs.declared.fault.Stop.{Stop}
 use Rattle.search_graph.specs.declared.fault.GraphFault.{GraphFault}
 use Rattle.search_graph.specs.declared.fault.Stop.TheVariants.{Fault, Exhausted}
 use Rattle.search_graph.proofs.Entries.{none_listed}
+use Rattle.search_graph.proofs.Errors.{OnOk-always}
+use Rattle.search_graph.proofs.Refusals.{IfOk-or}
 use Rattle.search_graph.proofs.evaluation.evaluate_root.Goals as goal
 
 given_up : {T : Type 0} (x : Stop) → x ≡ Exhausted → ◌≡◌ {A = Result T Stop} (Err x) (Err Exhausted)
@@ -77,3 +79,13 @@ pub returns-in-Err-Exhausted-clause-cached : goal.returns-in-Err-Exhausted-claus
 returns-in-Err-Exhausted-clause-cached g c = λ place e at same within clear.
     let served = rw c.requires.empty at c.in-Err-Exhausted.ensures.served in
     absurd (served place e at same within clear (given_up c.in-Err-Exhausted.field-0 c.in-Err-Exhausted.field-0-is))
+
+pub returns-in-Ok-clause-counted : goal.returns-in-Ok-clause-counted
+returns-in-Ok-clause-counted g c = c.in-Ok.ensures.counted c.requires.empty
+
+pub returns-in-Err-Exhausted-clause-counted : goal.returns-in-Err-Exhausted-clause-counted
+returns-in-Err-Exhausted-clause-counted g c =
+    IfOk-or _ _ c.give_up.result (OnOk-always c.give_up.result (rw c.give_up.ensures.frames (c.in-Err-Exhausted.ensures.spent (given_up c.in-Err-Exhausted.field-0 c.in-Err-Exhausted.field-0-is))))
+
+pub returns-in-Err-Exhausted-clause-rises : goal.returns-in-Err-Exhausted-clause-rises
+returns-in-Err-Exhausted-clause-rises g c = rw c.give_up.ensures.frames c.evaluate.ensures.rises

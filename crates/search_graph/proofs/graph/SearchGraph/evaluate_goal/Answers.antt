@@ -1,4 +1,4 @@
-use Rattle.std.proofs.Common.{Some, slice_get, ◌≡◌, ◌+◌, ◌∙◌, sym, ap, subst, refl, inl, arith}
+use Rattle.std.proofs.Common.{Some, slice_get, ◌≡◌, ◌+◌, ◌∙◌, sym, ap, subst, refl, inl, inr, arith}
 use Rattle.std.proofs.lemmas.Option.{none-some}
 use Rattle.search_graph.specs.KeptPaths.{indices}
 use Rattle.search_graph.specs.Cache.{AreJustified, answers_in, known_result, known_results}
@@ -130,5 +130,33 @@ returns-clause-kept g c =
             told.4,
             subst (λ d. IsWithinDepth told.1.encountered_overflow told.1.depth d) depth told.5,
           ))
+      | in-Err w ↦ rw w.result-is tt
+    ]
+
+pub returns-clause-rises : goal.returns-clause-rises
+returns-clause-rises g c =
+    let frames : c.count_anew.new.self.frames ≡ c.args.self.now.frames = c.count_anew.ensures.frames ∙ ap (λ s. s.frames) c.self.view_is in
+    let rises = rw frames at c.evaluate_root.ensures.rises in
+    elim c.match-evaluate_root.branch [
+      | in-Ok w ↦ rw w.self-is rises
+      | in-Err w ↦ rw (w.self-is, w.clear.ensures.frames) rises
+    ]
+
+pub returns-clause-counted : goal.returns-clause-counted
+returns-clause-counted g c =
+    let depth : c.self.inside.root_depth ≡ c.args.self.now.root_depth = ap (λ s. s.root_depth) c.self.view_is in
+    let frames : c.count_anew.new.self.frames ≡ c.args.self.now.frames = c.count_anew.ensures.frames ∙ ap (λ s. s.frames) c.self.view_is in
+    elim c.match-evaluate_root.branch [
+      | in-Ok w ↦ rw (w.result-is, w.self-is) (elim w.in-Ok.ensures.counted [
+        | inl told ↦ inl (
+          told.0,
+          known_result told.1,
+          subst (λ ks. slice_get ks told.0 ≡ Some (known_result told.1)) c.cache.view_is (known_at c.cache.inside.results.entries.items told.0 told.1 told.2),
+          told.3,
+          told.4,
+          subst (λ d. IsWithinDepth told.1.encountered_overflow told.1.depth d) depth told.5,
+        )
+        | inr counted ↦ inr (rw frames at counted)
+      ])
       | in-Err w ↦ rw w.result-is tt
     ]
