@@ -1,5 +1,5 @@
 -- How a cache finds the results of a goal, and what was asked under them.
-use Rattle.std.specs.Prelude.{◌≡◌, ◌≤◌, ◌<◌, ◌+◌, ℕ, Bool, true, false, cond, nat_eq, List, [], ◌∷◌, ◌⊎◌, Option, Some, None, All, length, slice_get, take}
+use Rattle.std.specs.Prelude.{◌≡◌, ◌≤◌, ◌<◌, ◌+◌, ℕ, Bool, true, false, cond, nat_eq, get_or, List, [], ◌∷◌, ◌⊎◌, Option, Some, None, All, length, slice_get, take}
 use Rattle.search_graph.specs.declared.nested_goals.Span.{Span}
 use Rattle.search_graph.specs.declared.nested_goals.NestedGoals.{NestedGoals}
 use Rattle.search_graph.specs.Nested.{IsWithin, covered, one_goal}
@@ -88,6 +88,18 @@ AreInRange asked nested = All (IsWithin nested.span) nested.goals.items
 -- so do those that were asked under each goal, and older ones alone were used under it
 abbrev pub AreCovered : List Asked → Type 0
 AreCovered asked = (place : ℕ) (e : Asked) → slice_get asked place ≡ Some e → AreInRange (take place asked) e.nested_goals
+
+-- The first place at which each goal is listed is noted by its number. This one's is there, and is the place or an older one
+abbrev pub IsNotedBy : List ℕ → ℕ → ℕ → Type 0
+IsNotedBy first place number = (number < length first) × (get_or first number 0 ≤ place)
+
+-- what was noted stays so
+abbrev pub KeepsNoted : List ℕ → List ℕ → Type 0
+KeepsNoted old new = (place number : ℕ) → IsNotedBy old place number → IsNotedBy new place number
+
+-- each goal under which was asked is noted, and each that it asked
+abbrev pub AreNoted : List ℕ → List Asked → Type 0
+AreNoted first asked = (place : ℕ) (e : Asked) → slice_get asked place ≡ Some e → IsNotedBy first place e.number × All (IsNotedBy first place) e.nested_goals.goals.items
 
 -- the range of each goal of a stack has it and all below it
 abbrev pub AreInRanges : {I R : Type 0} → List (StackEntry I R) → Type 0

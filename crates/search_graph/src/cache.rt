@@ -1,10 +1,11 @@
 //! Results that hold whatever is being evaluated.
 
-ghost use Rattle.std.specs.Prelude.{◌≡◌, ◌+◌, ◌<◌, ◌≤◌, ◌⊎◌, [], ℕ, All, length, get_or, IfOk, IfErr, OnOk, OnErr, IfSome, IfNone, Some, None, nat_eq, slice_get, true, false};
+ghost use Rattle.std.specs.Prelude.{◌≡◌, ◌↔◌, ◌+◌, ◌<◌, ◌≤◌, ◌⊎◌, [], ℕ, All, length, get_or, IfOk, IfErr, OnOk, OnErr, IfSome, IfNone, IsTrue, Some, None, nat_eq, slice_get, true, false};
 ghost use Rattle.std.proofs.Props.{props};
 ghost use Rattle.indexmap.specs.IndexMap.{ContainsKey};
 ghost use Rattle.search_graph.specs.Chain.{newest_of, AreLinked, IsAskedUnder, IsWithinDepth, AllInRange, AreCovered, AreRecorded};
-ghost use Rattle.search_graph.specs.Chain.{AreInRange, range_of, IsUsableAt, NoneIsUsable, IsReachedOrApart};
+ghost use Rattle.search_graph.specs.Chain.{AreInRange, range_of, IsUsableAt, NoneIsUsable, IsReachedOrApart, IsNotedBy, KeepsNoted, AreNoted};
+ghost use Rattle.search_graph.specs.Nested.{IsWithin};
 ghost use Rattle.indexmap.specs.IndexSet.{insert_key};
 ghost use Rattle.search_graph.specs.Meaning.{Keeps};
 ghost use Rattle.search_graph.specs.Stack.{IsProvisional, AreCached};
@@ -90,11 +91,14 @@ pub struct CachedResults<D: Delegate> {
     pub entries: Vec<CacheEntry<InputOf<D>, ResultOf<D>>>,
     /// What was asked under goals whose results were kept, the oldest first.
     pub asked: Vec<Asked>,
+    /// The first place in `asked` at which each goal is listed, or the greatest one, by the goal's number.
+    first: Vec<usize>,
     ghost listed: { (number : ℕ) → get_or newest.items number None ≡ newest_of entries.items number } by { Prim.hlevel props },
     ghost linked: { AreLinked entries.items } by { Prim.hlevel props },
     pub ghost numbered: { (place : ℕ) (e : _) → slice_get entries.items place ≡ Some e → IsNumberOf D.Cx.Input.eq goals.keys e.input e.number } by { Prim.hlevel props },
     pub ghost recorded: { AreRecorded entries.items asked.items } by { Prim.hlevel props },
     pub ghost covered: { AreCovered asked.items } by { Prim.hlevel props },
+    ghost noted: { AreNoted first.items asked.items } by { Prim.hlevel props },
     pub ghost consistent: { AreConsistent (known_results entries.items) } by { Prim.hlevel props },
 }
 
@@ -106,6 +110,7 @@ impl<D: Delegate> Drop for CachedResults<D> {
             newest: _,
             entries: _,
             asked: _,
+            first: _,
         } = self;
     }
 }
@@ -123,6 +128,7 @@ impl<D: Delegate> CachedResults<D> {
             newest: Vec::new(alloc),
             entries: Vec::new(alloc),
             asked: Vec::new(alloc),
+            first: Vec::new(alloc),
         }
     }
 
@@ -209,7 +215,12 @@ impl<D: Delegate> CachedResults<D> {
         let Some(entry) = self.asked.get(place) else {
             return Ok(true);
         };
-        if !entry.nested_goals.span.overlaps(on_stack) {
+        let range = entry.nested_goals.span;
+        if !range.overlaps(on_stack) {
+            return Ok(true);
+        }
+        // A goal that is evaluated for the first time was asked under nothing yet, so mostly this is all.
+        if !is_any_noted(positions, range, &self.first, place) {
             return Ok(true);
         }
         let mut reached: IndexSet<usize> = IndexSet::new(self.alloc);
@@ -355,6 +366,7 @@ impl<D: Delegate> CachedResults<D> {
         ensures goals { self.new.goals ≡ self.old.goals }
     {
         let asked = self.asked.len();
+        note_asked(&mut self.first, number, &nested_goals, asked)?;
         self.asked.push(Asked {
             number,
             nested_goals,
@@ -402,6 +414,7 @@ impl<D: Delegate> CachedResults<D> {
         let asked = self.asked.len();
         let previous = self.newest_of(number);
         make_room(&mut self.newest, number)?;
+        note_asked(&mut self.first, number, &nested_goals, asked)?;
         self.asked.push(Asked {
             number,
             nested_goals,
@@ -430,6 +443,64 @@ fn is_any_on_stack(positions: &IndexMap<usize, usize>, goals: &[usize]) -> bool
         }
     }
     false
+}
+
+/// Whether a goal of the stack lies in the range and is listed at the place or at an older one.
+fn is_any_noted(
+    positions: &IndexMap<usize, usize>,
+    range: Span,
+    first: &[usize],
+    place: usize,
+) -> bool
+    ensures { result ≡ false → (number : ℕ) → ContainsKey nat_eq positions.now number → IsWithin range number → IsNotedBy first.now place number → ⊥ }
+{
+    for index in 0..positions.len() {
+        let Some((number, _)) = positions.get_index(index) else {
+            return true;
+        };
+        if may_be_under(range, first, place, *number) {
+            return true;
+        }
+    }
+    false
+}
+
+/// Whether the goal with the number lies in the range and is listed at the place or at an older one.
+fn may_be_under(range: Span, first: &[usize], place: usize, number: usize) -> bool
+    ensures { IsWithin range number → IsNotedBy first.now place number → result ≡ true }
+{
+    range.has(number) && number < first.len() && first[number] <= place
+}
+
+/// Notes that the goal and those that it asked are listed at the place.
+fn note_asked(
+    first: &mut Vec<usize>,
+    number: usize,
+    nested: &NestedGoals,
+    place: usize,
+) -> Result<(), AllocError>
+    ensures noted { OnOk result (IsNotedBy first.new.items place number × All (IsNotedBy first.new.items place) nested.now.goals.items) }
+    ensures others { KeepsNoted first.old.items first.new.items }
+{
+    note(first, number, place)?;
+    for goal in &nested.goals {
+        note(first, *goal, place)?;
+    }
+    Ok(())
+}
+
+/// Notes that the goal with the number is listed at the place.
+fn note(first: &mut Vec<usize>, number: usize, place: usize) -> Result<(), AllocError>
+    ensures noted { OnOk result (IsNotedBy first.new.items place number) }
+    ensures others { KeepsNoted first.old.items first.new.items }
+{
+    while first.len() <= number {
+        first.push(usize::MAX)?;
+    }
+    if place < first[number] {
+        first[number] = place;
+    }
+    Ok(())
 }
 
 /// Adds goals without results, up to the one with the number.

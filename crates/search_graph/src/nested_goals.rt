@@ -47,6 +47,13 @@ impl Span {
         }
     }
 
+    /// Whether the goal of this number lies in it.
+    pub fn has(self, number: usize) -> bool
+        ensures { IsTrue result ↔ IsWithin self number }
+    {
+        self.lowest <= number && number <= self.highest
+    }
+
     /// Whether a goal may lie in both.
     pub fn overlaps(self, other: Span) -> bool
         ensures shares { (number : ℕ) → IsWithin self number → IsWithin other number → IsTrue result }

@@ -4,6 +4,7 @@ use Rattle.search_graph.proofs.Chains.{AreLinked-push, listed_push}
 use Rattle.search_graph.proofs.Graphs.{Keeps-refl, cached_insert, IsCached-at}
 use Rattle.search_graph.proofs.Limits.{AreCachedWithin-push}
 use Rattle.search_graph.proofs.Faithfuls.{true_not_false}
+use Rattle.search_graph.proofs.Noted.{noted_push, noted_keeps}
 use Rattle.search_graph.proofs.Ranges.{covered_push, recorded_later, recorded_push}
 use Rattle.search_graph.proofs.cache.CachedResults.insert.Goals as goal
 
@@ -71,8 +72,9 @@ invariant_of-self-in-Break-branch-3 g c =
       listed = λ n. c.make_room.ensures.same n ∙ old.listed n;
       linked = old.linked;
       numbered = old.numbered;
-      recorded = λ place e at. rw c.in_err-push.ensures.items (old.recorded place e at);
-      covered = rw c.in_err-push.ensures.items old.covered;
+      recorded = old.recorded;
+      covered = old.covered;
+      noted = noted_keeps old.first.items c.note_asked.new.first.items old.asked.items old.noted c.note_asked.ensures.others;
       consistent = old.consistent;
     }
 
@@ -80,11 +82,25 @@ pub invariant_of-self-in-Break-branch-4 : goal.invariant_of-self-in-Break-branch
 invariant_of-self-in-Break-branch-4 g c =
     let old = c.args.self.now in
     record {
+      listed = λ n. c.make_room.ensures.same n ∙ old.listed n;
+      linked = old.linked;
+      numbered = old.numbered;
+      recorded = λ place e at. rw c.in_err-push.ensures.items (old.recorded place e at);
+      covered = rw c.in_err-push.ensures.items old.covered;
+      noted = rw c.in_err-push.ensures.items (noted_keeps old.first.items c.note_asked.new.first.items old.asked.items old.noted c.note_asked.ensures.others);
+      consistent = old.consistent;
+    }
+
+pub invariant_of-self-in-Break-branch-5 : goal.invariant_of-self-in-Break-branch-5
+invariant_of-self-in-Break-branch-5 g c =
+    let old = c.args.self.now in
+    record {
       listed = λ n. rw c.in_err-push-2.ensures.items (c.make_room.ensures.same n ∙ old.listed n);
       linked = rw c.in_err-push-2.ensures.items old.linked;
       numbered = rw c.in_err-push-2.ensures.items old.numbered;
       recorded = rw (c.in_err-push-2.ensures.items, c.in_ok-push.ensures.items) (recorded_later old.entries.items old.asked.items (old.asked.items ++ record { number = c.args.number; nested_goals = c.args.nested_goals } ∷ []) (KeepsResults-push old.asked.items (record { number = c.args.number; nested_goals = c.args.nested_goals })) old.recorded);
       covered = rw c.in_ok-push.ensures.items (covered_push old.asked.items (record { number = c.args.number; nested_goals = c.args.nested_goals }) old.covered c.requires.nested);
+      noted = rw c.in_ok-push.ensures.items (let own = rw (c.len-asked.ensures ∙ c.args.self.now.asked.ok.0) at c.in_ok-note_asked.ensures.noted in noted_push c.args.self.now.first.items c.note_asked.new.first.items c.args.self.now.asked.items (record { number = c.args.number; nested_goals = c.args.nested_goals }) c.args.self.now.noted c.note_asked.ensures.others own.0 own.1);
       consistent = rw c.in_err-push-2.ensures.items old.consistent;
     }
 
@@ -112,3 +128,7 @@ index_mut-requires g c = subst (λ n. c.args.number < n) (sym c.make_room.new.ne
 
 pub returns-clause-place : goal.returns-clause-place
 returns-clause-place g c = c.len-asked.ensures ∙ c.args.self.now.asked.ok.0
+
+pub invariant_of-self-2-clause-noted : goal.invariant_of-self-2-clause-noted
+invariant_of-self-2-clause-noted g c = rw c.in_ok-push.ensures.items
+    (let own = rw (c.len-asked.ensures ∙ c.args.self.now.asked.ok.0) at c.in_ok-note_asked.ensures.noted in noted_push c.args.self.now.first.items c.note_asked.new.first.items c.args.self.now.asked.items (record { number = c.args.number; nested_goals = c.args.nested_goals }) c.args.self.now.noted c.note_asked.ensures.others own.0 own.1)

@@ -6,6 +6,7 @@ use Rattle.std.proofs.Common.{nat_eq}
 use Rattle.search_graph.proofs.Faithfuls.{true_not_false}
 use Rattle.search_graph.proofs.Chains.{reached_asked, reached_goal}
 use Rattle.search_graph.proofs.Ranges.{absent_clear, apart_clear, apart_of, reached_inside, reached_count, reached_more, seen_next, seen_clear}
+use Rattle.search_graph.proofs.Noted.{noted_clear}
 use Rattle.search_graph.proofs.cache.CachedResults.is_clear_of.Goals as goal
 use Rattle.search_graph.proofs.cache.CachedResults.is_clear_of.Goals.{else-round-gt0-via-then-round-gt0+else-contains_key, else-round-gt0-via-else-round-gt0}
 
@@ -22,6 +23,14 @@ returns-then-not-overlaps-clause-clear g c = λ yes.
     let at : slice_get c.args.self.now.asked.items c.args.place ≡ Some c.in-Some.entry.now = ap (λ xs. slice_get xs c.args.place) (sym c.deref.ensures.value) ∙ slice_get_read c.deref.result.now _ c.args.place e refl c.in-Some.ensures.lookup.3.0 c.in-Some.ensures.lookup.1 in
     apart_clear es c.args.self.now.covered (ContainsKey nat_eq c.args.positions.now) c.args.on_stack c.requires.range c.args.place e at
     (apart_of c.overlaps.result e.nested_goals.span c.args.on_stack e.nested_goals.span refl c.if-not-overlaps.true c.overlaps.ensures.shares)
+
+pub returns-then-not-is_any_noted-clause-clear : goal.returns-then-not-is_any_noted-clause-clear
+returns-then-not-is_any_noted-clause-clear g c = λ yes.
+    let es = c.args.self.now.asked.items in
+    let e = c.in-Some.entry.now in
+    let at : slice_get c.args.self.now.asked.items c.args.place ≡ Some c.in-Some.entry.now = ap (λ xs. slice_get xs c.args.place) (sym c.deref.ensures.value) ∙ slice_get_read c.deref.result.now _ c.args.place e refl c.in-Some.ensures.lookup.3.0 c.in-Some.ensures.lookup.1 in
+    let none = rw c.deref-2.ensures.value at (c.is_any_noted.ensures c.if-not-is_any_noted.true) in
+    noted_clear c.args.self.now.first.items es c.args.self.now.covered c.args.self.now.noted (ContainsKey nat_eq c.args.positions.now) c.args.place e at none
 
 pub index-entry-requires : goal.index-entry-requires
 index-entry-requires g c =
