@@ -1,7 +1,8 @@
 -- Whether trees can become one, node by node and argument by argument.
-use Rattle.std.proofs.Common.{◌≡◌, ℕ, zero, suc, Bool, true, false, ◌&&◌, ◌||◌, not, List, [], ◌∷◌, length, Some, None, refl, sym, ap, ◌∙◌, arith}
+use Rattle.std.proofs.Common.{◌≡◌, ℕ, zero, suc, Bool, true, false, ◌&&◌, ◌||◌, not, List, [], ◌∷◌, length, Option, Some, None, refl, sym, ap, ◌∙◌, arith}
 use Rattle.std.proofs.lemmas.Bool.Decides.{nat_tests}
 use Rattle.std.specs.Prelude.{◌==◌, if◌then◌else◌}
+use Rattle.std.specs.Cmp.Lexicographic.{pointwise}
 use Rattle.type_terms.specs.Label.{Label, of_type, of_const, of_lifetime, static, fn_ptr, auto_trait, value, principal, param, placeholder, infer, canonical, bound, predicate}
 use Rattle.type_terms.specs.Trees.{Trees, none, tree, leaf, ◌+++◌, erase_label, sort_of, IsA, Single}
 use Rattle.type_terms.specs.Codes.{same, same_label}
@@ -9,7 +10,7 @@ use Rattle.type_terms.specs.Answers.{is_open}
 use Rattle.type_terms.specs.Made.{terms, is_made, is_in_range}
 use Rattle.type_terms.specs.Terms.{Entry, Lawful, Has, term, types, consts, trees_at}
 use Rattle.type_terms.specs.Kept.{is-at, trees-is}
-use Rattle.type_terms.specs.Kinds.{region_label, region_trees, const_label, arg_trees, args_trees, tys_trees, ArgHeld, ArgsHeld, TysHeld}
+use Rattle.type_terms.specs.Kinds.{region_label, region_trees, const_label, arg_trees, args_trees, tys_trees, principal_trees, autos_trees, ArgHeld, ArgsHeld, TysHeld}
 use Rattle.type_terms.specs.declared.region.Region.{Region}
 use Rattle.type_terms.specs.declared.region.RegionKind.{RegionKind}
 use Rattle.type_terms.specs.declared.region.RegionKind.TheVariants.{ReStatic, ReEarlyParam, RePlaceholder, ReBound, ReVar}
@@ -17,6 +18,9 @@ use Rattle.type_terms.specs.declared.number.BoundVarIndexKind.TheVariants.{Bound
 use Rattle.type_terms.specs.declared.kinds.ConstKind.{ConstKind}
 use Rattle.type_terms.specs.declared.kinds.ConstKind.TheVariants.{Value as CValue, Param as CParam, Placeholder as CPlaceholder, Bound as CBound, Infer as CInfer}
 use Rattle.type_terms.specs.declared.kinds.Ty as of_ty
+use Rattle.type_terms.specs.declared.kinds.Principal.{Principal}
+use Rattle.type_terms.specs.declared.TraitId.{TraitId}
+use Rattle.type_terms.specs.contracts.TraitIdPartialEq.TheImpl.{ghosts as trait}
 use Rattle.type_terms.specs.declared.kinds.GenericArgKind.{GenericArgKind}
 use Rattle.type_terms.specs.declared.kinds.GenericArgKind.TheVariants.{Lifetime, Ty as AType, Const as AConst}
 use Rattle.type_terms.proofs.Applies.{same-label-itself, same-complete}
@@ -263,6 +267,78 @@ lifetimes-meet n r s = sym (alone n (region_label r.kind) (region_label s.kind) 
 pub behind-lifetimes : (n : ℕ) (r s : Region) (x y : Trees) → may_meet n (region_trees r +++ x) (region_trees s +++ y) ≡ may_meet n x y
 behind-lifetimes zero r s x y = refl
 behind-lifetimes (suc n) r s x y = ap (λ z. z && may_meet (suc n) x y) (region-tops r.kind s.kind (may_meet n none none))
+
+ends-left : (n : ℕ) (r : Region) (x : Trees) → may_meet (suc n) none (x +++ region_trees r) ≡ false
+ends-left n r none = refl
+ends-left n r (tree l c o) = refl
+
+ends-right : (n : ℕ) (r : Region) (x : Trees) → may_meet (suc n) (x +++ region_trees r) none ≡ false
+ends-right n r none = refl
+ends-right n r (tree l c o) = refl
+
+-- a lifetime that stands last on both sides tells nothing
+pub before-lifetimes : (n : ℕ) (r s : Region) (x y : Trees) → may_meet n (x +++ region_trees r) (y +++ region_trees s) ≡ may_meet n x y
+before-lifetimes zero r s x y = refl
+before-lifetimes (suc n) r s none none = sym (lifetimes-meet n r s)
+before-lifetimes (suc n) r s none (tree m d p) =
+    ap (λ z. tops_may_meet (region_label r.kind) m (may_meet n none d) && z) (ends-left n s p) ∙ sym (and-false (tops_may_meet (region_label r.kind) m (may_meet n none d)))
+before-lifetimes (suc n) r s (tree l c o) none =
+    ap (λ z. tops_may_meet l (region_label s.kind) (may_meet n c none) && z) (ends-right n r o) ∙ sym (and-false (tops_may_meet l (region_label s.kind) (may_meet n c none)))
+before-lifetimes (suc n) r s (tree l c o) (tree m d p) = ap (λ z. tops_may_meet l m (may_meet n c d) && z) (before-lifetimes (suc n) r s o p)
+
+-- ---- the bounds of a `dyn`
+principals-meet : (k l i j : ℕ) (b : Bool) → tops_may_meet (principal k i) (principal l j) b ≡ ((i == j) && b)
+principals-meet k l i j b = by (i == j)
+  where
+    by : (x : Bool) → ((x && true) && b) ≡ (x && b)
+    by true = refl
+    by false = refl
+
+pub one-principal : (n k l i j : ℕ) (x y : Trees) → (i == j) ≡ true → may_meet (suc n) (tree (principal k i) x none) (tree (principal l j) y none) ≡ may_meet n x y
+one-principal n k l i j x y e = alone n (principal k i) (principal l j) x y ∙ principals-meet k l i j (may_meet n x y) ∙ ap (λ z. z && may_meet n x y) e
+
+pub two-principals : (n k l i j : ℕ) (x y : Trees) → (i == j) ≡ false → may_meet (suc n) (tree (principal k i) x none) (tree (principal l j) y none) ≡ false
+two-principals n k l i j x y e = alone n (principal k i) (principal l j) x y ∙ principals-meet k l i j (may_meet n x y) ∙ ap (λ z. z && may_meet n x y) e
+
+pub autos-meet : (n : ℕ) (xs ys : List TraitId) → may_meet (suc n) (autos_trees xs) (autos_trees ys) ≡ pointwise trait.eq xs ys
+autos-meet n [] [] = refl
+autos-meet n [] (y ∷ ys) = refl
+autos-meet n (x ∷ xs) [] = refl
+autos-meet n (x ∷ xs) (y ∷ ys) = by (x.index == y.index) (may_meet (suc n) (autos_trees xs) (autos_trees ys)) (pointwise trait.eq xs ys) (autos-meet n xs ys)
+  where
+    by : (a b c : Bool) → b ≡ c → (((a && true) && true) && b) ≡ (a && c)
+    by true b c e = e
+    by false b c e = refl
+
+autos-no-principal : (n k i : ℕ) (xs : List TraitId) (x y : Trees) → may_meet (suc n) (autos_trees xs) (tree (principal k i) x y) ≡ false
+autos-no-principal n k i [] x y = refl
+autos-no-principal n k i (a ∷ xs) x y = refl
+
+principal-no-autos : (n k i : ℕ) (ys : List TraitId) (x y : Trees) → may_meet (suc n) (tree (principal k i) x y) (autos_trees ys) ≡ false
+principal-no-autos n k i [] x y = refl
+principal-no-autos n k i (a ∷ ys) x y = refl
+
+-- bounds, by their principal traits and their auto traits
+pub bounds-parted : (es : List Entry) (n : ℕ) (p q : Option Principal) (xs ys : List TraitId)
+    → may_meet (suc n) (principal_trees es p +++ autos_trees xs) (principal_trees es q +++ autos_trees ys)
+    ≡ (may_meet (suc n) (principal_trees es p) (principal_trees es q) && may_meet (suc n) (autos_trees xs) (autos_trees ys))
+bounds-parted es n None None xs ys = refl
+bounds-parted es n None (Some q) xs ys = autos-no-principal n q.bound_vars q.def_id.index xs (trees_at es q.args.0) (autos_trees ys)
+bounds-parted es n (Some p) None xs ys = principal-no-autos n p.bound_vars p.def_id.index ys (trees_at es p.args.0) (autos_trees xs)
+bounds-parted es n (Some p) (Some q) xs ys =
+    parted n (tree (principal p.bound_vars p.def_id.index) (trees_at es p.args.0) none) (tree (principal q.bound_vars q.def_id.index) (trees_at es q.args.0) none) (autos_trees xs) (autos_trees ys) refl refl
+
+pub bounds-differ : (es : List Entry) (n : ℕ) (p q : Option Principal) (xs ys : List TraitId) → pointwise trait.eq xs ys ≡ false
+    → may_meet (suc n) (principal_trees es p +++ autos_trees xs) (principal_trees es q +++ autos_trees ys) ≡ false
+bounds-differ es n p q xs ys e =
+    bounds-parted es n p q xs ys ∙ ap (λ z. may_meet (suc n) (principal_trees es p) (principal_trees es q) && z) (autos-meet n xs ys ∙ e)
+    ∙ sym (and-false (may_meet (suc n) (principal_trees es p) (principal_trees es q)))
+
+pub principals-left : (es : List Entry) (n : ℕ) (p q : Option Principal) (xs ys : List TraitId) → pointwise trait.eq xs ys ≡ true
+    → may_meet (suc n) (principal_trees es p +++ autos_trees xs) (principal_trees es q +++ autos_trees ys) ≡ may_meet (suc n) (principal_trees es p) (principal_trees es q)
+principals-left es n p q xs ys e =
+    bounds-parted es n p q xs ys ∙ ap (λ z. may_meet (suc n) (principal_trees es p) (principal_trees es q) && z) (autos-meet n xs ys ∙ e)
+    ∙ and-true (may_meet (suc n) (principal_trees es p) (principal_trees es q))
 
 -- ---- types
 -- one node, whose label is rigid or open

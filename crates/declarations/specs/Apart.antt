@@ -1,6 +1,6 @@
 -- Arguments that no impl can have in common with a goal.
 use Rattle.std.specs.Prelude.{ℕ, zero, suc, Bool, true, false, ◌||◌, ◌&&◌, ◌==◌, not}
-use Rattle.type_terms.specs.Label.{Label, array, slice, tuple, adt, ref, raw_pointer}
+use Rattle.type_terms.specs.Label.{Label, array, slice, tuple, dynamic, adt, fn_ptr, ref, raw_pointer, principal}
 use Rattle.type_terms.specs.Trees.{Trees, none, tree, erase_label, flags}
 use Rattle.type_terms.specs.Codes.{same, same_label}
 use Rattle.type_terms.specs.Answers.{is_open}
@@ -9,14 +9,17 @@ use Rattle.type_terms.specs.Answers.{is_open}
 abbrev pub is_fixed : Trees → Bool
 is_fixed t = flags t == 0
 
--- A type of which the parts are looked at too.
+-- A type of which the parts are looked at too, or the principal trait of a `dyn`. What a binder binds are lifetimes, which tell nothing.
 abbrev pub has_parts : Label → Bool
 has_parts array = true
 has_parts slice = true
 has_parts tuple = true
+has_parts dynamic = true
 has_parts (adt s) = true
+has_parts (fn_ptr n) = true
 has_parts (ref b) = true
 has_parts (raw_pointer b) = true
+has_parts (principal n t) = true
 has_parts _ = false
 
 -- Nodes with these labels can become one: one of them is open, so that anything can stand in its place, or they are one up to lifetimes
@@ -25,7 +28,7 @@ abbrev pub tops_may_meet : Label → Label → Bool → Bool
 tops_may_meet l m parts = is_open l || (is_open m || (same_label (erase_label l) (erase_label m) && (not (has_parts l) || parts)))
 
 -- As far as n levels tell, the trees can become one, whatever is put in. `V<T>, u8` and `V<bool>, ?x` can; `V<[T]>` and `V<&u8>` cannot, as
--- two levels tell.
+-- two levels tell. The bounds of a `dyn` stand one level below it, with their auto traits, and the principal's arguments two.
 abbrev pub may_meet : ℕ → Trees → Trees → Bool
 may_meet zero x y = true
 may_meet (suc n) none none = true
@@ -35,9 +38,9 @@ may_meet (suc n) (tree l c o) (tree m d p) = tops_may_meet l m (may_meet n c d) 
 
 -- How many levels are looked at.
 abbrev pub levels : ℕ
-levels = 4
+levels = 9
 
 -- Both are fixed, and they are two; or what stands on their first levels keeps them apart. `[u8; 1]` and `[u8; 2]` are apart, and so are
--- `V<S, T>` and `V<R, ?x>`; `[T; 2]` and `[u8; ?n]` are not.
+-- `V<S, T>` and `V<R, ?x>`, `fn(S) -> T` and `fn(R) -> T`, `dyn Tr<S>` and `dyn Tr<R>`; `[T; 2]` and `[u8; ?n]` are not.
 abbrev pub are_apart : Trees → Trees → Bool
 are_apart x y = (is_fixed x && (is_fixed y && not (same x y))) || not (may_meet levels x y)

@@ -1,19 +1,21 @@
 //! What keeps the arguments of an impl's header apart from those of a reference, so that the impl can be passed over.
-ghost use Rattle.std.specs.Prelude.{◌≡◌, ◌≢◌, ℕ, suc, ◌&&◌, ◌||◌, false};
-ghost use Rattle.type_terms.specs.Terms.{Has, types, consts, args_lists, trees_at};
-ghost use Rattle.type_terms.specs.Kinds.{ArgHeld, ArgsHeld, TysHeld, arg_trees, args_trees, tys_trees};
+ghost use Rattle.std.specs.Prelude.{◌≡◌, ◌≢◌, ℕ, suc, ◌&&◌, ◌||◌, List};
+ghost use Rattle.type_terms.specs.Terms.{Entry, Has, types, consts, args_lists, bounds_lists, trees_at};
+ghost use Rattle.type_terms.specs.Kinds.{ArgHeld, ArgsHeld, TysHeld, PrincipalHeld, arg_trees, args_trees, tys_trees, principal_trees};
 ghost use Rattle.term_folds.specs.Arguments.{arg_sort};
 ghost use Rattle.declarations.specs.Apart.{is_fixed, are_apart, may_meet};
 ghost use Rattle.declarations.specs.Heads.{head_of};
-ghost use Rattle.declarations.specs.Tops.{top_is_open, is_some_head, PartsHeld, left_parts, right_parts, TopsHeld, tell};
+ghost use Rattle.declarations.specs.Tops.{top_is_open, is_some_head, PartsHeld, left_parts, right_parts, TopsHeld, meet_below, tell};
 
 use crate::simplify::simplify_type;
 use type_terms::interner::Interner;
-use type_terms::kinds::{Const, ConstKind, GenericArgKind, GenericArgs, Ty, TyKind, Tys};
+use type_terms::kinds::{
+    Bounds, Const, ConstKind, GenericArgKind, GenericArgs, Principal, Ty, TyKind, Tys,
+};
 use type_terms::region::RegionKind;
 
 /// How many levels of two lists are compared.
-const LEVELS: u32 = 4;
+const LEVELS: u32 = 9;
 
 /// The parts of two types with one head: those of the left one, and then those of the right one.
 #[derive(Clone, Copy)]
@@ -24,11 +26,13 @@ enum Parts {
     Array(Ty, Const, Ty, Const),
     /// The arguments of a struct.
     Args(GenericArgs, GenericArgs),
-    /// The items of a tuple.
+    /// The items of a tuple, or the inputs and the output of a `fn` pointer.
     Items(Tys, Tys),
+    /// The bounds of a `dyn` type.
+    Bounds(Bounds, Bounds),
 }
 
-/// What the outermost nodes of two types tell of whether they can become one.
+/// What the outermost nodes of two types, or the bounds of two `dyn` types, tell of whether they can become one.
 #[derive(Clone, Copy)]
 enum Tops {
     /// They can, whatever stands below.
@@ -105,7 +109,7 @@ fn consts_may_meet(cx: &Interner, left: Const, right: Const) -> bool
     }
 }
 
-/// The parts of two types with one head. Those of a `dyn` type and of a `fn` pointer are not looked at.
+/// The parts of two types with one head.
 fn parts_of(cx: &Interner, left: Ty, right: Ty) -> Tops
     requires left { Has cx.now.entries types left.0 }
     requires right { Has cx.now.entries types right.0 }
@@ -142,6 +146,14 @@ fn parts_of(cx: &Interner, left: Ty, right: Ty) -> Tops
             TyKind::Tuple(second) => Tops::Parts(Parts::Items(first, second)),
             _ => unreachable!(),
         },
+        TyKind::FnPtr(_, first) => match cx.kind(right) {
+            TyKind::FnPtr(_, second) => Tops::Parts(Parts::Items(first, second)),
+            _ => unreachable!(),
+        },
+        TyKind::Dynamic(first, _) => match cx.kind(right) {
+            TyKind::Dynamic(second, _) => Tops::Parts(Parts::Bounds(first, second)),
+            _ => unreachable!(),
+        },
         _ => Tops::MayMeet,
     }
 }
@@ -172,6 +184,46 @@ fn compare_tops(cx: &Interner, left: Ty, right: Ty) -> Tops
     }
 }
 
+/// What the principal traits of two `dyn` types tell: they differ if they are two traits or one is missing, and else their arguments
+/// are left. How many lifetimes they bind tells nothing.
+fn compare_principals(left: Option<Principal>, right: Option<Principal>) -> Tops
+    ensures held { (es : List Entry) → PrincipalHeld es left → PrincipalHeld es right → TopsHeld es result }
+    ensures tell { (es : List Entry) → tell es result (principal_trees es left) (principal_trees es right) }
+{
+    match left {
+        Some(first) => match right {
+            Some(second) => {
+                if first.def_id == second.def_id {
+                    Tops::Parts(Parts::Args(first.args, second.args))
+                } else {
+                    Tops::Differ
+                }
+            }
+            None => Tops::Differ,
+        },
+        None => match right {
+            Some(_) => Tops::Differ,
+            None => Tops::MayMeet,
+        },
+    }
+}
+
+/// What the bounds of two `dyn` types tell: they differ where their auto traits do, and else their principal traits tell.
+fn compare_bounds(cx: &Interner, left: Bounds, right: Bounds) -> Tops
+    requires left { Has cx.now.entries bounds_lists left.0 }
+    requires right { Has cx.now.entries bounds_lists right.0 }
+    ensures held { TopsHeld cx.now.entries result }
+    ensures tell { tell cx.now.entries result (trees_at cx.now.entries left.0) (trees_at cx.now.entries right.0) }
+{
+    let first = cx.bounds(left);
+    let second = cx.bounds(right);
+    if first.autos == second.autos {
+        compare_principals(first.principal, second.principal)
+    } else {
+        Tops::Differ
+    }
+}
+
 /// Whether two types can become one, as their outermost nodes and so many levels below these tell.
 #[cycle(meeting)]
 fn types_may_meet(cx: &Interner, left: Ty, right: Ty, levels_below: u32) -> bool
@@ -179,7 +231,16 @@ fn types_may_meet(cx: &Interner, left: Ty, right: Ty, levels_below: u32) -> bool
     requires right { Has cx.now.entries types right.0 }
     ensures { result ≡ may_meet (suc levels_below) (trees_at cx.now.entries left.0) (trees_at cx.now.entries right.0) }
 {
-    match compare_tops(cx, left, right) {
+    tops_may_meet(cx, compare_tops(cx, left, right), levels_below)
+}
+
+/// Whether two types, or the bounds of two `dyn` types, can become one, by what is told of them and so many levels below.
+#[cycle(meeting)]
+fn tops_may_meet(cx: &Interner, tops: Tops, levels_below: u32) -> bool
+    requires { TopsHeld cx.now.entries tops }
+    ensures { result ≡ meet_below cx.now.entries tops levels_below }
+{
+    match tops {
         Tops::MayMeet => true,
         Tops::Differ => false,
         Tops::Parts(parts) => {
@@ -210,6 +271,9 @@ fn parts_may_meet(cx: &Interner, parts: Parts, levels_below: u32) -> bool
         }
         Parts::Args(left, right) => args_may_meet(cx, cx.args(left), cx.args(right), levels_below),
         Parts::Items(left, right) => tys_may_meet(cx, cx.tys(left), cx.tys(right), levels_below),
+        Parts::Bounds(left, right) => {
+            tops_may_meet(cx, compare_bounds(cx, left, right), levels_below)
+        }
     }
 }
 
@@ -296,8 +360,9 @@ fn tys_may_meet(cx: &Interner, left: &[Ty], right: &[Ty], levels_below: u32) -> 
 /// what stands on their first levels keeps them apart. `V<[T]>` and `V<&u8>` are apart so, and `u8, T` and `u16, ?x`, whatever is put
 /// in for T and `?x`; of `V<T, T>` and `V<u8, u16>` it is not told, as each place is compared by itself.
 ///
-/// It takes no memory, and it looks at four levels (`DeepRejectCtxt` of the original, which looks deeper, into the bounds of a `dyn`
-/// type and the types of a `fn` pointer too, and tells placeholders and parameters of the question apart).
+/// It takes no memory, and it looks at nine levels: the lengths and constants in types of the eighth, as `DeepRejectCtxt` of the
+/// original, which tells placeholders and parameters of the question apart besides. Of a `dyn` type the bounds are a level and their
+/// arguments the next.
 pub fn are_apart(cx: &Interner, left: GenericArgs, right: GenericArgs) -> bool
     requires left { Has cx.now.entries args_lists left.0 }
     requires right { Has cx.now.entries args_lists right.0 }

@@ -4,19 +4,22 @@ use Rattle.declarations.specs.Apart.{may_meet}
 use Rattle.declarations.proofs.apart.+meeting.Given as goal
 
 abbrev pub decreases-types_may_meet : goal.decreases-types_may_meet
-decreases-types_may_meet l = 4 * l.levels_below
+decreases-types_may_meet l = 5 * l.levels_below + 1
+
+abbrev pub decreases-tops_may_meet : goal.decreases-tops_may_meet
+decreases-tops_may_meet l = 5 * l.levels_below
 
 abbrev pub decreases-arg_may_meet : goal.decreases-arg_may_meet
-decreases-arg_may_meet l = 4 * l.levels_below + 1
+decreases-arg_may_meet l = 5 * l.levels_below + 2
 
 abbrev pub decreases-args_may_meet : goal.decreases-args_may_meet
-decreases-args_may_meet l = 4 * l.levels_below + 2
+decreases-args_may_meet l = 5 * l.levels_below + 3
 
 abbrev pub decreases-tys_may_meet : goal.decreases-tys_may_meet
-decreases-tys_may_meet l = 4 * l.levels_below + 2
+decreases-tys_may_meet l = 5 * l.levels_below + 3
 
 abbrev pub decreases-parts_may_meet : goal.decreases-parts_may_meet
-decreases-parts_may_meet l = 4 * l.levels_below + 3
+decreases-parts_may_meet l = 5 * l.levels_below + 4
 
 abbrev pub invariant-args_may_meet-pairs : goal.invariant-args_may_meet-pairs
 invariant-args_may_meet-pairs l = record {
