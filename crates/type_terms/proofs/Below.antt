@@ -30,7 +30,7 @@ step-up true false m n f h = let e = f refl in absurd (no e)
 step-up false true m n f h = omega arith
 step-up false false m n f h = h
 
-below-up : {A : Type 0} (key : A → ℕ) (a b : ℕ) (xs : List A) → a ≤ b → below key a xs ≤ below key b xs
+pub below-up : {A : Type 0} (key : A → ℕ) (a b : ℕ) (xs : List A) → a ≤ b → below key a xs ≤ below key b xs
 below-up key a b [] h = omega arith
 below-up key a b (x ∷ xs) h =
     step-up (ltb (key x) a) (ltb (key x) b) (below key a xs) (below key b xs) (less-kept (key x) a b h) (below-up key a b xs h)

@@ -50,6 +50,9 @@ pub mod WiderProofs
 pub mod WiderAnswers
 pub mod WiderImpls
 pub mod WiderSets
+pub mod PartProofs
+pub mod PartRules
+pub mod PartLaws
 pub mod ArrangedTrees
 pub mod ArrangedTwice
 pub mod ArrangedRules

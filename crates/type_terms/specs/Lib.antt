@@ -19,6 +19,8 @@ pub mod Worked
 pub mod WorkedSupers
 pub mod Laws
 pub mod WiderLaws
+pub mod Parts
+pub mod WorkedParts
 pub mod ArrangingLaws
 pub mod Variance
 pub mod Made

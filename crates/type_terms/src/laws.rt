@@ -2,6 +2,8 @@
 
 ghost use Rattle.type_terms.specs.Laws.{AddedByTheViewIsAdded, AnImpossibleClauseClearsThePair, CoreIsCoherent, CoreIsLinked, ErasedWorldsAreTerms, HeldSetsAreLinked, ImplsApplyUpToLifetimes, InEveryLinkedSet, KeptByTheViewIsKept, KnownByTheViewIsKnown, LaterImplsConcludeNothingKnown, LaterVersionsBreakNoUser, NoHolds, NoTwoCratesSeeEachOther, NoTwoImpls, ProofsByTheViewHold, RenumberingCarriesOver, RulesOfTermsAskTerms, SameIsEqual, SupertraitsAreProved, UnrelatedImplsDoNotOverlap, UnseenImplsConcludeNothingKnown, UsersSeeWhatTheirUsesSee, WalksSkipLifetimes, WhatTheViewDoesNotGiveIsUnknown};
 ghost use Rattle.type_terms.specs.WiderLaws.{AboveCovers, AboveHasRules, AccountsForTheSet, NoOfWhatIsAccountedFor, AgreeOnHeaders, AnImpossibleClauseAboveClearsThePair, ClearedAboveIsCleared, KnownHasARuleAbove, NoAboveHolds, PossibleAbove, ProofsHoldAbove, RulesHoldAbove, TestedProofsHoldAbove, ViewProofsHoldAbove, WidenedIsAbove, WiderImpls, WiderImplsMeet};
+ghost use Rattle.type_terms.specs.WorkedParts.{AnImplThatConcludesNothingIsNeeded, FourImplsAreEnough, NamesHaveToStay, SameRulesAreNotEnough, TooFew};
+ghost use Rattle.type_terms.specs.Parts.{AClosedListIsClosed, AnImpossibleClauseByAPartClears, AnswersOfAPartHold, APartAgrees, APartAnswersAlike, APartKeepsHeaders, ATextOfAPartAnswersAlike, ClosedByThePartIsClosed, SupersHeldByAPart, WhatAgreesAnswersAlike, WhatAgreesIsDeterminateAlike, WhatIsCutDownHasTheSameRules, WhatIsCutDownIsAPart, WhatPassesIsEnough};
 ghost use Rattle.type_terms.specs.Arranging.{AnyTwoOrdersAreArranged};
 ghost use Rattle.type_terms.specs.ArrangingLaws.{AnswersHoldInAnyOrder, ArrangedSetsAreLinked, ArrangingCarriesOver, HeldSetsInAnyOrder, NoTwoImplsInAnyOrder, OneOrderIsOneList, OppositeOrdersOfOneDyn};
 ghost use Rattle.type_terms.specs.WorkedSupers.{AMissingSupertrait, ByAWhereClause, ByAnotherImpl, ByASupertraitOfAWhereClause, NoDynIsSized};
@@ -184,6 +186,24 @@ pub fn an_impossible_clause_above_clears_the_pair()
     ensures { InEveryLinkedSet AnImpossibleClauseAboveClearsThePair }
 {}
 
+/// A part of a world that has what a closed set of references needs answers as the whole does, asked of these.
+pub fn a_part_answers_alike()
+    ensures agreeing { WhatAgreesAnswersAlike }
+    ensures part { APartAgrees }
+    ensures answers { APartAnswersAlike }
+    ensures texts { ATextOfAPartAnswersAlike }
+    ensures headers { APartKeepsHeaders }
+    ensures closed { ClosedByThePartIsClosed }
+    ensures listed { AClosedListIsClosed }
+    ensures cut { WhatIsCutDownIsAPart }
+    ensures rules { WhatIsCutDownHasTheSameRules }
+    ensures determinate { WhatAgreesIsDeterminateAlike }
+    ensures tested { WhatPassesIsEnough }
+    ensures supers { SupersHeldByAPart }
+    ensures sets { InEveryLinkedSet AnswersOfAPartHold }
+    ensures pairs { InEveryLinkedSet AnImpossibleClauseByAPartClears }
+{}
+
 /// Worked headers: which keep the orphan rule, and what their walks meet.
 pub fn worked_headers()
     ensures uncovered { UncoveredBeforeLocal }
@@ -216,6 +236,15 @@ pub fn worked_proofs()
 pub fn worked_possibilities()
     ensures users { UsersMayImplement }
     ensures supertraits { SupertraitsDecide }
+{}
+
+/// Worked parts: what a question needs of a small text, and parts that lack something.
+pub fn worked_parts()
+    ensures enough { FourImplsAreEnough }
+    ensures too_few { TooFew }
+    ensures autos { AnImplThatConcludesNothingIsNeeded }
+    ensures same { SameRulesAreNotEnough }
+    ensures names { NamesHaveToStay }
 {}
 
 /// Worked impls: which have the supertraits of their headers proved, and why no `dyn` is `Sized`.
