@@ -6,7 +6,7 @@ use crate::failures::Asking;
 use crate::items::{Texts, impl_line, mark_parts};
 use crate::links::{last_of, tell_links, tell_supertrait};
 use crate::open_questions::chance;
-use crate::sentences::{Piece, Sentence, plain, with_one, with_three};
+use crate::sentences::{Piece, Sentence, plain, with_one, with_two};
 use crate::sources::source_piece;
 use crate::story::{Story, unsure_premise};
 use crate::telling::Telling;
@@ -215,23 +215,26 @@ fn deeper(depth: u32) -> Option<u32>
 }
 
 /// Tells to ask with a greater depth limit, where there is one.
-fn tell_deeper(depth: u32, advice: &'static str, telling: &mut Telling) {
+fn tell_deeper(depth: u32, telling: &mut Telling) {
     if let Some(other) = deeper(depth) {
-        telling.help(with_three(
-            "{}: `{}` in place of `{}`",
-            Piece::Text(advice),
+        telling.help(with_two(
+            "ask with a greater depth limit: `{}` in place of `{}`",
             Piece::Number(other as usize),
             Piece::Number(depth as usize),
         ));
     }
 }
 
+/// What is advised where the search may have been given up: it may have asked too much, so less depth may settle it.
+const GIVEN_UP: &str =
+    "a search is given up after 65,536 nested goals: a smaller depth limit may settle it";
+
 /// Tells what follows from why the goal is not settled.
 fn tell_doubt(story: &Story<'_>, doubt: Doubt, leaf: usize, depth: u32, telling: &mut Telling) {
     match doubt {
         Doubt::Ways => tell_ways(story, leaf, telling),
-        Doubt::Depth => tell_deeper(depth, "ask with a greater depth limit", telling),
-        Doubt::Limits => tell_deeper(depth, "a greater depth limit may settle it", telling),
+        Doubt::Depth => tell_deeper(depth, telling),
+        Doubt::Limits => telling.help(plain(GIVEN_UP)),
         Doubt::Cycle | Doubt::Open | Doubt::Other => {}
     }
 }

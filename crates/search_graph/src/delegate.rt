@@ -162,8 +162,9 @@ pub trait Delegate {
         ensures fair { IfOk result (λ r. IsFair meaning (meaning.world cx.old) (meaning.goal_of cx.old for_input.now) (meaning.answer_of cx.new r)) }
         ensures no_yes { IfOk result (λ r. meaning.is_yes (meaning.answer_of cx.new r) ≡ false) };
 
-    /// By how much more than a small goal this one counts, where it ends with a result that isn't kept (`OPEN_ENDS_LIMIT`): about
-    /// how much longer it takes to evaluate. Any number may be answered, since nothing that is proved rests on it.
+    /// How many times more than once each question of the goal counts, where the goal ends with a result that is not cached for all
+    /// (`UNCACHED_QUESTIONS_LIMIT`): about how much longer than for a small goal a question takes. Any number may be returned, since no
+    /// proof rests on it.
     fn cost_of(cx: &Self::Cx, input: &InputOf<Self>) -> usize
         requires { meaning.IsInput cx.now input.now };
 

@@ -78,6 +78,8 @@ impl Dependencies {
         // The asking goal needs one more than the asked one, as far as the numbers go.
         ensures depth { OnOk result (self.new.required_depth ≡ max self.old.required_depth (min (nested.required_depth + 1) (2 ^ 64 - 1))) }
 
+        ensures questions { OnOk result (self.new.questions ≡ min (self.old.questions + 1) (2 ^ 64 - 1)) }
+
         ensures unread { OnOk result (self.old.heads.items ≡ [] → nested.heads.items ≡ [] → self.new.heads.items ≡ []) }
         ensures heads { OnOk result ((place : ℕ)
             → paths_to self.new.heads.items place ≡ bit_or (paths_to self.old.heads.items place) (paths_to nested.heads.items place)) }

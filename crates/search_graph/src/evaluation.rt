@@ -37,7 +37,7 @@ pub(crate) fn evaluate_root<D: Delegate>(
     depth: usize,
 ) -> Evaluation<D>
     requires empty { search.old.stack.items ≡ [] }
-    requires uncounted { search.old.open_ends ≡ 0 }
+    requires uncounted { search.old.uncached_questions ≡ 0 }
     requires cache { AreCached D.meaning (D.meaning.world cx.old) cx.old cache.old.entries.items }
     requires input { D.meaning.IsInput cx.old input }
     ensures keeps { Keeps D.meaning cx.old cx.new }

@@ -89,8 +89,10 @@ impl<D: Delegate> SearchGraph<D> {
 
     /// The result of a goal. The kind of the step has no effect, since no goal is above the root.
     ///
-    /// Where too many goals end under it whose results rest on goals that are still evaluated, or that met an overflow by depth,
-    /// the call is given up and its result is `stack_overflow_result`, which rustc does not give.
+    /// The call is given up when goals have asked 65,536 questions in it whose results rest on goals that are still evaluated, or that
+    /// met an overflow by depth. A question of a large goal counts more than once (`Delegate::cost_of`). The result is then
+    /// `stack_overflow_result`, which rustc does not give, and `limits_met` is set. `limits_met` is never set by a goal that plain
+    /// recursion answers within the depth.
     ///
     /// It is refused where memory is (`Memory`), where a table of the context is full (`Full`), where the frame of the goal or
     /// of one that is asked under it makes a request out of order (`Protocol`), and where a new result differs from a cached one

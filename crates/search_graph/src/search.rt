@@ -9,7 +9,7 @@ ghost use Rattle.search_graph.specs.Chain.{AreInRange, AreInRanges, IsUsableAt, 
 ghost use Rattle.search_graph.specs.Meaning.{Keeps};
 ghost use Rattle.search_graph.specs.Heads.{RestsOn};
 ghost use Rattle.search_graph.specs.KeptPaths.{indices, AreBelow};
-ghost use Rattle.search_graph.specs.Bound.{open_ends_limit};
+ghost use Rattle.search_graph.specs.Bound.{uncached_questions_limit};
 ghost use Rattle.search_graph.specs.Cache.{known_results, HasConflict, IsNumberOf, KeepsResults, IsReplyOf, AddsAsked, AddsEvaluation, SaysSame};
 ghost use Rattle.search_graph.specs.Plain.{IsNotPlain};
 ghost use Rattle.search_graph.specs.Stack.{place_of, oldest_of, span_of_newest, IsStack, IsProvisional, IsUnread, IsSettled, AreCached, IsOnStack, IsClosedBy};
@@ -36,15 +36,17 @@ pub type Evaluation<D> = Result<EvaluationResult<ResultOf<D>>, GraphFault>;
 /// The reply to a question, where the call from outside may be given up under it.
 pub(crate) type Outcome<D> = Result<EvaluationResult<ResultOf<D>>, Stop>;
 
-/// So many goals may end in one call from outside whose results rest on goals of the stack, or that met an overflow by depth,
-/// where each counts for 1 and for what it costs beyond a small one (`Delegate::cost_of`). Where the count comes to this the call
-/// is given up.
+/// A call from outside is given up when goals whose results are not cached for all have asked so many questions in it.
 ///
-/// Such results are kept no longer than a run of their nearest goal, if at all, so they are computed again where their goals are
-/// asked after it, and in goals that ask each other by many paths that may happen exponentially often in the number of goals. A
-/// goal of them has at most `FIXPOINT_STEP_LIMIT` runs, and all other goals are kept. So this bounds the time of a call, to a second or two. Goals that form no
-/// cycle and whose chains fit the depth are never counted, whatever they cost.
-pub(crate) const OPEN_ENDS_LIMIT: usize = 65536;
+/// Such a goal is one whose result rests on goals of the stack, or that met an overflow by depth. Each of its questions counts once,
+/// in all its runs, and once more for what its own types cost (`Delegate::cost_of`). The count is taken when the goal ends, and
+/// begins anew with each call.
+///
+/// These results are stored no longer than a run of their nearest head, if at all, so they are computed again where their goals are
+/// asked after it. In goals that ask each other by many paths that may happen exponentially often in the number of goals. All other
+/// goals are cached. So this bounds the time of a call. Goals that form no cycle and whose chains fit the depth are never counted,
+/// whatever they cost. The number is far above what types that grow at each step ask within a depth of 128.
+pub(crate) const UNCACHED_QUESTIONS_LIMIT: usize = 65536;
 
 /// The goals that are being evaluated, and what was counted.
 pub struct Search<D: Delegate> {
@@ -65,9 +67,9 @@ pub struct Search<D: Delegate> {
     pub(crate) overflow_met: bool,
     /// How many frames were started, or the greatest `u64` if there were more.
     pub frames: u64,
-    /// The count of the goals that ended in this call from outside whose results rest on goals of the stack, or that met an
-    /// overflow by depth: 1 for each, and what it costs.
-    pub(crate) open_ends: usize,
+    /// How many questions the goals asked that ended in this call from outside with results that rest on goals of the stack, or
+    /// after an overflow by depth: each counts once, and once more for what its goal's types cost.
+    pub(crate) uncached_questions: usize,
 }
 
 impl<D: Delegate> Drop for Search<D> {
@@ -80,7 +82,7 @@ impl<D: Delegate> Drop for Search<D> {
             limits_met: _,
             overflow_met: _,
             frames: _,
-            open_ends: _,
+            uncached_questions: _,
         } = self;
     }
 }
@@ -101,7 +103,7 @@ impl<D: Delegate> Search<D> {
             limits_met: false,
             overflow_met: false,
             frames: 0,
-            open_ends: 0,
+            uncached_questions: 0,
         }
     }
 
@@ -119,23 +121,23 @@ impl<D: Delegate> Search<D> {
 
     /// Begins a call from outside, in which no goal has ended and no overflow was met.
     pub(crate) fn count_anew(&mut self)
-        ensures count { self.new.open_ends ≡ 0 }
+        ensures count { self.new.uncached_questions ≡ 0 }
         ensures calm { self.new.overflow_met ≡ false }
         ensures stack { self.new.stack.items ≡ self.old.stack.items }
         ensures entries { self.new.entries ≡ self.old.entries }
         ensures frames { self.new.frames ≡ self.old.frames }
         ensures limits { self.new.limits_met ≡ self.old.limits_met }
     {
-        self.open_ends = 0;
+        self.uncached_questions = 0;
         self.overflow_met = false;
     }
 
-    /// Counts a goal that ended, if it did so with a result that isn't kept, or after an overflow: for 1, and for what it costs beyond
-    /// that. Whether the call may go on after it.
+    /// Counts the questions of a goal that ended, if it did so with a result that is not cached for all, or after an overflow: `cost`
+    /// in all. Returns whether the call may go on after it.
     pub(crate) fn count_end(&mut self, is_open: bool, cost: usize) -> bool
-        ensures limit { is_open ≡ true → result ≡ true → self.new.open_ends < open_ends_limit }
-        ensures count { is_open ≡ true → result ≡ true → self.new.open_ends ≡ self.old.open_ends + cost }
-        ensures uncounted { is_open ≡ false → (result ≡ true) × (self.new.open_ends ≡ self.old.open_ends) }
+        ensures limit { is_open ≡ true → result ≡ true → self.new.uncached_questions < uncached_questions_limit }
+        ensures count { is_open ≡ true → result ≡ true → self.new.uncached_questions ≡ self.old.uncached_questions + cost }
+        ensures uncounted { is_open ≡ false → (result ≡ true) × (self.new.uncached_questions ≡ self.old.uncached_questions) }
         ensures stack { self.new.stack.items ≡ self.old.stack.items }
         ensures entries { self.new.entries ≡ self.old.entries }
         ensures met { self.new.overflow_met ≡ self.old.overflow_met }
@@ -145,8 +147,8 @@ impl<D: Delegate> Search<D> {
         if !is_open {
             return true;
         }
-        self.open_ends = self.open_ends.saturating_add(cost);
-        self.open_ends < OPEN_ENDS_LIMIT
+        self.uncached_questions = self.uncached_questions.saturating_add(cost);
+        self.uncached_questions < UNCACHED_QUESTIONS_LIMIT
     }
 
     /// The goals of the stack lie in it.
@@ -680,7 +682,7 @@ pub fn finish<D: Delegate>(
             dependencies,
         });
     }
-    // A provisional entry would be left here, for the run of the nearest head.
+    // The result rests on goals of the stack, so it is not cached. After an overflow no provisional entry is left either.
     let mut nested_goals = nested_goals;
     nested_goals.add_goal(number)?;
     let dependencies = Dependencies {

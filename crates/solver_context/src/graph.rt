@@ -21,7 +21,7 @@ use search_graph::{Delegate, PathKind, Reply, Request};
 use std::marker::PhantomData;
 use type_terms::Fault;
 
-/// A goal whose types have fewer levels is a small one, and a larger one costs so much more for each so many of them.
+/// A question of a goal whose types have fewer levels counts once. It counts once more for each so many levels.
 const LEVELS_OF_A_SMALL_GOAL: usize = 32;
 
 /// Evaluates goals by the rules of a handler.
