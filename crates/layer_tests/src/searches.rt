@@ -232,8 +232,9 @@ const ALONE: [(usize, usize, Found); 36] = [
     (8, 103, (Ok(OVERFLOW), 8, false)),
     // Over forced steps none moves: with each goal more they take twice the frames.
     (255, 111, (Ok(OVERFLOW), 128, false)),
-    // With less depth fewer results serve again. It is given up at the 1,024th that is not kept, while five goals are evaluated.
-    (16, 111, (Ok(OVERFLOW), 1029, true)),
+    // With less depth fewer results serve again. Each goal asks seven others, so 65,536 questions are asked when the 9,363rd goal ends
+    // whose result is not kept. Six goals are evaluated then.
+    (8, 111, (Ok(OVERFLOW), 9369, true)),
     // 126 asks a goal that is refused: 9 frames. Then 125 is, which runs again, and 126 with it; then 124, and 125 with it; and so on.
     (255, 119, (Ok(NO), 23, false)),
     // Each goal takes one frame, where it would take as many as there are ways to it.
@@ -256,9 +257,10 @@ const TOGETHER: [(usize, usize, Found); 16] = [
     (1, 44, (Ok(OVERFLOW), 2, true)),
     (1, 21, (Ok(YES), 1, false)),
     // A goal that was given up is kept for goals of its depth, and each call counts anew.
-    (16, 111, (Ok(OVERFLOW), 1029, true)),
-    (16, 111, (Ok(OVERFLOW), 0, false)),
-    (17, 111, (Ok(OVERFLOW), 1029, true)),
+    (8, 111, (Ok(OVERFLOW), 9369, true)),
+    (8, 111, (Ok(OVERFLOW), 0, false)),
+    // With one more level of depth seven goals are evaluated then.
+    (9, 111, (Ok(OVERFLOW), 9370, true)),
     // What used a result that rests on a goal is not kept either: it is found again.
     (8, 45, (Ok(YES), 3, false)),
     (8, 47, (Ok(YES), 3, false)),
