@@ -8,6 +8,8 @@
 # Behind a line `// expect: WORDS` the next line has to be one that is answered, and the answer has to begin with these words. Without it
 # the answer has to be the best one. Status 0 where nothing was printed, else 4.
 
+BEGIN { unused = "this stands before no line that has an answer" }
+
 of == "parts" {
     first[++count] = $1
     sub(/^[0-9]+ [0-9]+ /, "")
@@ -25,21 +27,26 @@ of == "answer" && at <= keys {
 }
 
 END {
-    if (expected_at) report(expected_at, "no line behind this has an answer")
+    if (expected_at) report(expected_at, unused)
     for (; is_ordered && at <= keys; at++) judge(at, "nothing")
-    exit failures ? 4 : 0
+    for (at = 1; at <= line; at++) if (at in reports) print_report(at, reports[at])
+    exit is_refused ? 4 : 0
 }
 
-function report(line, words,    at) {
+function report(line, words) {
+    is_refused = 1
+    reports[line] = words
+}
+
+function print_report(line, words,    at) {
     for (at = count; first[at] > line; ) at--
     print name[at] ":" (line - first[at] + 1) ": " words
-    failures++
 }
 
 # (No text without a fault has a word of these in another place.)
 function read_line(line) {
     if ($0 ~ /^ *\/\/ *expect:/) {
-        if (expected_at) report(expected_at, "no line behind this has an answer")
+        if (expected_at) report(expected_at, unused)
         sub(/^[^:]*:[ \t]*/, "")
         sub(/[ \t\r]+$/, "")
         expected = $0
@@ -49,15 +56,15 @@ function read_line(line) {
     if ($1 == "crate") add("crates", "crate " $2, "accepted", line)
     else if ($1 == "later") add("checks", "later " $2, "compatible", line)
     else if ($1 == "supers") add("checks", "supers " $3, "held", line)
-    else if ($1 == "prove") add("questions", "prove " ++questions, "yes", line)
-    else if ($1 == "refute") add("questions", "refute " ++questions, "no", line)
-    else if (expected_at) report(expected_at, "no line behind this has an answer")
+    else if ($1 == "prove") add("questions", "prove " (++questions), "yes", line)
+    else if ($1 == "refute") add("questions", "refute " (++questions), "no", line)
+    else if (expected_at) report(expected_at, unused)
     expected_at = 0
 }
 
 # A line that is answered. (One array for all, as those of a group are numbered from 1.)
 function add(group, words, best, line,    id) {
-    id = group SUBSEP ++sizes[group]
+    id = group SUBSEP (++sizes[group])
     asked[id] = words
     wanted[id] = expected_at ? expected : best
     place[id] = line
