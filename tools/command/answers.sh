@@ -222,24 +222,41 @@ find_again() {
 # where it has none, with 0 or 1 where it has one, and otherwise where that is not known.
 answers_alone() {
     find_again || return 4
-    # (A shell that has no such limit does not run it.)
+    # (A shell that has no such limit does not run it. One that ran the program in its own place could not tell of its end in silence.)
     # shellcheck disable=SC3045
-    (ulimit -t 2 && exec "$program" "$@") < "$again" > /dev/null 2>&1
+    (ulimit -t 2 && "$program" "$@" < "$again" > /dev/null; exit "$?") 2> /dev/null
 }
 
-# say_why WORD ..: says why the program has no whole answer, as far as that can be told
+# Says why the program has no whole answer to a text whose answer is kept.
+say_why_kept() {
+    if [ "$(wc -c < "$room/answer")" -ge "$((answer_limit * 512))" ]; then
+        say "$label: no whole answer: it has more bytes than are kept to be looked at, $((answer_limit * 512))"
+    else
+        say "$label: no whole answer: memory, a table or the room for temporary files ran out"
+    fi
+}
+
+# say_why WORD ..: says why the program, which ended with this status, has no whole answer, as far as that can be told
 say_why() {
+    case $status in
+        2) say "$label: no answer: its name is no UTF-8 (--file NAME gives it another)" ;;
+        3) ;;
+        *) say "$label: no whole answer: the program ended with status $status" ;;
+    esac
+    [ "$status" -eq 3 ] || return
+    if [ -n "$room" ]; then
+        say_why_kept
+        return
+    fi
     if ! (: 3>&1) 2> /dev/null; then
         say "$label: no whole answer: standard output is closed"
         return
     fi
     answers_alone "$@"
-    case $status:$? in
-        2:*) say "$label: no answer: its name is no UTF-8 (--file NAME gives it another)" ;;
-        3:0 | 3:1) [ -p /dev/stdout ] || say "$label: no whole answer: standard output could not be written" ;;
-        3:3) say "$label: no whole answer: the text could not be read, or memory or a table ran out" ;;
-        3:*) say "$label: no whole answer: reading or writing failed, or memory or a table ran out" ;;
-        *) say "$label: no whole answer: the program ended with status $status" ;;
+    case $? in
+        0 | 1) [ -p /dev/stdout ] || say "$label: no whole answer: standard output could not be written" ;;
+        3) say "$label: no whole answer: the text could not be read, or memory or a table ran out" ;;
+        *) say "$label: no whole answer: reading or writing failed, or memory or a table ran out" ;;
     esac
 }
 

@@ -93,9 +93,12 @@ function answer_in(row, key,    at, text) {
     return text
 }
 
-function judge(at, found,    id, next_byte) {
+# (What is expected may leave out what stands behind its words, but ends no value.)
+function judge(at, found,    id, rest) {
     id = ids[at]
-    next_byte = substr(found, length(wanted[id]) + 1, 1)
-    if (index(found, wanted[id]) == 1 && wanted[id] != "" && (next_byte == "" || next_byte == " " || next_byte == ",")) return
+    rest = substr(found, length(wanted[id]) + 1)
+    if (wanted[id] != "" && index(found, wanted[id]) == 1) {
+        if (rest == "" || index(rest, ", ?") == 1 || (index(rest, " ") == 1 && index(wanted[id], "?") == 0)) return
+    }
     report(place[id], asked[id] ": expected `" wanted[id] "`, found `" found "`")
 }
