@@ -260,9 +260,13 @@ say_why() {
     esac
 }
 
-# Says of a text with a fault that it is none, if so.
-say_no_text() {
-    ! find_again || [ "$(tr -dc '\000' < "$again" | head -c 1 | wc -c)" -eq 0 ] || say "$label: is no text: it has a byte 0"
+# Says of a text with a fault that it is none, if so; and else, to who sits at a terminal, what says more.
+say_of_fault() {
+    if find_again && [ "$(tr -dc '\000' < "$again" | head -c 1 | wc -c)" -ne 0 ]; then
+        say "$label: is no text: it has a byte 0"
+    elif [ -z "$explains" ] && [ -t 2 ]; then
+        say "$label: --explain says more of this fault"
+    fi
 }
 
 # Answers the text of the file that was looked at.
@@ -280,7 +284,7 @@ answer_text() {
     if [ -n "$room" ]; then write_kept "$@"; else write_answer "$@"; fi
     case $status in
         0 | 4) ;;
-        1) say_no_text ;;
+        1) say_of_fault ;;
         *)
             say_why "$@"
             status=3

@@ -8,7 +8,7 @@
 # Behind a line `// expect: WORDS` the next line has to be one that is answered, and the answer has to begin with these words. Without it
 # the answer has to be the best one. Status 0 where nothing was printed, else 4.
 
-BEGIN { unused = "this stands before no line that has an answer" }
+BEGIN { unused = "`// expect:` stands before no line that has an answer" }
 
 of == "parts" {
     first[++count] = $1

@@ -6,10 +6,9 @@ last file, its name stands beside it.
 """
 from __future__ import annotations
 
-import json
 import re
 import sys
-from dataclasses import dataclass, field
+from typing import NamedTuple
 
 STYLE = r"(?:\x1b\[[0-9;]*m)*"
 ANSWER = re.compile(r"(crate|later|supers|prove|refute) ")
@@ -19,23 +18,20 @@ SOURCE = re.compile(rf"({STYLE})(\d+)({STYLE} *{STYLE}\|)")
 MENTION = re.compile(r"\bline (\d+)")
 
 
-@dataclass
-class Part:
+class Part(NamedTuple):
     """A file: the line of the text at which it begins, how many bytes stand before it, and its name."""
     line: int
     byte: int
     name: str
 
 
-@dataclass
 class Rows:
     """Goes through the rows of messages. `shown` is the file whose lines an excerpt shows."""
-    parts: list[Part]
-    shown: str = ""
-    last: Part = field(init=False)
 
-    def __post_init__(self) -> None:
-        self.last = self.parts[-1]
+    def __init__(self, parts: list[Part]) -> None:
+        self.parts = parts
+        self.last = parts[-1]
+        self.shown = ""
 
     def part_of(self, line: int) -> Part:
         return [part for part in self.parts if part.line <= line][-1]
@@ -124,15 +120,17 @@ def read_parts(path: str) -> list[Part]:
     return [Part(int(line), int(byte), name) for line, byte, name in rows]
 
 
+def json_row(rows: Rows, row: str) -> str:
+    import json  # (a call without JSON ends sooner without it)
+    return json.dumps(rows.value(json.loads(row)), separators=(",", ":"), ensure_ascii=False)
+
+
 def main(words: list[str]) -> None:
     rows = Rows(read_parts(words[-1]))
     for line in sys.stdin.buffer:
         row = line.decode("utf-8", "surrogateescape").rstrip("\n")
-        if "--json" in words:
-            row = json.dumps(rows.value(json.loads(row)), separators=(",", ":"), ensure_ascii=False)
-        else:
-            row = rows.row(row)
-        sys.stdout.buffer.write(row.encode("utf-8", "surrogateescape") + b"\n")
+        told = json_row(rows, row) if "--json" in words else rows.row(row)
+        sys.stdout.buffer.write(told.encode("utf-8", "surrogateescape") + b"\n")
 
 
 if __name__ == "__main__":
