@@ -74,7 +74,10 @@ keep_front() {
             exit 3
         fi
         note_part "$(name_of "$file")" >> "$room/parts"
-        read_file >> "$room/front" || exit 3
+        if ! read_file >> "$room/front" 2> /dev/null; then
+            say "$label: could not be read or kept"
+            exit 3
+        fi
         [ -z "$(tail -c 1 "$room/front")" ] || echo >> "$room/front"
     done
 }
@@ -84,7 +87,7 @@ note_part() {
     echo "$(($(wc -l < "$room/front") + 1)) $(($(wc -c < "$room/front"))) $1"
 }
 
-# Keeps the texts, the files of --with in front of each. That of a file that cannot be read is not there.
+# Keeps the texts, the files of --with in front of each. What cannot be read is not there.
 keep_texts() {
     make_room
     mkdir "$room/texts" || exit 3
@@ -97,7 +100,7 @@ keep_texts() {
         esac
         number=$((number + 1))
         [ -z "$reason" ] || continue
-        { cat "$room/front" && read_file; } > "$room/texts/$number" || rm -f "$room/texts/$number"
+        { cat "$room/front" && read_file; } > "$room/texts/$number" 2> /dev/null || rm -f "$room/texts/$number"
     done
 }
 
@@ -183,17 +186,16 @@ check_answer() {
     case $? in
         0) ;;
         4) status=4 ;;
-        *) status=3 ;;
+        *) exit 3 ;;
     esac
 }
 
 # write_kept WORD ..: the program's answer to the kept text of this number, checked where that is asked for
 write_kept() {
-    [ -f "$room/texts/$number" ] || return
     keep_answer "$@"
     { cat "$room/parts" && note_part "$(name_of "${title:-$file}")"; } > "$room/parts.here"
     if [ -s "$room/parts" ]; then
-        name_files > "$room/named" || status=3
+        name_files > "$room/named" || exit 3
         cat "$room/named" 2> /dev/null || end_output
     else
         cat "$room/answer" 2> /dev/null || end_output
@@ -273,6 +275,7 @@ say_of_fault() {
 answer_text() {
     status=3
     [ "$texts" -eq 1 ] || printf '== %s\n' "$(shown "$file")" 2> /dev/null || end_output
+    [ -z "$room" ] || [ -n "$reason" ] || [ -f "$room/texts/$number" ] || reason="could not be read or kept"
     if [ -n "$reason" ]; then
         say "$label: $reason"
         return
