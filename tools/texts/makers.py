@@ -157,34 +157,33 @@ def constants(count: int) -> Lines:
 
 
 def unknowns(count: int) -> Lines:
-    """A question with so many variables, up to 16, about tuples of 4, asked 200 times."""
-    tuples = [f"(?x{k}, u8, ?x{k}, [?x{k}])" for k in range(count)]
+    """200 questions with so many variables each, 16 at most, in tuples of four."""
+    tuples = ", ".join(f"(?x{k}, u8, ?x{k}, [?x{k}; 2])" for k in range(count))
     params = ", ".join(f"T{k}" for k in range(count))
-    lines = SHOW + [f"struct V<{params}>", f"impl<{params}> Show for V<{params}>"]
-    lines += numbered("struct S#", 200) + [f"trait R<A>", f"impl<A, {params}> R<A> for V<{params}>"]
-    return lines + [f"prove in base V<{', '.join(tuples)}>: R<S{k}>" for k in range(1, 201)]
+    lines = ["crate base", f"struct V<{params}>"] + numbered("trait R#", 200) + numbered(f"impl<{params}> R# for V<{params}>", 200)
+    return lines + numbered(f"prove in base V<{tuples}>: R#", 200)
 
 
 def questions(count: int) -> Lines:
-    """As many questions as a text may have, over 1,000 structs with an impl each."""
-    lines = SHOW + numbered("struct S#", 1000) + numbered("impl Show for S#", 1000)
-    return lines + [f"prove in base S{k % 1000 + 1}:Show" for k in range(count)]
+    """As many questions as a text may have, over 26 structs with an impl each."""
+    names = letters(26)
+    lines = ["crate b", "trait _S"] + [f"struct {it}" for it in names] + [f"impl _S for {it}" for it in names]
+    return lines + [f"prove in b {names[k % 26]}:_S" for k in range(count)]
 
 
 def environment(count: int) -> Lines:
-    """1,000 questions with so many where-clauses each, one of which answers it."""
-    wheres = ", ".join(f"T: P<S{k}>" for k in range(1, count + 1))
-    lines = ["crate base", "trait P<A>"] + numbered("struct S#", 1000)
-    return lines + [f"prove in base <T> (T, S{k}): P<S{k % count + 1}> where {wheres}" for k in range(1, 501)] + [
-        f"prove in base <T> T: P<S{k % count + 1}> where {wheres}" for k in range(1, 501)
-    ]
+    """500 questions with so many where-clauses each, the last of which answers it."""
+    lines = ["crate base", "trait P<A>"] + numbered("struct S#", 600)
+    for first in range(1, 501):
+        wheres = ", ".join(f"T: P<S{k}>" for k in range(first, first + count))
+        lines.append(f"prove in base <T> T: P<S{first + count - 1}> where {wheres}")
+    return lines
 
 
 def wide_impls(count: int) -> Lines:
     """200 questions over an impl with so many where-clauses, each about a struct of its own."""
-    params = ["T"]
     lines = SHOW + ["struct V<T>", "trait P<A>", "impl<A, T> P<A> for V<T>"] + numbered("struct A#", count)
-    lines.append("impl<T> Show for V<T> where " + ", ".join(f"V<{params[0]}>: P<A{k}>" for k in range(1, count + 1)))
+    lines.append("impl<T> Show for V<T> where " + ", ".join(f"V<T>: P<A{k}>" for k in range(1, count + 1)))
     return lines + numbered("struct S#", 200) + numbered("prove in base V<S#>: Show", 200)
 
 
@@ -203,7 +202,7 @@ def plain_structs(count: int) -> Lines:
     for k in range(count):
         if k % ITEMS == 0:
             lines.append(f"crate c{k // ITEMS}")
-        lines.append(f"struct Struct{k}<T>(&T, *const [T; 3])")
+        lines.append(f"struct Struct{k}<T>(*mut T, *const [T; 3])")
     return lines
 
 
@@ -447,6 +446,12 @@ def supertraits_of_dyn(count: int) -> Lines:
     return ["crate a"] + lines + [f"prove in a dyn {top}<u8>: {top}<u8>"]
 
 
+def endless_supertraits(count: int) -> Lines:
+    """So many levels of supertraits, each twice as many as the one before, asked of a `dyn`."""
+    lines, top = multiplying(count, PAIR)
+    return ["crate a"] + lines + [f"prove in a dyn {top}<u8>: {top}<u8>"]
+
+
 def leaf_of_dyn(count: int) -> Lines:
     """The same, where the last supertrait is asked."""
     levels = levels_of(count, 2)
@@ -455,15 +460,17 @@ def leaf_of_dyn(count: int) -> Lines:
 
 
 def supertraits_of_clause(count: int) -> Lines:
-    """Supertraits whose arguments multiply, so many in all, of a where-clause; one that is not among them is asked."""
-    lines, top = multiplying(levels_of(count, 2), PAIR)
-    return ["crate a"] + lines + [f"prove in a <T> T: A<u8> where T: {top}<u8>"]
+    """Supertraits whose arguments multiply, so many in all, of a where-clause; the last of them is asked."""
+    levels = levels_of(count, 2)
+    lines, top = multiplying(levels, PAIR)
+    return ["crate a"] + lines + [f"prove in a <T> T: A<{nested_in('(#,)', levels - 1, 'u8')}> where T: {top}<u8>"]
 
 
 def supertraits_of_three(count: int) -> Lines:
     """The same, with three for each."""
-    lines, top = multiplying(levels_of(count, 3), TRIPLE)
-    return ["crate a"] + lines + [f"prove in a <T> T: A<u8> where T: {top}<u8>"]
+    levels = levels_of(count, 3)
+    lines, top = multiplying(levels, TRIPLE)
+    return ["crate a"] + lines + [f"prove in a <T> T: A<{nested_in('(#,)', levels - 1, 'u8')}> where T: {top}<u8>"]
 
 
 def supertraits_of_impl(count: int) -> Lines:
@@ -479,8 +486,9 @@ def plain_lattice(count: int) -> Lines:
     lines = ["crate base", "trait L1", "trait R1"]
     for k in range(2, count + 1):
         lines += [f"trait {side}{k}: L{k - 1} + R{k - 1}" for side in "LR"]
+    impls = [f"impl {side}{k} for u8" for k in range(1, count + 1) for side in "LR"]
     asked = [f"prove in base dyn L{count}: R1", f"prove in base <T> T: L1 where T: L{count}, T: R{count}"]
-    return lines + [f"impl L{count} for u8", "supers in base"] + asked
+    return lines + impls + ["supers in base"] + asked
 
 
 def supers_of_chain(count: int) -> Lines:
@@ -488,6 +496,12 @@ def supers_of_chain(count: int) -> Lines:
     half = count // 2
     lines = SHOW + ["trait Sub: Show"] + numbered("impl Show for [u8; #]", half) + numbered("impl Sub for [u8; #]", half)
     return lines + ["supers in base"]
+
+
+def supers_of_tower(count: int) -> Lines:
+    """Traits, each with the one before for its supertrait, an impl of each for one type, and the line that asks for their supertraits."""
+    lines = ["crate base", "trait R1"] + [f"trait R{k}: R{k - 1}" for k in range(2, count + 1)]
+    return lines + numbered("impl R# for u8", count) + ["supers in base"]
 
 
 def supers_in_core(count: int) -> Lines:
@@ -529,6 +543,17 @@ def apart_in_fn(count: int) -> Lines:
     return SHOW + numbered("impl Show for fn([u8; #]) -> bool", count)
 
 
+def apart_in_fn_over_crates(count: int) -> Lines:
+    """The same over crates of 1,500, each with an argument of its own."""
+    lines, before = ["crate base", "trait Show<A>"], "base"
+    for k in range(count):
+        if k % 1500 == 0:
+            lines += [f"crate c{k // 1500} uses {before}", f"struct L{k // 1500}"]
+            before = f"c{k // 1500}"
+        lines.append(f"impl Show<L{k // 1500}> for fn([u8; {k}])")
+    return lines
+
+
 def apart_in_dyn(count: int) -> Lines:
     """Impls that differ only inside `dyn`."""
     return SHOW + ["trait P<T>"] + numbered("impl Show for dyn P<[u8; #]>", count)
@@ -541,10 +566,9 @@ def apart_deep(count: int) -> Lines:
 
 def apart_of_sixteen(count: int) -> Lines:
     """Impls with 16 parameters that differ at the fifth level."""
-    params = ", ".join(f"T{k}" for k in range(16))
-    names = ", ".join(f"A{k}" for k in range(16))
-    lines = SHOW + ["struct V<T>", "struct W<A, B>", f"struct H<T, {names}>"]
-    return lines + numbered(f"impl<{params}> Show for H<V<V<V<W<[u8; #], T0>>>>, {params}>", count)
+    params = ", ".join(f"T{k}" for k in range(15))
+    lines = SHOW + ["struct V<T>", "struct W<A, B>", f"struct H<T, {params}>"]
+    return lines + numbered(f"impl<U, {params}> Show for H<V<V<V<W<[u8; #], U>>>>, {params}>", count)
 
 
 def cleared_by_clause(count: int) -> Lines:
@@ -627,12 +651,12 @@ def users_in_chain(count: int) -> Lines:
 
 
 def crates_of_many(count: int) -> Lines:
-    """Crates of 1,900 structs and as many impls that use one another."""
+    """Crates of 1,700 structs and as many impls that use one another."""
     lines: Lines = []
     for crate in range(1, count + 1):
         uses = f" uses c{crate - 1}" if crate > 1 else ""
         lines += [f"crate c{crate}{uses}", f"trait T{crate}"]
-        for k in range(1, 1901):
+        for k in range(1, 1701):
             lines += [f"struct A{crate}_{k}", f"impl T{crate} for A{crate}_{k}"]
     return lines
 

@@ -38,14 +38,37 @@ def program_here() -> str:
     return BUILT if os.access(BUILT, os.X_OK) else RELEASED
 
 
-def limit_child(child: int, limits: Limits) -> None:
-    """Sets the limits of a child that was just started: resource.setrlimit, for another process."""
+def limits_of(limits: Limits) -> list[tuple[int, tuple[int, int]]]:
+    """What the limits are called."""
+    processor = (limits.seconds, limits.seconds + 1)
+    return [(resource.RLIMIT_CPU, processor), (resource.RLIMIT_AS, (limits.memory, limits.memory)), (resource.RLIMIT_CORE, (0, 0))]
+
+
+def start(words: list[str], files: list[IO[bytes]], extra: Mapping[str, str], limits: Limits) -> int:
+    """Begins a program, and limits it when it has begun: so a child of its own may have begun unlimited, if it has any."""
+    places = [(os.POSIX_SPAWN_DUP2, file.fileno(), place) for place, file in enumerate(files)]
+    child = os.posix_spawnp(words[0], words, {**os.environ, **extra}, file_actions=places)
     try:
-        resource.prlimit(child, resource.RLIMIT_CPU, (limits.seconds, limits.seconds + 1))
-        resource.prlimit(child, resource.RLIMIT_AS, (limits.memory, limits.memory))
-        resource.prlimit(child, resource.RLIMIT_CORE, (0, 0))
+        for name, limit in limits_of(limits):
+            resource.prlimit(child, name, limit)
     except ProcessLookupError:
         pass  # it has ended
+    return child
+
+
+def start_limited(words: list[str], files: list[IO[bytes]], extra: Mapping[str, str], limits: Limits) -> int:
+    """Begins a program that is limited from its first instruction on, with all its children; this takes some more."""
+    child = os.fork()
+    if child != 0:
+        return child
+    try:
+        for name, limit in limits_of(limits):
+            resource.setrlimit(name, limit)
+        for place, file in enumerate(files):
+            os.dup2(file.fileno(), place)
+        os.execvpe(words[0], words, {**os.environ, **extra})
+    finally:
+        os._exit(127)
 
 
 def reason_of(number: int, seconds: float, limits: Limits) -> str:
@@ -76,14 +99,10 @@ def read_peak(path: str) -> tuple[Optional[int], Optional[int]]:
 def run_words(words: list[str], text: IO[bytes], limits: Limits, extra: Optional[Mapping[str, str]] = None, with_peak: bool = False) -> Run:
     """Runs the words on the text. The peak is asked of GNU time, since what wait4 tells of a child begins with the size of its parent."""
     timed = with_peak and os.access(GNU_TIME, os.X_OK)
-    with tempfile.TemporaryFile() as output, tempfile.NamedTemporaryFile() as peak_file:
+    with tempfile.TemporaryFile() as output, tempfile.NamedTemporaryFile() as peak_file, open(os.devnull, "wb") as nowhere:
         text.seek(0)
-        if timed:
-            words = [GNU_TIME, "-f", "%M", "-o", peak_file.name] + words
-        with open(os.devnull, "wb") as nowhere:
-            places = [(os.POSIX_SPAWN_DUP2, file.fileno(), place) for place, file in enumerate((text, output, nowhere))]
-            child = os.posix_spawnp(words[0], words, {**os.environ, **(extra or {})}, file_actions=places)
-        limit_child(child, limits)
+        front = [GNU_TIME, "-f", "%M", "-o", peak_file.name] if timed else []
+        child = (start_limited if timed else start)(front + words, [text, output, nowhere], extra or {}, limits)
         status, stopped, seconds = wait_for(child, limits)
         peak, ended = read_peak(peak_file.name) if timed else (None, None)
         if ended is not None:
