@@ -482,13 +482,11 @@ def supertraits_of_impl(count: int) -> Lines:
 
 
 def plain_lattice(count: int) -> Lines:
-    """Levels of two traits without arguments, each with both of the level before for its supertraits."""
+    """Levels of two traits without arguments, each with both of the level before for its supertraits, of a `dyn` and of a where-clause."""
     lines = ["crate base", "trait L1", "trait R1"]
     for k in range(2, count + 1):
         lines += [f"trait {side}{k}: L{k - 1} + R{k - 1}" for side in "LR"]
-    impls = [f"impl {side}{k} for u8" for k in range(1, count + 1) for side in "LR"]
-    asked = [f"prove in base dyn L{count}: R1", f"prove in base <T> T: L1 where T: L{count}, T: R{count}"]
-    return lines + impls + ["supers in base"] + asked
+    return lines + [f"prove in base dyn L{count}: R1", f"prove in base <T> T: L1 where T: L{count}, T: R{count}"]
 
 
 def supers_of_chain(count: int) -> Lines:
@@ -512,21 +510,22 @@ def supers_in_core(count: int) -> Lines:
 # ------------------------------------------------------------------------------------------------------------------------- auto traits
 
 
+def fields_below(place: int, fields: int) -> list[str]:
+    """So many structs of the layers below that of the struct, a layer being 32 of them: by lot, with the same lot each time."""
+    below = place - place % 32
+    return [f"S{(place * 7919 + k * 10473) % below}" for k in range(fields)] if below else ["u8"]
+
+
 def auto_graph(count: int) -> Lines:
-    """So many structs of 60 fields each, of the 60 structs before, under an auto trait; the last is asked."""
-    lines = ["crate base", "auto trait Safe", "struct C<T>(T)"]
-    for k in range(count):
-        fields = [f"S{it}" for it in range(max(0, k - 60), k)] or ["u8"]
-        lines.append(f"struct S{k}({', '.join(fields)})")
+    """So many structs of 60 fields each, in layers of 32, each around structs of the layers below, under an auto trait; the last is asked."""
+    lines = ["crate base", "auto trait Safe"] + [f"struct S{k}({', '.join(fields_below(k, 60))})" for k in range(count)]
     return lines + [f"prove in base S{count - 1}: Safe"]
 
 
 def auto_graph_cyclic(count: int) -> Lines:
     """The same, in which each struct also leads back to itself."""
     lines = ["crate base", "auto trait Safe", "struct C<T>(T)"]
-    for k in range(count):
-        fields = [f"C<S{k}>"] + [f"S{it}" for it in range(max(0, k - 59), k)]
-        lines.append(f"struct S{k}({', '.join(fields)})")
+    lines += [f"struct S{k}({', '.join([f'C<S{k}>'] + fields_below(k, 59))})" for k in range(count)]
     return lines + [f"prove in base S{count - 1}: Safe"]
 
 
@@ -539,8 +538,8 @@ def auto_graph_upward(count: int) -> Lines:
 
 
 def apart_in_fn(count: int) -> Lines:
-    """Impls that differ only inside `fn`."""
-    return SHOW + numbered("impl Show for fn([u8; #]) -> bool", count)
+    """Impls with a parameter that differ only inside `fn`."""
+    return SHOW + numbered("impl<T> Show for fn([u8; #]) -> T", count)
 
 
 def apart_in_fn_over_crates(count: int) -> Lines:
@@ -550,7 +549,7 @@ def apart_in_fn_over_crates(count: int) -> Lines:
         if k % 1500 == 0:
             lines += [f"crate c{k // 1500} uses {before}", f"struct L{k // 1500}"]
             before = f"c{k // 1500}"
-        lines.append(f"impl Show<L{k // 1500}> for fn([u8; {k}])")
+        lines.append(f"impl<T> Show<L{k // 1500}> for fn([u8; {k}]) -> T")
     return lines
 
 
@@ -626,10 +625,16 @@ def large_base(items: int) -> tuple[Lines, str]:
 def users_of(base: str, count: int, in_chain: bool) -> Lines:
     lines, before = [], base
     for k in range(count):
-        lines += [f"crate u{k} uses {before}", f"struct U{k}", f"impl Show for U{k}"]
+        lines += [f"crate user{k} uses {before}", f"struct U{k}", f"impl Show for U{k}"]
         if in_chain:
-            before = f"u{k}"
+            before = f"user{k}"
     return lines
+
+
+def siblings_of_growing(count: int) -> Lines:
+    """So many crates that each use one base of 40 times as many items, with an impl each."""
+    lines, base = large_base(40 * count)
+    return lines + users_of(base, count, in_chain=False)
 
 
 def siblings(count: int) -> Lines:
