@@ -198,3 +198,29 @@ def growing_premises_text(rng: random.Random) -> Lines:
     if rng.random() < 0.5:
         lines += ["trait Mine", f"impl<T> Mine for T where {subject}: Show", "impl Mine for u8"]
     return lines + [f"prove in c0 {subject}: Show", f"refute in c0 {subject}: Show"]
+
+
+# ------------------------------------------------------------------------------------------------------------------- costly questions
+
+
+def costly_growth(rng: random.Random) -> str:
+    """A larger type: with many types on a level, with lifetimes, or with a binder."""
+    width = rng.choice([2, 4, 12])
+    item = rng.choice(["[T; #]", "&'a [T; #]", "B<[T; #]>", "*const [T; #]"])
+    wide = "(" + ", ".join(item.replace("#", str(k)) for k in range(width)) + ")"
+    return rng.choice([wide, f"A<{wide}>", "for<'z> fn(&'z T) -> &'z T", "(T, B<T>, &'a T)"])
+
+
+def costly_text(rng: random.Random) -> Lines:
+    """Types that grow by two or three premises, where each question costs much: by its type, the impls with its head or the
+    where-clauses beside it."""
+    premises = [costly_growth(rng)] + rng.sample(["A<T>", "B<T>", "C<T>"], rng.choice([1, 2]))
+    lines = ["crate c0", "trait Show", "struct A<T>", "struct B<T>", "struct C<T>", "struct D<X, Y>"]
+    lines.append("impl<'a, T> Show for A<T> where " + ", ".join(f"A<{it}>: Show" for it in premises))
+    if rng.random() < 0.4:
+        header = rng.choice(["A<D<[u8; #], T>>", "A<A<A<A<A<D<[u8; #], T>>>>>>", "A<&D<T, [u8; #]>>"])
+        lines += [f"impl<T> Show for {header.replace('#', str(k))}" for k in range(rng.choice([5, 20, 100]))]
+    subject = rng.choice(["A<u8>", "A<U>", "A<?x>"])
+    wheres = ", ".join(f"{rng.choice(['A<[U; #]>', 'U', '(U, [u8; #])'])}: Show".replace("#", str(k)) for k in range(rng.choice([1, 5, 20, 64])))
+    params, where = ("<U> ", f" where {wheres}") if subject == "A<U>" else ("", "")
+    return lines + [f"prove in c0 {params}{subject}: Show{where}"] + ["refute in c0 A<u8>: Show"] * (rng.random() < 0.3)

@@ -93,6 +93,11 @@ DEEP = [
     Family("two_arguments", makers.two_arguments, (63, 252), None),
     Family("there_and_back", makers.there_and_back, (63, 252), None),
     Family("three_fields", makers.three_fields, (63, 252), None),
+    Family("growing_with_lifetimes", makers.growing_with_lifetimes, (63, 252), None),
+    Family("growing_in_width", makers.growing_in_width, (63, 252), None),
+    Family("growing_under_binders", makers.growing_under_binders, (63, 252), None),
+    Family("growing_beside_clauses", makers.growing_beside_clauses, (16, 64), 255),
+    Family("growing_beside_impls", makers.growing_beside_impls, (30, 120), 255),
 ]
 
 PAIRS = [

@@ -410,6 +410,43 @@ def three_fields(count: int) -> Lines:
     return lines + ["trait Nope", "struct Q", "impl Show for Q where A<u8>: Show, Q: Nope"] + kept_apart("Q")
 
 
+def growing_beside(premises: list[str], more: Lines, asked: str) -> Lines:
+    lines = SHOW + ["struct A<T>", "struct B<T>", "struct C<T>"] + more
+    return lines + [f"impl<'a, T> Show for A<T>{clauses_of(premises)}", asked]
+
+
+GROWN = ["A<A<T>>", "A<B<T>>", "A<C<T>>"]
+
+
+def growing_with_lifetimes(count: int) -> Lines:
+    """A type that grows by three premises, one of which puts a lifetime at twelve places of each level."""
+    wide = ", ".join(f"&'a [T; {k}]" for k in range(12))
+    return growing_beside([f"A<({wide})>"] + GROWN[1:], [], "prove in base A<u8>: Show")
+
+
+def growing_in_width(count: int) -> Lines:
+    """A type around a variable that grows by three premises, one of which makes 144 types of each level."""
+    wide = ", ".join("(" + ", ".join(f"[T; {12 * row + k}]" for k in range(12)) + ")" for row in range(12))
+    return growing_beside([f"A<({wide})>"] + GROWN[1:], [], "prove in base A<?x>: Show")
+
+
+def growing_under_binders(count: int) -> Lines:
+    """A type that grows by three premises, one of which binds a lifetime at each level."""
+    return growing_beside(["A<for<'z> fn(&'z T) -> &'z T>"] + GROWN[1:], [], "prove in base A<u8>: Show")
+
+
+def growing_beside_clauses(count: int) -> Lines:
+    """A type that grows by three premises, asked beside so many where-clauses of the same trait."""
+    wheres = ", ".join(f"A<S{k}>: Show" for k in range(1, count + 1))
+    return growing_beside(GROWN, numbered("struct S#", count), f"prove in base <U> A<U>: Show where {wheres}")
+
+
+def growing_beside_impls(count: int) -> Lines:
+    """A type that grows by three premises, beside so many impls for types with its head that are apart at the fifth level."""
+    lines = ["struct D<X, Y>"] + numbered("impl<T> Show for A<A<A<A<D<[u8; #], T>>>>>", count)
+    return growing_beside(GROWN, lines, "prove in base A<u8>: Show")
+
+
 # -------------------------------------------------------------------------------------------------------------------- supertraits
 
 
