@@ -1,0 +1,1 @@
+"""Makers of texts: those of tools/hostile that work the search hard (by_lot), and the families of benches/families (families)."""
