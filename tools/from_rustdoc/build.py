@@ -9,6 +9,7 @@ from .declare import Cut, Declarer
 from .headers import PRIMITIVES
 from .html_docs import is_std_key
 from .impls import ImplWriter, Line, Written
+from .project import APPLY, WRAP
 from .render import ALWAYS, MAXIMAL_ITEMS, Renderer
 from .split import split
 from .standard import FN_TRAITS, Header, Standard
@@ -82,6 +83,7 @@ class Translation:
                     self.mark(keys_of(term))
             for impl in crate.impls:
                 self.mark_impl(impl)
+        self.renderer.names_values = bool(self.roots)
         for root in self.roots:
             self.need_root(root)
 
@@ -262,7 +264,7 @@ class Translation:
             self.crates += split(text, CrateText) if name == "alloc" else [text]
 
     def declarations(self, text: CrateText, mine: list[Declaration], impls: list[Written]) -> None:
-        declarer = Declarer(self.renderer, mine)
+        declarer = Declarer(self.impl_writer.projector, mine)
         declarer.write()
         self.lost_supers += declarer.lost
         self.cuts += declarer.cuts
@@ -270,6 +272,8 @@ class Translation:
             text.pieces.append(Piece(Line(upper, "item"), Line(lower, "item"), declaration.source, declaration=declaration))
         if text.name == "alloc":
             text.pieces += self.special_impls()
+        for line in map(Line, self.impl_writer.projector.lines(text.name)):
+            text.pieces.append(Piece(line, line, "a pattern", True))
         has: set[tuple[str, str]] = set()
         for written in impls:
             text.pieces += self.pieces_of(written)
@@ -310,7 +314,7 @@ class Translation:
 
     def specials(self) -> list[Piece]:
         """`Never_`, which nothing has, and the structs that stand for references, pointers, floats and long tuples."""
-        lines = ["fundamental trait Never_"]
+        lines = ["fundamental trait Never_", f"fundamental trait {APPLY}<V>", f"struct {WRAP}<K>"]
         for name in self.renderer.special:
             if name in ALWAYS:
                 lines.append(ALWAYS[name])
@@ -346,6 +350,11 @@ class Translation:
         lines = [f"impl{params} {trait}{'' if declaration.name == 'FnPtr' else f'<{inputs}>'} for {function}"]
         if (declaration.key, "Output") in self.renderer.companions:
             lines.append(f"impl{params} {self.renderer.companion(declaration, 'Output')}<{inputs}, R> for {function}")
+        if declaration.key in self.renderer.anys:
+            lines.append(f"impl{params} {self.renderer.any_name(declaration)} for {function}")
+        if (declaration.key, "Output") in self.renderer.thens:
+            then = self.renderer.then_name(declaration, "Output")
+            lines.append(f"impl<{', '.join(names + ['R', 'K_'])}> {then}<{inputs}, {WRAP}<K_>> for {function} where K_: {APPLY}<R>")
         return lines
 
     # ---- texts

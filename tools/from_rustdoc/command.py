@@ -15,7 +15,7 @@ from .html_docs import Pages
 from .later import added_impls, ask_program, changed_auto_traits
 from .program import Answer, run
 from .questions import Asker, QuestionReader
-from .report import Report, explain_refusal
+from .report import PATTERNED, Report, explain_refusal
 from .show import Show
 from .standard_json import JsonStandard, json_folder
 from .terms import BadInput, Lossy
@@ -85,9 +85,10 @@ def verdict_lines(summary: list[str], crates: list[str], answers: dict[str, Answ
             lines += [f"{name}: coherent. {rest}"] if rest else []
             continue
         good = False
-        word = "not settled (the upper text alone has it)" if lower == "accepted" else "not coherent"
         mode = "upper" if lower == "accepted" else "lower"
-        lines.append(f"{name}: {word}. {rest}\n    {explain_refusal(answers[mode].crates[crate], crate, places[mode])}")
+        told = explain_refusal(answers[mode].crates[crate], crate, places[mode])
+        word = "not settled (the upper text alone has it)" if lower == "accepted" else "not settled" if PATTERNED in told else "not coherent"
+        lines.append(f"{name}: {word}. {rest}\n    {told}")
     return lines, good
 
 

@@ -4,6 +4,7 @@ from __future__ import annotations
 from dataclasses import dataclass, field
 from typing import Callable, Optional
 
+from .assume import Assumed, Assumer, Candidate, asked_goal, with_clauses
 from .back import Back
 from .build import Translation
 from .checker import check_texts
@@ -14,11 +15,13 @@ from .program import Answer, run
 from .reach import Reach, Reacher
 from .render import MAXIMAL_PARAMS, QUESTION, Scope, bracketed, is_sizedness, names_of
 from .show import Show
-from .terms import (BadInput, Bound, BoundsOf, Lossy, Named, Param, Parameter, Predicate, Projection, Type, Unknown,
+from .standard import FN_TRAITS
+from .terms import (BadInput, Bound, BoundsOf, Dyn, Lossy, Named, Param, Parameter, Predicate, Projection, Type, Unknown,
                     argument_values, put_bound, walk)
-from .text_form import read_text
+from .text_form import Text, TextLine, read_text
 from .world import World, crate_name
 
+MAXIMAL_ROUNDS = 6
 PRELUDE = {"core::marker": "Send Sync Unpin Copy Sized PhantomData", "core::clone": "Clone", "core::default": "Default", "core::fmt": "Debug Display",
            "core::hash": "Hash Hasher BuildHasher", "core::cmp": "PartialEq Eq PartialOrd Ord Ordering", "core::option": "Option", "core::result": "Result",
            "core::ops": "Drop Fn FnMut FnOnce Deref DerefMut Index IndexMut Add Sub Mul Div Rem Neg Not", "core::error": "Error",
@@ -138,8 +141,9 @@ class QuestionWriter:
         raise Lossy("no crate of the text sees all that the question names")
 
     def write(self, question: Question) -> None:
+        question.whole = True
         names = names_of(question.params)
-        scope = Scope(QUESTION, names, predicates=question.predicates)
+        scope = Scope(QUESTION, names, predicates=ImplWriter.with_inner_bounds(question.predicates))
         clauses: list[str] = []
         unsized = {t.name for t, b in question.predicates if is_sizedness(b) and isinstance(t, Parameter)}
         clauses += [f"{names[p.name]}: Sized" for p in question.params if p.kind == "type" and p.name not in unsized]
@@ -147,11 +151,12 @@ class QuestionWriter:
         for subject, bound in predicates:
             for name, value in bound.constraints:
                 if not isinstance(value, BoundsOf):
-                    clauses += self.tried(question, lambda: self.translation.impl_writer.equation(subject, bound, name, value, scope)[0])
+                    clauses += self.tried(question, lambda: self.translation.impl_writer.equation(subject, bound, name, value, scope))
         for subject, bound in predicates:
             if not is_sizedness(bound):
                 clauses += self.tried(question, lambda: self.clause(subject, bound, scope))
-                self.values(question, subject, bound, scope)
+                clauses += self.any_clauses(subject, bound, scope)
+                self.values(question, subject, bound, scope, clauses)
         declaration = self.renderer.need(question.bound.key, "trait", question.bound.arguments)
         if question.bound.constraints:
             raise Lossy("a question about an associated type")
@@ -174,24 +179,69 @@ class QuestionWriter:
             question.whole = False
             return []
 
+    def any_clauses(self, subject: Type, bound: Bound, scope: Scope) -> list[str]:
+        """Of a clause by `FnMut`: that the subject is `FnMut` and `FnOnce` at all."""
+        try:
+            declaration = self.renderer.need(bound.key, "trait", bound.arguments)
+            if not self.renderer.is_fn_trait(declaration):
+                return []
+            below = FN_TRAITS[:FN_TRAITS.index(declaration.name) + 1]
+            known = [d for d in self.renderer.traits.values() if self.renderer.is_fn_trait(d) and d.key in self.renderer.anys and d.name in below]
+            return [f"{self.renderer.type(subject, scope)}: {self.renderer.any_name(d)}" for d in known]
+        except Lossy:
+            return []
+
     def clause(self, subject: Type, bound: Bound, scope: Scope) -> str:
         declaration = self.renderer.need(bound.key, "trait", bound.arguments)
         return f"{self.renderer.type(subject, scope)}: {self.renderer.bound(declaration, bound, scope, subject)}"
 
-    def values(self, question: Question, subject: Type, bound: Bound, scope: Scope, depth: int = 0) -> None:
-        """A clause by a trait with associated types brings their values: a fresh parameter for each that the text speaks of."""
+    def values(self, question: Question, subject: Type, bound: Bound, scope: Scope, clauses: list[str], depth: int = 0) -> None:
+        """A clause by a trait with associated types brings their values: a fresh parameter for each that the text speaks of, with the
+        bounds that the trait declares of it."""
         try:
             declaration = self.renderer.need(bound.key, "trait", bound.arguments)
-            for name in sorted(declaration.associated):
-                if (declaration.key, name) in self.renderer.companions and not isinstance(subject, Projection):
-                    self.renderer.projection(Projection(subject, Bound(bound.key, bound.arguments), name), scope)
             values = argument_values(declaration.params, bound.arguments)
             values["Self"] = subject
+            for name in sorted(declaration.associated):
+                if (declaration.key, name) in self.renderer.companions:
+                    place = self.renderer.resolved(Projection(subject, Bound(bound.key, bound.arguments), name), scope)
+                    is_new = place not in scope.projections
+                    self.renderer.type(place, scope)
+                    if is_new:
+                        bounds = [put_bound(b, values) for b in declaration.item_bounds.get(name, [])]
+                        self.item_clauses(question, place, bounds, scope, clauses, depth)
             for above in declaration.supers:
                 if depth < 6 and not is_sizedness(above):
-                    self.values(question, subject, put_bound(above, values), scope, depth + 1)
+                    self.fixed_values(question, subject, put_bound(above, values), scope, clauses)
+                    self.values(question, subject, put_bound(above, values), scope, clauses, depth + 1)
         except Lossy:
             question.whole = False
+
+    def fixed_values(self, question: Question, subject: Type, above: Bound, scope: Scope, clauses: list[str]) -> None:
+        """The values that a supertrait fixes: `trait Bytes: Iterator<Item = u8>`."""
+        for name, value in above.constraints:
+            if isinstance(value, BoundsOf):
+                question.whole = False
+            elif self.renderer.resolved(Projection(subject, above, name), scope) not in scope.projections:
+                clauses += self.tried(question, lambda: self.translation.impl_writer.equation(subject, above, name, value, scope))
+
+    def item_clauses(self, question: Question, place: Type, bounds: list[Bound], scope: Scope, clauses: list[str], depth: int) -> None:
+        """What the trait declares of an associated type, as clauses on its value."""
+        if depth > 3:
+            question.whole = False
+            return
+        if not any(is_sizedness(b) for b in bounds):
+            clauses.append(f"{self.renderer.type(place, scope)}: Sized")
+        for bound in bounds:
+            if is_sizedness(bound):
+                continue
+            for name, value in bound.constraints:
+                if not isinstance(value, BoundsOf):
+                    clauses += self.tried(question, lambda: self.translation.impl_writer.equation(place, bound, name, value, scope))
+                else:
+                    question.whole = False
+            clauses += self.tried(question, lambda: self.clause(place, bound, scope))
+            self.values(question, place, bound, scope, clauses, depth + 1)
 
 
 class Asker:
@@ -203,27 +253,22 @@ class Asker:
         self.check = check
         self.show = Show(translation.world)
         self.answers: dict[str, Answer] = {}
+        self.text: Optional[Text] = None
 
     def ask(self, questions: list[Question]) -> list[Verdict]:
-        writer = QuestionWriter(self.translation)
-        good: list[Question] = []
-        verdicts: dict[int, Verdict] = {}
-        for question in questions:
-            try:
-                writer.write(question)
-                good.append(question)
-            except Lossy as error:
-                verdicts[id(question)] = Verdict(question, "not settled", f"the text cannot say the question: {error}")
+        good, verdicts = self.written(questions)
         asked = [q.prove for q in good] + [q.refute for q in good if q.refute]
         texts = {mode: "\n".join(self.translation.text(mode)[0] + asked) + "\n" for mode in ("upper", "lower")}
         if self.check:
-            problems = check_texts(self.translation, texts["upper"], texts["lower"])
-            if problems:
-                raise BadInput("the texts break the rules of docs/RUSTDOC.md, which is a mistake of the translator: " + problems[0])
-        self.answers = {mode: run(text, self.program) for mode, text in texts.items()}
+            self.checked(texts)
         pieces = [p for p in self.translation.text("upper")[1] if p is not None]
         reacher = Reacher(read_text(texts["upper"]), pieces)
+        self.text = reacher.text
         lines = {line.text: line for line in reacher.text.lines if line.kind == "question"}
+        assumed = self.assumed(good, lines, reacher)
+        texts = {mode: "\n".join(self.translation.text(mode)[0] + [with_clauses(q.prove, assumed[id(q)].clauses[mode]) for q in good]
+                                 + [q.refute for q in good if q.refute]) + "\n" for mode in ("upper", "lower")}
+        self.answers = {mode: run(text, self.program) for mode, text in texts.items()}
         refuted = len(good)
         for number, question in enumerate(good):
             lower, upper = self.answers["lower"].questions[number], self.answers["upper"].questions[number]
@@ -234,11 +279,64 @@ class Asker:
             line = lines[question.prove]
             assert line.trait is not None
             reach = reacher.reach(line.self_type, line.trait, bool(line.clauses))
+            if assumed[id(question)].is_open and upper == "unproved":
+                question.whole = False
             verdict = self.verdict(question, lower, upper, no, reach)
             if verdict.word == "yes":
                 verdict.values = Back(self.translation.world).values(self.answers["lower"].values[number])
             verdicts[id(question)] = verdict
         return [verdicts[id(q)] for q in questions]
+
+    def written(self, questions: list[Question]) -> tuple[list[Question], dict[int, Verdict]]:
+        """The questions that the text can say, and verdicts on the others. The text gets what a question needs beyond its names."""
+        writer = QuestionWriter(self.translation)
+        for _ in range(MAXIMAL_ROUNDS):
+            self.translation.renderer.grew = False
+            good: list[Question] = []
+            verdicts: dict[int, Verdict] = {}
+            for question in questions:
+                try:
+                    writer.write(question)
+                    good.append(question)
+                except Lossy as error:
+                    verdicts[id(question)] = Verdict(question, "not settled", f"the text cannot say the question: {error}")
+            if not self.translation.renderer.grew:
+                return good, verdicts
+            self.translation.build()
+        raise Lossy("what questions need kept growing; this is a fault of the translator")
+
+    def checked(self, texts: dict[str, str]) -> None:
+        problems = check_texts(self.translation, texts["upper"], texts["lower"])
+        if problems:
+            raise BadInput("the texts break the rules of docs/RUSTDOC.md, which is a mistake of the translator: " + problems[0])
+
+    def assumed(self, questions: list[Question], lines: dict[str, TextLine], reacher: Reacher) -> dict[int, Assumed]:
+        """What the where-clauses of each question say to the patterns that it leads to, asked in rounds: one may be needed for another."""
+        renderer, world = self.translation.renderer, self.translation.world
+        thens = {renderer.then_name(world.get(key), name): renderer.companion_name(world.get(key), name) for key, name in renderer.thens}
+        assumer = Assumer(reacher.text, thens)
+        found = {id(q): Assumed() for q in questions}
+        wanted = [(q, c) for q in questions if lines[q.prove].clauses for c in assumer.all_candidates(lines[q.prove], reacher, found[id(q)])]
+        for _ in range(MAXIMAL_ROUNDS):
+            wanted = [(q, c) for q, c in wanted if any(c.clause not in found[id(q)].clauses[mode] for mode in ("upper", "lower"))]
+            if not self.ask_candidates(wanted, found, lines):
+                return found
+        for question, _ in wanted:
+            found[id(question)].is_open = True
+        return found
+
+    def ask_candidates(self, wanted: list[tuple[Question, Candidate]], found: dict[int, Assumed], lines: dict[str, TextLine]) -> bool:
+        """Whether a question got a clause more. What is not proved now may be with it."""
+        grew = False
+        for mode in ("upper", "lower") if wanted else ():
+            asked = [asked_goal(with_clauses(q.prove, found[id(q)].clauses[mode]), lines[q.prove], c.goal()) for q, c in wanted]
+            answers = run("\n".join(self.translation.text(mode)[0] + asked) + "\n", self.program).questions
+            for (question, candidate), answer in zip(wanted, answers):
+                known = found[id(question)].clauses[mode]
+                if (answer == "yes" or mode == "upper" and answer != "unproved") and candidate.clause not in known:
+                    known.append(candidate.clause)
+                    grew = True
+        return grew
 
     def verdict(self, question: Question, lower: str, upper: str, no: bool, reach: Reach) -> Verdict:
         lost = self.losses(reach)
@@ -276,6 +374,9 @@ class Asker:
         narrowed = [w for w in self.translation.of_std if w.impl.narrowed and w.impl.trait and w.impl.trait.key in self.reached_keys(reach)]
         return f"argued: {narrowed[0].impl.source} is written {narrowed[0].impl.narrowed}" if narrowed else "by law"
 
+    def above(self, trait: str) -> set[str]:
+        return self.text.above(trait) if self.text is not None else set()
+
     def reached_keys(self, reach: Reach) -> set[str]:
         return {d.key for d in self.translation.renderer.traits.values() if self.translation.world.name(d) in reach.traits}
 
@@ -312,6 +413,12 @@ class Asker:
         for declaration in self.translation.renderer.structs.values():
             if declaration.key.startswith("other:") and self.translation.world.name(declaration) in reach.types:
                 found[f"{declaration.source}: its impls are not known"] = None
+        renderer, world = self.translation.renderer, self.translation.world
+        valued = {n: world.name(world.get(key)) for key, name in {**renderer.companions, **renderer.thens}
+                  for n in (renderer.companion_name(world.get(key), name), renderer.then_name(world.get(key), name))}
+        if any(trait in valued and isinstance(terms[0], Dyn) and any(valued[trait] in self.above(b.key) for b in terms[0].bounds)
+               for trait, terms in reach.references):
+            found["an associated type of a dyn, which the text has not"] = None
         if "Unsize" in reach.traits:
             found["`Unsize`, which std's types have by fields that are private"] = None
         return list(found)

@@ -25,6 +25,7 @@ class Reach:
     structs: set[str] = field(default_factory=set)
     traits: set[str] = field(default_factory=set)
     types: set[str] = field(default_factory=set)
+    references: set[Reference_] = field(default_factory=set)
     is_complete: bool = True
     longest: Optional[int] = None
 
@@ -95,6 +96,7 @@ class Reacher:
     def children(self, reference: Reference_, found: Reach) -> list[Reference_]:
         trait, arguments = reference
         found.traits.add(trait)
+        found.references.add(reference)
         found.types |= {part.key for term in arguments for part in walk(term) if isinstance(part, Named)}
         children: list[Reference_] = []
         written_for: set[str] = set()

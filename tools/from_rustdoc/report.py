@@ -11,6 +11,7 @@ from .html_docs import is_std_key
 from .show import Show
 from .terms import Lossy
 
+PATTERNED = "a clause on an associated type, which keeps less apart than rustc's"
 ERRS = "the upper text has it more often than the crate, the lower one not at all"
 
 
@@ -106,6 +107,8 @@ class Report:
                         except Lossy:
                             pass
                     losses = "; ".join(piece.written.losses) if piece.written is not None else ""
+                    if not losses and "__Then<" in line.text:
+                        losses = PATTERNED
                     places[crate.name].append([piece.source, plain(header), plain(losses)])
         return places
 

@@ -128,6 +128,8 @@ class JsonCrate:
             declaration.supers += [bound for subject, bound in declaration.predicates if subject == Parameter("Self")]
             inside = [self.item(number) for number in body["items"]]
             declaration.associated = {i["name"] for i in inside if i and kind_and_body(i)[0] == "assoc_type"}
+            declaration.item_bounds = {i["name"]: self.bounds(i["inner"]["assoc_type"]["bounds"], None)
+                                       for i in inside if i and kind_and_body(i)[0] == "assoc_type"}
             return
         declaration.is_enum = kind != "struct"
         itself = declaration.itself()

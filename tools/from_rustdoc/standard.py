@@ -66,6 +66,7 @@ class Standard:
         associated = re.findall(r'type <a href="#associatedtype\.([A-Za-z0-9_]+)', fragment.group(1))
         declaration.associated = set(associated)
         try:
+            self.read_item_bounds(declaration, fragment.group(1))
             self.read_declaration(declaration, reader)
         except NotUnderstood as error:
             declaration.not_understood = str(error)
@@ -75,6 +76,13 @@ class Standard:
             elif declaration.params:
                 declaration.tail = Parameter(declaration.params[0].name)
         return declaration
+
+    def read_item_bounds(self, declaration: Declaration, fragment: str) -> None:
+        """The bounds of associated types: `type IntoIter: Iterator<Item = Self::Item>;`."""
+        for name, rest in re.findall(r'type <a href="#associatedtype\.([A-Za-z0-9_]+)"[^>]*>[^<]*</a>(.*?);(?=\s|$)', fragment, re.S):
+            reader = self.pages.reader(rest, declaration.path)
+            if reader.eat(":"):
+                declaration.item_bounds[name] = reader.bounds()
 
     @staticmethod
     def read_declaration(declaration: Declaration, reader: Reader) -> None:

@@ -101,6 +101,21 @@ class Projection:
 
 
 @dataclass(frozen=True)
+class Form:
+    """A type in which the names stand for any types: of `I: Iterator<Item = (A, B)>` that is (A, B)."""
+    pattern: Type
+    names: tuple[str, ...]
+
+
+@dataclass(frozen=True)
+class Part:
+    """What `name` stands for where the value of the projection has the form."""
+    whole: Projection
+    form: Form
+    name: str
+
+
+@dataclass(frozen=True)
 class Constant:
     """A const argument, as source."""
     text: str
@@ -118,7 +133,7 @@ class Unsayable:
 
 
 Type = Union[Primitive, Never, Parameter, Unknown, Reference, Pointer, Slice, Array, Tuple, Function, Dyn, Named, Alias,
-             Projection, Constant, BoundsOf, Unsayable]
+             Projection, Part, Constant, BoundsOf, Unsayable]
 UNIT = Tuple(())
 
 
@@ -156,6 +171,7 @@ class Declaration:
     fields: list[Type] = field(default_factory=list)
     supers: list[Bound] = field(default_factory=list)
     associated: set[str] = field(default_factory=set)
+    item_bounds: dict[str, list[Bound]] = field(default_factory=dict)
     is_auto: bool = False
     is_fundamental: bool = False
     is_opaque: bool = False
@@ -208,6 +224,8 @@ def parts(term: Type) -> tuple[Type, ...]:
             return tuple(a for b in bounds for a in b.arguments) + tuple(v for b in bounds for _, v in b.constraints)
         case Projection(subject, bound, _):
             return (subject,) + (bound.arguments if bound else ())
+        case Part(whole, _, _):
+            return (whole,)
     return ()
 
 
@@ -243,6 +261,10 @@ def rebuilt(term: Type, change: Callable[[Type], Type]) -> Type:
             return BoundsOf(tuple(rebuilt_bound(b, change) for b in bounds))
         case Projection(subject, bound, name):
             return Projection(change(subject), rebuilt_bound(bound, change) if bound else None, name)
+        case Part(whole, form, name):
+            changed = change(whole)
+            assert isinstance(changed, Projection)
+            return Part(changed, form, name)
     return term
 
 

@@ -102,6 +102,12 @@ class World:
         self.declarations[key] = declaration
         return declaration
 
+    def add_special(self, declaration: Declaration) -> None:
+        """An item of the text alone, by its own name."""
+        self.declarations[declaration.key] = declaration
+        self.names[declaration.key] = declaration.name
+        self.taken.add(declaration.name)
+
     # ---- names
     def is_cores(self, declaration: Declaration) -> bool:
         """Whether the text's `core` has the trait."""
