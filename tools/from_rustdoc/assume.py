@@ -18,9 +18,11 @@ MAXIMAL_CANDIDATES = 64
 
 @dataclass
 class Assumed:
-    """The clauses that a question gets in each text. `is_open`: a pattern was met of which the program could not be asked."""
+    """The clauses that a question gets in each text. `is_open`: a pattern was met of which the program could not be asked. `reach` is what
+    was looked at for them."""
     clauses: dict[str, list[str]] = field(default_factory=lambda: {"upper": [], "lower": []})
     is_open: bool = False
+    reach: Reach = field(default_factory=Reach)
 
 
 @dataclass(frozen=True)
@@ -60,7 +62,9 @@ class Assumer:
         candidates: dict[str, Candidate] = {}
         todo: list[tuple[Type, Bound]] = [(line.self_type, line.trait)]
         while todo and len(candidates) < MAXIMAL_CANDIDATES:
-            for candidate in self.candidates(line, reacher.reach(*todo.pop(), True), found):
+            reach = reacher.reach(*todo.pop(), True)
+            found.reach.join(reach)
+            for candidate in self.candidates(line, reach, found):
                 if candidate.clause not in candidates:
                     candidates[candidate.clause] = candidate
                     todo.append((candidate.subject, candidate.bound))

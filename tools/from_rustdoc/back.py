@@ -24,7 +24,7 @@ class Back:
 
     def type(self, term: Type) -> Type:
         term = rebuilt(term, self.type)
-        if isinstance(term, Named) and term.key not in self.world.declarations:
+        if isinstance(term, Named) and self.world.known(term.key) is None:
             if term.key in FLOATS:
                 return Primitive(term.key)
             if term.key.startswith("Tuple"):

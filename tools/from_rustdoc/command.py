@@ -4,22 +4,27 @@ from __future__ import annotations
 import argparse
 import hashlib
 import json
+import multiprocessing
 import os
+import sqlite3
 import sys
-from typing import Any, Optional
+from concurrent.futures import ProcessPoolExecutor
+from typing import Any, Iterator, Optional
 
 from . import cargo
 from .build import Translation
 from .checker import check_texts
+from .cone import cone_of_crate, cone_of_questions
 from .html_docs import Pages
+from .kept import Damaged, KeptPages, KeptStandard, remove_stores
 from .later import added_impls, ask_program, changed_auto_traits
 from .program import Answer, run
-from .questions import Asker, QuestionReader
+from .questions import Asker, Question, QuestionReader, Verdict
 from .report import PATTERNED, Report, explain_refusal
 from .show import Show
 from .standard_json import JsonStandard, json_folder
 from .terms import BadInput, Lossy
-from .world import World
+from .world import World, crate_name
 
 USAGE = """from-rustdoc: a translator of crates to texts for this program, and of its answers back. It is not proved: docs/RUSTDOC.md.
 
@@ -31,20 +36,30 @@ USAGE = """from-rustdoc: a translator of crates to texts for this program, and o
 
 Further flags: --docs DIR (std's documents), --program FILE (default: the built program, else the script celtisdarts),
 --metadata FILE (what `cargo metadata --format-version 1` printed; read and later), --with CRATE.json (later: crates that both use),
---all-std (read: all of std that is about the traits that are named), --quiet."""
+--all-std (read: all of std that is about the traits that are named), --jobs N (processes of a project's check), --quiet."""
 
 
 def new_world(docs: Optional[str]) -> World:
     """A world with std by its JSON where that is installed, else by its HTML documents."""
     folder = cargo.docs_folder(docs)
     std = json_folder(folder)
-    return World(Pages(folder), JsonStandard(std) if std else None)
+    if std:
+        return World(Pages(folder), JsonStandard(std))
+    pages = KeptPages(folder)
+    return World(pages, KeptStandard(pages))
 
 
 def world_of(files: list[str], docs: Optional[str], uses: Optional[dict[str, list[str]]]) -> World:
     world = new_world(docs)
     world.load(files, uses)
+    keep(world)
     return world
+
+
+def keep(world: World) -> None:
+    """What pages were looked at is kept for the next call."""
+    if isinstance(world.pages, KeptPages):
+        world.pages.store.flush()
 
 
 def uses_of(metadata: Optional[str]) -> Optional[dict[str, list[str]]]:
@@ -95,20 +110,33 @@ def verdict_lines(summary: list[str], crates: list[str], answers: dict[str, Answ
 # ---- the commands
 def read(arguments: argparse.Namespace) -> int:
     uses = uses_of(arguments.metadata)
-    translation = translated(world_of(arguments.json, arguments.docs, uses), arguments)
+    world = world_of(arguments.json, arguments.docs, uses)
+    inputs = inputs_of(arguments.json, arguments.docs, uses)
+    write_map(arguments.output, {"inputs": inputs})
+    translation = translated(world, arguments)
     report = Report(translation)
-    write_all(arguments.output, report, texts_of(translation), arguments.json, arguments.docs, uses)
+    write_all(arguments.output, report, texts_of(translation), inputs)
     print("\n".join(report.summary()))
     return 0
 
 
-def write_all(base: str, report: Report, texts: dict[str, str], json_files: list[str], docs: Optional[str], uses: Optional[dict[str, list[str]]]) -> None:
-    """Both texts, the report, and the map, which also says what was read, so that `ask` can read it again."""
-    inputs = {"json": [os.path.abspath(f) for f in json_files], "docs": docs, "uses": uses}
-    files = {".upper.txt": texts["upper"], ".lower.txt": texts["lower"], ".report": report.text(), ".map": report.map(inputs, texts)}
+def inputs_of(json_files: list[str], docs: Optional[str], uses: Optional[dict[str, list[str]]]) -> dict[str, Any]:
+    """What was read, so that `ask` can read it again."""
+    return {"json": [os.path.abspath(f) for f in json_files], "docs": docs, "uses": uses}
+
+
+def write_map(base: str, found: dict[str, Any]) -> None:
+    with open(base + ".map", "w", encoding="utf-8") as handle:
+        handle.write(json.dumps(found, indent=1) + "\n")
+
+
+def write_all(base: str, report: Report, texts: dict[str, str], inputs: dict[str, Any]) -> None:
+    """Both texts, the report, and the map with what was read."""
+    files = {".upper.txt": texts["upper"], ".lower.txt": texts["lower"], ".report": report.text()}
     for ending, text in files.items():
         with open(base + ending, "w", encoding="utf-8") as handle:
             handle.write(text)
+    write_map(base, report.map(inputs, texts))
 
 
 def kept(base: str) -> dict[str, Any]:
@@ -121,6 +149,9 @@ def kept(base: str) -> dict[str, Any]:
 
 def check(arguments: argparse.Namespace) -> int:
     known = kept(arguments.base)
+    if "sums" not in known:
+        inputs = known["inputs"]
+        return check_project(arguments.base, world_of(inputs["json"], arguments.docs or inputs["docs"], inputs["uses"]), arguments)
     answers = {}
     for mode in ("upper", "lower"):
         with open(f"{arguments.base}.{mode}.txt", encoding="utf-8") as handle:
@@ -138,13 +169,17 @@ def ask(arguments: argparse.Namespace) -> int:
     inputs = kept(arguments.base)["inputs"]
     world = world_of(inputs["json"], arguments.docs or inputs["docs"], inputs["uses"])
     reader = QuestionReader(world)
-    questions = [reader.read(text) for text in arguments.questions]
-    translation = Translation(world, quiet=arguments.quiet)
-    translation.roots = [root for question in questions for root in question.roots()]
-    translation.build()
-    for verdict in Asker(translation, arguments.program).ask(questions):
-        print(verdict.show())
+    for question in [reader.read(text) for text in arguments.questions]:
+        print(answer(world, question, arguments).show(), flush=True)
+    keep(world)
     return 0
+
+
+def answer(world: World, question: Question, arguments: argparse.Namespace) -> Verdict:
+    """The answer by a text of what may matter for this question alone."""
+    translation = cone_of_questions(world, [question])
+    translation.build()
+    return Asker(translation, arguments.program).ask([question])[0]
 
 
 def later(arguments: argparse.Namespace) -> int:
@@ -170,34 +205,66 @@ def project(folder: str, extra: list[str], arguments: argparse.Namespace) -> int
     found = cargo.document(folder, extra, arguments.quiet)
     for name in sorted(set(found.doubled)):
         print(f"two versions of {name} are in use, and rustdoc keeps the documents of one: its items are taken as not given")
-    good = True
-    for crates in [found.closure(found.members)]:
-        good &= check_set(found, crates, arguments)
+    crates = found.closure(found.members)
+    if not crates:
+        raise BadInput(f"{folder} and what it uses have no library that is documented")
+    base = os.path.join(os.path.dirname(os.path.dirname(found.files[crates[0]])), crates[0])
+    files = [found.files[c] for c in crates]
+    # Questions need the map alone, so it is there whatever the check says.
+    write_map(base, {"inputs": inputs_of(files, arguments.docs, found.uses)})
+    print(f"what `from-rustdoc ask {base} ..` needs is written: {base}.map", flush=True)
+    return check_project(base, world_of(files, arguments.docs, found.uses), arguments)
+
+
+def check_project(base: str, world: World, arguments: argparse.Namespace) -> int:
+    """Judges each crate by a text of what its check looks at, so that no text grows with the project."""
+    good, reports, missing = True, [], set()
+    for lines, is_good, report, not_given in checked(world, arguments):
+        print("\n".join(lines), flush=True)
+        good &= is_good
+        reports += report
+        missing |= not_given
+    reports += [f"not given: {name}: its impls are in neither text" for name in sorted(missing)]
+    with open(base + ".report", "w", encoding="utf-8") as handle:
+        handle.write("\n".join(reports) + "\n")
+    print(f"the report: {base}.report")
     return 0 if good else 1
 
 
-def check_set(found: cargo.Project, crates: list[str], arguments: argparse.Namespace) -> bool:
-    """Checks the crates in one text; where that is too long, each of them with what it uses."""
-    world = new_world(arguments.docs)
-    world.load([found.files[c] for c in crates], found.uses)
-    translation = translated(world, arguments)
+Checked = tuple[list[str], bool, list[str], set[str]]
+# What the processes of one check share: they are copies of the one that read the crates.
+SHARED: list[tuple[World, argparse.Namespace]] = []
+
+
+def checked(world: World, arguments: argparse.Namespace) -> Iterator[Checked]:
+    """The crates' checks, by as many processes as are asked for, in the order of the crates."""
+    SHARED[:] = [(world, arguments)]
+    if arguments.jobs == 1 or len(world.crates) == 1:
+        yield from map(check_shared, world.crates)
+        return
+    reopen = getattr(getattr(world.pages, "store", None), "reopen", None)
+    with ProcessPoolExecutor(arguments.jobs, multiprocessing.get_context("fork"), reopen) as pool:
+        yield from pool.map(check_shared, world.crates)
+
+
+def check_shared(name: str) -> Checked:
+    world, arguments = SHARED[0]
+    return (*check_crate(world, name, arguments), set(world.missing))
+
+
+def check_crate(world: World, name: str, arguments: argparse.Namespace) -> tuple[list[str], bool, list[str]]:
+    """The lines on one crate, whether it is coherent, and its part of the report."""
+    translation = cone_of_crate(world, name)
+    translation.build()
+    report = Report(translation)
     try:
         texts = texts_of(translation)
     except BadInput as error:
-        smaller = [found.closure([c]) for c in crates]
-        if "give fewer crates" not in str(error) or max(map(len, smaller)) == len(crates):
-            raise
-        return all([check_set(found, part, arguments) for part in smaller])
-    report = Report(translation)
-    places = {mode: report.places(mode) for mode in texts}
-    translation.say("the program checks the two texts")
+        return [f"{name}: not settled: {error}"], False, report.of_crate(name)
     answers = {mode: run(text, arguments.program) for mode, text in texts.items()}
-    lines, good = verdict_lines(report.summary(), list(answers["upper"].crates), answers, places)
-    print("\n".join(lines + [s for s in report.summary() if s.startswith("not given")]))
-    base = os.path.join(os.path.dirname(os.path.dirname(found.files[crates[0]])), crates[0])
-    write_all(base, report, texts, [found.files[c] for c in crates], arguments.docs, found.uses)
-    print(f"the report, and what `from-rustdoc ask {base} ..` needs: {base}.*")
-    return good
+    places = {mode: report.places(mode) for mode in texts}
+    lines, good = verdict_lines(report.summary(), [crate_name(name)], answers, places)
+    return lines, good, report.of_crate(name)
 
 
 def parser() -> argparse.ArgumentParser:
@@ -205,6 +272,7 @@ def parser() -> argparse.ArgumentParser:
     common.add_argument("--docs")
     common.add_argument("--program")
     common.add_argument("--quiet", action="store_true")
+    common.add_argument("--jobs", type=int, default=os.cpu_count() or 1)
     top = argparse.ArgumentParser(prog="from-rustdoc", usage=USAGE, add_help=True)
     commands = top.add_subparsers(dest="command", required=True)
     one = commands.add_parser("read", parents=[common], usage=USAGE)
@@ -241,6 +309,10 @@ def main(words: list[str]) -> int:
         if arguments.command == "project":
             return project(arguments.folder, extra, arguments)
         return {"read": read, "check": check, "ask": ask, "later": later}[arguments.command](arguments)
+    except (Damaged, sqlite3.DatabaseError) as error:
+        print(f"from-rustdoc: what was kept of std is damaged ({error}); it is removed, and made anew by the next call", file=sys.stderr)
+        remove_stores()
+        return 3
     except (BadInput, Lossy) as error:
         print(f"from-rustdoc: {error}", file=sys.stderr)
         return 3

@@ -1,6 +1,7 @@
 """Runs the program on a text and reads its answer."""
 from __future__ import annotations
 
+import functools
 import os
 import re
 import subprocess
@@ -11,6 +12,8 @@ from .terms import BadInput
 
 TOP = os.path.dirname(os.path.dirname(os.path.dirname(os.path.abspath(__file__))))
 DEPTH = 64
+# Prints the path of the proved program, by the very conditions of the script `celtisdarts`.
+FIND = '. "$here/tools/program.sh" && if is_current; then echo "$built"; elif [ -x "$released" ] && is_noted "$released" && is_of_these_sources; then echo "$released"; fi'
 
 
 @dataclass
@@ -24,12 +27,16 @@ class Answer:
         return {crate: verdict for crate, verdict in self.crates.items() if verdict != "accepted"}
 
 
+@functools.lru_cache(maxsize=None)
+def proved_program() -> Optional[str]:
+    """The proved program of the sources that stand here: the one that was built here, else that of release/; None where there is none."""
+    done = subprocess.run(["sh", "-c", FIND], env={**os.environ, "here": TOP}, stdout=subprocess.PIPE, stderr=subprocess.DEVNULL, text=True)
+    return done.stdout.strip() or None
+
+
 def program_path(given: Optional[str]) -> list[str]:
-    """The command that answers texts: the built program, or the script that compiles it for each call."""
-    if given:
-        return [given]
-    built = os.path.join(TOP, "crates", "celtisdarts", "out", "celtisdarts")
-    return [built if os.path.exists(built) else os.path.join(TOP, "celtisdarts")]
+    """The command that answers texts: a proved program, or the script that compiles one for each call."""
+    return [given or proved_program() or os.path.join(TOP, "celtisdarts")]
 
 
 def run(text: str, program: Optional[str] = None, depth: int = DEPTH) -> Answer:

@@ -134,12 +134,12 @@ def determined(equations: list[tuple[Projection, Type]], names: set[str], known:
 
 
 class Projector:
-    """`patterns` are the structs that the text needs, by crate and meaning."""
+    """`patterns` are the structs that the text needs, by name."""
 
     def __init__(self, renderer: Renderer) -> None:
         self.renderer = renderer
         self.world = renderer.world
-        self.patterns: dict[tuple[str, str], Pattern] = {}
+        self.patterns: dict[str, Pattern] = {}
 
     # ---- goals
     def goal(self, subject: Type, bound: Bound, scope: Scope) -> Goal:
@@ -236,17 +236,20 @@ class Projector:
         return Named(key, (*change.types, *(Constant(n) for n in change.consts)))
 
     def declared(self, crate: str, meaning: str, params: list[Param]) -> str:
-        if (crate, meaning) not in self.patterns:
-            number = len(self.patterns) + 1
-            declaration = Declaration("struct", f"pattern:{number}", crate, f"Pat{number}_", source="a pattern", params=params)
-            self.world.add_special(declaration)
-            self.patterns[(crate, meaning)] = Pattern(declaration, meaning.replace("%s", declaration.name))
-        declaration = self.patterns[(crate, meaning)].declaration
+        known = self.world.patterns
+        if (crate, meaning) not in known:
+            # A pattern has one name in all texts of a world.
+            number = len(known) + 1
+            known[(crate, meaning)] = Declaration("struct", f"pattern:{number}", crate, f"Pat{number}_", source="a pattern", params=params)
+            self.world.add_special(known[(crate, meaning)])
+        declaration = known[(crate, meaning)]
+        if declaration.name not in self.patterns:
+            self.patterns[declaration.name] = Pattern(declaration, meaning.replace("%s", declaration.name))
         self.renderer.need(declaration.key)
         return declaration.key
 
     def lines(self, crate: str) -> Iterator[str]:
         """What the patterns of a crate mean."""
-        for (home, _), pattern in self.patterns.items():
-            if crate_name(home) == crate and pattern.declaration.key in self.renderer.structs:
+        for pattern in self.patterns.values():
+            if crate_name(pattern.declaration.crate) == crate and pattern.declaration.key in self.renderer.structs:
                 yield pattern.line

@@ -12,7 +12,7 @@ from .headers import FLOATS, PRIMITIVES, Named_, NotUnderstood, Reader
 from .html_docs import is_std_key
 from .impls import ImplWriter
 from .program import Answer, run
-from .reach import Reach, Reacher
+from .reach import BY_PARTS, Reach, Reacher
 from .render import MAXIMAL_PARAMS, QUESTION, Scope, bracketed, is_sizedness, names_of
 from .show import Show
 from .standard import FN_TRAITS
@@ -40,6 +40,7 @@ class Question:
     params: list[Param] = field(default_factory=list)
     predicates: list[Predicate] = field(default_factory=list)
     crate: str = ""
+    of_crate: str = ""
     prove: str = ""
     refute: str = ""
     whole: bool = True
@@ -78,7 +79,7 @@ class QuestionReader:
 
     def key(self, words: list[str]) -> Optional[str]:
         if words[0] in self.world.crates:
-            found = [d for d in self.world.declarations.values() if d.crate == words[0] and not is_std_key(d.key)]
+            found = self.world.crates[words[0]].items
             for test in (lambda d: d.public_path == words, lambda d: d.key == "::".join(words),
                          lambda d: d.name == words[-1] and d.public_path, lambda d: d.name == words[-1]):
                 keys = {d.key for d in found if test(d)}
@@ -87,12 +88,12 @@ class QuestionReader:
             return None
         if words[0] in ("std", "core", "alloc", "proc_macro") and len(words) > 1:
             return self.world.pages.key_of_any_kind(words)
+        if len(words) == 1 and words[0] in self.prelude:
+            return self.world.pages.key_of_any_kind(self.prelude[words[0]])
         if len(words) == 1:
-            own = {d.key for d in self.world.declarations.values() if d.name == words[0] and d.crate in self.world.crates and d.public_path}
+            own = {d.key for crate in self.world.crates.values() for d in crate.items if d.name == words[0] and d.public_path}
             if len(own) == 1:
                 return own.pop()
-            if words[0] in self.prelude:
-                return self.world.pages.key_of_any_kind(self.prelude[words[0]])
         return None
 
     def read(self, written: str) -> Question:
@@ -167,7 +168,8 @@ class QuestionWriter:
             raise Lossy("more than 16 parameters")
         clauses = list(dict.fromkeys(clauses + scope.extra))
         where = f" where {', '.join(clauses)}" if clauses else ""
-        question.crate = crate_name(question.crate or self.asker(question))
+        question.of_crate = question.of_crate or question.crate or self.asker(question)
+        question.crate = crate_name(question.of_crate)
         question.prove = f"prove in {question.crate} {bracketed(params)} {asked}{where}".replace("  ", " ")
         question.refute = "" if params else f"refute in {question.crate} {asked}"
 
@@ -279,6 +281,8 @@ class Asker:
             line = lines[question.prove]
             assert line.trait is not None
             reach = reacher.reach(line.self_type, line.trait, bool(line.clauses))
+            reach.join(assumed[id(question)].reach)
+            self.inside(question, reach)
             if assumed[id(question)].is_open and upper == "unproved":
                 question.whole = False
             verdict = self.verdict(question, lower, upper, no, reach)
@@ -337,6 +341,13 @@ class Asker:
                     known.append(candidate.clause)
                     grew = True
         return grew
+
+    def inside(self, question: Question, reach: Reach) -> None:
+        """What the text leads to was looked for in all crates, where the text is a part of them."""
+        cone = self.translation.cone
+        for trait, arguments in reach.references if cone is not None else ():
+            if trait not in BY_PARTS and cone is not None and not cone.covers((trait, arguments)):
+                raise BadInput(f"the part of the crates for `{question.written}` is too small, which is a mistake of the translator: {trait} of {arguments}")
 
     def verdict(self, question: Question, lower: str, upper: str, no: bool, reach: Reach) -> Verdict:
         lost = self.losses(reach)

@@ -29,6 +29,14 @@ class Reach:
     is_complete: bool = True
     longest: Optional[int] = None
 
+    def join(self, other: Reach) -> None:
+        """With what another question leads to."""
+        self.pieces += other.pieces
+        self.structs |= other.structs
+        self.traits |= other.traits
+        self.types |= other.types
+        self.references |= other.references
+
 
 def bind(pattern: Type, term: Type, params: set[str], values: dict[str, Type]) -> bool:
     """Whether the term may be an instance of the pattern; an unknown in it may be anything."""
@@ -91,6 +99,7 @@ class Reacher:
             return longest
 
         found.longest = visit((bound.key, (subject, *bound.arguments)))
+        found.references = set(length)
         return found
 
     def children(self, reference: Reference_, found: Reach) -> list[Reference_]:

@@ -22,6 +22,7 @@ ALWAYS = {"Ref_": "fundamental struct Ref_<T>(T, ())", "RefMut_": "fundamental s
           "PtrConst_": "struct PtrConst_<T>(T, ())", "PtrMut_": "struct PtrMut_<T>(T, ())", "f32": "struct f32", "f64": "struct f64"}
 MAXIMAL_PARAMS, MAXIMAL_ITEMS, MAXIMAL_CLAUSES = 16, 12, 64
 NEVER = "u8: Never_"
+THEN = "__Then"
 
 
 @dataclass
@@ -79,7 +80,8 @@ def is_sizedness(bound: Bound) -> bool:
 
 
 class Renderer:
-    """`structs`, `traits`, `special`, `companions` and `thens` are what the text needs; `grew` says that one of them has become larger.
+    """`structs`, `traits`, `special`, `companions`, `thens` and `anys` are what the text needs; `grew` says that one of them has become
+    larger. `further` are the traits that the text has beside a trait, by name, each with the key of that trait.
     `names_values`: whether each trait that asks patterns has a companion too, for the where-clauses of questions."""
 
     def __init__(self, world: World) -> None:
@@ -90,6 +92,7 @@ class Renderer:
         self.companions: dict[tuple[str, str], None] = {}
         self.thens: dict[tuple[str, str], None] = {}
         self.anys: dict[str, None] = {}
+        self.further: dict[str, str] = {}
         self.names_values = False
         self.lost_supers: dict[str, list[str]] = {}
         self.cyclic: set[str] = set()
@@ -114,6 +117,7 @@ class Renderer:
         """The companion trait for an associated type: `Iterator__Item<A>` says that `Item` is `A`."""
         if (declaration.key, name) not in self.companions:
             self.companions[(declaration.key, name)] = None
+            self.further[self.companion_name(declaration, name)] = declaration.key
             self.grew = True
         return self.companion_name(declaration, name)
 
@@ -124,6 +128,7 @@ class Renderer:
         """The trait that asks a pattern of the value of an associated type: `Iterator__Item__Then<Wrap_<K>>` says that K has `Item`."""
         if (declaration.key, name) not in self.thens:
             self.thens[(declaration.key, name)] = None
+            self.further[self.then_name(declaration, name)] = declaration.key
             self.grew = True
         if self.names_values:
             self.companion(declaration, name)
@@ -133,6 +138,7 @@ class Renderer:
         """Of `Fn`, `FnMut` and `FnOnce` the trait that says that a type has it for some arguments: what has none is told by that."""
         if declaration.key not in self.anys:
             self.anys[declaration.key] = None
+            self.further[self.any_name(declaration)] = declaration.key
             self.grew = True
         return self.any_name(declaration)
 
@@ -144,7 +150,7 @@ class Renderer:
         return declaration.name in FN_TRAITS and is_std_key(declaration.key)
 
     def then_name(self, declaration: Declaration, name: str) -> str:
-        return self.companion_name(declaration, name) + "__Then"
+        return self.companion_name(declaration, name) + THEN
 
     # ---- types
     def type(self, term: Type, scope: Scope) -> str:

@@ -2,7 +2,6 @@
 from __future__ import annotations
 
 import hashlib
-import json
 from collections import Counter
 from typing import Any
 
@@ -58,11 +57,17 @@ class Report:
         lines += [f"std, narrowed: {w.impl.source}: {w.impl.narrowed}" for w in self.translation.of_std if w.impl.narrowed]
         return lines
 
-    def item_lines(self) -> list[str]:
+    def of_crate(self, name: str) -> list[str]:
+        """What became of the items of one crate."""
+        lines = [line for line in self.summary() if line.startswith(name + " ")] + self.item_lines(name)
+        return [plain(line) for line in lines]
+
+    def item_lines(self, name: str = "") -> list[str]:
+        """Of all crates, or of one alone."""
         lines = []
         cuts = {cut.declaration.key: cut for cut in self.translation.cuts}
         for crate in self.world.crates.values():
-            for declaration in crate.declarations.values():
+            for declaration in crate.declarations.values() if name in ("", crate.name) else ():
                 what = f"{declaration.source}: {declaration.kind} {self.show.item(declaration)}"
                 if declaration.is_trait:
                     lost = self.translation.renderer.supertraits(declaration)[1]
@@ -74,6 +79,8 @@ class Report:
                 else:
                     lines.append(f"whole {what}")
         for written in self.translation.of_crates:
+            if name not in ("", written.impl.crate):
+                continue
             what = f"{written.impl.source}: {self.show.header(written.impl)}"
             notes = [f"({n})" for n in written.unknown]
             if written.fate == "whole":
@@ -112,10 +119,9 @@ class Report:
                     places[crate.name].append([piece.source, plain(header), plain(losses)])
         return places
 
-    def map(self, inputs: dict[str, Any], texts: dict[str, str]) -> str:
+    def map(self, inputs: dict[str, Any], texts: dict[str, str]) -> dict[str, Any]:
         sums = {mode: hashlib.sha256(text.encode()).hexdigest() for mode, text in texts.items()}
-        return json.dumps({"inputs": inputs, "sums": sums, "summary": self.summary(),
-                           "places": {mode: self.places(mode) for mode in ("upper", "lower")}}, indent=1) + "\n"
+        return {"inputs": inputs, "sums": sums, "summary": self.summary(), "places": {mode: self.places(mode) for mode in ("upper", "lower")}}
 
 
 def explain_refusal(verdict: str, crate: str, places: dict[str, list[list[str]]]) -> str:

@@ -3,16 +3,24 @@ from __future__ import annotations
 
 import json
 import re
+from dataclasses import dataclass
 from typing import Any, Optional
 
 from .html_docs import Pages
 from .terms import (UNIT, Alias, Array, BadInput, Bound, BoundsOf, Constant, Declaration, Dyn, Function, Impl, Named, Never,
                     Param, Parameter, Pointer, Predicate, Primitive, Projection, Reference, Slice, Tuple, Type, Unsayable,
-                    argument_values, put)
+                    argument_values, head_of, put)
 
 FORMAT = 57
 STD_CRATES = ("core", "alloc", "std", "proc_macro", "test")
 ITEMS = ("struct", "enum", "union", "trait")
+
+
+@dataclass(frozen=True)
+class ItemName:
+    key: str
+    name: str
+    public_path: Optional[list[str]]
 
 
 def kind_and_body(item: dict[str, Any]) -> tuple[str, Any]:
@@ -46,6 +54,16 @@ class JsonCrate:
         self.aliases: dict[str, Declaration] = {}
         self.impls: list[Impl] = []
         self.names_crates: dict[str, None] = {}
+
+    # ---- of all items at once, as `kept.KeptCrate` has it too
+    @property
+    def heads(self) -> list[tuple[str, str]]:
+        """The trait and the head of each impl."""
+        return [(i.trait.key if i.trait else "", head_of(i.self_type)) for i in self.impls]
+
+    @property
+    def items(self) -> list[ItemName]:
+        return [ItemName(d.key, d.name, d.public_path) for d in [*self.declarations.values(), *self.aliases.values()]]
 
     # ---- keys
     def item(self, number: Optional[int]) -> Optional[dict[str, Any]]:

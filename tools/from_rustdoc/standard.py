@@ -10,8 +10,8 @@ from typing import Iterator, Optional
 
 from .html_docs import Pages, is_std_key, kind_and_name, rust_crate_of
 from .headers import NotUnderstood, Reader
-from .terms import (Array, Bound, Declaration, Function, Impl, Named, Param, Parameter, Predicate, Primitive, Reference, Slice, Tuple, Type,
-                    parameters_of, put, put_bound, rebuilt, rebuilt_bound)
+from .terms import (ANY_HEAD, Array, Bound, Declaration, Function, Impl, Named, Param, Parameter, Predicate, Primitive, Reference, Slice, Tuple, Type,
+                    head_of, parameters_of, put, put_bound, rebuilt, rebuilt_bound)
 
 # Of core and alloc one crate is made: core's impls reason about alloc's types by negative impls, which a text has not.
 HOMES = {"core": "alloc", "alloc": "alloc"}
@@ -45,6 +45,7 @@ class Standard:
         self.declarations: dict[str, Declaration] = {}
         self.found: list[Header] = []
         self.values: dict[str, dict[str, dict[str, Type]]] = {}
+        self.by_head: dict[str, list[tuple[str, Impl]]] = {}
 
     # ---- declarations
     def declaration(self, key: str) -> Declaration:
@@ -129,6 +130,14 @@ class Standard:
             self.found.append(header)
             impls.append((header, impl))
         return impls
+
+    def impls_with_head(self, key: str, head: Optional[str]) -> list[Impl]:
+        """The impls of a trait whose self type may have the head; all of them for None. `impls_of_trait` counts headers, this does not."""
+        if key not in self.by_head:
+            before = len(self.found)
+            self.by_head[key] = [(head_of(i.self_type), i) for _, i in self.impls_of_trait(key)]
+            del self.found[before:]
+        return [i for its, i in self.by_head[key] if head is None or its in (head, ANY_HEAD)]
 
     def impl(self, fragment: str, page: str, rest: str, crate: str) -> Impl:
         impl = Impl(home_of(crate), "std: " + Pages.plain(fragment))

@@ -135,6 +135,7 @@ class Unsayable:
 Type = Union[Primitive, Never, Parameter, Unknown, Reference, Pointer, Slice, Array, Tuple, Function, Dyn, Named, Alias,
              Projection, Part, Constant, BoundsOf, Unsayable]
 UNIT = Tuple(())
+ANY_HEAD = "_"
 
 
 @dataclass(frozen=True)
@@ -337,3 +338,29 @@ def parameters_of(term: Type) -> set[str]:
             case Array(_, length):
                 names.add(length.strip("{} "))
     return names
+
+
+def head_of(term: Type) -> str:
+    """What an impl's self type begins with: an impl concludes nothing of a type with another head. `_` where it may be anything."""
+    match term:
+        case Named(key, _):
+            return key
+        case Reference(mutable, _):
+            return "&mut" if mutable else "&"
+        case Pointer(mutable, _):
+            return "*mut" if mutable else "*const"
+        case Primitive(name):
+            return "prim:" + name
+        case Never():
+            return "!"
+        case Slice(_):
+            return "[]"
+        case Array(_, _):
+            return "[;]"
+        case Tuple(items):
+            return f"tuple:{len(items)}"
+        case Function(inputs, _, True):
+            return f"fn:{len(inputs)}"
+        case Dyn(bounds) if not any(b.constraints for b in bounds):
+            return "dyn"
+    return ANY_HEAD

@@ -7,14 +7,14 @@ import unittest
 
 from ..build import Translation
 from ..later import Release, added_impls, ask_program
-from ..program import program_path
+from ..program import proved_program
 from ..show import Show
 from .common import world
 
 PROGRAM = os.environ.get("FROM_RUSTDOC_PROGRAM")
 
 
-@unittest.skipUnless(PROGRAM or os.path.basename(os.path.dirname(program_path(None)[0])) == "out", "the program is not built")
+@unittest.skipUnless(PROGRAM or proved_program(), "there is no proved program of these sources")
 class Later(unittest.TestCase):
     @classmethod
     def setUpClass(cls) -> None:

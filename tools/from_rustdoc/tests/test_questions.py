@@ -1,13 +1,13 @@
 """Questions: their lines in the texts, and the one answer that is made of two. The last test needs the built program."""
 from __future__ import annotations
 
-import os
 import unittest
 from unittest import mock
 
 from ..back import Back
 from ..build import Translation
-from ..program import Answer, program_path, read_answer
+from ..cone import cone_of_questions
+from ..program import Answer, proved_program, read_answer
 from ..questions import Asker, Question, QuestionReader, QuestionWriter, Verdict
 from ..terms import BadInput, Lossy
 from ..text_form import read_text
@@ -146,16 +146,31 @@ class Merged(unittest.TestCase):
         self.assertEqual((answer.questions, answer.values), (["yes", "no"], ["?x = u8", ""]))
 
 
-@unittest.skipUnless(os.path.basename(os.path.dirname(program_path(None)[0])) == "out", "the program is not built")
+@unittest.skipUnless(proved_program(), "there is no proved program of these sources")
 class Program(unittest.TestCase):
+    WANTED = {
+        "shapes::Raw<u8>: Send": "yes", "shapes::Raw<&u8>: Sync": "unproved", "shapes::NeverSent: Send": "no", "shapes::B: Send": "unproved",
+        "shapes::B: Unpin": "yes", "<T> shapes::Tree<T>: Clone where T: Clone": "yes", "<T> shapes::Tree<T>: Clone": "unproved",
+        "<S: shapes::Shape> shapes::Raw<S>: Debug": "unproved", "<S: shapes::Shape> shapes::Raw<S>: Debug where S::Unit: Debug": "yes",
+        "<I: Iterator> shapes::Peeked<I>: Debug": "unproved", "<I: Iterator> shapes::Peeked<I>: Debug where I::Item: Debug": "yes",
+        "<I: Iterator> shapes::Peeked<I>: Send where I: Send, I::Item: Send": "yes", "<I: Iterator> shapes::Peeked<I>: Send where I: Send": "unproved",
+        "<I: Iterator> shapes::Peeked<I>: Iterator": "yes", "<I: Iterator> shapes::Peeked<shapes::Peeked<I>>: Debug where I::Item: Debug": "yes",
+        "<I: Iterator> shapes::Peeked<shapes::Peeked<I>>: Debug": "unproved", "shapes::Peeked<u8>: Debug": "unproved",
+        "shapes::Tree<u8>: Unpin": "yes", "shapes::A: PartialEq<[u8; 4]>": "yes", "shapes::Free: Clone": "no"}
+
     def test_the_program_answers(self) -> None:
-        wanted = {"shapes::Raw<u8>: Send": "yes", "shapes::Raw<&u8>: Sync": "unproved", "shapes::NeverSent: Send": "no", "shapes::B: Send": "unproved",
-                  "shapes::B: Unpin": "yes", "<T> shapes::Tree<T>: Clone where T: Clone": "yes", "<T> shapes::Tree<T>: Clone": "unproved",
-                  "<S: shapes::Shape> shapes::Raw<S>: Debug": "unproved", "<S: shapes::Shape> shapes::Raw<S>: Debug where S::Unit: Debug": "yes",
-                  "<I: Iterator> shapes::Peeked<I>: Debug": "unproved", "<I: Iterator> shapes::Peeked<I>: Send where I: Send, I::Item: Send": "yes", "<I: Iterator> shapes::Peeked<I>: Iterator": "yes",
-                  "shapes::Tree<u8>: Unpin": "yes", "shapes::A: PartialEq<[u8; 4]>": "yes", "shapes::Free: Clone": "no"}
-        translation, questions = asked(*wanted)
+        translation, questions = asked(*self.WANTED)
         asker = Asker(translation)
         verdicts = asker.ask(questions)
-        self.assertEqual({v.question.written: v.word for v in verdicts}, wanted)
+        self.assertEqual({v.question.written: v.word for v in verdicts}, self.WANTED)
         self.assertEqual(asker.answers["lower"].refusals(), {})
+
+    def test_it_answers_alike_by_the_part_that_may_matter(self) -> None:
+        found = world("shapes")
+        for written, word in self.WANTED.items():
+            question = QuestionReader(found).read(written)
+            translation = cone_of_questions(found, [question])
+            translation.build()
+            (verdict,) = Asker(translation).ask([question])
+            self.assertEqual(verdict.word, word, written)
+            self.assertLess(len(texts(translation)["upper"]), 4000, written)
