@@ -9,6 +9,7 @@ from .declare import Cut, Declarer
 from .headers import PRIMITIVES
 from .html_docs import is_std_key
 from .impls import ImplWriter, Line, Written
+from .objects import is_object
 from .project import APPLY, WRAP
 from .render import ALWAYS, FIELD, MAXIMAL_ITEMS, Renderer, Scope, names_of
 from .split import split
@@ -76,6 +77,7 @@ class Translation:
         self.autos: dict[str, str] = {}
         self.of_crates: list[Written] = []
         self.of_std: list[Written] = []
+        self.of_objects: list[Written] = []
         self.crates: list[CrateText] = []
         self.cuts: list[Cut] = []
         self.lost_supers: list[str] = []
@@ -187,17 +189,22 @@ class Translation:
             for trait in list(self.renderer.traits.values()):
                 self.renderer.lost(trait)
             if self.cone is not None:
-                written = [self.impl_writer.write(impl) for impl in self.cone.impls.values()]
+                written = [self.impl_writer.write(impl) for impl in self.cone.impls.values() if not is_object(impl)]
                 self.of_crates = [w for w in written if w.impl.crate not in STD_TEXTS]
                 self.of_std = [w for w in written if w.impl.crate in STD_TEXTS]
                 self.need_fields()
             else:
                 self.all_impls()
+            self.of_objects = [self.impl_writer.write(impl) for impl in self.objects() if self.cone is None or id(impl) in self.cone.impls]
             self.compose()
             self.say(f"round {rounds}: {len(self.renderer.structs)} types, {len(self.renderer.traits)} traits, "
                      f"{len(self.of_crates)} impls of crates, {len(self.of_std)} of std")
         if self.renderer.grew:
             raise Lossy("what std's impls need kept growing; this is a fault of the translator")
+
+    def objects(self) -> list[Impl]:
+        """The impls that each `dyn` with associated types has by itself."""
+        return [impl for key in list(self.renderer.structs) if key in self.world.shape_of_key for impl in self.world.shape_of_key[key].impls]
 
     def need_fields(self) -> None:
         """What the fields of structs name, and those of what they name: each round of its own would find one layer of it."""
@@ -322,7 +329,7 @@ class Translation:
         items = self.items()
         not_given = sorted({d.crate for d in items} - set(self.world.crates) - set(STD_TEXTS))
         impls: dict[str, list[Written]] = {}
-        for written in self.of_std + self.of_crates:
+        for written in self.of_objects + self.of_std + self.of_crates:
             impls.setdefault(written.impl.crate, []).append(written)
         for name in [*STD_TEXTS, *not_given, *self.world.crates]:
             if name == "alloc":

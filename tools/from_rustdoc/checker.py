@@ -6,12 +6,12 @@ but the names of items. The rules, with the reason for each, are in docs/RUSTDOC
 from __future__ import annotations
 
 from collections import Counter
-from typing import Iterator, Optional
+from typing import Callable, Iterator, Optional
 
 from .build import Piece, Translation
 from .headers import FLOATS
 from .html_docs import is_std_key
-from .render import is_sizedness, names_of
+from .render import is_packed, is_sizedness, names_of, packed
 from .standard import FN_TRAITS
 from .terms import (Alias, Array, Bound, BoundsOf, Constant, Declaration, Dyn, Form, Function, Impl, Lossy, Named, Never, Parameter, Part, Pointer,
                     Predicate, Primitive, Projection, Reference, Slice, Tuple, Type, Unsayable, argument_values, parts, put, walk)
@@ -151,6 +151,8 @@ class Checker:
         void = is_void(line)
         if mode == "upper" and void:
             self.complain(mode, line, "a void impl of an auto trait in the upper text")
+        if is_packed(declaration.params) and line.clauses and not void:
+            self.complain(mode, line, "fields of a struct whose parameters are packed")
         if mode == "lower" and not void and (piece.written.losses or len(line.clauses) < len(set(declaration.fields))
                                              and len(line.clauses) < len({self.shape(f) for f in declaration.fields})):
             self.complain(mode, line, "an auto trait by some of the fields alone in the lower text")
@@ -366,6 +368,8 @@ class Checker:
                 if in_field:
                     return written == Function((), Tuple(()))
                 return plain and isinstance(written, Function) and all_inside(written.inputs, inputs) and inside(written.output, output)
+            case Dyn(bounds) if isinstance(written, Named):
+                return self.is_shape(written, bounds, inside)
             case Dyn(bounds):
                 return isinstance(written, Dyn) and sorted(b.key for b in written.bounds) == sorted(
                     self.world.name(self.world.get(b.key, "trait", b.arguments)) for b in bounds)
@@ -374,14 +378,30 @@ class Checker:
                 if not isinstance(written, Named) or written.key != self.world.name(declaration):
                     return False
                 values = argument_values(declaration.params, arguments)
-                wanted = tuple(put(values[p.name], {"Self": real}) for kind in ("type", "const") for p in declaration.params if p.kind == kind)
-                return all_inside(written.arguments, wanted)
+                types, consts = (tuple(put(values[p.name], {"Self": real}) for p in declaration.params if p.kind == kind) for kind in ("type", "const"))
+                return all_inside(written.arguments, (packed(types) if is_packed(declaration.params) else types) + consts)
             case Constant(text):
                 value = written.text if isinstance(written, Constant) else written.name if isinstance(written, Parameter) else ""
                 return self.same_constant(value, text, names, fresh, lossy)
             case Unsayable():
                 return False
         return False
+
+    def is_shape(self, written: Named, bounds: tuple[Bound, ...], inside: Callable[[Type, Type], bool]) -> bool:
+        """Whether the struct stands for the `dyn`: of its trait and auto traits, with its arguments and the values that it gives."""
+        shape = self.world.shape_of_key.get(self.world.named.get(written.key, ""))
+        if shape is None:
+            return False
+        known = [(self.world.get(b.key, "trait", b.arguments), b) for b in bounds]
+        principal = [(d, b) for d, b in known if not d.is_auto]
+        if len(principal) != 1 or principal[0][0].key != shape.trait or tuple(sorted(d.key for d, _ in known if d.is_auto)) != shape.autos:
+            return False
+        declaration, bound = principal[0]
+        values = argument_values(declaration.params, bound.arguments)
+        said = shape.dyn(written.arguments).bounds[0]
+        wanted = [values[p.name] for p in declaration.params]
+        return (len(said.arguments) == len(wanted) and all(map(inside, said.arguments, wanted)) and len(said.constraints) == len(bound.constraints)
+                and all(name in dict(bound.constraints) and inside(value, dict(bound.constraints)[name]) for name, value in said.constraints))
 
     def is_projection(self, written: Projection | Part, real: Type, names: dict[str, str], fresh: set[str]) -> bool:
         """Whether a projection is the real one, or what an equation of the impl says a parameter, or a part of it, to be."""

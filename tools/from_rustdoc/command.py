@@ -12,14 +12,15 @@ from concurrent.futures import ProcessPoolExecutor
 from typing import Any, Iterator, Optional
 
 from . import cargo
+from .answer import Answerer
 from .build import Translation
 from .checker import check_texts
-from .cone import cone_of_crate, cone_of_questions
+from .cone import cone_of_crate
 from .html_docs import Pages
 from .kept import Damaged, KeptPages, KeptStandard, remove_stores
 from .later import added_impls, ask_program, changed_auto_traits
 from .program import Answer, run
-from .questions import Asker, Question, QuestionReader, Verdict
+from .questions import QuestionReader
 from .report import PATTERNED, Report, explain_refusal
 from .show import Show
 from .standard_json import JsonStandard, json_folder
@@ -168,18 +169,18 @@ def check(arguments: argparse.Namespace) -> int:
 def ask(arguments: argparse.Namespace) -> int:
     inputs = kept(arguments.base)["inputs"]
     world = world_of(inputs["json"], arguments.docs or inputs["docs"], inputs["uses"])
-    reader = QuestionReader(world)
-    for question in [reader.read(text) for text in arguments.questions]:
-        print(answer(world, question, arguments).show(), flush=True)
+    reader, answerer = QuestionReader(world), Answerer(world, arguments.program)
+    good = True
+    for written in arguments.questions:
+        try:
+            for question in reader.read_all(written):
+                print(answerer.answer(question).show(), flush=True)
+        except (BadInput, Lossy) as error:
+            # The others get their answers.
+            print(f"from-rustdoc: no answer to `{written}`: {error}", file=sys.stderr, flush=True)
+            good = False
     keep(world)
-    return 0
-
-
-def answer(world: World, question: Question, arguments: argparse.Namespace) -> Verdict:
-    """The answer by a text of what may matter for this question alone."""
-    translation = cone_of_questions(world, [question])
-    translation.build()
-    return Asker(translation, arguments.program).ask([question])[0]
+    return 0 if good else 3
 
 
 def later(arguments: argparse.Namespace) -> int:

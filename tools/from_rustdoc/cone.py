@@ -19,7 +19,7 @@ from .impls import Written
 from .project import APPLY, WRAP
 from .questions import Question, QuestionWriter
 from .reach import Reach, Reacher, Reference_, bind
-from .render import FIELD, THEN, Scope, as_arguments, names_of, params_text
+from .render import FIELD, THEN, Scope, as_arguments, is_packed, names_of, params_text
 from .terms import UNIT, Bound, Declaration, Dyn, Function, Impl, Lossy, Named, Param, Tuple, Type, Unknown, head_of, keys_of, put, rebuilt, walk
 from .text_form import Text, TextLine
 from .world import CORE_NAMES, World, crate_name
@@ -146,6 +146,9 @@ class Cone(Reacher):
         for impl in self.world.impls_of(trait.key, head):
             if impl.crate in self.view and self.is_there(impl, head):
                 yield impl
+        for impl in self.translation.objects() if head in (None, "dyn") else ():
+            if impl.trait is not None and impl.trait.key == trait.key:
+                yield impl
 
     def is_there(self, impl: Impl, head: Optional[str]) -> bool:
         """An unknown is found out by headers of the text alone, so what names nothing of the text concludes nothing of it."""
@@ -173,6 +176,8 @@ class Cone(Reacher):
             return SPECIAL_HEADS[term.key]
         if term.key in FLOATS:
             return "prim:" + term.key
+        if self.world.named.get(term.key, "") in self.world.shape_of_key:
+            return "dyn"
         if term.key.startswith("Tuple") and term.key not in self.world.named:
             return "tuple:" + term.key[len("Tuple"):-1]
         return self.world.named.get(term.key, term.key)
@@ -199,6 +204,8 @@ class Cone(Reacher):
         declaration = self.world.get(self.world.named[term.key])
         if declaration.is_opaque:
             return []
+        if is_packed(declaration.params):
+            return [*term.arguments, UNIT]
         fields = declaration.fields if not is_std_key(declaration.key) else [declaration.tail] if declaration.tail is not None else []
         names = [names_of([p])[p.name] for kind in ("type", "const") for p in declaration.params if p.kind == kind]
         values = dict(zip(names, term.arguments))
@@ -345,7 +352,7 @@ class Cone(Reacher):
     def by_fields(self, trait: Declaration, term: Type) -> list[Reference_]:
         """What an auto trait asks of fields with associated types, which a struct that is cut has as clauses of its impl."""
         declaration = self.world.get(self.world.named[term.key]) if isinstance(term, Named) and term.key in self.world.named else None
-        if declaration is None or is_std_key(declaration.key) or declaration.is_opaque:
+        if declaration is None or is_std_key(declaration.key) or declaration.is_opaque or is_packed(declaration.params):
             return []
         children: list[Reference_] = []
         header = f"impl{params_text(declaration.params)} {self.world.name(trait)} for {self.world.name(declaration)}{as_arguments(params_text(declaration.params))}"
@@ -407,7 +414,7 @@ def cone_of_questions(world: World, questions: list[Question]) -> Translation:
     scratch.roots = [root for question in questions for root in question.roots()]
     scratch.begin()
     chosen = Chosen()
-    is_open = any(isinstance(part, Unknown) for question in questions for part in parts_of(question))
+    is_open = any(question.has_unknowns() for question in questions)
     lines: Lines = Lines(scratch)
     for _ in range(ROUNDS):
         scratch.renderer.grew = False
@@ -422,7 +429,7 @@ def cone_of_questions(world: World, questions: list[Question]) -> Translation:
             except Lossy:
                 continue
             view |= view_of(world, question.of_crate)
-            seeds += references_of(cone, question.prove)
+            seeds += [reference for asked in question.lines for reference in references_of(cone, asked.prove)]
         cone.close(seeds)
         chosen = cone.chosen
         if not scratch.renderer.grew:
@@ -431,12 +438,6 @@ def cone_of_questions(world: World, questions: list[Question]) -> Translation:
     found.roots = scratch.roots
     found.keep = {crate_name(question.of_crate) for question in questions}
     return found
-
-
-def parts_of(question: Question) -> Iterator[Type]:
-    for root in question.roots():
-        for term in root.arguments if isinstance(root, Bound) else (root,):
-            yield from walk(term)
 
 
 def references_of(cone: Cone, prove: str) -> list[Reference_]:

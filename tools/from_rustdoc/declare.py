@@ -14,7 +14,7 @@ from typing import Optional
 from .html_docs import is_std_key
 from .impls import Line
 from .project import Goal, Projector
-from .render import CLAUSE, FIELD, MAXIMAL_CLAUSES, NEVER, Renderer, Scope, as_arguments, bracketed, names_of, param_name, params_text
+from .render import CLAUSE, FIELD, MAXIMAL_CLAUSES, NEVER, Renderer, Scope, as_arguments, bracketed, is_packed, names_of, param_name, params_text, text_params
 from .terms import (Array, Declaration, Function, Lossy, Named, Never, Pointer, Primitive, Reference, Tuple, Type, parameters_of)
 
 MAXIMAL_FIELDS = 64
@@ -110,7 +110,7 @@ class Declarer:
             self.cuts.append(Cut(declaration, ["an item that is not documented"], tail_unsure=True))
             self.add(head, head + "(str)", declaration)
             return True
-        fields, reasons = self.fields(declaration)
+        fields, reasons = self.fields(declaration) if not is_packed(declaration.params) else ([], ["more than 16 parameters"])
         for text in fields:
             for word in self.words(text or ""):
                 self.visit(word)
@@ -162,6 +162,8 @@ class Declarer:
 
     def mentioned(self, declaration: Declaration) -> list[str]:
         """Fields that mention the parameters that all fields but the last one mention (of an enum: all fields)."""
+        if is_packed(declaration.params):
+            return [f"({param_name(p.name)}, ())" for p in text_params(declaration.params) if p.kind == "type"]
         terms = declaration.fields if declaration.is_enum else declaration.fields[:-1]
         names: set[str] = set().union(*(parameters_of(t) for t in terms)) if terms else set()
         types = [param_name(p.name) for p in declaration.params if p.kind == "type" and p.name in names]
@@ -205,6 +207,8 @@ class Declarer:
         void = Line(f"{header} where {NEVER}", "void")
         if declaration.is_opaque or is_std_key(declaration.key):
             return Line(header, "fields"), void, ["an item that is not documented"]
+        if is_packed(declaration.params):
+            return Line(header, "fields"), void, ["more than 16 parameters"]
         clauses: list[str] = []
         lost: list[str] = []
         for term in declaration.fields:

@@ -6,11 +6,12 @@ parameter stands for it, elsewhere the caller drops the whole clause or leaves t
 from __future__ import annotations
 
 import re
-from dataclasses import dataclass, field
+from dataclasses import dataclass, field, replace
 from typing import Optional
 
 from .headers import FLOATS, PRIMITIVES
 from .html_docs import is_std_key
+from .objects import OBJECT, above, has_values, shape_of
 from .standard import FN_TRAITS
 from .terms import (Alias, Array, Bound, BoundsOf, Constant, Declaration, Dyn, Function, Lossy, Named, Never, Param, Parameter, Part, Pointer,
                     Predicate, Primitive, Projection, Reference, Slice, Tuple, Type, Unknown, Unsayable, argument_values, put,
@@ -27,7 +28,8 @@ THEN = "__Then"
 
 @dataclass
 class Scope:
-    """What one line has in scope, and what was lost in it. `projections` are those with a name; those of a header are `owed` their clauses."""
+    """What one line has in scope, and what was lost in it. `projections` are those with a name; those of a header are `owed` their clauses.
+    `is_closed`: no projection of a question gets a name any more."""
     mode: str
     params: dict[str, str]
     predicates: list[Predicate] = field(default_factory=list)
@@ -40,6 +42,7 @@ class Scope:
     const_params: set[str] = field(default_factory=set)
     used: set[str] = field(default_factory=set)
     coarse: bool = False
+    is_closed: bool = False
 
     def fresh_type(self) -> str:
         self.fresh.append(f"X{len(self.fresh) + 1}_")
@@ -61,9 +64,25 @@ def param_name(name: str) -> str:
     return name if re.fullmatch(r"[A-Z][0-9]*", name) else "p_" + name
 
 
+def is_packed(params: list[Param]) -> bool:
+    """Whether there are more than a struct of the text may have: then tuples of twelve types each are its arguments."""
+    return len(params) > MAXIMAL_PARAMS
+
+
+def packed(terms: tuple[Type, ...]) -> tuple[Type, ...]:
+    return tuple(Tuple(terms[n:n + MAXIMAL_ITEMS]) for n in range(0, len(terms), MAXIMAL_ITEMS))
+
+
+def text_params(params: list[Param]) -> list[Param]:
+    """The parameters in the order of the text, types first."""
+    types = [p for p in params if p.kind == "type"]
+    if is_packed(params):
+        types = [Param("type", f"Types{n}") for n in range(len(packed(tuple(Parameter(p.name) for p in types))))]
+    return types + [p for p in params if p.kind == "const"]
+
+
 def params_text(params: list[Param]) -> str:
-    types = [param_name(p.name) for p in params if p.kind == "type"]
-    return bracketed(types + ["const " + param_name(p.name) for p in params if p.kind == "const"])
+    return bracketed([("const " if p.kind == "const" else "") + param_name(p.name) for p in text_params(params)])
 
 
 def as_arguments(params: str) -> str:
@@ -102,6 +121,8 @@ class Renderer:
     def need(self, key: Optional[str], kind: str = "", arguments: tuple[Type, ...] = ()) -> Declaration:
         declaration = self.world.get(key, kind, arguments)
         kept = self.traits if declaration.is_trait else self.structs
+        if declaration.is_trait and is_packed(declaration.params):
+            raise Lossy(f"the trait `{declaration.name}` of more than 16 parameters")
         if declaration.key not in kept:
             kept[declaration.key] = declaration
             self.grew = True
@@ -239,24 +260,51 @@ class Renderer:
         return f"fn({', '.join(written)})" + ("" if result == "()" else f" -> {result}")
 
     def dyn(self, bounds: tuple[Bound, ...], scope: Scope) -> str:
-        written: list[tuple[bool, str]] = []
+        principal: list[Bound] = []
+        autos: list[Declaration] = []
         for bound in bounds:
             declaration = self.need(bound.key, "trait", bound.arguments)
-            if bound.constraints and scope.mode != FIELD:
-                raise Lossy(f"`dyn {declaration.name}` with associated types")
             if declaration.is_auto and not is_std_key(declaration.key):
                 raise Lossy(f"a dyn with the auto trait `{declaration.name}`")
             if self.lost(declaration):
                 raise Lossy(f"`dyn {declaration.name}`, of whose supertraits the text cannot say all")
-            if self.has_fixed_value(declaration):
-                raise Lossy(f"`dyn {declaration.name}`, a supertrait of which fixes an associated type")
-            written.append((declaration.is_auto, self.bound(declaration, bound, scope, Unsayable("`Self` of a dyn"))))
-        written.sort(key=lambda entry: entry[0])
-        if sum(not auto for auto, _ in written) > 1:
+            if declaration.is_auto:
+                autos.append(declaration)
+            else:
+                principal.append(replace(bound, key=declaration.key))
+        if len(principal) > 1:
             raise Lossy("a dyn of two traits")
-        if not written:
+        if not bounds:
             raise Lossy("a dyn without a trait")
-        return "dyn " + " + ".join(text for _, text in written)
+        if principal and has_values(self.world, principal[0]):
+            try:
+                return self.object(principal[0], autos, scope)
+            except Lossy:
+                if scope.mode != FIELD:
+                    raise
+        written = [self.bound(self.need(b.key, "trait", b.arguments), b, scope, Unsayable("`Self` of a dyn")) for b in principal]
+        return "dyn " + " + ".join(written + [self.world.name(auto) for auto in autos])
+
+    def object(self, bound: Bound, autos: list[Declaration], scope: Scope) -> str:
+        """A `dyn` with associated types by the struct of its shape."""
+        declaration = self.need(bound.key, "trait", bound.arguments)
+        plain = replace(bound, constraints=())
+        given: dict[tuple[str, str], Type] = {}
+        for name, value in bound.constraints:
+            owner = self.bound_with(plain, name)
+            if owner is None or isinstance(value, BoundsOf):
+                raise Lossy(f"`dyn {declaration.name}` with the associated type `{name}`")
+            given[(self.world.get(owner.key).key, name)] = value
+        fixed = {(self.world.key_of(b.key), name) for b in above(self.world, plain) for name, _ in b.constraints}
+        if set(given) & fixed:
+            raise Lossy(f"`dyn {declaration.name}` with an associated type that a supertrait fixes")
+        places = tuple(sorted(given))
+        shape = shape_of(self.world, plain, places, tuple(sorted(a.key for a in autos)))
+        self.need(OBJECT)
+        self.need(shape.declaration.key)
+        arguments = self.argument_list(declaration, plain.arguments, scope, Unsayable("`Self` of a dyn"))
+        count = len(arguments) - sum(p.kind == "const" for p in declaration.params)
+        return self.world.name(shape.declaration) + bracketed(arguments[:count] + [self.type(given[place], scope) for place in places] + arguments[count:])
 
     def constant(self, text: str, scope: Scope, of_array: bool = False) -> str:
         text = str(text).strip().strip("{}").strip()
@@ -299,23 +347,21 @@ class Renderer:
 
     def argument_list(self, declaration: Declaration, arguments: tuple[Type, ...], scope: Scope, itself: Type) -> list[str]:
         params, given = declaration.params, self.filled(declaration, arguments, itself)
-        written: list[str] = []
-        for kind in ("type", "const"):
-            for param, argument in zip(params, given):
-                if param.kind != kind:
-                    continue
-                if kind == "type":
-                    if isinstance(argument, Constant):
-                        raise Lossy(f"the arguments of `{declaration.name}`")
-                    written.append(self.type(argument, scope))
-                elif isinstance(argument, Constant):
-                    written.append(self.constant(argument.text, scope))
-                elif isinstance(argument, Parameter):
-                    written.append(self.constant(argument.name, scope))
-                elif isinstance(argument, Unknown):
-                    written.append("?" + argument.name)
-                else:
-                    raise Lossy(f"the arguments of `{declaration.name}`")
+        types = tuple(a for p, a in zip(params, given) if p.kind == "type")
+        if any(isinstance(t, Constant) for t in types):
+            raise Lossy(f"the arguments of `{declaration.name}`")
+        written = self.types(packed(types) if is_packed(params) else types, scope)
+        for param, argument in zip(params, given):
+            if param.kind != "const":
+                continue
+            if isinstance(argument, Constant):
+                written.append(self.constant(argument.text, scope))
+            elif isinstance(argument, Parameter):
+                written.append(self.constant(argument.name, scope))
+            elif isinstance(argument, Unknown):
+                written.append("?" + argument.name)
+            else:
+                raise Lossy(f"the arguments of `{declaration.name}`")
         return written
 
     def bound(self, declaration: Declaration, bound: Bound, scope: Scope, itself: Type) -> str:
@@ -326,19 +372,6 @@ class Renderer:
     def refuse_fn_of_no_tuple(declaration: Declaration, bound: Bound) -> None:
         if Renderer.is_fn_trait(declaration) and len(bound.arguments) == 1 and not isinstance(bound.arguments[0], (Tuple, Parameter, Unknown, Projection, Part)):
             raise Lossy(f"`{declaration.name}` of no tuple")
-
-    def has_fixed_value(self, declaration: Declaration, depth: int = 0) -> bool:
-        """Whether a `dyn` of the trait has an associated type by a supertrait, `trait Sub: Iterator<Item = u8>`: no impl asks patterns of it."""
-        for bound in declaration.supers:
-            try:
-                above = self.need(bound.key, "trait", bound.arguments) if not is_sizedness(bound) else None
-            except Lossy:
-                continue
-            if above is None or depth > 20:
-                continue
-            if any(not isinstance(value, BoundsOf) for _, value in bound.constraints) or self.has_fixed_value(above, depth + 1):
-                return True
-        return False
 
     def lost(self, declaration: Declaration) -> list[str]:
         """The supertraits of a trait, and of those above it, that the text cannot say. A `dyn` of such a trait is not written."""
@@ -464,7 +497,7 @@ class Renderer:
         companion = self.companion(declaration, place.name)
         if scope.mode == HEADER or place in scope.projections:
             return self.named_by_header(place, scope)
-        if scope.mode == QUESTION:
+        if scope.mode == QUESTION and not scope.is_closed:
             subject = self.type(place.subject, scope)
             arguments = self.argument_list(declaration, place.bound.arguments, scope, place.subject)
             name = scope.fresh_type()

@@ -178,7 +178,7 @@ class JsonCrate:
         itself = self.type(body["for"], None)
         params, predicates = self.generics(body["generics"], itself)
         impl = Impl(self.name, self.source(item), self.trait_bound(body["trait"], itself), itself, params, predicates,
-                    is_negative=body["is_negative"])
+                    is_negative=body["is_negative"], is_computed=body["is_synthetic"])
         for number in body["items"]:
             inside = self.item(number)
             if inside and kind_and_body(inside)[0] == "assoc_type" and inside["inner"]["assoc_type"].get("type") is not None:

@@ -18,6 +18,8 @@ HOMES = {"core": "alloc", "alloc": "alloc"}
 FN_TRAITS = ("FnOnce", "FnMut", "Fn")
 MAXIMAL_ITEMS = 12
 FROM_THE_TOP = "trait.impl"
+# Behind this a page has the impls of auto traits that nobody wrote.
+COMPUTED = 'id="synthetic-implementations"'
 MANY = re.compile(r"\((\w+)₁, \1₂, …, \1ₙ\)")
 
 # Structs of std whose last field may be unsized: private fields are not in the documents. "" stands for the first parameter.
@@ -122,10 +124,12 @@ class Standard:
         """The impls of auto traits for a type of std, computed ones too, from its page."""
         page, text = self.pages.page(self.pages.own_page(key))
         impls: list[tuple[Header, Impl]] = []
-        for fragment, _ in self.pages.impl_sections(text):
+        written, _, computed = text.partition(COMPUTED)
+        for fragment, is_computed in [(f, False) for f, _ in self.pages.impl_sections(written)] + [(f, True) for f, _ in self.pages.impl_sections(computed)]:
             impl = self.impl(fragment, page, "", rust_crate_of(key))
             if impl.trait is None or not is_std_key(impl.trait.key) or not self.declaration(impl.trait.key).is_auto:
                 continue
+            impl.is_computed = is_computed
             header = Header(Pages.plain(fragment), page)
             self.found.append(header)
             impls.append((header, impl))

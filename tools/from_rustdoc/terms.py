@@ -194,7 +194,7 @@ class Declaration:
 @dataclass
 class Impl:
     """An impl as read. `trait` is None where the header was not understood (`error` says why). `narrowed` says that it is written for
-    less than it holds of, in both texts, and why."""
+    less than it holds of, in both texts, and why. `is_computed`: one of an auto trait that nobody wrote."""
     crate: str
     source: str
     trait: Optional[Bound] = None
@@ -202,6 +202,7 @@ class Impl:
     params: list[Param] = field(default_factory=list)
     predicates: list[Predicate] = field(default_factory=list)
     is_negative: bool = False
+    is_computed: bool = False
     associated: dict[str, Type] = field(default_factory=dict)
     error: str = ""
     narrowed: str = ""

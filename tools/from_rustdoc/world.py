@@ -8,6 +8,7 @@ from typing import Iterator, Optional, Union
 from .headers import INTEGERS
 from .html_docs import Pages, is_std_key, rust_crate_of
 from .kept import KeptCrate, Keeper
+from .objects import Place, Shape
 from .rustdoc_json import STD_CRATES, JsonCrate
 from .standard import FN_TRAITS, Standard
 from .terms import ANY_HEAD, BadInput, Constant, Declaration, Impl, Lossy, Param, Type
@@ -41,6 +42,8 @@ class World:
         self.taken: set[str] = set()
         self.by_trait: dict[str, dict[str, list[tuple[str, int]]]] = {}
         self.patterns: dict[tuple[str, str], Declaration] = {}
+        self.shapes: dict[tuple[str, tuple[Place, ...], tuple[str, ...]], Shape] = {}
+        self.shape_of_key: dict[str, Shape] = {}
 
     # ---- reading
     def load(self, files: list[str], metadata: Optional[dict[str, list[str]]] = None) -> None:

@@ -18,15 +18,19 @@ sys.path.insert(0, os.path.dirname(os.path.dirname(HERE)))
 
 from from_rustdoc.cargo import FLAGS, docs_folder  # noqa: E402
 from from_rustdoc.html_docs import Pages  # noqa: E402
+from from_rustdoc.standard import COMPUTED  # noqa: E402
 
-CRATES = ("shapes", "before", "after")
+# Each with the crates that it uses.
+CRATES: dict[str, list[str]] = {"shapes": [], "before": [], "after": [], "ab": [], "user": ["ab"]}
 READ = ("struct", "enum", "union", "variant", "struct_field", "trait", "impl", "assoc_type", "module", "use", "type_alias")
 # Pages that no kept crate names, but the translator or a question does.
 MORE = ("core/marker/trait.Send.html core/marker/trait.Sync.html core/marker/trait.Unpin.html core/panic/unwind_safe/trait.UnwindSafe.html "
         "core/panic/unwind_safe/trait.RefUnwindSafe.html core/marker/trait.Sized.html core/marker/trait.PointeeSized.html core/marker/trait.MetaSized.html "
         "core/ops/function/trait.FnMut.html core/ops/function/trait.FnOnce.html core/default/trait.Default.html core/fmt/trait.Debug.html core/clone/trait.Clone.html core/marker/trait.Copy.html core/marker/trait.Unsize.html core/cmp/trait.Eq.html "
         "core/option/enum.Option.html alloc/vec/struct.Vec.html alloc/boxed/struct.Box.html alloc/string/struct.String.html "
-        "alloc/alloc/struct.Global.html core/alloc/trait.Allocator.html core/cell/struct.Cell.html core/marker/struct.PhantomData.html").split()
+        "alloc/alloc/struct.Global.html core/alloc/trait.Allocator.html core/cell/struct.Cell.html core/marker/struct.PhantomData.html "
+        "core/iter/traits/collect/trait.IntoIterator.html core/iter/traits/iterator/trait.Iterator.html alloc/vec/struct.IntoIter.html alloc/rc/struct.Rc.html "
+        "core/fmt/type.Result.html core/result/enum.Result.html core/fmt/struct.Error.html core/marker/trait.Tuple.html").split()
 
 
 def trimmed(data: dict[str, Any]) -> dict[str, Any]:
@@ -54,8 +58,11 @@ def trimmed(data: dict[str, Any]) -> dict[str, Any]:
 
 
 def crate_json(name: str, folder: str) -> dict[str, Any]:
-    words = ["rustdoc", "--edition", "2021", os.path.join(HERE, "crates", name + ".rs"), "-o", folder, *FLAGS.split()]
-    subprocess.run(words, check=True, env={**os.environ, "RUSTC_BOOTSTRAP": "1"})
+    source, edition = os.path.join(HERE, "crates", name + ".rs"), ["--edition", "2021"]
+    used = [word for other in CRATES[name] for word in ("--extern", f"{other}={folder}/lib{other}.rmeta")]
+    environment = {**os.environ, "RUSTC_BOOTSTRAP": "1"}
+    subprocess.run(["rustc", *edition, "--crate-type", "lib", "--cap-lints", "allow", "--emit", "metadata", source, "--out-dir", folder, *used], check=True, env=environment)
+    subprocess.run(["rustdoc", "--cap-lints", "allow", *edition, source, "-o", folder, *used, *FLAGS.split()], check=True, env=environment)
     with open(os.path.join(folder, name + ".json"), encoding="utf-8") as handle:
         return trimmed(json.load(handle))
 
@@ -103,6 +110,8 @@ def cut_down(kept: dict[str, str], keys: set[Any], pages: Pages) -> dict[str, st
         declared = re.search(r'<pre class="rust item-decl"><code>.*?</code></pre>', text, re.S)
         parts = [source.group() if source else "", shorter_declaration(declared.group()) if declared else ""]
         for header, rest in Pages.impl_sections(text):
+            if COMPUTED in text and text.index(COMPUTED) < text.index(header) and COMPUTED not in parts[-1]:
+                parts.append(f"<h2 {COMPUTED}></h2>")
             values = "".join(re.findall(r'<section id="associatedtype[^>]*>.*?</section>', rest, re.S))
             if has_kept_links(header + values, path, keys, pages) and "T₁" not in header:
                 parts.append(f'<section id="impl-" class="impl"><h3 class="code-header">{shorter(header)}</h3></section>')

@@ -66,7 +66,7 @@ class Counterexamples(unittest.TestCase):
         self.refused("lower", line, line.replace("T: shapes__Sup", "u8: shapes__Sup"), "a clause by `shapes__Sup`")
 
     def test_an_impl_with_a_loss_in_the_lower_text(self) -> None:
-        lossy = "impl<X1_> shapes__Draw for std__Box<X1_, Global>"
+        lossy = "impl<X1_> shapes__Draw for X1_"
         self.assertIn(lossy, self.good["upper"])
         self.assertNotIn(lossy, crate_part(self.good["lower"], "shapes"))
         line = "impl<W> Default for" if "impl<W> Default for" in self.good["lower"] else "impl shapes__Sup for u8"

@@ -25,7 +25,7 @@ class Texts(unittest.TestCase):
         lines = Report(found).item_lines()
         self.assertEqual(sum(": impl" in line for line in lines), len(found.of_crates))
         losses = [line for line in lines if line.startswith("loss") and ": impl" in line]
-        self.assertEqual(len(losses), 3)
+        self.assertEqual(len(losses), 2)
         self.assertTrue(all("the upper text has it more often" in line for line in losses))
 
     def test_each_header_of_std_has_a_fate(self) -> None:
