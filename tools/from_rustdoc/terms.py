@@ -158,6 +158,16 @@ class Param:
 Predicate = tuple[Type, Bound]
 
 
+@dataclass(frozen=True)
+class Place:
+    """Where an item stands in its source. Lines and columns begin with 1; the last column is the one behind the item."""
+    file: str
+    line: int
+    column: int
+    end_line: int
+    end_column: int
+
+
 @dataclass
 class Declaration:
     """A struct (enums and unions too), a trait, or an alias of std (its one field is what it stands for)."""
@@ -180,6 +190,8 @@ class Declaration:
     tail: Optional[Type] = None
     not_understood: str = ""
     public_path: Optional[list[str]] = None
+    place: Optional[Place] = None
+    field_names: list[str] = field(default_factory=list)
     item: dict = field(default_factory=dict)
 
     @property
@@ -206,6 +218,7 @@ class Impl:
     associated: dict[str, Type] = field(default_factory=dict)
     error: str = ""
     narrowed: str = ""
+    place: Optional[Place] = None
 
     def copy(self) -> Impl:
         return replace(self, params=list(self.params), predicates=list(self.predicates), associated=dict(self.associated))
