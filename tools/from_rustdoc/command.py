@@ -18,7 +18,8 @@ from .checker import check_texts
 from .cone import cone_of_crate
 from .html_docs import Pages
 from .kept import Damaged, KeptPages, KeptStandard, remove_stores
-from .later import added_impls, ask_program, changed_auto_traits
+from .later import compared
+from .messages import Output
 from .program import Answer, run
 from .questions import QuestionReader
 from .report import PATTERNED, Report, explain_refusal
@@ -189,17 +190,12 @@ def later(arguments: argparse.Namespace) -> int:
     crates = [next(c.name for c in w.crates.values() if c.file == f) for w, f in zip(worlds, (arguments.old, arguments.new))]
     if crates[0] != crates[1]:
         raise BadInput(f"{crates[0]} and {crates[1]} are two crates, not two versions of one")
-    release = added_impls(worlds[0], worlds[1], crates[0], arguments.private)
-    translations = [translated(w, arguments) for w in worlds]
-    ask_program(translations[1], crates[0], release.added, arguments.program)
-    release.apart += changed_auto_traits(translations, crates[0], arguments.program)
-    show = Show(worlds[1])
-    print(f"{crates[0]} {worlds[0].crates[crates[0]].version} to {worlds[1].crates[crates[0]].version}: {len(release.added)} impls are added")
-    for line in release.new_items + [j.show(show) for j in release.added]:
-        print(line)
-    for line in release.apart:
-        print(f"apart: {line}")
-    return 1 if release.is_breaking else 0
+    release = compared(worlds[0], worlds[1], crates[0], arguments.private, arguments.program)
+    output = Output()
+    for message in release.messages:
+        output.message(message)
+    output.summary(release.summary(), crates[0], release.summary(), release.status)
+    return release.status
 
 
 def project(folder: str, extra: list[str], arguments: argparse.Namespace) -> int:
