@@ -14,7 +14,7 @@ from .messages import Message, at
 from .open_walk import downstream, is_sealed, met_in_header
 from .program import run
 from .questions import Question, Verdict
-from .terms import BadInput, Bound, Impl, Lossy, Named, Predicate, Type
+from .terms import BadInput, Bound, Impl, Lossy, Named, Parameter, Predicate, Type, put, put_bound
 from .versions import Gone, Header, Versions, all_keys, bound_keys, is_private, names_private, plain_params
 from .world import World, crate_name
 
@@ -142,11 +142,37 @@ class ImplChanges:
 
     # ---- what is added
     def new_ones(self, old: dict[Header, list[tuple[Impl, frozenset[Predicate]]]], new: dict[Header, list[tuple[Impl, frozenset[Predicate]]]]) -> None:
-        fresh = [impl for header, impls in new.items() for impl, clauses in impls if all(c != clauses for _, c in old.get(header, []))]
+        fresh = [self.narrowed(impl) for header, impls in new.items() for impl, clauses in impls if all(c != clauses for _, c in old.get(header, []))]
         proved = self.proved_before(fresh)
         self.added = [self.judged(impl, proved.get(id(impl))) for impl in fresh]
         self.ask_program()
         self.messages += [self.told(judged) for judged in self.added]
+
+    def narrowed(self, impl: Impl) -> Impl:
+        """The part of an added impl that an impl of an older crate can meet: new parameters of its trait have their defaults there."""
+        assert impl.trait is not None
+        trait = self.versions.new.get(impl.trait.key, "trait", impl.trait.arguments)
+        before = self.versions.before.items.get(self.versions.older.get(trait.key, ""))
+        if before is None or len(before.params) >= len(impl.trait.arguments):
+            return impl
+        values: dict[str, Type] = {}
+        for param, argument in list(zip(trait.params, impl.trait.arguments))[len(before.params):]:
+            if isinstance(argument, Parameter) and param.default is not None:
+                values[argument.name] = param.default
+        found = impl.copy()
+        found.trait, found.self_type = put_bound(impl.trait, values), put(impl.self_type, values)
+        found.predicates = [(put(t, values), put_bound(b, values)) for t, b in impl.predicates]
+        found.params = [p for p in impl.params if p.name not in values]
+        return found
+
+    def old_bound(self, bound: Bound) -> Bound:
+        """The bound in the old version, without arguments that are the defaults of new parameters."""
+        before = self.versions.before.items.get(self.versions.older.get(self.versions.new.key_of(bound.key), ""))
+        trait = self.versions.new.get(bound.key, "trait", bound.arguments)
+        count = len(before.params) if before is not None else len(bound.arguments)
+        if all(argument == param.default for param, argument in list(zip(trait.params, bound.arguments))[count:]):
+            bound = Bound(bound.key, bound.arguments[:count], bound.constraints)
+        return self.versions.bound_to_old(bound)
 
     def proved_before(self, fresh: list[Impl]) -> dict[int, Verdict]:
         """What the old version says to each: where it has a proof nothing is added."""
@@ -154,7 +180,7 @@ class ImplChanges:
         for impl in fresh:
             assert impl.trait is not None
             try:
-                asked.append((impl, Question("", self.versions.to_old(impl.self_type), self.versions.bound_to_old(impl.trait), plain_params(impl.params),
+                asked.append((impl, Question("", self.versions.to_old(impl.self_type), self.old_bound(impl.trait), plain_params(impl.params),
                                              self.versions.predicates_to_old(impl.predicates), crate=self.versions.crate)))
             except Gone:
                 pass

@@ -21,21 +21,23 @@ from .versions import Gone, Versions, is_private, plain_params
 ITSELF = "Self_"
 SIZED = "core/marker/trait.Sized.html"
 MAXIMAL_DEPTH = 8
-# What rustc says in a crate that a change breaks.
-RUSTC = {"item-removed": "E0432", "alias-removed": "E0432", "kind-changed": "E0404", "alias-retargeted": "E0308", "parameter-added": "E0107",
-         "parameter-removed": "E0107", "parameter-kind-changed": "E0747", "default-removed": "E0107", "default-changed": "E0308",
-         "lifetime-added": "E0106", "lifetime-removed": "E0107", "bound-added": "E0277", "lifetime-bound-added": "E0310", "supertrait-added": "E0277",
-         "supertrait-removed": "E0277", "associated-type-added": "E0046", "associated-type-removed": "E0220", "associated-type-bound-added": "E0277",
-         "associated-type-bound-removed": "E0277", "associated-type-changed": "E0049", "required-item-added": "E0046", "trait-item-removed": "E0407",
-         "trait-made-unsafe": "E0200", "trait-made-safe": "E0199", "trait-made-auto": "E0119", "dyn-lost": "E0038", "impl-added": "E0119",
-         "impl-removed": "E0277", "impl-bounds-changed": "E0277", "associated-value-changed": "E0271", "auto-trait-lost": "E0277"}
+# What rustc says of a crate that a change breaks.
+RUSTC = {"item-removed": "E0425 or E0432", "alias-removed": "E0425 or E0432", "kind-changed": "E0404, E0423 or E0782", "alias-retargeted": "E0277 or E0308",
+         "parameter-added": "E0107", "parameter-removed": "E0107", "parameter-kind-changed": "E0747", "default-removed": "E0107",
+         "default-changed": "E0308", "lifetime-added": "E0106", "lifetime-removed": "E0107", "bound-added": "E0277",
+         "lifetime-bound-added": "E0310 or E0477", "supertrait-added": "E0277", "supertrait-removed": "E0277, E0308 or E0599",
+         "associated-type-added": "E0046 or E0191", "associated-type-removed": "E0220", "associated-type-bound-added": "E0277",
+         "associated-type-bound-removed": "E0277, E0308 or E0599", "associated-type-changed": "E0107 or E0049", "required-item-added": "E0046",
+         "trait-item-removed": "E0407 or E0599", "trait-made-unsafe": "E0200", "trait-made-safe": "E0199", "trait-made-auto": "E0119",
+         "dyn-lost": "E0038 or E0393", "impl-added": "E0119", "impl-removed": "E0277 or E0599", "impl-bounds-changed": "E0277, E0308 or E0599",
+         "associated-value-changed": "E0271 or E0308", "auto-trait-lost": "E0277"}
 
 
 def change(code: str, text: str, new: list[Span], old: Optional[list[Span]] = None, word: str = "breaking") -> Message:
     """A change of a class; where the new version has no place for it the old one has."""
     message = Message(text, code, word, spans=new or old or [])
     if code in RUSTC:
-        message.help(f"rustc's error in a crate that breaks is {RUSTC[code]}")
+        message.help(f"a crate that breaks gets {RUSTC[code]}")
     return message
 
 
@@ -60,6 +62,7 @@ class ItemChanges:
             before, after = self.versions.before.items.get(old_key), self.versions.after.items.get(new_key)
             if before is not None and after is not None:
                 self.item(before, after)
+        self.aliased()
         self.find_new()
 
     def tell(self, code: str, text: str, new: list[Span], old: Optional[list[Span]] = None, word: str = "breaking") -> Message:
@@ -121,22 +124,24 @@ class ItemChanges:
             self.trait(old, new)
 
     def same_kind(self, old: Item, new: Item) -> bool:
-        """Whether the rest can be compared. An alias may stand for what it was; a struct whose form nobody else can name may become an enum."""
+        """Whether the rest can be compared. A struct whose form nobody else can name may become an enum."""
         if old.kind == new.kind or (old.is_type and new.is_type and not old.is_open):
             return True
         if old.kind == "alias" and new.is_type:
-            if isinstance(old.target, Named) and old.target.arguments == old.itself().arguments and self.versions.newer.get(old.target.key) == new.key:
-                return True
-            self.tell("alias-retargeted", f"`{new.paths[0]}` was a type alias, and is a {new.kind}", at(new.place), at(old.place, "", "old"))
+            self.tell("alias-retargeted", f"type `{old.paths[0]}` is a {new.kind} now", at(new.place), at(old.place, "", "old"))
             return False
-        if new.kind == "alias" and old.is_type and isinstance(new.target, Named) and new.target.arguments == new.itself().arguments:
-            # The type has moved behind an alias: its name as a type is as good as before, its form is not.
-            self.versions.newer[old.key], self.versions.older[new.target.key] = new.target.key, old.key
-            if not old.is_open:
-                return True
-        self.troubled[old.key] = self.tell("kind-changed", f"{old.shown()} is a {'type alias' if new.kind == 'alias' else new.kind} now", at(new.place),
-                                           at(old.place, "", "old"))
+        now = "type alias" if new.kind == "alias" else new.kind
+        self.troubled[old.key] = self.tell("kind-changed", f"{old.shown()} is a {now} now", at(new.place), at(old.place, "", "old"))
         return False
+
+    def aliased(self) -> None:
+        """Types that a path names by an alias now: their form has another name."""
+        before, after = self.versions.before, self.versions.after
+        for path, key in before.by_path.items():
+            later = after.by_path.get(path, "")
+            item = before.items.get(key)
+            if item is not None and item.is_made_by_name and later in after.behind:
+                self.tell("kind-changed", f"{item.kind} `{path}` is a type alias now, which is no name of its values", at(after.items[later].place))
 
     def alias(self, old: Item, new: Item) -> None:
         assert old.target is not None and new.target is not None
@@ -242,8 +247,8 @@ class ItemChanges:
 
     def asked(self, params: list[Param], predicates: list[Predicate], subject: Type, bound: Bound) -> str:
         """A question as it is written."""
-        names = ", ".join(("const " if p.kind == "const" else "") + p.name for p in params)
-        where = ", ".join(self.shown(p) for p in predicates)
+        names = ", ".join(("const " if p.kind == "const" else "") + p.name for p in params if p.name != ITSELF)
+        where = ", ".join(self.shown(p) for p in predicates if p != self.unsized())
         return (f"<{names}> " if names else "") + self.shown((subject, bound)) + (f" where {where}" if where else "")
 
     def shown(self, predicate: Predicate) -> str:
@@ -284,11 +289,12 @@ class ItemChanges:
         values, me = self.arguments(old, new), Parameter(ITSELF)
         params = [Param("type", ITSELF), *plain_params(old.params)]
         try:
-            direct = [self.versions.bound_to_new(put_bound(b, {"Self": me})) for b in old.supers]
             context = [self.unsized()] + self.versions.predicates_to_new(old.predicates)
         except Gone as gone:
-            self.tell("supertrait-removed", f"{new.shown()}: a supertrait names `{gone}`, which is gone", at(new.place), word="not settled")
+            self.tell("supertrait-removed", f"{new.shown()}: a bound names `{gone}`, which is gone", at(new.place), word="not settled")
             return
+        above = list(self.above(declaration, me))
+        direct = [bound for bound in map(self.there, [put_bound(b, {"Self": me}) for b in old.supers]) if bound is not None] + above
         after = [put_bound(b, values) for b in new.supers]
         if not sealed:
             implementor = context + [(me, b) for b in direct]
@@ -298,7 +304,7 @@ class ItemChanges:
                                implementor, me, goal)
         itself = Bound(new.key, tuple(values[p.name] for p in new.params))
         kept = set(after)
-        for bound in self.above(declaration, me):
+        for bound in above:
             for _, goal in split((me, bound)) if bound not in kept else []:
                 self.claim("supertrait-removed", f"{new.shown()} has lost a supertrait: `{self.versions.show_new.bound(goal)}`", at(new.place), params,
                            context + [(me, itself)], me, goal)
@@ -320,10 +326,16 @@ class ItemChanges:
                     continue
                 todo.append((above, {**argument_values(above.params, found.arguments), "Self": itself}, depth + 1))
                 if is_std_key(above.key) or not is_private(self.versions.old, above) or above.key in self.versions.before.kinds:
-                    try:
-                        yield self.versions.bound_to_new(found)
-                    except Gone:
-                        pass
+                    later = self.there(found)
+                    if later is not None:
+                        yield later
+
+    def there(self, bound: Bound) -> Optional[Bound]:
+        """A bound of the old version in the new one; None where what it names is gone, which is told of that."""
+        try:
+            return self.versions.bound_to_new(bound)
+        except Gone:
+            return None
 
     # ---- associated types
     def associated(self, old: Item, new: Item, sealed: bool) -> None:

@@ -61,22 +61,37 @@ def downstream(show: Show, trait: Declaration, impl: Impl, met: Type) -> str:
 def is_sealed(world: World, trait: Declaration) -> bool:
     """Whether nobody else can implement the trait: of it, or of a trait above it, nobody else can have an impl. That is so if it has no
     public path, and no impl of its own is for types of others."""
-    todo, seen = [trait], set()
+    return closed(world, trait, set())
+
+
+def closed(world: World, trait: Declaration, above: set[str]) -> bool:
+    todo, seen = [trait], set(above)
     while todo:
         declaration = todo.pop()
         if declaration.key in seen:
             continue
         seen.add(declaration.key)
-        if declaration.crate in world.crates and declaration.public_path is None and not is_for_others(world, declaration):
+        if declaration.crate in world.crates and declaration.public_path is None and not is_for_others(world, declaration, seen):
             return True
-        for bound in declaration.supers:
-            try:
-                todo.append(world.get(bound.key, "trait", bound.arguments))
-            except Lossy:
-                pass
+        todo += supertraits(world, declaration)
     return False
 
 
-def is_for_others(world: World, trait: Declaration) -> bool:
-    """Whether some impl of the trait may be for a type of another crate."""
-    return any(not impl.is_negative and met_in_header(world, trait, impl) is not None for impl in world.impls_of(trait.key, None))
+def supertraits(world: World, trait: Declaration) -> list[Declaration]:
+    found = []
+    for bound in trait.supers:
+        try:
+            found.append(world.get(bound.key, "trait", bound.arguments))
+        except Lossy:
+            pass
+    return found
+
+
+def is_for_others(world: World, trait: Declaration, above: set[str]) -> bool:
+    """Whether some impl of the trait may be for a type of another crate: not if it asks the very trait, or one like it, of that type."""
+    for impl in world.impls_of(trait.key, None):
+        met = None if impl.is_negative else met_in_header(world, trait, impl)
+        asked = [world.known(world.key_of(b.key)) for t, b in impl.predicates if t == met]
+        if met is not None and not any(d is not None and (d.key == trait.key or closed(world, d, above)) for d in asked):
+            return True
+    return False

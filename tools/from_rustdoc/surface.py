@@ -32,8 +32,9 @@ class Associated(Generics):
 
 @dataclass
 class Item(Generics):
-    """`target` is what an alias stands for. `required` and `provided` are the methods and constants of a trait; `is_open` says of a struct,
-    enum or union that others can name its form: a variant, a public field, or that it has none."""
+    """`target` is what an alias stands for. `required` and `provided` are the methods and constants of a trait. `is_open` says of a struct,
+    enum or union that others can name its form: a variant, a public field, or that it has none; `is_made_by_name` that its name is also a
+    value, or has variants, which an alias of it has not."""
     kind: str = ""
     key: str = ""
     name: str = ""
@@ -48,6 +49,7 @@ class Item(Generics):
     is_auto: bool = False
     is_dyn: bool = False
     is_open: bool = False
+    is_made_by_name: bool = False
     target: Optional[Type] = None
 
     @property
@@ -57,16 +59,24 @@ class Item(Generics):
     def itself(self) -> Named:
         return Named(self.key, tuple(Constant(p.name) if p.kind == "const" else Parameter(p.name) for p in self.params))
 
+    def same_as(self) -> Optional[str]:
+        """The key of the type that an alias is another name of."""
+        if isinstance(self.target, Named) and self.target.arguments == self.itself().arguments:
+            return self.target.key
+        return None
+
     def shown(self) -> str:
         return f"{'type' if self.kind == 'alias' else self.kind} {self.paths[0] if self.paths else self.name}"
 
 
 @dataclass
 class Surface:
-    """`by_path` has the key of what each public path names; `items` those that are read; `closed` are the globs of crates that were not given."""
+    """`by_path` has the key of what each public path names; `items` those that are read; `behind` the types that aliases are other names
+    of; `closed` are the globs of crates that were not given."""
     items: dict[str, Item] = field(default_factory=dict)
     by_path: dict[str, str] = field(default_factory=dict)
     kinds: dict[str, str] = field(default_factory=dict)
+    behind: dict[str, str] = field(default_factory=dict)
     closed: set[str] = field(default_factory=set)
 
 
@@ -88,6 +98,8 @@ class SurfaceReader:
         for path, key in self.surface.by_path.items():
             if key in self.numbers:
                 self.item(key).paths.append(path)
+        for item in list(self.surface.items.values()):
+            self.behind(top, item)
         for item in self.surface.items.values():
             item.paths.sort(key=lambda path: (path.count("::"), path))
 
@@ -170,6 +182,16 @@ class SurfaceReader:
         self.surface.kinds.setdefault(key, kind)
 
     # ---- items
+    def behind(self, crate: JsonCrate, alias: Item) -> None:
+        """What an alias is another name of goes by its path too."""
+        key = self.world.key_of(alias.same_as() or "")
+        number = next((n for n, k in crate.keys.items() if k == key), None) if key else None
+        if number is not None and crate.item(number) is not None:
+            self.numbers.setdefault(key, (crate, number))
+            self.surface.behind[alias.key] = key
+            self.surface.kinds.setdefault(key, self.item(key).kind)
+            self.item(key).paths += [path for path in alias.paths if path not in self.item(key).paths]
+
     def item(self, key: str) -> Item:
         if key not in self.surface.items:
             crate, number = self.numbers[key]
@@ -189,6 +211,7 @@ def read_item(crate: JsonCrate, read: dict[str, Any], key: str) -> Item:
         item.target = crate.type(body["type"], None)
     else:
         item.is_open = has_open_form(crate, kind, body)
+        item.is_made_by_name = kind == "enum" or (item.is_open and not (isinstance(body.get("kind"), dict) and "plain" in body["kind"]) and kind == "struct")
     return item
 
 

@@ -66,9 +66,9 @@ class Versions:
         self.older: dict[str, str] = {}
         for path in sorted(self.before.by_path, key=lambda p: (p.count("::"), p)):
             if path in self.after.by_path:
-                key, later = self.before.by_path[path], self.after.by_path[path]
-                self.newer.setdefault(key, later)
-                self.older.setdefault(later, key)
+                for key, later in pairs_of(self.before, self.before.by_path[path], self.after, self.after.by_path[path]):
+                    self.newer.setdefault(key, later)
+                    self.older.setdefault(later, key)
 
     # ---- from the old version to the new one
     def new_key(self, key: str) -> str:
@@ -130,6 +130,12 @@ class Versions:
     def values(self, world: World, impl: Impl) -> dict[str, Type]:
         """The associated types of an impl, in the same form."""
         return {name: self.common(world, put(value, numbered(impl))) for name, value in impl.associated.items()}
+
+
+def pairs_of(before: Surface, key: str, after: Surface, later: str) -> list[tuple[str, str]]:
+    """What one path names in both versions, and what stands behind it where it is an alias of one."""
+    found = [(before.behind.get(key, key), after.behind.get(later, later))]
+    return found + [(key, later)] if key in before.behind and later in after.behind else found
 
 
 def numbered(impl: Impl) -> dict[str, Type]:
