@@ -15,7 +15,9 @@ FLAGS = "-Z unstable-options --output-format json --document-private-items --doc
 
 @dataclass
 class Project:
-    """`uses` has the crates that each crate uses, `files` the JSON of each crate that has one, `members` the workspace's own crates."""
+    """`uses` has the crates that each crate uses, `files` the JSON of each crate that has one, `members` the workspace's own crates; `root` is
+    the workspace's folder, from which rustdoc names its sources."""
+    root: str = ""
     members: list[str] = field(default_factory=list)
     uses: dict[str, list[str]] = field(default_factory=dict)
     files: dict[str, str] = field(default_factory=dict)
@@ -100,16 +102,28 @@ def shared_flags(extra: list[str]) -> list[str]:
     return found
 
 
-def document(folder: str, extra: list[str], quiet: bool = False) -> Project:
-    """Documents the project and all that it uses, into `target/from-rustdoc`, and reads which crate uses which."""
-    if not os.path.exists(os.path.join(folder, "Cargo.toml")):
-        raise BadInput(f"{folder} has no Cargo.toml")
-    shared = shared_flags(extra)
-    host = next(line.split()[1] for line in command(["rustc", "-vV"], folder).splitlines() if line.startswith("host:"))
-    data = command(["cargo", "metadata", "--format-version", "1", "--filter-platform", host] + shared, folder)
-    target = os.path.join(json.loads(data)["target_directory"], "from-rustdoc")
+def document(folder: str, extra: list[str], quiet: bool = False, manifest: str | None = None, target: str | None = None) -> Project:
+    """Documents the project and all that it uses, into `target/from-rustdoc`, and reads which crate uses which. Another project's manifest
+    is documented as this folder would be, by its toolchain and its configuration."""
+    if not os.path.exists(manifest or os.path.join(folder, "Cargo.toml")):
+        raise BadInput(f"{manifest or folder} has no Cargo.toml" if manifest is None else f"there is no {manifest}")
+    of = ["--manifest-path", os.path.abspath(manifest)] if manifest else []
+    data = metadata(folder, extra, of)
+    target = target or target_of(data)
     if not quiet:
-        print("from-rustdoc: documenting the project and what it uses (cargo doc)", file=sys.stderr, flush=True)
+        print(f"from-rustdoc: documenting {manifest or 'the project'} and what it uses (cargo doc)", file=sys.stderr, flush=True)
     flags = (os.environ.get("RUSTDOCFLAGS", "") + " " + FLAGS).strip()
-    command(["cargo", "doc", "--target-dir", target] + extra, folder, {"RUSTC_BOOTSTRAP": "1", "RUSTDOCFLAGS": flags})
-    return read_metadata(data, os.path.join(target, "doc"))
+    command(["cargo", "doc", "--target-dir", target] + of + extra, folder, {"RUSTC_BOOTSTRAP": "1", "RUSTDOCFLAGS": flags})
+    project = read_metadata(data, os.path.join(target, "doc"))
+    project.root = json.loads(data)["workspace_root"]
+    return project
+
+
+def metadata(folder: str, extra: list[str], of: list[str]) -> str:
+    host = next(line.split()[1] for line in command(["rustc", "-vV"], folder).splitlines() if line.startswith("host:"))
+    return command(["cargo", "metadata", "--format-version", "1", "--filter-platform", host] + of + shared_flags(extra), folder)
+
+
+def target_of(data: str) -> str:
+    """Where the documents of a project are, by its metadata."""
+    return os.path.join(json.loads(data)["target_directory"], "from-rustdoc")

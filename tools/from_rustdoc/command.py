@@ -18,8 +18,7 @@ from .checker import check_texts
 from .cone import cone_of_crate
 from .html_docs import Pages
 from .kept import Damaged, KeptPages, KeptStandard, remove_stores
-from .later import compared
-from .messages import Output
+from .later_command import later
 from .program import Answer, run
 from .questions import QuestionReader
 from .report import PATTERNED, Report, explain_refusal
@@ -184,20 +183,6 @@ def ask(arguments: argparse.Namespace) -> int:
     return 0 if good else 3
 
 
-def later(arguments: argparse.Namespace) -> int:
-    uses = uses_of(arguments.metadata)
-    worlds = [world_of([file, *arguments.with_crates], arguments.docs, uses) for file in (arguments.old, arguments.new)]
-    crates = [next(c.name for c in w.crates.values() if c.file == f) for w, f in zip(worlds, (arguments.old, arguments.new))]
-    if crates[0] != crates[1]:
-        raise BadInput(f"{crates[0]} and {crates[1]} are two crates, not two versions of one")
-    release = compared(worlds[0], worlds[1], crates[0], arguments.private, arguments.program)
-    output = Output()
-    for message in release.messages:
-        output.message(message)
-    output.summary(release.summary(), crates[0], release.summary(), release.status)
-    return release.status
-
-
 def project(folder: str, extra: list[str], arguments: argparse.Namespace) -> int:
     found = cargo.document(folder, extra, arguments.quiet)
     for name in sorted(set(found.doubled)):
@@ -269,6 +254,7 @@ def parser() -> argparse.ArgumentParser:
     common.add_argument("--docs")
     common.add_argument("--program")
     common.add_argument("--quiet", action="store_true")
+    common.add_argument("--message-format", choices=("human", "json"), default="human")
     common.add_argument("--jobs", type=int, default=os.cpu_count() or 1)
     top = argparse.ArgumentParser(prog="from-rustdoc", usage=USAGE, add_help=True)
     commands = top.add_subparsers(dest="command", required=True)
@@ -286,8 +272,9 @@ def parser() -> argparse.ArgumentParser:
     four.add_argument("--private", action="store_true")
     four.add_argument("--with", dest="with_crates", action="append", default=[])
     four.add_argument("--metadata")
-    four.add_argument("old")
-    four.add_argument("new")
+    four.add_argument("--baseline")
+    four.add_argument("-p", "--package", action="append", default=[])
+    four.add_argument("files", nargs="*")
     five = commands.add_parser("project", parents=[common], usage=USAGE)
     five.add_argument("folder")
     return top
@@ -305,7 +292,9 @@ def main(words: list[str]) -> int:
     try:
         if arguments.command == "project":
             return project(arguments.folder, extra, arguments)
-        return {"read": read, "check": check, "ask": ask, "later": later}[arguments.command](arguments)
+        if arguments.command == "later":
+            return later(arguments, extra, world_of, uses_of(arguments.metadata))
+        return {"read": read, "check": check, "ask": ask}[arguments.command](arguments)
     except (Damaged, sqlite3.DatabaseError) as error:
         print(f"from-rustdoc: what was kept of std is damaged ({error}); it is removed, and made anew by the next call", file=sys.stderr)
         remove_stores()

@@ -26,13 +26,17 @@ class Release:
     def status(self) -> int:
         return worst(m.status for m in self.messages)
 
+    @property
+    def answer(self) -> str:
+        return ANSWERS[self.status]
+
     def count(self, word: str) -> int:
         return sum(m.word == word for m in self.messages)
 
     def summary(self) -> str:
         counts = [f"{self.count(word)} {word}" for word in ("breaking", "not settled", "changed", "compatible", "new", "sealed", "private") if self.count(word)]
         old, new = (v or "?" for v in self.versions)
-        return f"{self.crate} {old} to {new}: {ANSWERS[self.status]}" + (f" ({', '.join(counts)})" if counts else " (nothing that is looked at has changed)")
+        return f"{self.crate} {old} to {new}: {self.answer}" + (f" ({', '.join(counts)})" if counts else " (nothing that is looked at has changed)")
 
 
 def compared(old: World, new: World, crate: str, with_private: bool = False, program: Optional[str] = None) -> Release:
