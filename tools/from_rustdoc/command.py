@@ -22,7 +22,6 @@ from .later_command import later
 from .program import Answer, run
 from .questions import QuestionReader
 from .report import PATTERNED, Report, explain_refusal
-from .show import Show
 from .standard_json import JsonStandard, json_folder
 from .terms import BadInput, Lossy
 from .world import World, crate_name

@@ -14,7 +14,7 @@ from .open_walk import is_sealed
 from .questions import Question
 from .render import is_sizedness
 from .surface import Associated, Generics, Item
-from .terms import (Bound, Declaration, Lossy, Named, Param, Parameter, Place, Predicate, Projection, Type, argument_values, parameters_of, put,
+from .terms import (Bound, Declaration, Lossy, Param, Parameter, Place, Predicate, Projection, Type, argument_values, parameters_of, put,
                     put_bound, walk)
 from .versions import Gone, Versions, is_private, plain_params
 
