@@ -50,6 +50,8 @@ def is_folder(baseline: str) -> bool:
 @contextlib.contextmanager
 def older(baseline: str, folder: str) -> Iterator[str]:
     """The folder of the older version."""
+    if not baseline:
+        raise BadInput("there is no tag in this repository: name the older version by --baseline, with a revision or a folder")
     if is_folder(baseline):
         yield os.path.abspath(baseline)
         return
@@ -78,6 +80,14 @@ def is_revision(folder: str, name: str) -> bool:
         return True
     except BadInput:
         return False
+
+
+def latest_tag(folder: str) -> str:
+    """The tag that is nearest to what stands here."""
+    try:
+        return git(folder, "describe", "--tags", "--abbrev=0")
+    except BadInput:
+        return ""
 
 
 def keep_lock(folder: str, older_folder: str) -> None:

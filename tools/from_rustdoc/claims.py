@@ -4,6 +4,7 @@ from __future__ import annotations
 from dataclasses import dataclass
 from typing import Iterable, Optional
 
+from .answer import Answerer
 from .cone import cone_of_questions
 from .messages import Message
 from .questions import Asker, Question, Verdict
@@ -35,15 +36,20 @@ class Judge:
         return found
 
     def ask_together(self, questions: list[Question]) -> list[Verdict]:
-        """All by one text; where that has no answer, each by its own, so that one that cannot be asked spoils none."""
+        """All by one text; what that does not settle by a text of its own, so that one that cannot be asked spoils none."""
         try:
             translation = cone_of_questions(self.world, questions)
             translation.build()
-            return Asker(translation, self.program).ask(questions)
+            found = Asker(translation, self.program).ask(questions)
+        except (BadInput, Lossy):
+            found = [Verdict(question, "not settled") for question in questions]
+        return [self.alone(v.question) if v.word == "not settled" else v for v in found]
+
+    def alone(self, question: Question) -> Verdict:
+        try:
+            return Answerer(self.world, self.program).answer(question)
         except (BadInput, Lossy) as error:
-            if len(questions) == 1:
-                return [Verdict(questions[0], "not settled", f"the question cannot be asked: {error}")]
-        return [verdict for question in questions for verdict in self.ask_together([question])]
+            return Verdict(question, "not settled", f"the question cannot be asked: {error}")
 
     def settle(self, claims: list[Claim]) -> list[Message]:
         """What is told of the claims: nothing where there is a proof."""

@@ -14,9 +14,14 @@ from .messages import Message, at
 from .open_walk import downstream, is_sealed, met_in_header
 from .program import run
 from .questions import Question, Verdict
-from .terms import BadInput, Bound, Impl, Lossy, Named, Parameter, Predicate, Type, put, put_bound
+from .render import is_sizedness
+from .terms import BadInput, Bound, Impl, Lossy, Named, Parameter, Predicate, Type, argument_values, put, put_bound, walk
 from .versions import Gone, Header, Versions, all_keys, bound_keys, is_private, names_private, plain_params
 from .world import World, crate_name
+
+
+# What nothing is told of.
+KNOWN = "the old version proves it already"
 
 
 @dataclass
@@ -104,8 +109,19 @@ class ImplChanges:
             self.messages.append(message.note(f"it names `{gone}`, which is gone"))
             return []
         params = plain_params(impl.params)
+        predicates += self.of_names([subject, *bound.arguments])
         found = [Claim(Question(self.asked(impl), subject, bound, params, predicates, crate=versions.crate), message)]
         return found + self.value_claims(kept, subject, bound, predicates)
+
+    def of_names(self, terms: list[Type]) -> list[Predicate]:
+        """What the new version asks of whoever names these types: a new bound of one is told of it, and not of its impls too."""
+        found: list[Predicate] = []
+        for part in (part for term in terms for part in walk(term)):
+            item = self.versions.after.items.get(self.versions.new.key_of(part.key)) if isinstance(part, Named) else None
+            if item is not None and isinstance(part, Named):
+                values = argument_values(item.params, part.arguments)
+                found += [(put(t, values), put_bound(b, values)) for t, b in item.predicates if not is_sizedness(b)]
+        return found
 
     def value_claims(self, kept: Kept, subject: Type, bound: Bound, predicates: list[Predicate]) -> list[Claim]:
         """Where another impl stands for the old one, its associated types are to be those of the old one."""
@@ -146,7 +162,7 @@ class ImplChanges:
         proved = self.proved_before(fresh)
         self.added = [self.judged(impl, proved.get(id(impl))) for impl in fresh]
         self.ask_program()
-        self.messages += [self.told(judged) for judged in self.added]
+        self.messages += [self.told(judged) for judged in self.added if judged.reason != KNOWN]
 
     def narrowed(self, impl: Impl) -> Impl:
         """The part of an added impl that an impl of an older crate can meet: new parameters of its trait have their defaults there."""
@@ -194,7 +210,7 @@ class ImplChanges:
         assert impl.trait is not None
         world = self.versions.new
         if before is not None and before.word == "yes":
-            return Judged(impl, "compatible", "the old version proves it already")
+            return Judged(impl, "compatible", KNOWN)
         trait = world.get(impl.trait.key, "trait", impl.trait.arguments)
         if not self.with_private:
             subject = world.get(impl.self_type.key, "struct", impl.self_type.arguments) if isinstance(impl.self_type, Named) else None

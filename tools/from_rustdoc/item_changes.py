@@ -355,7 +355,7 @@ class ItemChanges:
         """Who implements the trait has to prove new bounds, who uses it may have used old ones."""
         values, item = self.arguments(old, new), Parameter(name)
         inner = {**values, **{p.name: q for p, q in zip(after.params, (Parameter(p.name) for p in before.params))}}
-        itself = {"Self": Parameter(ITSELF)}
+        itself: dict[str, Type] = {"Self": Parameter(ITSELF)}
         params = [Param("type", ITSELF), *plain_params(old.params), *plain_params(before.params), Param("type", name)]
         try:
             had = [self.versions.bound_to_new(put_bound(b, itself)) for b in before.bounds]

@@ -78,16 +78,26 @@ def terms_of(root: Type | Bound) -> tuple[Type, ...]:
     return root.arguments + tuple(value for _, value in root.constraints) if isinstance(root, Bound) else (root,)
 
 
+@dataclass(frozen=True)
+class InText:
+    """A question as it was asked: `names` is what names of its lines stand for, `lines` are the lines of the upper and of the lower text."""
+    translation: Translation
+    crate: str
+    names: dict[str, Type]
+    lines: dict[str, str]
+
+
 @dataclass
 class Verdict:
     """`word` is yes, no, unproved or not settled; `basis` says on what it rests. `values` are those of unknowns as Rust writes them, `found`
-    as types."""
+    as types. `asked` is the question as it was asked, of several that one that decides."""
     question: Question
     word: str
     basis: str = ""
     rests_on: list[str] = field(default_factory=list)
     values: str = ""
     found: dict[str, Type] = field(default_factory=dict)
+    asked: Optional[InText] = None
 
     def show(self) -> str:
         tail = (f" {self.values}" if self.values else "") + (f"   ({self.basis})" if self.basis else "")
@@ -106,7 +116,7 @@ def joined(question: Question, verdicts: list[Verdict]) -> Verdict:
     basis = next((v.basis for v in verdicts if v.basis != BY_LAW), BY_LAW)
     values = ", ".join(dict.fromkeys(v.values for v in verdicts if v.values))
     found = {name: value for v in verdicts for name, value in v.found.items()}
-    return Verdict(question, "yes", basis, [line for v in verdicts for line in v.rests_on], values, found)
+    return Verdict(question, "yes", basis, [line for v in verdicts for line in v.rests_on], values, found, verdicts[-1].asked if verdicts else None)
 
 
 class QuestionReader:
@@ -388,6 +398,8 @@ class Asker:
                 verdict = Verdict(question, "no", f"argued: {ruled_out}")
             if verdict.word == "yes":
                 self.with_values(verdict, self.answers["lower"].values[number])
+            verdict.asked = InText(self.translation, question.crate, question.names,
+                                   {mode: with_clauses(asked.prove, assumed[id(question)].clauses[mode]) for mode in ("upper", "lower")})
             found.setdefault(id(question), []).append(verdict)
         return [verdicts[id(q)] if id(q) in verdicts else joined(q, found[id(q)]) for q in questions]
 

@@ -10,19 +10,21 @@ from dataclasses import dataclass, field
 from typing import Any, Optional
 
 from .back import Back
-from .build import Piece, Translation
+from .build import Piece
 from .headers import Named_, NotUnderstood, Reader
 from .html_docs import is_std_key
 from .messages import Message, at
 from .program import explain
-from .questions import Question
-from .render import FIELD, Scope, names_of
+from .questions import InText, Verdict
+from .render import FIELD, Scope
 from .show import Show
 from .terms import BadInput, Bound, Declaration, Lossy, Named, Parameter, Projection, Type, argument_values, put, rebuilt
 from .text_form import read_text
 from .unfold import Unfolder
 
 GOAL = re.compile(r"the trait bound `(.*)` was not proved$")
+ROW = re.compile(r"([|`\- ]*)(\S.*?)\s{2,}(\S.*)$")
+LINE = re.compile(r"impl at line (\d+)")
 STEP = re.compile(r"required for `(.*)` to implement `(.*)`(, by a built-in rule)?(, not checked)?$")
 CYCLE = "needs itself"
 NEVER, APPLY, WRAP = "Never_", "Apply_", "Wrap_"
@@ -48,17 +50,20 @@ class Told:
 
 
 class Explainer:
-    """Explains questions of one built text: the upper one, where every impl stands that may count."""
+    """Explains a question in its text: that it has no proof in the upper one, where every impl stands that may count, or the proof that
+    it has in the lower one."""
 
-    def __init__(self, translation: Translation, program: Optional[str] = None) -> None:
-        self.translation = translation
+    def __init__(self, asked: InText, mode: str, program: Optional[str] = None) -> None:
+        self.asked = asked
+        self.prove = asked.lines[mode]
+        self.names = asked.names
+        self.translation = asked.translation
         self.program = program
-        self.world = translation.world
+        self.world = self.translation.world
         self.show = Show(self.world)
         self.back = Back(self.world)
-        lines, self.pieces = translation.text("upper")
+        lines, self.pieces = self.translation.text(mode)
         self.text = "\n".join(lines) + "\n"
-        self.names: dict[str, Type] = {}
         self.companions, self.thens = self.of_associated_types()
 
     def of_associated_types(self) -> tuple[dict[str, tuple[str, str]], dict[str, tuple[str, str]]]:
@@ -68,17 +73,19 @@ class Explainer:
         return values, {renderer.then_name(self.world.get(key), name): (key, name) for key, name in renderer.thens}
 
     # ---- what the program says
-    def explain(self, question: Question, prove: str) -> list[Message]:
-        """Notes on why the line has no proof; none where nothing can be read back."""
-        self.names = getattr(question, "names", {})
-        told = self.told([prove])[0]
+    def explain(self) -> list[Message]:
+        """Notes on why there is no proof; none where nothing can be read back."""
+        told = self.told([self.prove])[0]
         if told is not None and told.is_cycle:
-            told = self.without_cycle(question, told) or told
+            told = self.without_cycle(told) or told
         return self.notes(told) if told is not None else []
 
-    def told(self, lines: list[str]) -> list[Optional[Told]]:
+    def said(self, lines: list[str]) -> list[dict[str, Any]]:
         found = explain(self.text + "".join(line + "\n" for line in lines), self.program)
-        said = [message for message in found if message.get("answer", "").startswith("prove ")]
+        return [message for message in found if message.get("answer", "").startswith("prove ")]
+
+    def told(self, lines: list[str]) -> list[Optional[Told]]:
+        said = self.said(lines)
         return [self.read(message) if message.get("code") else None for message in said] + [None] * (len(lines) - len(said))
 
     def read(self, message: dict[str, Any]) -> Optional[Told]:
@@ -130,21 +137,22 @@ class Explainer:
     # ---- from the text to Rust
     def rust(self, term: Type) -> Type:
         """A type of the text as Rust has it, without arguments that are left to defaults."""
-        match term:
-            case Parameter(name) if name in self.names:
-                return self.names[name]
-            case Named(key, arguments) if key in self.world.named or key in SPECIAL:
-                return self.short(Named(self.world.named.get(key, key), tuple(map(self.rust, arguments))))
-            case Named():
-                return self.back.type(rebuilt(term, self.rust))
-        return rebuilt(term, self.rust)
+        if isinstance(term, Named) and term.key in SPECIAL:
+            return Named(term.key, tuple(map(self.rust, term.arguments)))
+        return self.shortened(put(self.back.type(self.keyed(term)), self.names))
 
-    def short(self, term: Named) -> Type:
+    def keyed(self, term: Type) -> Type:
+        """The type with its items' keys for their names in the text."""
+        term = rebuilt(term, self.keyed)
+        return Named(self.world.named.get(term.key, term.key), term.arguments) if isinstance(term, Named) else term
+
+    def shortened(self, term: Type) -> Type:
+        term = rebuilt(term, self.shortened)
         declaration = self.declaration(term)
-        given = list(term.arguments)
+        given = list(term.arguments) if isinstance(term, Named) else []
         while declaration is not None and given and len(given) <= len(declaration.params) and declaration.params[len(given) - 1].default == given[-1]:
             given.pop()
-        return Named(term.key, tuple(given))
+        return Named(term.key, tuple(given)) if isinstance(term, Named) else term
 
     def shown_type(self, term: Type) -> str:
         return self.show.type(self.rust(term))
@@ -152,26 +160,27 @@ class Explainer:
     def shown_bound(self, bound: Bound) -> str:
         return self.show.bound(Bound(self.world.named.get(bound.key, bound.key), tuple(map(self.rust, bound.arguments))))
 
-    def without_cycle(self, question: Question, told: Told) -> Optional[Told]:
+    def without_cycle(self, told: Told) -> Optional[Told]:
         """A cycle is no reason by itself where something else of a type in it fails too: its fields are asked one by one."""
         for number, goal in enumerate(told.goals):
             declaration = self.declaration(self.rust(goal.subject)) if goal.is_built_in else None
             if declaration is None:
                 continue
-            lines = [line for line in (self.field_line(question, goal, declaration, term) for term in declaration.fields) if line]
+            lines = [line for line in (self.field_line(goal, declaration, term) for term in declaration.fields) if line]
             for other in self.told(lines):
                 if other is not None and not other.is_cycle:
                     other.goals += told.goals[number:]
                     return other
         return None
 
-    def field_line(self, question: Question, goal: Goal, declaration: Declaration, term: Type) -> str:
+    def field_line(self, goal: Goal, declaration: Declaration, term: Type) -> str:
         """What asks the goal of a field."""
         itself = self.rust(goal.subject)
         assert isinstance(itself, Named)
         try:
-            written = self.translation.renderer.type(put(term, argument_values(declaration.params, itself.arguments)), Scope(FIELD, names_of(question.params)))
-            return f"prove in {question.crate} {written}: {goal.bound.key}"
+            names = {name: text for text, place in self.names.items() if isinstance(place, Parameter) for name in [place.name]}
+            written = self.translation.renderer.type(put(term, argument_values(declaration.params, itself.arguments)), Scope(FIELD, names))
+            return f"prove in {self.asked.crate} {written}: {goal.bound.key}"
         except Lossy:
             return ""
 
@@ -227,10 +236,6 @@ class Explainer:
                 return f"its field `{name}` is `{inner}`"
         return ""
 
-    def shortened(self, term: Type) -> Type:
-        term = rebuilt(term, self.shortened)
-        return self.short(term) if isinstance(term, Named) else term
-
     def declaration(self, term: Type) -> Optional[Declaration]:
         try:
             return self.world.get(term.key, "struct", term.arguments) if isinstance(term, Named) and term.key not in SPECIAL else None
@@ -251,6 +256,33 @@ class Explainer:
                 return f"{self.shown_type(unfolded.subject)}: {self.shown_bound(unfolded.bound)}"
         return f"{self.shown_type(subject)}: {self.shown_bound(bound)}"
 
+    # ---- a proof
+    def proof(self) -> list[Message]:
+        """The proof that was found, a note for each step that is not about a size; what stands above is not said again."""
+        said = self.said([self.prove])
+        rows = [row for message in said for child in message.get("children", []) if child["message"].startswith("proof:\n")
+                for row in child["message"].split("\n")[1:]]
+        return [note for note in map(self.row, rows) if note is not None]
+
+    def row(self, row: str) -> Optional[Message]:
+        found = ROW.match(row)
+        if found is None or found.group(3) == "shown above":
+            return None
+        try:
+            goal = self.goal(found.group(2))
+        except NotUnderstood:
+            return None
+        if goal.bound.key in (APPLY, "Sized") or goal.bound.key in self.translation.renderer.further:
+            return None
+        place = LINE.search(found.group(3))
+        goal.piece = self.pieces[int(place.group(1)) - 1] if place and int(place.group(1)) <= len(self.pieces) else None
+        impl = goal.piece.written.impl if goal.piece is not None and goal.piece.written is not None else None
+        declaration = self.declaration(self.rust(goal.subject))
+        how = f"`{self.show.header(impl)}`" if impl is not None and impl.trait is not None else "std's impl" if "`core`" in found.group(3) else found.group(3)
+        how = "built-in rule" if goal.piece is not None and impl is None else how
+        spans = at(impl.place) if impl is not None else at(declaration.place) if declaration is not None and how == "built-in rule" else []
+        return Message(f"{'  ' * (len(found.group(1)) // 3)}`{self.shown(goal)}`: {how}", kind="note", spans=spans)
+
     # ---- helps
     def helps(self, goal: Goal, told: Told) -> list[Message]:
         """What may be done: a clause that the question has not, and the types of the crates that have the trait."""
@@ -266,9 +298,12 @@ class Explainer:
         return helps
 
 
-def reason(translation: Translation, question: Question, prove: str, program: Optional[str] = None) -> list[Message]:
-    """Why a question has no proof. An explanation that cannot be read is none."""
+def why(verdict: Verdict, program: Optional[str] = None, with_proof: bool = False) -> list[Message]:
+    """Why a question has no proof, or by what it has one. An explanation that cannot be read is none."""
+    if verdict.asked is None or (verdict.word == "yes" and not with_proof):
+        return []
     try:
-        return Explainer(translation, program).explain(question, prove)
+        explainer = Explainer(verdict.asked, "lower" if verdict.word == "yes" else "upper", program)
+        return explainer.proof() if verdict.word == "yes" else explainer.explain()
     except (BadInput, Lossy, NotUnderstood):
         return []

@@ -3,6 +3,7 @@ from __future__ import annotations
 
 import hashlib
 from collections import Counter
+from dataclasses import astuple
 from typing import Any
 
 from .build import Translation
@@ -99,9 +100,9 @@ class Report:
         return "\n".join(plain(line) for line in lines) + "\n"
 
     # ---- from the texts back to sources
-    def places(self, mode: str) -> dict[str, list[list[str]]]:
-        """For each crate of the text the source and header of each of its impls, in order."""
-        places: dict[str, list[list[str]]] = {}
+    def places(self, mode: str) -> dict[str, list[list[Any]]]:
+        """For each crate of the text the source, header, losses and place of each of its impls, in order."""
+        places: dict[str, list[list[Any]]] = {}
         for crate in self.translation.crates:
             places[crate.name] = []
             for piece in crate.pieces:
@@ -116,24 +117,10 @@ class Report:
                     losses = "; ".join(piece.written.losses) if piece.written is not None else ""
                     if not losses and "__Then<" in line.text:
                         losses = PATTERNED
-                    places[crate.name].append([piece.source, plain(header), plain(losses)])
+                    place = piece.written.impl.place if piece.written is not None else None
+                    places[crate.name].append([piece.source, plain(header), plain(losses), list(astuple(place)) if place else None])
         return places
 
     def map(self, inputs: dict[str, Any], texts: dict[str, str]) -> dict[str, Any]:
         sums = {mode: hashlib.sha256(text.encode()).hexdigest() for mode, text in texts.items()}
         return {"inputs": inputs, "sums": sums, "summary": self.summary(), "places": {mode: self.places(mode) for mode in ("upper", "lower")}}
-
-
-def explain_refusal(verdict: str, crate: str, places: dict[str, list[list[str]]]) -> str:
-    """`overlap impl 3 with std 200` and `orphan impl 3 nonlocal` with the sources and headers that the numbers stand for."""
-    words = verdict.split()
-    if words[:1] == ["overlap"]:
-        source, header, losses = places[crate][int(words[2]) - 1]
-        other_source, other_header, other_losses = places[words[4]][int(words[5]) - 1]
-        tail = f"\n    rests on a loss: {losses or other_losses}" if losses or other_losses else ""
-        return f"overlap: {header} ({source})\n       with: {other_header} ({other_source}){tail}"
-    if words[:1] == ["orphan"]:
-        source, header, losses = places[crate][int(words[2]) - 1]
-        tail = f"\n    rests on a loss: {losses}" if losses else ""
-        return f"orphan impl: {header} ({source}): {' '.join(words[3:])}{tail}"
-    return verdict

@@ -5,7 +5,9 @@ import os
 import unittest
 
 from ..checker import check_texts
-from ..report import Report, explain_refusal
+from ..messages import Sources, rendered
+from ..report import Report
+from ..verdicts import refusal
 from .common import HERE, crate_part, texts, translation
 
 
@@ -39,7 +41,7 @@ class Texts(unittest.TestCase):
         found = translation("shapes")
         places = Report(found).places("upper")
         number = next(n for n, place in enumerate(places["shapes"], 1) if "unsafe fn" in place[1])
-        told = explain_refusal(f"overlap impl {number} with shapes 1", "shapes", places)
+        told = rendered(refusal(f"overlap impl {number} with shapes 1", "shapes", places), Sources())
         self.assertIn("shapes.rs:", told)
         self.assertIn("rests on a loss", told)
 
