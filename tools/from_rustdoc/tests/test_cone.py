@@ -42,9 +42,13 @@ def reached(translation: Translation, question: Question) -> tuple[set[object], 
 
 
 class SameReach(unittest.TestCase):
-    def holds(self, found: World, question: Question) -> None:
+    def hold(self, found: World, questions: list[Question]) -> None:
         whole = Translation(found)
-        whole.roots = question.roots()
+        whole.roots = [root for question in questions for root in question.roots()]
+        for question in questions:
+            self.holds(found, question, whole)
+
+    def holds(self, found: World, question: Question, whole: Translation) -> None:
         part = cone_of_questions(found, [question])
         with self.subTest(question.written):
             self.assertEqual(reached(part, question), reached(whole, question))
@@ -55,16 +59,14 @@ class SameReach(unittest.TestCase):
 
     def test_of_written_questions(self) -> None:
         found = world("shapes")
-        for written in WRITTEN:
-            self.holds(found, QuestionReader(found).read(written))
+        self.hold(found, [QuestionReader(found).read(written) for written in WRITTEN])
 
     def test_of_generated_questions(self) -> None:
         found = world("shapes")
         keys = {name: found.pages.key(TRAITS[name]) for name in ("Send", "Clone", "Debug")}
         asked = auto_questions(found, "shapes", {name: key for name, key in keys.items() if key})
         self.assertGreater(len(asked), 20)
-        for question in asked.values():
-            self.holds(found, question)
+        self.hold(found, list(asked.values()))
 
     def test_patterns_are_followed(self) -> None:
         """A clause on an associated type leads through the trait that asks patterns, what the pattern means, and the fields of a cut struct."""
