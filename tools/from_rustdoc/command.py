@@ -10,6 +10,7 @@ import sqlite3
 import sys
 import traceback
 from concurrent.futures import ProcessPoolExecutor
+from dataclasses import replace
 from typing import Any, Callable, Iterator, Optional
 
 from . import cargo
@@ -66,9 +67,9 @@ def new_world(docs: Optional[str]) -> World:
     return World(pages, KeptStandard(pages))
 
 
-def world_of(files: list[str], docs: Optional[str], uses: Optional[dict[str, list[str]]]) -> World:
+def world_of(files: list[str], docs: Optional[str], links: Optional[cargo.Links]) -> World:
     world = new_world(docs)
-    world.load(files, uses)
+    world.load(files, links)
     keep(world)
     return world
 
@@ -79,12 +80,12 @@ def keep(world: World) -> None:
         world.pages.store.flush()
 
 
-def uses_of(metadata: Optional[str]) -> Optional[dict[str, list[str]]]:
+def links_of(metadata: Optional[str]) -> Optional[cargo.Links]:
     """Which crate uses which, by a file of cargo's metadata."""
     if not metadata:
         return None
     with open(metadata, encoding="utf-8") as handle:
-        return cargo.read_metadata(handle.read(), "").uses
+        return cargo.read_metadata(handle.read()).links
 
 
 def translated(world: World, arguments: argparse.Namespace) -> Translation:
@@ -107,10 +108,11 @@ def texts_of(translation: Translation) -> dict[str, str]:
 
 # ---- the commands
 def read(arguments: argparse.Namespace) -> int:
-    uses = uses_of(arguments.metadata)
-    world = world_of(arguments.json, arguments.docs, uses)
-    inputs = inputs_of(arguments.json, arguments.docs, uses)
+    links = links_of(arguments.metadata)
+    world = world_of(arguments.json, arguments.docs, links)
+    inputs = inputs_of(world, arguments.json, links)
     write_map(arguments.output, {"inputs": inputs})
+    warn(world)
     translation = translated(world, arguments)
     report = Report(translation)
     write_all(arguments.output, report, texts_of(translation), inputs)
@@ -118,9 +120,25 @@ def read(arguments: argparse.Namespace) -> int:
     return 0
 
 
-def inputs_of(json_files: list[str], docs: Optional[str], uses: Optional[dict[str, list[str]]]) -> dict[str, Any]:
+def inputs_of(world: World, files: list[str], links: Optional[cargo.Links]) -> dict[str, Any]:
     """What was read, so that `ask` can read it again."""
-    return {"json": [os.path.abspath(f) for f in json_files], "docs": docs, "uses": uses}
+    links = replace(links or cargo.Links(world.uses), doc_cfgs=world.doc_cfgs)
+    return {"json": [os.path.abspath(f) for f in files], "docs": os.path.abspath(world.pages.root.rstrip("/")), "links": links.kept()}
+
+
+def world_again(known: dict[str, Any], arguments: argparse.Namespace) -> World:
+    """What the map says that was read."""
+    inputs = known.get("inputs", {})
+    if "links" not in inputs:
+        raise BadInput("the map was made by another version of this tool: read the crates again")
+    return world_of(inputs["json"], arguments.docs or inputs["docs"], cargo.Links(**inputs["links"]))
+
+
+def warn(world: World) -> None:
+    """Told once, where the crates are read."""
+    for name, places in world.doc_cfgs.items():
+        print(f"from-rustdoc: warning: rustdoc sets `cfg(doc)`, on which items of {name} depend ({', '.join(places)}): what rests on them may be "
+              "there for rustdoc alone, or be hidden from it", file=sys.stderr, flush=True)
 
 
 def write_map(base: str, found: dict[str, Any]) -> None:
@@ -148,7 +166,7 @@ def kept(base: str) -> dict[str, Any]:
 def check(arguments: argparse.Namespace) -> int:
     known = kept(arguments.base)
     if "sums" not in known:
-        return check_project(arguments.base, known["inputs"], arguments)
+        return check_project(arguments.base, known["inputs"], world_again(known, arguments), arguments)
     answers = {}
     for mode in ("upper", "lower"):
         with open(f"{arguments.base}.{mode}.txt", encoding="utf-8") as handle:
@@ -164,18 +182,17 @@ def check(arguments: argparse.Namespace) -> int:
 
 def output_of(arguments: argparse.Namespace, inputs: dict[str, Any]) -> Output:
     """Standard output, with the sources that places name."""
-    folders = [inputs["root"]] if inputs.get("root") else [os.path.dirname(file) for file in inputs["json"]]
+    folders = [inputs["links"]["root"]] if inputs["links"]["root"] else [os.path.dirname(file) for file in inputs["json"]]
     return Output(Sources({"": folders}), arguments.message_format == "json")
 
 
 def ask(arguments: argparse.Namespace) -> int:
-    inputs = kept(arguments.base)["inputs"]
-    return answered(inputs, arguments)
+    known = kept(arguments.base)
+    return answered(known["inputs"], world_again(known, arguments), arguments)
 
 
-def answered(inputs: dict[str, Any], arguments: argparse.Namespace) -> int:
+def answered(inputs: dict[str, Any], world: World, arguments: argparse.Namespace) -> int:
     """Each question by itself, so that one that is not understood spoils none."""
-    world = world_of(inputs["json"], arguments.docs or inputs["docs"], inputs["uses"])
     reader, answerer, output = QuestionReader(world), Answerer(world, arguments.program), output_of(arguments, inputs)
     statuses = []
     for written in arguments.questions:
@@ -197,33 +214,37 @@ def answered(inputs: dict[str, Any], arguments: argparse.Namespace) -> int:
 
 def ask_project(arguments: argparse.Namespace, extra: list[str]) -> int:
     """Questions on a project, which is documented first; cargo knows what of that is to be done."""
-    _, inputs = documents(arguments.project, extra, arguments)
-    return answered(inputs, arguments)
+    _, inputs, world = documents(arguments.project, extra, arguments)
+    return answered(inputs, world, arguments)
 
 
-def documents(folder: str, extra: list[str], arguments: argparse.Namespace) -> tuple[str, dict[str, Any]]:
-    """Documents a project, and writes the map, which is all that questions need; the base of its files, and what was read."""
+def documents(folder: str, extra: list[str], arguments: argparse.Namespace) -> tuple[str, dict[str, Any], World]:
+    """Documents a project, and writes the map, which is all that questions need: the base of its files, and what was read."""
+    docs = cargo.docs_folder(arguments.docs, folder)
     found = cargo.document(folder, extra, arguments.quiet)
     for name in sorted(set(found.doubled)):
-        print(f"two versions of {name} are in use, and rustdoc keeps the documents of one: its items are taken as not given", file=sys.stderr)
+        print(f"from-rustdoc: {name} is there twice with one version, and the documents of one are read", file=sys.stderr)
     crates = found.closure(found.members)
     if not crates:
-        raise BadInput(f"{folder} and what it uses have no library that is documented")
-    base = os.path.join(os.path.dirname(os.path.dirname(found.files[crates[0]])), crates[0])
-    inputs = {**inputs_of([found.files[c] for c in crates], arguments.docs, found.uses), "root": found.root}
+        raise BadInput(f"{folder} has no library that is documented: a project of programs or procedural macros alone has nothing to read")
+    files = [found.files[c] for c in crates]
+    world = world_of(files, docs, found.links)
+    base = os.path.join(found.folder, crates[0])
+    inputs = inputs_of(world, files, found.links)
     write_map(base, {"inputs": inputs})
-    return base, inputs
+    warn(world)
+    return base, inputs, world
 
 
 def project(folder: str, extra: list[str], arguments: argparse.Namespace) -> int:
-    base, inputs = documents(folder, extra, arguments)
+    base, inputs, world = documents(folder, extra, arguments)
     output_of(arguments, inputs).line(f"what `from-rustdoc ask {base} ..` needs is written: {base}.map")
-    return check_project(base, inputs, arguments)
+    return check_project(base, inputs, world, arguments)
 
 
-def check_project(base: str, inputs: dict[str, Any], arguments: argparse.Namespace) -> int:
+def check_project(base: str, inputs: dict[str, Any], world: World, arguments: argparse.Namespace) -> int:
     """Judges each crate by a text of what its check looks at, so that no text grows with the project."""
-    world, output = world_of(inputs["json"], arguments.docs or inputs["docs"], inputs["uses"]), output_of(arguments, inputs)
+    output = output_of(arguments, inputs)
     statuses, reports, missing = [], [], set()
     for checks, report, not_given in checked(world, arguments):
         statuses.append(say_checks(checks, output))
@@ -315,7 +336,7 @@ def run_command(arguments: argparse.Namespace, extra: list[str]) -> int:
     if arguments.command == "project":
         return project(arguments.folder, extra, arguments)
     if arguments.command == "later":
-        return later(arguments, extra, world_of, uses_of(arguments.metadata))
+        return later(arguments, extra, world_of, links_of(arguments.metadata))
     if arguments.command == "ask":
         if arguments.project is None:
             arguments.base, *arguments.questions = arguments.words

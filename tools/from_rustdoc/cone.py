@@ -20,7 +20,7 @@ from .project import APPLY, WRAP
 from .questions import Question, QuestionWriter
 from .reach import Reach, Reacher, Reference_, bind
 from .render import FIELD, THEN, Scope, as_arguments, is_packed, names_of, params_text
-from .terms import UNIT, Bound, Declaration, Dyn, Function, Impl, Lossy, Named, Param, Tuple, Type, Unknown, head_of, keys_of, put, rebuilt, walk
+from .terms import UNIT, Declaration, Dyn, Function, Impl, Lossy, Named, Param, Tuple, Type, Unknown, head_of, keys_of, put, rebuilt
 from .text_form import Text, TextLine
 from .world import CORE_NAMES, World, crate_name
 

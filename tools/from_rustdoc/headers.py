@@ -22,7 +22,7 @@ class NotUnderstood(Exception):
 class Reader:
     """Reads tokens. `lookup` says what a path stands for: it gets the words of the path, or the number of a marked link."""
 
-    TOKEN = re.compile(r"\s+|(?P<mark>\x01\d+\x02)|(?P<lifetime>'\w+)|(?P<unknown>\?[A-Za-z_]\w*)|(?P<word>(?:r#)?[^\W\d]\w*)|(?P<number>\d\w*)"
+    TOKEN = re.compile(r"\s+|(?P<mark>\x01\d+\x02)|(?P<lifetime>'\w+)|(?P<unknown>\?[A-Za-z_]\w*)|(?P<word>(?:r#)?[^\W\d]\w*(?:@\d[\w.+-]*)?)|(?P<number>\d\w*)"
                        r"|(?P<sign>::|->|=>|\.\.\.|\.\.|[<>()\[\]{},:;&*+!?=~#\"\-/|.])")
 
     def __init__(self, text: str, lookup: Callable[[list[str]], Named_], unknowns: bool = False, params: Optional[set[str]] = None) -> None:

@@ -140,13 +140,16 @@ class KeptCrate:
         self.impls = DecodedImpls(data["impls"])
         self.heads: list[tuple[str, str]] = data["heads"]
         self.items = [ItemName(*entry) for entry in data["items"]]
+        self.std_version: str = data["std_version"]
+        self.sources: list[str] = data["sources"]
 
 
 def data_of(crate: JsonCrate) -> dict[str, Any]:
     return {"name": crate.name, "version": crate.version, "names_crates": list(crate.names_crates),
             "declarations": {k: packed(replace(d, item={})) for k, d in crate.declarations.items()},
             "aliases": {k: packed(d) for k, d in crate.aliases.items()}, "impls": [packed(i) for i in crate.impls],
-            "heads": crate.heads, "items": [(i.key, i.name, i.public_path) for i in crate.items]}
+            "heads": crate.heads, "items": [(i.key, i.name, i.public_path) for i in crate.items], "std_version": crate.std_version,
+            "sources": crate.sources}
 
 
 class Keeper:
@@ -156,21 +159,21 @@ class Keeper:
         self.of_tool = hashlib.sha256((tool_sum() + docs_sum(pages)).encode()).hexdigest()
         self.store = Store(os.path.join(folder(), f"std-{self.of_tool[:16]}.sqlite"), self.of_tool)
 
-    def crate(self, file: str, pages: Pages) -> KeptCrate:
+    def crate(self, file: str, pages: Pages, own: str, artifacts: dict[str, str]) -> KeptCrate:
         try:
             with open(file, "rb") as handle:
                 total = hashlib.sha256(handle.read()).hexdigest()
         except OSError as error:
             raise terms.BadInput(f"{file}: cannot be read as JSON: {error}")
         # Keys of std's items stand in what is kept of a crate, so it goes with the very store that gave them out.
-        name = hashlib.sha256((total + self.of_tool + self.store.made).encode()).hexdigest()
+        name = hashlib.sha256(repr((total, self.of_tool, self.store.made, own, sorted(artifacts.items()))).encode()).hexdigest()
         path = os.path.join(folder(), "crates", name)
         try:
             with open(path, "rb") as handle:
                 return KeptCrate(file, unpacked(handle.read()))
         except (OSError, Damaged, pickle.UnpicklingError, EOFError):
             pass
-        crate = JsonCrate(file, pages)
+        crate = JsonCrate(file, pages, own, artifacts)
         crate.load()
         data = data_of(crate)
         self.store.flush()

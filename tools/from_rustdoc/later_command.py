@@ -8,13 +8,14 @@ import sys
 from typing import Callable, Optional
 
 from .baseline import documented
+from .cargo import Links
 from .later import Release, compared
 from .messages import BAD, Message, Output, Sources, worst
 from .terms import BadInput
 from .world import World
 
-# Reads crates: their files, std's documents, and which crate uses which.
-WorldReader = Callable[[list[str], Optional[str], Optional[dict[str, list[str]]]], World]
+# Reads crates: their files, std's documents, and how they belong together.
+WorldReader = Callable[[list[str], Optional[str], Optional[Links]], World]
 
 
 def told(release: Release, output: Output) -> int:
@@ -25,10 +26,10 @@ def told(release: Release, output: Output) -> int:
     return release.status
 
 
-def of_files(arguments: argparse.Namespace, read: WorldReader, uses: Optional[dict[str, list[str]]]) -> int:
+def of_files(arguments: argparse.Namespace, read: WorldReader, links: Optional[Links]) -> int:
     """Compares two JSON files."""
     files = arguments.files
-    worlds = [read([file, *arguments.with_crates], arguments.docs, uses) for file in files]
+    worlds = [read([file, *arguments.with_crates], arguments.docs, links) for file in files]
     crates = [next(c.name for c in w.crates.values() if c.file == f) for w, f in zip(worlds, files)]
     if crates[0] != crates[1]:
         raise BadInput(f"{crates[0]} and {crates[1]} are two crates, not two versions of one")
@@ -49,16 +50,16 @@ def of_project(arguments: argparse.Namespace, extra: list[str], read: WorldReade
                 output.message(Message(f"the library `{name}` is gone", "crate-removed", "breaking", name))
                 statuses.append(BAD)
                 continue
-            worlds = [read([p.files[c] for c in p.closure([name])], arguments.docs, p.uses) for p in (both.old, both.new)]
+            worlds = [read([p.files[c] for c in p.closure([name])], arguments.docs, p.links) for p in (both.old, both.new)]
             statuses.append(told(compared(worlds[0], worlds[1], name, arguments.private, arguments.program), output))
     return worst(statuses)
 
 
-def later(arguments: argparse.Namespace, extra: list[str], read: WorldReader, uses: Optional[dict[str, list[str]]]) -> int:
+def later(arguments: argparse.Namespace, extra: list[str], read: WorldReader, links: Optional[Links]) -> int:
     if arguments.baseline is not None:
         if len(arguments.files) > 1:
             raise BadInput("`later --baseline` takes one project")
         return of_project(arguments, extra, read)
     if len(arguments.files) != 2:
         raise BadInput("`later` takes two JSON files, the older one first, or `--baseline` with a revision or a folder")
-    return of_files(arguments, read, uses)
+    return of_files(arguments, read, links)

@@ -17,7 +17,7 @@ from .reach import BY_PARTS, Reach, Reacher
 from .render import MAXIMAL_PARAMS, QUESTION, Scope, bracketed, is_sizedness, names_of
 from .show import Show
 from .standard import FN_TRAITS
-from .terms import (Alias, BadInput, Bound, BoundsOf, Dyn, Lossy, Named, Param, Parameter, Predicate, Projection, Type, Unknown,
+from .terms import (Alias, BadInput, Bound, BoundsOf, Dyn, Lossy, Param, Parameter, Predicate, Projection, Type, Unknown,
                     argument_values, keys_of, put, put_bound, rebuilt, rebuilt_bound, walk)
 from .text_form import Text, TextLine, read_text
 from .world import World, crate_name
@@ -127,11 +127,23 @@ class QuestionReader:
     def lookup(self, words: list[str], params: set[str]) -> Named_:
         if len(words) == 1 and (words[0] in params or words[0] in PRIMITIVES or words[0] in FLOATS or words[0] == "_"):
             return "word", None, words[0]
-        key = self.key(words)
+        key = self.key([self.versioned(words[0]), *words[1:]])
         if key is None:
             raise BadInput(f"`{'::'.join(words)}` is not known: write its path, as `bytes::Bytes` or `std::vec::Vec`")
         declaration = self.world.get(key)
         return ("trait" if declaration.is_trait else "type" if declaration.kind == "type" else "struct"), key, declaration.name
+
+    def versioned(self, name: str) -> str:
+        """The crate of a name: of one that is there in two versions it has to have the version, or how that begins."""
+        wanted, _, version = name.partition("@")
+        found = [c for c in self.world.crates if c == name or c.partition("@")[0] == wanted and c.partition("@")[2].startswith(version)]
+        if not version and wanted in self.world.crates:
+            return wanted
+        if version and wanted in self.world.crates and self.world.crates[wanted].version.startswith(version):
+            return wanted
+        if len(found) > 1:
+            raise BadInput(f"`{name}` may be any of {', '.join(f'`{c}`' for c in found)}")
+        return found[0] if found else name
 
     def key(self, words: list[str]) -> Optional[str]:
         if words[0] in self.world.crates:
@@ -493,7 +505,17 @@ class Asker:
     def basis_of_yes(self, reach: Reach) -> str:
         # The lower text's proof is one by the crates' own rules; that those of a cut struct are its rules is argued.
         cut = self.cut_structs(reach)
-        return f"argued: the auto traits of {cut[0]} are written by its fields" if cut else "by law"
+        if cut:
+            return f"argued: the auto traits of {cut[0]} are written by its fields"
+        return self.argued_of_all(reach) or BY_LAW
+
+    def argued_of_all(self, reach: Reach) -> str:
+        """Why no law covers an answer, be it yes or no; empty where one does."""
+        crates = {self.text.names[n].crate for n in reach.traits | reach.types if n in self.text.names} if self.text is not None else set()
+        for name, places in self.translation.world.doc_cfgs.items():
+            if crate_name(name) in crates:
+                return f"argued: items of {name} depend on `cfg(doc)`, which rustdoc sets ({', '.join(places)})"
+        return ""
 
     def basis_of_no(self, question: Question, reach: Reach) -> str:
         if question.has_unknowns():
@@ -504,7 +526,9 @@ class Asker:
         if cut:
             return f"argued: the auto traits of {cut[0]} are written by its fields"
         narrowed = [w for w in self.translation.of_std if w.impl.narrowed and w.impl.trait and w.impl.trait.key in self.reached_keys(reach)]
-        return f"argued: {narrowed[0].impl.source} is written {narrowed[0].impl.narrowed}" if narrowed else "by law"
+        if narrowed:
+            return f"argued: {narrowed[0].impl.source} is written {narrowed[0].impl.narrowed}"
+        return self.argued_of_all(reach) or BY_LAW
 
     def above(self, trait: str) -> set[str]:
         return self.text.above(trait) if self.text is not None else set()

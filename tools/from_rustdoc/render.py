@@ -443,8 +443,8 @@ class Renderer:
         if name in declaration.associated:
             return bound
         values = argument_values(declaration.params, bound.arguments)
-        for above in declaration.supers:
-            found = self.bound_with(put_bound(above, values), name, depth + 1)
+        for further in declaration.supers:
+            found = self.bound_with(put_bound(further, values), name, depth + 1)
             if found:
                 return found
         return None

@@ -10,6 +10,7 @@ from .build import Translation
 from .html_docs import is_std_key
 from .show import Show
 from .terms import Lossy
+from .world import crate_name
 
 PATTERNED = "a clause on an associated type, which keeps less apart than rustc's"
 ERRS = "the upper text has it more often than the crate, the lower one not at all"
@@ -17,6 +18,12 @@ ERRS = "the upper text has it more often than the crate, the lower one not at al
 
 def plain(text: str) -> str:
     return "".join(c if 32 <= ord(c) < 127 else "?" for c in text)
+
+
+def is_of(line: str, crate: str) -> bool:
+    """Whether the line of a summary is on the crate, by its name in the text."""
+    name, version = (line.split(":")[0].split(" ") + [""])[:2]
+    return crate in (crate_name(name), crate_name(f"{name}@{version}"))
 
 
 class Report:
@@ -39,7 +46,7 @@ class Report:
             total = sum(count.values())
             rest = [f"{count['loss']} with a loss"] * (count["loss"] > 0) + [f"{count['out']} out"] * (count["out"] > 0)
             said = "all whole" if count["whole"] == total else f"{count['whole']} whole, " + ", ".join(rest)
-            lines.append(f"{crate.name} {crate.version}: {total} impls, {said}")
+            lines.append(f"{crate.name.split('@')[0]} {crate.version}: {total} impls, {said}")
         for name, times in sorted(self.world.missing.items()):
             lines.append(f"not given: {name}, named {times} times: its impls are in neither text")
         return lines
@@ -60,7 +67,7 @@ class Report:
 
     def of_crate(self, name: str) -> list[str]:
         """What became of the items of one crate."""
-        lines = [line for line in self.summary() if line.startswith(name + " ")] + self.item_lines(name)
+        lines = [line for line in self.summary() if is_of(line, crate_name(name))] + self.item_lines(name)
         return [plain(line) for line in lines]
 
     def item_lines(self, name: str = "") -> list[str]:

@@ -2,6 +2,7 @@
 from __future__ import annotations
 
 import json
+import os
 import re
 from dataclasses import dataclass
 from typing import Any, Optional
@@ -28,11 +29,17 @@ def kind_and_body(item: dict[str, Any]) -> tuple[str, Any]:
     return next(iter(item["inner"].items()))
 
 
+def stem_of(crate: dict[str, Any]) -> str:
+    """The name of an external crate's compiled file, without its ending."""
+    return os.path.basename(crate.get("path") or "").rsplit(".", 1)[0]
+
+
 class JsonCrate:
-    """One crate's JSON. `load` fills `declarations` and `impls`."""
+    """One crate's JSON. `load` fills `declarations` and `impls`. The crate may go by another name than its own, and of those that it names
+    `artifacts` has the names by their compiled files, where these are not their own."""
     needs_private = True
 
-    def __init__(self, file: str, pages: Pages) -> None:
+    def __init__(self, file: str, pages: Pages, name: str = "", artifacts: Optional[dict[str, str]] = None) -> None:
         self.file = file
         self.pages = pages
         try:
@@ -43,10 +50,10 @@ class JsonCrate:
         if self.needs_private and not self.json.get("includes_private"):
             raise BadInput(f"{file}: has no private items; make it with `--document-private-items --document-hidden-items`")
         self.index: dict[str, Any] = self.json["index"]
-        self.name: str = self.index[str(self.json["root"])]["name"]
+        self.name: str = name or self.index[str(self.json["root"])]["name"]
         self.version: str = self.json.get("crate_version") or ""
         self.first_column = first_column(self.json)
-        self.external = {int(number): crate["name"] for number, crate in self.json["external_crates"].items()}
+        self.external = {int(number): (artifacts or {}).get(stem_of(crate), crate["name"]) for number, crate in self.json["external_crates"].items()}
         self.keys: dict[int, Optional[str]] = {}
         self.declarations: dict[str, Declaration] = {}
         self.aliases: dict[str, Declaration] = {}
@@ -62,6 +69,20 @@ class JsonCrate:
     @property
     def items(self) -> list[ItemName]:
         return [ItemName(d.key, d.name, d.public_path) for d in [*self.declarations.values(), *self.aliases.values()]]
+
+    @property
+    def std_version(self) -> str:
+        """The version of std that the crate was compiled with; empty where it does not say."""
+        for crate in self.json["external_crates"].values():
+            found = re.fullmatch(r"https://doc\.rust-lang\.org/([^/]*)/?", crate.get("html_root_url") or "")
+            if found and crate["name"] in ("core", "std"):
+                return found.group(1)
+        return ""
+
+    @property
+    def sources(self) -> list[str]:
+        """The files of its items."""
+        return sorted({item["span"]["filename"] for item in self.index.values() if item["crate_id"] == 0 and item.get("span")})
 
     # ---- keys
     def item(self, number: Optional[int]) -> Optional[dict[str, Any]]:

@@ -8,7 +8,7 @@ from .messages import BAD, FINE, UNSETTLED, Message, Output, Span, at, worst
 from .program import Answer
 from .questions import Verdict
 from .reasons import why
-from .report import PATTERNED
+from .report import PATTERNED, is_of
 from .terms import Lossy, Named, Place
 
 # Which answers are as expected: rustc refuses a bound that is `unproved` as it does one that is `no`.
@@ -75,7 +75,7 @@ def check_verdicts(summary: list[str], crates: list[str], answers: dict[str, Ans
     """Of each crate that it is coherent, not coherent, or not settled. Of std, and of crates that were not given, only a refusal is told."""
     found = []
     for crate in crates:
-        name, _, rest = next((s for s in summary if s.startswith(crate + " ")), crate).partition(": ")
+        name, _, rest = next((s for s in summary if is_of(s, crate)), crate).partition(": ")
         upper, lower = (answers[mode].crates.get(crate, "accepted") for mode in ("upper", "lower"))
         if upper == "accepted":
             found += [Checked(crate, "coherent", f"{name}: coherent. {rest}")] if rest else []

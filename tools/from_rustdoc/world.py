@@ -1,10 +1,13 @@
 """All crates of one text: those that are read, std, and what is named of crates that were not given. Items by key, and their names in the text."""
 from __future__ import annotations
 
+import os
 import re
 from collections import defaultdict
 from typing import Iterator, Optional, Union
 
+from . import doc_cfg
+from .cargo import Links
 from .headers import INTEGERS
 from .html_docs import Pages, is_std_key, rust_crate_of
 from .kept import KeptCrate, Keeper
@@ -23,7 +26,8 @@ AnyCrate = Union[JsonCrate, KeptCrate]
 
 
 def crate_name(name: str) -> str:
-    """A crate's name in the text."""
+    """A crate's name in the text; `name@version` has its version in it."""
+    name = re.sub(r"[^A-Za-z0-9_]", "_", name)
     return name + "_" if name in RESERVED or name == "core" else name
 
 
@@ -37,6 +41,7 @@ class World:
         self.by_name: dict[tuple[str, str], list[str]] = defaultdict(list)
         self.uses: dict[str, list[str]] = {}
         self.missing: dict[str, int] = defaultdict(int)
+        self.doc_cfgs: dict[str, list[str]] = {}
         self.names: dict[str, str] = {}
         self.named: dict[str, str] = {}
         self.taken: set[str] = set()
@@ -46,14 +51,17 @@ class World:
         self.shape_of_key: dict[str, Shape] = {}
 
     # ---- reading
-    def load(self, files: list[str], metadata: Optional[dict[str, list[str]]] = None) -> None:
-        """Reads the crates; `metadata` says which crates each one uses. Without it they use those that their items name."""
+    def load(self, files: list[str], links: Optional[Links] = None) -> None:
+        """Reads the crates; `links` says which crates each one uses. Without it they use those that their items name."""
         keeper: Optional[Keeper] = getattr(self.pages, "keeper", None)
-        read: list[AnyCrate] = [keeper.crate(file, self.pages) if keeper else JsonCrate(file, self.pages) for file in files]
+        names, artifacts = (links.names, links.artifacts) if links else ({}, {})
+        read: list[AnyCrate] = [keeper.crate(file, self.pages, names.get(file, ""), artifacts) if keeper
+                                else JsonCrate(file, self.pages, names.get(file, ""), artifacts) for file in files]
         given = {crate.name for crate in read}
         if len(given) < len(read):
             raise BadInput("two of the files are of crates with one name; give one version of a crate at a time")
         for crate in read:
+            self.same_std(crate)
             if crate.name in STD_TEXTS or crate.name.startswith("core_ops"):
                 raise BadInput(f"{crate.file}: the text has a crate of its own with that name, for std")
             if isinstance(crate, JsonCrate):
@@ -62,7 +70,7 @@ class World:
                 self.homes[item.key] = crate
                 self.by_name[(crate.name, item.name)].append(item.key)
         for crate in read:
-            used = (metadata or {}).get(crate.name)
+            used = links.uses.get(crate.name) if links else None
             self.uses[crate.name] = [n for n in (crate.names_crates if used is None else used) if n in given and n != crate.name]
         by_name = {crate.name: crate for crate in read}
         done: set[str] = set()
@@ -76,6 +84,27 @@ class World:
 
         for crate in read:
             visit(crate.name)
+
+        self.find_doc_cfgs(links)
+
+    def same_std(self, crate: AnyCrate) -> None:
+        """Answers would be of no crate that there is, if it was compiled with another std than the documents are of."""
+        known = self.pages.version()
+        if known and crate.std_version and known != crate.std_version:
+            raise BadInput(f"{crate.file} was made by Rust {crate.std_version}, and std's documents in {self.pages.root} are of {known}: "
+                           "name those of that version by --docs")
+
+    def find_doc_cfgs(self, links: Optional[Links]) -> None:
+        """What rustdoc's `cfg(doc)` may have added to a crate, or hidden."""
+        if links is not None and links.doc_cfgs is not None:
+            self.doc_cfgs = links.doc_cfgs
+            return
+        for crate in self.crates.values():
+            above = os.path.dirname(os.path.abspath(crate.file))
+            roots = [links.root if links else "", above, *(os.path.normpath(os.path.join(above, *[".."] * n)) for n in range(1, 6))]
+            found = doc_cfg.places(crate.sources, roots, links.cfgs.get(crate.name) if links else None)
+            if found:
+                self.doc_cfgs[crate.name] = found
 
     # ---- items
     def get(self, key: Optional[str], kind: str = "", arguments: tuple[Type, ...] = ()) -> Declaration:

@@ -52,7 +52,7 @@ def trimmed(data: dict[str, Any]) -> dict[str, Any]:
     named = set(re.findall(r'"id": (\d+)', text))
     paths = {n: p for n, p in data["paths"].items() if n in named}
     crates = {str(p["crate_id"]) for p in paths.values()}
-    external = {n: {"name": c["name"]} for n, c in data["external_crates"].items() if n in crates}
+    external = {n: {k: c[k] for k in ("name", "html_root_url")} for n, c in data["external_crates"].items() if n in crates}
     return {"root": data["root"], "crate_version": "1.0.0", "includes_private": True, "index": index, "paths": paths,
             "external_crates": external, "format_version": data["format_version"]}
 

@@ -6,7 +6,6 @@ import os
 import tempfile
 import unittest
 
-from ..cargo import read_metadata, shared_flags
 from ..headers import Named_, NotUnderstood, Reader
 from ..html_docs import Pages
 from ..rustdoc_json import JsonCrate
@@ -125,31 +124,6 @@ class Json(unittest.TestCase):
         self.assertEqual(len(packet.fields), 1)
         self.assertEqual(packet.public_path, ["before", "Packet"])
         self.assertIsNone(next(d for d in crate.declarations.values() if d.name == "Seal").public_path)
-
-
-class Metadata(unittest.TestCase):
-    def test_what_uses_what_is_cargos_word(self) -> None:
-        def package(name: str, kind: str = "lib") -> dict:
-            return {"id": name + " 1", "targets": [{"name": name, "kind": [kind]}]}
-
-        def used(name: str, kind: object) -> dict:
-            return {"pkg": name + " 1", "dep_kinds": [{"kind": kind}]}
-
-        data = {"packages": [package("a"), package("b-c"), package("m", "proc-macro"), package("t")], "workspace_members": ["a 1"],
-                "resolve": {"nodes": [{"id": "a 1", "deps": [used("b-c", None), used("m", None), used("t", "dev")]}, {"id": "b-c 1", "deps": []},
-                                      {"id": "m 1", "deps": []}, {"id": "t 1", "deps": []}]}}
-        project = read_metadata(json.dumps(data), os.path.dirname(kept("std")))
-        self.assertEqual(project.uses["a"], ["b_c"])
-        self.assertEqual(project.members, ["a"])
-        self.assertEqual(project.doubled, [])
-        data["packages"].append({"id": "a 2", "targets": [{"name": "a", "kind": ["lib"]}]})
-        data["resolve"]["nodes"].append({"id": "a 2", "deps": []})
-        self.assertEqual(read_metadata(json.dumps(data), "").doubled, ["a"])
-
-
-class Flags(unittest.TestCase):
-    def test_features_go_to_metadata_too(self) -> None:
-        self.assertEqual(shared_flags(["--offline", "--no-deps", "--features", "a,b", "-j", "2"]), ["--offline", "--features", "a,b"])
 
 
 class StdJson(unittest.TestCase):
