@@ -15,7 +15,8 @@ FORMAT = 57
 OLDEST = 37
 # What a field was called before, by what it stands in.
 OLDER = {"path": {"name": "path"}}
-READ = ("module", "use", "struct", "enum", "union", "variant", "struct_field", "trait", "impl", "assoc_type", "type_alias")
+READ = ("module", "use", "struct", "enum", "union", "variant", "struct_field", "trait", "impl", "assoc_type", "type_alias", "function",
+        "assoc_const")
 # What no answer looks at.
 IGNORED = {"module": "is_crate is_stripped", "use": "source", "struct": "impls", "enum": "impls has_stripped_variants", "union": "impls has_stripped_fields",
            "variant": "discriminant", "trait": "implementations", "impl": "provided_trait_methods", "const parameter": "type",
@@ -23,6 +24,10 @@ IGNORED = {"module": "is_crate is_stripped", "use": "source", "struct": "impls",
            "bound": "generic_params", "where-clause": "generic_params", "constant": "is_literal", "reference": "lifetime", "plain struct": "has_stripped_fields",
            "struct variant": "has_stripped_fields", "equation": "", "use of captures": ""}
 Check = Callable[[Any], None]
+
+
+def one(where: str) -> str:
+    return f"{'an' if where[0] in 'aeiou' else 'a'} {where}"
 
 
 class Agreement:
@@ -40,26 +45,26 @@ class Agreement:
     def fields(self, value: Any, where: str, /, **checks: Check) -> None:
         """An object with these fields; others have to be known, or to say nothing."""
         if not isinstance(value, dict):
-            self.fail(f"a {where} is no object")
+            self.fail(f"{one(where)} is no object")
         for old, name in OLDER.get(where, {}).items():
             if name not in value and old in value:
                 value[name] = value.pop(old)
         for name, check in checks.items():
             name = name.rstrip("_")
             if name not in value:
-                self.fail(f"a {where} has no field `{name}`")
+                self.fail(f"{one(where)} has no field `{name}`")
             check(value[name])
         known = {name.rstrip("_") for name in checks} | set(IGNORED.get(where, "").split())
         for name, further in value.items():
             if name not in known and further not in (None, False, [], {}, ""):
-                self.fail(f"a {where} has a field `{name}`")
+                self.fail(f"{one(where)} has a field `{name}`")
 
     def variant(self, value: Any, where: str, words: str = "", /, **checks: Check) -> None:
         """One of several forms: a word, or an object of one field."""
         if isinstance(value, str) and value in words.split():
             return
         if not isinstance(value, dict) or len(value) != 1 or next(iter(value)) not in checks:
-            self.fail(f"a {where} is {next(iter(value)) if isinstance(value, dict) and value else value!r}")
+            self.fail(f"{one(where)} is {next(iter(value)) if isinstance(value, dict) and value else value!r}")
         name, inside = next(iter(value.items()))
         checks[name](inside)
 
@@ -148,6 +153,12 @@ class Agreement:
 
     def item_type_alias(self, body: Any) -> None:
         self.fields(body, "type alias", generics=self.generics, type=self.type)
+
+    def item_function(self, body: Any) -> None:
+        self.fields({k: v for k, v in body.items() if k == "has_body"}, "function", has_body=self.of_kind(bool))
+
+    def item_assoc_const(self, body: Any) -> None:
+        self.fields({k: v for k, v in body.items() if k == "value"}, "associated constant", value=self.maybe(self.of_kind(str)))
 
     # ---- parameters, bounds and paths
     def generics(self, generics: Any) -> None:

@@ -24,8 +24,8 @@ MAXIMAL_DEPTH = 8
 # What rustc says of a crate that a change breaks.
 RUSTC = {"item-removed": "E0425 or E0432", "alias-removed": "E0425 or E0432", "kind-changed": "E0404, E0423 or E0782", "alias-retargeted": "E0277 or E0308",
          "parameter-added": "E0107", "parameter-removed": "E0107", "parameter-kind-changed": "E0747", "default-removed": "E0107",
-         "default-changed": "E0308", "lifetime-added": "E0106", "lifetime-removed": "E0107", "bound-added": "E0277",
-         "lifetime-bound-added": "E0310 or E0477", "supertrait-added": "E0277", "supertrait-removed": "E0277, E0308 or E0599",
+         "default-changed": "E0308", "lifetime-added": "E0106", "lifetime-removed": "E0107", "bound-added": "E0271 or E0277",
+         "lifetime-bound-added": "E0310 or E0477", "supertrait-added": "E0271 or E0277", "supertrait-removed": "E0277, E0308 or E0599",
          "associated-type-added": "E0046 or E0191", "associated-type-removed": "E0220", "associated-type-bound-added": "E0277",
          "associated-type-bound-removed": "E0277, E0308 or E0599", "associated-type-changed": "E0107 or E0049", "required-item-added": "E0046",
          "trait-item-removed": "E0407 or E0599", "trait-made-unsafe": "E0200", "trait-made-safe": "E0199", "trait-made-auto": "E0119",

@@ -20,7 +20,9 @@ WorldReader = Callable[[list[str], Optional[str], Optional[Links]], World]
 
 def told(release: Release, output: Output) -> int:
     for message in release.messages:
-        output.message(message)
+        # What others cannot name is counted; `--private` has it judged.
+        if output.is_json or message.word not in ("private", "sealed"):
+            output.message(message)
     output.summary(release.summary(), release.crate, release.answer, release.status,
                    counts={word: release.count(word) for word in dict.fromkeys(m.word for m in release.messages)})
     return release.status

@@ -21,6 +21,7 @@ from .show import Show
 from .terms import BadInput, Bound, Declaration, Lossy, Named, Parameter, Projection, Type, argument_values, put, rebuilt
 from .text_form import read_text
 from .unfold import Unfolder
+from .world import CORE_NAMES
 
 GOAL = re.compile(r"the trait bound `(.*)` was not proved$")
 ROW = re.compile(r"([|`\- ]*)(\S.*?)\s{2,}(\S.*)$")
@@ -131,7 +132,8 @@ class Explainer:
         """Names stand for themselves."""
         name = words[-1]
         kind = self.back.lookup(words)[0] if name not in SPECIAL else "struct"
-        is_trait = kind == "trait" or name in self.thens or name in self.companions or name in self.translation.renderer.further
+        of_text = name in self.thens or name in self.companions or name in self.translation.renderer.further
+        is_trait = kind == "trait" or of_text or (name in CORE_NAMES and name != "Box")
         return ("trait", name, name) if is_trait else (kind, None if kind == "word" else name, name)
 
     # ---- from the text to Rust

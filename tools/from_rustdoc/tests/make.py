@@ -1,7 +1,8 @@
 #!/usr/bin/env python3
 """Makes the kept JSON anew: of the crates beside this file, by the rustdoc that is on the PATH, and of the pages of std that they name.
 
-What the translator does not read (documentation, functions, blanket impls) is cut out of both.
+What the translator does not read (documentation, functions, blanket impls) is cut out of both. With a rustdoc of another version as
+its word it makes json/formats.NUMBER.json of that.
 """
 from __future__ import annotations
 
@@ -19,9 +20,11 @@ sys.path.insert(0, os.path.dirname(os.path.dirname(HERE)))
 from from_rustdoc.cargo import FLAGS, docs_folder  # noqa: E402
 from from_rustdoc.html_docs import Pages  # noqa: E402
 from from_rustdoc.standard import COMPUTED  # noqa: E402
+from from_rustdoc.tests.pairs import all_pairs, library, rustdoc  # noqa: E402
 
 # Each with the crates that it uses.
-CRATES: dict[str, list[str]] = {"shapes": [], "before": [], "after": [], "ab": [], "user": ["ab"]}
+CRATES: dict[str, list[str]] = {"shapes": [], "before": [], "after": [], "ab": [], "user": ["ab"], "reasons": [],
+                                "formats": []}
 READ = ("struct", "enum", "union", "variant", "struct_field", "trait", "impl", "assoc_type", "module", "use", "type_alias")
 # Pages that no kept crate names, but the translator or a question does.
 MORE = ("core/marker/trait.Send.html core/marker/trait.Sync.html core/marker/trait.Unpin.html core/panic/unwind_safe/trait.UnwindSafe.html "
@@ -35,9 +38,12 @@ MORE = ("core/marker/trait.Send.html core/marker/trait.Sync.html core/marker/tra
 
 def trimmed(data: dict[str, Any]) -> dict[str, Any]:
     index = {}
+    of_traits = {number for item in data["index"].values() if "trait" in item["inner"] and item["crate_id"] == 0 for number in item["inner"]["trait"]["items"]}
     for number, item in data["index"].items():
         kind, body = next(iter(item["inner"].items()))
-        if item["crate_id"] != 0 or kind not in READ:
+        if int(number) in of_traits and kind in ("function", "assoc_const"):
+            item["inner"] = {kind: {name: body[name] for name in ("has_body", "value") if name in body}}
+        elif item["crate_id"] != 0 or kind not in READ:
             continue
         if kind == "impl" and (body["blanket_impl"] is not None or body["trait"] is None or body["is_synthetic"]):
             continue
@@ -57,14 +63,27 @@ def trimmed(data: dict[str, Any]) -> dict[str, Any]:
             "external_crates": external, "format_version": data["format_version"]}
 
 
-def crate_json(name: str, folder: str) -> dict[str, Any]:
+def crate_json(name: str, folder: str, rustdoc: str = "rustdoc") -> dict[str, Any]:
     source, edition = os.path.join(HERE, "crates", name + ".rs"), ["--edition", "2021"]
-    used = [word for other in CRATES[name] for word in ("--extern", f"{other}={folder}/lib{other}.rmeta")]
+    used = [word for other in CRATES.get(name, []) for word in ("--extern", f"{other}={folder}/lib{other}.rmeta")]
     environment = {**os.environ, "RUSTC_BOOTSTRAP": "1"}
-    subprocess.run(["rustc", *edition, "--crate-type", "lib", "--cap-lints", "allow", "--emit", "metadata", source, "--out-dir", folder, *used], check=True, env=environment)
-    subprocess.run(["rustdoc", "--cap-lints", "allow", *edition, source, "-o", folder, *used, *FLAGS.split()], check=True, env=environment)
+    if any(name in others for others in CRATES.values()):
+        subprocess.run(["rustc", *edition, "--crate-type", "lib", "--cap-lints", "allow", "--emit", "metadata", source, "--out-dir", folder, *used], check=True,
+                       env=environment)
+    subprocess.run([rustdoc, "--cap-lints", "allow", *edition, source, "-o", folder, *used, *FLAGS.split()], check=True, env=environment)
     with open(os.path.join(folder, name + ".json"), encoding="utf-8") as handle:
         return trimmed(json.load(handle))
+
+
+def pair_json(version: str, folder: str) -> dict[str, Any]:
+    """The library of releases/pairs.txt, all pairs in it."""
+    with open(rustdoc(folder, library(all_pairs(), version), version), encoding="utf-8") as handle:
+        return trimmed(json.load(handle))
+
+
+def write(name: str, data: Any) -> None:
+    with open(os.path.join(HERE, "json", name + ".json"), "w", encoding="utf-8") as handle:
+        json.dump(data, handle, separators=(",", ":"), sort_keys=True, ensure_ascii=False)
 
 
 def pages_of(crates: list[dict[str, Any]], pages: Pages) -> dict[str, str]:
@@ -150,16 +169,19 @@ def shorter_declaration(text: str) -> str:
     return f'<pre class="rust item-decl"><code>{shorter(head)}{{{" ".join(types)}</code></pre>'
 
 
-def main() -> None:
-    crates = []
+def main(words: list[str]) -> None:
+    """All of it; or the crate `formats` alone by another rustdoc, whose number is in the file's name."""
     with tempfile.TemporaryDirectory() as folder:
-        for name in CRATES:
-            crates.append(crate_json(name, folder))
-            with open(os.path.join(HERE, "json", name + ".json"), "w", encoding="utf-8") as handle:
-                json.dump(crates[-1], handle, separators=(",", ":"), sort_keys=True)
-    with open(os.path.join(HERE, "json", "std.json"), "w", encoding="utf-8") as handle:
-        json.dump(pages_of(crates, Pages(docs_folder(None))), handle, separators=(",", ":"), sort_keys=True, ensure_ascii=False)
+        if words:
+            other = crate_json("formats", folder, words[0])
+            write(f"formats.{other['format_version']}", other)
+            return
+        crates = {name: crate_json(name, folder) for name in CRATES}
+        crates |= {f"pairs_{version}": pair_json(version, folder) for version in ("old", "new")}
+    for name, data in crates.items():
+        write(name, data)
+    write("std", pages_of(list(crates.values()), Pages(docs_folder(None))))
 
 
 if __name__ == "__main__":
-    main()
+    main(sys.argv[1:])
