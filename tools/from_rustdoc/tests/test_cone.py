@@ -4,15 +4,15 @@ from __future__ import annotations
 import os
 import tempfile
 import unittest
+from typing import Iterator
 from unittest import mock
 
 from ..build import Translation
 from ..cone import cone_of_crate, cone_of_questions
 from ..kept import Damaged, KeptPages, KeptStandard, packed, unpacked
-from ..later import auto_questions
 from ..questions import Question, QuestionReader, QuestionWriter
 from ..reach import BY_PARTS, Reacher
-from ..terms import Parameter
+from ..terms import Bound, Declaration, Param, Parameter
 from ..text_form import read_text
 from ..world import World
 from .common import kept, texts, world
@@ -41,6 +41,14 @@ def reached(translation: Translation, question: Question) -> tuple[set[object], 
     return {r for r in reach.references if r[0] not in BY_PARTS}, {p.upper.text for p in reach.pieces if p.upper is not None}
 
 
+def of_type(declaration: Declaration, name: str, key: str) -> Iterator[Question]:
+    """The trait of the type, as its bounds allow it, and with the same bound on its parameters."""
+    types = [p for p in declaration.params if p.kind == "type"]
+    for more in [[], [(Parameter(p.name), Bound(key)) for p in types]] if types else [[]]:
+        params = [Param(p.kind, p.name) for p in declaration.params]
+        yield Question(f"{declaration.name}: {name}", declaration.itself(), Bound(key), params, [*declaration.predicates, *more], crate="shapes")
+
+
 class SameReach(unittest.TestCase):
     def hold(self, found: World, questions: list[Question]) -> None:
         whole = Translation(found)
@@ -64,9 +72,10 @@ class SameReach(unittest.TestCase):
     def test_of_generated_questions(self) -> None:
         found = world("shapes")
         keys = {name: found.pages.key(TRAITS[name]) for name in ("Send", "Clone", "Debug")}
-        asked = auto_questions(found, "shapes", {name: key for name, key in keys.items() if key})
-        self.assertGreater(len(asked), 20)
-        self.hold(found, list(asked.values()))
+        asked = [question for declaration in found.crates["shapes"].declarations.values() if not declaration.is_trait
+                 for name, key in keys.items() if key for question in of_type(declaration, name, key)]
+        self.assertGreater(len(asked), 40)
+        self.hold(found, asked)
 
     def test_patterns_are_followed(self) -> None:
         """A clause on an associated type leads through the trait that asks patterns, what the pattern means, and the fields of a cut struct."""

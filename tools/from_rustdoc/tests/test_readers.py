@@ -102,11 +102,11 @@ class StdPages(unittest.TestCase):
 
 
 class Json(unittest.TestCase):
-    def test_another_number_of_the_format_is_refused(self) -> None:
+    def test_what_is_no_json_of_a_whole_crate_is_refused(self) -> None:
         with open(kept("before"), encoding="utf-8") as handle:
             data = json.load(handle)
         with tempfile.TemporaryDirectory() as folder:
-            for change, why in [({"format_version": 58}, "the format number 58, and 57 alone is known"), ({"includes_private": False}, "private items")]:
+            for change, why in [({"includes_private": False}, "private items")]:
                 file = os.path.join(folder, "x.json")
                 with open(file, "w", encoding="utf-8") as handle:
                     json.dump({**data, **change}, handle)

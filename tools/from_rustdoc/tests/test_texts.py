@@ -43,7 +43,7 @@ class Texts(unittest.TestCase):
         number = next(n for n, place in enumerate(places["shapes"], 1) if "unsafe fn" in place[1])
         told = rendered(refusal(f"overlap impl {number} with shapes 1", "shapes", places), Sources())
         self.assertIn("shapes.rs:", told)
-        self.assertIn("rests on a loss", told)
+        self.assertIn("rests on header: an unsafe or foreign fn", told)
 
     def test_a_dyn_of_a_trait_with_a_lost_supertrait_is_not_written(self) -> None:
         found = translation("shapes")
