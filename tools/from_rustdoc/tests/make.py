@@ -33,7 +33,7 @@ MORE = ("core/marker/trait.Send.html core/marker/trait.Sync.html core/marker/tra
         "core/option/enum.Option.html alloc/vec/struct.Vec.html alloc/boxed/struct.Box.html alloc/string/struct.String.html "
         "alloc/alloc/struct.Global.html core/alloc/trait.Allocator.html core/cell/struct.Cell.html core/marker/struct.PhantomData.html "
         "core/iter/traits/collect/trait.IntoIterator.html core/iter/traits/iterator/trait.Iterator.html alloc/vec/struct.IntoIter.html alloc/rc/struct.Rc.html "
-        "core/fmt/type.Result.html core/result/enum.Result.html core/fmt/struct.Error.html core/marker/trait.Tuple.html").split()
+        "core/fmt/type.Result.html core/result/enum.Result.html core/fmt/struct.Error.html core/marker/trait.Tuple.html core/num/nonzero/trait.ZeroablePrimitive.html core/num/trait.ZeroablePrimitive.html").split()
 
 
 def trimmed(data: dict[str, Any]) -> dict[str, Any]:
@@ -157,6 +157,7 @@ def cut_down(kept: dict[str, str], keys: set[Any], pages: Pages) -> dict[str, st
 
 def shorter(fragment: str) -> str:
     """Links alone are kept of the markup."""
+    fragment = re.sub(r'<div class="where">|<span class="where[^>]*>', " ", fragment)
     return re.sub(r"<(?!/?a\b|br)[^>]*>", "", re.sub(r' title="[^"]*"', "", re.sub("<wbr>", "", fragment)))
 
 

@@ -1,14 +1,18 @@
-"""What is written of the crate `shapes`, one item for each encoding and each loss."""
+"""What is written of the crate `shapes`, one item for each encoding and each loss; and std in more crates than one."""
 from __future__ import annotations
 
 import os
 import unittest
+from unittest import mock
 
+from .. import split
+from ..build import Translation
 from ..checker import check_texts
 from ..messages import Sources, rendered
+from ..program import proved_program, run
 from ..report import Report
 from ..verdicts import refusal
-from .common import HERE, crate_part, texts, translation
+from .common import HERE, crate_part, texts, translation, world
 
 
 class Texts(unittest.TestCase):
@@ -49,3 +53,26 @@ class Texts(unittest.TestCase):
         found = translation("shapes")
         same = next(d for d in found.renderer.traits.values() if d.name == "Same")
         self.assertTrue(found.renderer.lost(same))
+
+
+class Split(unittest.TestCase):
+    """As much of std as can goes before `alloc`: no impl becomes one that only another crate may have."""
+
+    def setUp(self) -> None:
+        with mock.patch.object(split, "AT_MOST", 0):
+            self.found = Translation(world("ab", "user"), whole_std=True)
+            self.found.build()
+
+    def test_a_trait_stays_with_an_impl_that_only_its_crate_may_have(self) -> None:
+        text = texts(self.found)["upper"]
+        before, after = text[:text.index("crate alloc ")], text[text.index("crate alloc "):]
+        self.assertIn("\ntrait BitAnd<p_Rhs>\n", before)
+        self.assertIn("\ntrait BitOr<p_Rhs>\n", after)
+        self.assertIn("\nimpl<T> BitOr<NonZero<T>> for T where ", after)
+
+    @unittest.skipUnless(proved_program(), "there is no proved program of these sources")
+    def test_all_crates_are_accepted(self) -> None:
+        for mode, text in texts(self.found).items():
+            answer = run(text)
+            self.assertIn("core_ops", answer.crates)
+            self.assertEqual(answer.refusals(), {}, mode)

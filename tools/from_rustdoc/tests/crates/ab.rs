@@ -39,3 +39,8 @@ pub type Kept<T> = Result<T, Sb>;
 pub struct Wide<A, B, C, D, E, F, G, H, I, J, K, L, M, N, O, P, Q>(A, B, C, D, E, F, G, H, I, J, K, L, M, N, O, P, Q);
 impl Ta for Wide<u8, u8, u8, u8, u8, u8, u8, u8, u8, u8, u8, u8, u8, u8, u8, u8, u16> {}
 impl<A, B, C, D, E, F, G, H, I, J, K, L, M, N, O, P, Q> Clone for Wide<A, B, C, D, E, F, G, H, I, J, K, L, M, N, O, P, Q> { fn clone(&self) -> Self { loop {} } }
+
+// Operators, of which std has an impl that only their own crate may have.
+pub struct Bits(std::num::NonZero<u8>);
+impl std::ops::BitOr<u8> for Bits { type Output = u8; fn bitor(self, other: u8) -> u8 { self.0.get() | other } }
+impl std::ops::BitAnd<u8> for Bits { type Output = u8; fn bitand(self, other: u8) -> u8 { self.0.get() & other } }
