@@ -2,8 +2,9 @@
 from __future__ import annotations
 
 from .headers import FLOATS, Named_, NotUnderstood, Reader
+from .render import is_packed
 from .show import Show
-from .terms import Named, Pointer, Primitive, Reference, Tuple, Type, rebuilt
+from .terms import Constant, Named, Pointer, Primitive, Reference, Tuple, Type, rebuilt
 from .world import World
 
 
@@ -24,7 +25,12 @@ class Back:
 
     def type(self, term: Type) -> Type:
         term = rebuilt(term, self.type)
-        if isinstance(term, Named) and term.key not in self.world.declarations:
+        if isinstance(term, Named) and term.key in self.world.shape_of_key:
+            return self.world.shape_of_key[term.key].dyn(term.arguments)
+        known = self.world.known(term.key) if isinstance(term, Named) else None
+        if isinstance(term, Named) and known is not None and is_packed(known.params):
+            return Named(term.key, tuple(item for a in term.arguments for item in (a.items if isinstance(a, Tuple) else (a,))))
+        if isinstance(term, Named) and known is None:
             if term.key in FLOATS:
                 return Primitive(term.key)
             if term.key.startswith("Tuple"):
@@ -35,21 +41,21 @@ class Back:
 
     def values(self, printed: str) -> str:
         """`?x = Ref_<str>, ?y = u8` as `?x = &str, ?y = u8`; what cannot be read back stays as it was printed."""
-        if not printed:
-            return ""
+        found = self.found(printed)
+        return ", ".join(f"?{name} = {self.show.type(value)}" for name, value in found.items()) if found else printed
+
+    def found(self, printed: str) -> dict[str, Type]:
+        """The values of the unknowns, by their names; none where they cannot be read back."""
+        found: dict[str, Type] = {}
         reader = Reader(printed, self.lookup, unknowns=True)
-        written = []
         try:
-            while True:
+            while not reader.at_end():
                 name = reader.peek()[1]
                 reader.at += 1
                 reader.need("=")
-                if reader.peek()[0] == "number":
-                    written.append(f"{name} = {reader.constant()}")
-                else:
-                    written.append(f"{name} = {self.show.type(self.type(reader.type()))}")
-                if not reader.eat(","):
-                    break
+                found[name[1:]] = Constant(reader.constant()) if reader.peek()[0] == "number" else self.type(reader.type())
+                if not reader.eat(",") and not reader.at_end():
+                    return {}
         except (NotUnderstood, IndexError):
-            return printed
-        return ", ".join(written) if reader.at_end() else printed
+            return {}
+        return found

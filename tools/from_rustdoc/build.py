@@ -3,17 +3,22 @@ from __future__ import annotations
 
 import sys
 from dataclasses import dataclass, field
-from typing import Iterable, Iterator, Optional
+from typing import TYPE_CHECKING, Iterable, Iterator, Optional
 
 from .declare import Cut, Declarer
 from .headers import PRIMITIVES
 from .html_docs import is_std_key
 from .impls import ImplWriter, Line, Written
-from .render import ALWAYS, MAXIMAL_ITEMS, Renderer
+from .objects import is_object
+from .project import APPLY, WRAP
+from .render import ALWAYS, FIELD, MAXIMAL_ITEMS, Renderer, Scope, names_of
 from .split import split
 from .standard import FN_TRAITS, Header, Standard
 from .terms import (Array, Bound, Declaration, Impl, Lossy, Named, Never, Parameter, Pointer, Primitive, Reference, Type, keys_of)
 from .world import STD_TEXTS, World, crate_name
+
+if TYPE_CHECKING:
+    from .cone import Chosen
 
 AUTO_TRAITS = {"Send": "core/marker/trait.Send.html", "Sync": "core/marker/trait.Sync.html", "Unpin": "core/marker/trait.Unpin.html",
                "UnwindSafe": "core/panic/unwind_safe/trait.UnwindSafe.html",
@@ -45,9 +50,23 @@ class CrateText:
         return len(self.pieces)
 
 
+def without_empty(crates: list[CrateText], keep: set[str]) -> list[CrateText]:
+    """The crates that have items, and those to keep. Each uses what it has seen of them, directly or through others."""
+    seen: dict[str, dict[str, None]] = {}
+    for crate in crates:
+        seen[crate.name] = {}
+        for used in crate.uses:
+            seen[crate.name].update({**seen.get(used, {}), used: None})
+    there = {crate.name for crate in crates if crate.pieces or crate.name in keep}
+    return [CrateText(c.name, [u for u in seen[c.name] if u in there], c.pieces) for c in crates if c.name in there]
+
+
 class Translation:
-    def __init__(self, world: World, whole_std: bool = False, quiet: bool = True) -> None:
+    """All crates of a world, or the part that `cone` has chosen."""
+
+    def __init__(self, world: World, whole_std: bool = False, quiet: bool = True, cone: Optional[Chosen] = None) -> None:
         self.world = world
+        self.cone = cone
         self.standard: Standard = world.standard
         self.renderer = Renderer(world)
         self.impl_writer = ImplWriter(self.renderer, self.standard)
@@ -58,10 +77,13 @@ class Translation:
         self.autos: dict[str, str] = {}
         self.of_crates: list[Written] = []
         self.of_std: list[Written] = []
+        self.of_objects: list[Written] = []
         self.crates: list[CrateText] = []
         self.cuts: list[Cut] = []
         self.lost_supers: list[str] = []
         self.roots: list[Type | Bound] = []
+        self.keep: set[str] = set()
+        self.has_begun = False
 
     def say(self, text: str) -> None:
         if not self.quiet:
@@ -71,6 +93,12 @@ class Translation:
     def begin(self) -> None:
         for name in ALWAYS:
             self.renderer.need_special(name)
+        if self.cone is not None:
+            self.renderer.names_values = bool(self.roots)
+            self.leaves |= self.cone.leaves
+            for root in self.roots:
+                self.need_root(root)
+            return
         for name, page in AUTO_TRAITS.items():
             self.autos[name] = self.needed_page(page)
         for page in USUAL_TRAITS:
@@ -82,6 +110,7 @@ class Translation:
                     self.mark(keys_of(term))
             for impl in crate.impls:
                 self.mark_impl(impl)
+        self.renderer.names_values = bool(self.roots)
         for root in self.roots:
             self.need_root(root)
 
@@ -141,14 +170,17 @@ class Translation:
                     continue
                 if key in self.renderer.structs or key in self.renderer.traits:
                     continue
-                known = self.world.declarations.get(key)
+                known = self.world.known(key)
                 if known is None or (known.key not in self.renderer.structs and known.key not in self.renderer.traits):
                     return key.split("@")[-1].split(".")[-1]
         return None
 
     # ---- rounds
     def build(self) -> None:
-        self.begin()
+        """Gathers until nothing is added; once more where something was asked for since."""
+        if not self.has_begun:
+            self.begin()
+            self.has_begun = True
         rounds = 0
         while self.renderer.grew and rounds < MAXIMAL_ROUNDS:
             self.renderer.grew = False
@@ -156,19 +188,65 @@ class Translation:
             self.renderer.lost_supers.clear()
             for trait in list(self.renderer.traits.values()):
                 self.renderer.lost(trait)
-            self.of_crates = [self.impl_writer.write(impl) for crate in self.world.crates.values() for impl in crate.impls]
-            self.of_std = []
-            for declaration in list(self.renderer.traits.values()):
-                if is_std_key(declaration.key):
-                    self.std_trait(declaration)
-            for declaration in list(self.renderer.structs.values()):
-                if is_std_key(declaration.key):
-                    self.std_struct(declaration)
+            if self.cone is not None:
+                written = [self.impl_writer.write(impl) for impl in self.cone.impls.values() if not is_object(impl)]
+                self.of_crates = [w for w in written if w.impl.crate not in STD_TEXTS]
+                self.of_std = [w for w in written if w.impl.crate in STD_TEXTS]
+                self.need_fields()
+            else:
+                self.all_impls()
+            self.of_objects = [self.impl_writer.write(impl) for impl in self.objects() if self.cone is None or id(impl) in self.cone.impls]
             self.compose()
             self.say(f"round {rounds}: {len(self.renderer.structs)} types, {len(self.renderer.traits)} traits, "
                      f"{len(self.of_crates)} impls of crates, {len(self.of_std)} of std")
         if self.renderer.grew:
             raise Lossy("what std's impls need kept growing; this is a fault of the translator")
+
+    def objects(self) -> list[Impl]:
+        """The impls that each `dyn` with associated types has by itself."""
+        return [impl for key in list(self.renderer.structs) if key in self.world.shape_of_key for impl in self.world.shape_of_key[key].impls]
+
+    def need_fields(self) -> None:
+        """What the fields of structs name, and those of what they name: each round of its own would find one layer of it."""
+        todo, seen = list(self.renderer.structs.values()), set(self.renderer.structs)
+        while todo:
+            declaration = todo.pop()
+            for term in [] if is_std_key(declaration.key) or declaration.is_opaque else declaration.fields:
+                try:
+                    self.renderer.type(term, Scope(FIELD, names_of(declaration.params), predicates=declaration.predicates))
+                except Lossy:
+                    pass
+            todo += [d for key, d in self.renderer.structs.items() if key not in seen]
+            seen |= set(self.renderer.structs)
+
+    def all_impls(self) -> None:
+        self.of_crates = [self.impl_writer.write(impl) for crate in self.world.crates.values() for impl in crate.impls]
+        self.of_std = []
+        for declaration in list(self.renderer.traits.values()):
+            if is_std_key(declaration.key):
+                self.std_trait(declaration)
+        for declaration in list(self.renderer.structs.values()):
+            if is_std_key(declaration.key):
+                self.std_struct(declaration)
+
+    def taken(self, declaration: Declaration, impl: Impl) -> bool:
+        """Whether an impl on the page of a trait of std is one for the text, if all that it names is there."""
+        return (impl.trait is not None and not self.of_another(declaration, impl) and not (declaration.is_auto and isinstance(impl.self_type, Named))
+                and not self.core_has(declaration, impl) and not self.built_in(declaration, impl))
+
+    @staticmethod
+    def of_another(declaration: Declaration, impl: Impl) -> str:
+        """Why a header on a trait's page is no impl of it; empty where it is one."""
+        assert impl.trait is not None
+        if impl.trait.key != declaration.key:
+            return "the header is of another trait than its page"
+        if impl.trait.arguments == (Never(),) and isinstance(impl.self_type, Parameter) and declaration.name == "From":
+            return "a reservation, and no impl"
+        return ""
+
+    @staticmethod
+    def built_in(declaration: Declaration, impl: Impl) -> bool:
+        return declaration.is_auto and not impl.is_negative and not isinstance(impl.self_type, (Reference, Pointer))
 
     def std_trait(self, declaration: Declaration) -> None:
         if declaration.key not in self.std_impls:
@@ -183,11 +261,8 @@ class Translation:
             self.settle(header, "reported: the header is not understood: " + impl.error)
             self.of_std.append(Written(impl, losses=["the header is not understood: " + impl.error]))
             return
-        if impl.trait.key != declaration.key:
-            self.settle(header, "reported: the header is of another trait than its page")
-            return
-        if impl.trait.arguments == (Never(),) and isinstance(impl.self_type, Parameter) and declaration.name == "From":
-            self.settle(header, "reported: a reservation, and no impl")
+        if self.of_another(declaration, impl):
+            self.settle(header, "reported: " + self.of_another(declaration, impl))
             return
         if declaration.is_auto and isinstance(impl.self_type, Named):
             absent = self.absent(impl)
@@ -200,7 +275,7 @@ class Translation:
         if self.core_has(declaration, impl):
             self.settle(header, "in the text: `core` has it")
             return
-        if declaration.is_auto and not impl.is_negative and not isinstance(impl.self_type, (Reference, Pointer)):
+        if self.built_in(declaration, impl):
             self.settle(header, "in the text: the built-in rule says it")
             return
         self.take(header, impl)
@@ -210,7 +285,7 @@ class Translation:
             self.std_impls[declaration.key] = self.standard.auto_impls(declaration.key)
         for header, impl in self.std_impls[declaration.key]:
             assert impl.trait is not None
-            trait = self.world.declarations.get(impl.trait.key)
+            trait = self.world.known(impl.trait.key)
             if trait is None or trait.key not in self.renderer.traits:
                 self.settle(header, f"pruned: {self.standard.declaration(impl.trait.key).name} is not in the text")
             elif isinstance(impl.self_type, Named) and impl.self_type.key == declaration.key:
@@ -241,12 +316,20 @@ class Translation:
         return False
 
     # ---- the crates
+    def items(self) -> list[Declaration]:
+        """Traits and structs; of a part those of a crate in the crate's order, in which the whole has them, so that the same are cut."""
+        items = list(self.renderer.traits.values()) + list(self.renderer.structs.values())
+        if self.cone is not None:
+            places = {item.key: n for crate in self.world.crates.values() if crate.name in {d.crate for d in items} for n, item in enumerate(crate.items)}
+            items.sort(key=lambda d: (not d.is_trait, places.get(d.key, -1)))
+        return items
+
     def compose(self) -> None:
         self.crates, self.cuts, self.lost_supers = [], [], []
-        items = list(self.renderer.traits.values()) + list(self.renderer.structs.values())
+        items = self.items()
         not_given = sorted({d.crate for d in items} - set(self.world.crates) - set(STD_TEXTS))
         impls: dict[str, list[Written]] = {}
-        for written in self.of_std + self.of_crates:
+        for written in self.of_objects + self.of_std + self.of_crates:
             impls.setdefault(written.impl.crate, []).append(written)
         for name in [*STD_TEXTS, *not_given, *self.world.crates]:
             if name == "alloc":
@@ -260,9 +343,11 @@ class Translation:
                 text.pieces += self.specials()
             self.declarations(text, [d for d in items if d.crate == name], impls.get(name, []))
             self.crates += split(text, CrateText) if name == "alloc" else [text]
+        if self.cone is not None:
+            self.crates = without_empty(self.crates, self.keep)
 
     def declarations(self, text: CrateText, mine: list[Declaration], impls: list[Written]) -> None:
-        declarer = Declarer(self.renderer, mine)
+        declarer = Declarer(self.impl_writer.projector, mine)
         declarer.write()
         self.lost_supers += declarer.lost
         self.cuts += declarer.cuts
@@ -270,6 +355,8 @@ class Translation:
             text.pieces.append(Piece(Line(upper, "item"), Line(lower, "item"), declaration.source, declaration=declaration))
         if text.name == "alloc":
             text.pieces += self.special_impls()
+        for line in map(Line, self.impl_writer.projector.lines(text.name)):
+            text.pieces.append(Piece(line, line, "a pattern", True))
         has: set[tuple[str, str]] = set()
         for written in impls:
             text.pieces += self.pieces_of(written)
@@ -286,6 +373,8 @@ class Translation:
         for trait in self.renderer.traits.values():
             seen = is_std_key(trait.key) or trait.crate == cut.declaration.crate or trait.crate in self.world.uses.get(cut.declaration.crate, [])
             if not trait.is_auto or not seen or (cut.declaration.key, trait.key) in has:
+                continue
+            if self.cone is not None and (self.world.name(cut.declaration), self.world.name(trait)) not in self.cone.asked:
                 continue
             if is_std_key(cut.declaration.key) and not is_std_key(trait.key):
                 continue
@@ -310,7 +399,7 @@ class Translation:
 
     def specials(self) -> list[Piece]:
         """`Never_`, which nothing has, and the structs that stand for references, pointers, floats and long tuples."""
-        lines = ["fundamental trait Never_"]
+        lines = ["fundamental trait Never_", f"fundamental trait {APPLY}<V>", f"struct {WRAP}<K>"]
         for name in self.renderer.special:
             if name in ALWAYS:
                 lines.append(ALWAYS[name])
@@ -346,6 +435,11 @@ class Translation:
         lines = [f"impl{params} {trait}{'' if declaration.name == 'FnPtr' else f'<{inputs}>'} for {function}"]
         if (declaration.key, "Output") in self.renderer.companions:
             lines.append(f"impl{params} {self.renderer.companion(declaration, 'Output')}<{inputs}, R> for {function}")
+        if declaration.key in self.renderer.anys:
+            lines.append(f"impl{params} {self.renderer.any_name(declaration)} for {function}")
+        if (declaration.key, "Output") in self.renderer.thens:
+            then = self.renderer.then_name(declaration, "Output")
+            lines.append(f"impl<{', '.join(names + ['R', 'K_'])}> {then}<{inputs}, {WRAP}<K_>> for {function} where K_: {APPLY}<R>")
         return lines
 
     # ---- texts

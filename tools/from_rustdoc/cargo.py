@@ -1,25 +1,54 @@
-"""Projects: runs `cargo doc` with the flags that make rustdoc's JSON, and reads `cargo metadata` for what uses what."""
+"""Projects: runs `cargo doc`, which makes rustdoc's JSON of each library, and reads `cargo metadata` for what uses what."""
 from __future__ import annotations
 
 import json
 import os
+import shutil
 import subprocess
 import sys
 from dataclasses import dataclass, field
 from typing import Any
 
+from .doc_cfg import Cfgs
 from .terms import BadInput
 
 FLAGS = "-Z unstable-options --output-format json --document-private-items --document-hidden-items"
+HERE = os.path.dirname(os.path.abspath(__file__))
+PINS = ("rust-toolchain.toml", "rust-toolchain")
+
+
+@dataclass
+class Links:
+    """How the crates of one build belong together: which crates each one uses. Of a crate that is there in two versions each has a name with
+    its version, by its file and by that of its compiled form. `cfgs` of a crate are known if it was documented here, `doc_cfgs` is what
+    depends on `cfg(doc)`, where that was looked for; `root` is the workspace's folder, from which rustdoc names its sources."""
+    uses: dict[str, list[str]] = field(default_factory=dict)
+    names: dict[str, str] = field(default_factory=dict)
+    artifacts: dict[str, str] = field(default_factory=dict)
+    cfgs: dict[str, Cfgs] = field(default_factory=dict)
+    doc_cfgs: dict[str, list[str]] | None = None
+    root: str = ""
+
+    def kept(self) -> dict[str, Any]:
+        return {"uses": self.uses, "names": self.names, "artifacts": self.artifacts, "doc_cfgs": self.doc_cfgs, "root": self.root}
 
 
 @dataclass
 class Project:
-    """`uses` has the crates that each crate uses, `files` the JSON of each crate that has one, `members` the workspace's own crates."""
+    """`files` has the JSON of each crate that has one, `members` the workspace's own crates; `folder` is where the documents are."""
+    links: Links = field(default_factory=Links)
     members: list[str] = field(default_factory=list)
-    uses: dict[str, list[str]] = field(default_factory=dict)
     files: dict[str, str] = field(default_factory=dict)
     doubled: list[str] = field(default_factory=list)
+    folder: str = ""
+
+    @property
+    def uses(self) -> dict[str, list[str]]:
+        return self.links.uses
+
+    @property
+    def root(self) -> str:
+        return self.links.root
 
     def closure(self, names: list[str]) -> list[str]:
         found: dict[str, None] = {}
@@ -32,61 +61,92 @@ class Project:
         return [name for name in found if name in self.files]
 
 
+@dataclass
+class Unit:
+    """A library that was documented in this run."""
+    file: str
+    cfgs: Cfgs
+
+
 def command(words: list[str], folder: str, environment: dict[str, str] | None = None) -> str:
     try:
         done = subprocess.run(words, cwd=folder, env={**os.environ, **(environment or {})}, stdout=subprocess.PIPE, text=True)
     except OSError as error:
         raise BadInput(f"`{words[0]}` cannot be run: {error}")
     if done.returncode != 0:
-        raise BadInput(f"`{' '.join(words)}` failed")
+        raise BadInput(f"`{' '.join(words)}` failed" + pinned(folder))
     return done.stdout
 
 
-def docs_folder(given: str | None) -> str:
-    """The folder of std's documents."""
+def pinned(folder: str) -> str:
+    """What pins the toolchain of the folder, to be told where that may be the reason."""
+    place = os.path.abspath(folder)
+    while not os.environ.get("RUSTUP_TOOLCHAIN"):
+        for name in PINS:
+            if os.path.exists(os.path.join(place, name)):
+                return f"; {os.path.join(place, name)} pins the toolchain: RUSTUP_TOOLCHAIN=stable, for one, names another"
+        if place == os.path.dirname(place):
+            return ""
+        place = os.path.dirname(place)
+    return ""
+
+
+def docs_folder(given: str | None, folder: str = ".") -> str:
+    """The folder of std's documents, those of the toolchain that the project's folder has."""
     if given:
+        if not os.path.exists(os.path.join(given, "core")) and not given.endswith(".json"):
+            raise BadInput(f"{given} has no documents of std: it needs the folders `core`, `alloc` and `std`")
         return given
-    root = command(["rustc", "--print", "sysroot"], ".").strip()
-    folder = os.path.join(root, "share", "doc", "rust", "html")
-    if not os.path.isdir(os.path.join(folder, "core")):
-        raise BadInput(f"std's documents are not in {folder}: install them by `rustup component add rust-docs`, or name their folder by --docs")
-    return folder
+    root = command(["rustc", "--print", "sysroot"], folder).strip()
+    found = os.path.join(root, "share", "doc", "rust", "html")
+    if not os.path.isdir(os.path.join(found, "core")):
+        raise BadInput(f"std's documents are not in {found}: install them by `rustup component add rust-docs`, or name their folder by --docs")
+    return found
 
 
 def library_name(package: dict[str, Any]) -> str | None:
     for target in package["targets"]:
         if any(kind in ("lib", "rlib", "dylib", "cdylib", "staticlib") for kind in target["kind"]):
-            return target["name"].replace("-", "_")
+            return str(target["name"]).replace("-", "_")
     return None
 
 
-def read_metadata(text: str, doc_folder: str) -> Project:
+def read_metadata(text: str, units: dict[str, Unit] | None = None, artifacts: dict[str, str] | None = None) -> Project:
+    """A project by cargo's metadata. `units` are the libraries that were documented, `artifacts` the compiled files, by the package's id: without
+    them it is known what uses what."""
     data = json.loads(text)
-    names = {package["id"]: library_name(package) for package in data["packages"]}
+    names = unique_names(data, units)
     project = Project()
-    seen: dict[str, str] = {}
     for node in data["resolve"]["nodes"]:
         name = names.get(node["id"])
         if name is None:
             continue
-        if name in seen:
+        if name in project.uses:
             project.doubled.append(name)
-        seen[name] = node["id"]
-        used = []
+        uses = project.uses.setdefault(name, [])
         for dependency in node["deps"]:
             kinds = [kind["kind"] for kind in dependency.get("dep_kinds", [])] or [None]
             other = names.get(dependency["pkg"])
-            if other and None in kinds:
-                used.append(other)
-        project.uses.setdefault(name, [])
-        project.uses[name] += [n for n in used if n not in project.uses[name]]
-        file = os.path.join(doc_folder, f"{name}.json")
-        if os.path.exists(file):
-            project.files[name] = file
-    for name in project.doubled:
-        project.files.pop(name, None)
+            if other and None in kinds and other not in uses:
+                uses.append(other)
+        if units is not None:
+            project.files[name] = units[node["id"]].file
+            project.links.cfgs[name] = units[node["id"]].cfgs
+    project.links.names = {file: name for name, file in project.files.items() if "@" in name}
+    project.links.artifacts = {stem: names[i] for stem, i in (artifacts or {}).items() if "@" in names.get(i, "")}
+    project.links.root = data.get("workspace_root", "")
     project.members = [n for n in (names.get(i) for i in data["workspace_members"]) if n]
     return project
+
+
+def unique_names(data: dict[str, Any], units: dict[str, Unit] | None) -> dict[str, str]:
+    """The libraries that count, by their packages: of two versions of one crate each has its version in its name, if both are documented."""
+    found = {p["id"]: (library_name(p) or "", str(p.get("version", ""))) for p in data["packages"]}
+    there = {i: entry for i, entry in found.items() if entry[0] and (units is None or i in units)}
+    count: dict[str, int] = {}
+    for name, _ in there.values():
+        count[name] = count.get(name, 0) + 1
+    return {i: f"{name}@{version}" if units is not None and count[name] > 1 else name for i, (name, version) in there.items()}
 
 
 def shared_flags(extra: list[str]) -> list[str]:
@@ -100,16 +160,71 @@ def shared_flags(extra: list[str]) -> list[str]:
     return found
 
 
-def document(folder: str, extra: list[str], quiet: bool = False) -> Project:
-    """Documents the project and all that it uses, into `target/from-rustdoc`, and reads which crate uses which."""
-    if not os.path.exists(os.path.join(folder, "Cargo.toml")):
-        raise BadInput(f"{folder} has no Cargo.toml")
-    shared = shared_flags(extra)
-    host = next(line.split()[1] for line in command(["rustc", "-vV"], folder).splitlines() if line.startswith("host:"))
-    data = command(["cargo", "metadata", "--format-version", "1", "--filter-platform", host] + shared, folder)
-    target = os.path.join(json.loads(data)["target_directory"], "from-rustdoc")
+def document(folder: str, extra: list[str], quiet: bool = False, manifest: str | None = None, target: str | None = None) -> Project:
+    """Documents the project and all that it uses, into `target/from-rustdoc`, and reads which crate uses which. Another project's manifest
+    is documented as this folder would be, by its toolchain and its configuration. What an earlier run has left there does not count."""
+    if not os.path.exists(manifest or os.path.join(folder, "Cargo.toml")):
+        raise BadInput(f"{manifest or folder} has no Cargo.toml" if manifest is None else f"there is no {manifest}")
+    of = ["--manifest-path", os.path.abspath(manifest)] if manifest else []
+    data = metadata(folder, extra, of)
+    target = target or target_of(data)
     if not quiet:
-        print("from-rustdoc: documenting the project and what it uses (cargo doc)", file=sys.stderr, flush=True)
-    flags = (os.environ.get("RUSTDOCFLAGS", "") + " " + FLAGS).strip()
-    command(["cargo", "doc", "--target-dir", target] + extra, folder, {"RUSTC_BOOTSTRAP": "1", "RUSTDOCFLAGS": flags})
-    return read_metadata(data, os.path.join(target, "doc"))
+        print(f"from-rustdoc: documenting {manifest or 'the project'} and what it uses (cargo doc)", file=sys.stderr, flush=True)
+    room = os.path.join(target, f"json-{os.getpid()}")
+    try:
+        words = ["cargo", "doc", "--target-dir", target, "--message-format", "json-render-diagnostics"]
+        said = command(words + of + extra, folder, environment(room))
+        place = os.path.join(target, "json")
+        shutil.rmtree(place, ignore_errors=True)
+        if os.path.isdir(room):
+            os.replace(room, place)
+    finally:
+        shutil.rmtree(room, ignore_errors=True)
+    target_cfgs = frozenset(command(["rustc", "--print", "cfg"], folder).split("\n"))
+    project = read_metadata(data, units_of(json.loads(data), place, target_cfgs), artifacts_of(said))
+    project.folder = target
+    return project
+
+
+def environment(room: str) -> dict[str, str]:
+    """What has cargo call rustdoc for JSON. Build scripts do not see it: what they find of the compiler is as in any build."""
+    flags = {"RUSTDOC": os.path.join(HERE, "rustdoc.sh"), "FROM_RUSTDOC_JSON": os.path.abspath(room), "FROM_RUSTDOC_FLAGS": FLAGS}
+    if "RUSTDOC" in os.environ:
+        flags["FROM_RUSTDOC_TOOL"] = os.environ["RUSTDOC"]
+    if "RUSTC_WORKSPACE_WRAPPER" not in os.environ:
+        flags["RUSTC_WORKSPACE_WRAPPER"] = os.path.join(HERE, "rustc.sh")
+    return flags
+
+
+def units_of(data: dict[str, Any], place: str, target_cfgs: frozenset[str]) -> dict[str, Unit]:
+    """What was documented, by the package's id."""
+    packages = {os.path.dirname(package["manifest_path"]): package["id"] for package in data["packages"]}
+    found: dict[str, Unit] = {}
+    for name in sorted(os.listdir(place)) if os.path.isdir(place) else []:
+        files = [file for file in os.listdir(os.path.join(place, name)) if file.endswith(".json")]
+        with open(os.path.join(place, name, "unit"), encoding="utf-8") as handle:
+            manifest, *cfgs = handle.read().splitlines()
+        if files and manifest in packages:
+            found[packages[manifest]] = Unit(os.path.join(place, name, files[0]), target_cfgs.union(cfgs))
+    return found
+
+
+def artifacts_of(said: str) -> dict[str, str]:
+    """The package of each compiled file, by the file's name without its ending, of cargo's messages."""
+    found: dict[str, str] = {}
+    for line in said.splitlines():
+        message = json.loads(line) if line.startswith("{") else {}
+        if message.get("reason") == "compiler-artifact":
+            for file in message["filenames"]:
+                found[os.path.basename(file).rsplit(".", 1)[0]] = message["package_id"]
+    return found
+
+
+def metadata(folder: str, extra: list[str], of: list[str]) -> str:
+    host = next(line.split()[1] for line in command(["rustc", "-vV"], folder).splitlines() if line.startswith("host:"))
+    return command(["cargo", "metadata", "--format-version", "1", "--filter-platform", host] + of + shared_flags(extra), folder)
+
+
+def target_of(data: str) -> str:
+    """Where the documents of a project are, by its metadata."""
+    return os.path.join(json.loads(data)["target_directory"], "from-rustdoc")

@@ -4,22 +4,32 @@ from __future__ import annotations
 import argparse
 import hashlib
 import json
+import multiprocessing
 import os
+import sqlite3
 import sys
-from typing import Any, Optional
+import traceback
+from concurrent.futures import ProcessPoolExecutor
+from dataclasses import replace
+from typing import Any, Callable, Iterator, Optional
 
 from . import cargo
+from .baseline import latest_tag
+from .answer import Answerer
 from .build import Translation
 from .checker import check_texts
+from .cone import cone_of_crate
 from .html_docs import Pages
-from .later import added_impls, ask_program, changed_auto_traits
-from .program import Answer, run
-from .questions import Asker, QuestionReader
-from .report import Report, explain_refusal
-from .show import Show
+from .kept import Damaged, KeptPages, KeptStandard, remove_stores
+from .later_command import later
+from .messages import NO_ANSWER, Message, Output, Sources, worst
+from .program import run
+from .questions import QuestionReader
+from .report import Report
 from .standard_json import JsonStandard, json_folder
 from .terms import BadInput, Lossy
-from .world import World
+from .verdicts import Checked, answer_message, check_verdicts, say_answer, say_checks
+from .world import World, crate_name
 
 USAGE = """from-rustdoc: a translator of crates to texts for this program, and of its answers back. It is not proved: docs/RUSTDOC.md.
 
@@ -27,32 +37,55 @@ USAGE = """from-rustdoc: a translator of crates to texts for this program, and o
   from-rustdoc read -o BASE CRATE.json ..                writes BASE.upper.txt, BASE.lower.txt, BASE.report and BASE.map
   from-rustdoc check BASE                                is each crate coherent?
   from-rustdoc ask BASE 'smallvec::IntoIter<[u8; 4]>: Send' ..
-  from-rustdoc later [--private] OLD.json NEW.json       which impls of a release break crates that use it?
+  from-rustdoc ask --project PROJECT QUESTION ..         the same of a project, which is documented first
+  from-rustdoc later OLD.json NEW.json                   what of a release breaks crates that use it?
+  from-rustdoc later --baseline REV|FOLDER [PROJECT]     the same of a project and its older version
 
-Further flags: --docs DIR (std's documents), --program FILE (default: the built program, else the script celtisdarts),
---metadata FILE (what `cargo metadata --format-version 1` printed; read and later), --with CRATE.json (later: crates that both use),
---all-std (read: all of std that is about the traits that are named), --quiet."""
+ask: --expect yes|no (another answer is status 1), --why (the proof too, where there is one).
+later: --private (private and sealed impls too), -p NAME (this library alone), --with CRATE.json (crates that both files use).
+All: --message-format human|json, --docs DIR (std's documents), --program FILE and --program-that-explains FILE (default: the proved ones
+that are here), --metadata FILE (what `cargo metadata --format-version 1` printed; read and later), --all-std (read: all of std that is about
+the traits that are named), --jobs N (processes of a project's check), --quiet.
+
+Status: 0 fine, 1 not coherent, breaking or not as expected, 4 not settled or a changed bound, 3 no answer, 2 the words are not understood."""
+USAGE_OF_CARGO = """cargo celtisdarts: real crates, judged by Celtisdarts. It documents the project that stands here, and takes all flags of tools/from-rustdoc.
+
+  cargo celtisdarts later [--baseline REV|FOLDER] [-p NAME]    what breaks crates that use this library? (REV: the latest tag, if none is given)
+  cargo celtisdarts ask 'mine::Pool: Send' ..                  does the bound hold, and why not?
+  cargo celtisdarts check                                      is each crate coherent?
+
+--manifest-path FILE names another project; behind `--` stand flags for cargo doc."""
 
 
 def new_world(docs: Optional[str]) -> World:
     """A world with std by its JSON where that is installed, else by its HTML documents."""
     folder = cargo.docs_folder(docs)
     std = json_folder(folder)
-    return World(Pages(folder), JsonStandard(std) if std else None)
+    if std:
+        return World(Pages(folder), JsonStandard(std))
+    pages = KeptPages(folder)
+    return World(pages, KeptStandard(pages))
 
 
-def world_of(files: list[str], docs: Optional[str], uses: Optional[dict[str, list[str]]]) -> World:
+def world_of(files: list[str], docs: Optional[str], links: Optional[cargo.Links]) -> World:
     world = new_world(docs)
-    world.load(files, uses)
+    world.load(files, links)
+    keep(world)
     return world
 
 
-def uses_of(metadata: Optional[str]) -> Optional[dict[str, list[str]]]:
+def keep(world: World) -> None:
+    """What pages were looked at is kept for the next call."""
+    if isinstance(world.pages, KeptPages):
+        world.pages.store.flush()
+
+
+def links_of(metadata: Optional[str]) -> Optional[cargo.Links]:
     """Which crate uses which, by a file of cargo's metadata."""
     if not metadata:
         return None
     with open(metadata, encoding="utf-8") as handle:
-        return cargo.read_metadata(handle.read(), "").uses
+        return cargo.read_metadata(handle.read()).links
 
 
 def translated(world: World, arguments: argparse.Namespace) -> Translation:
@@ -73,41 +106,53 @@ def texts_of(translation: Translation) -> dict[str, str]:
     return texts
 
 
-def verdict_lines(summary: list[str], crates: list[str], answers: dict[str, Answer], places: dict[str, dict[str, list[list[str]]]]) -> tuple[list[str], bool]:
-    """A line for each crate: coherent, not coherent, or not settled. And whether all are coherent."""
-    lines, good = [], True
-    for crate in crates:
-        told = next((s for s in summary if s.startswith(crate + " ")), crate)
-        name, _, rest = told.partition(": ")
-        upper, lower = (answers[mode].crates.get(crate, "accepted") for mode in ("upper", "lower"))
-        if upper == "accepted":
-            # Of std, and of crates that were not given, only a refusal is told.
-            lines += [f"{name}: coherent. {rest}"] if rest else []
-            continue
-        good = False
-        word = "not settled (the upper text alone has it)" if lower == "accepted" else "not coherent"
-        mode = "upper" if lower == "accepted" else "lower"
-        lines.append(f"{name}: {word}. {rest}\n    {explain_refusal(answers[mode].crates[crate], crate, places[mode])}")
-    return lines, good
-
-
 # ---- the commands
 def read(arguments: argparse.Namespace) -> int:
-    uses = uses_of(arguments.metadata)
-    translation = translated(world_of(arguments.json, arguments.docs, uses), arguments)
+    links = links_of(arguments.metadata)
+    world = world_of(arguments.json, arguments.docs, links)
+    inputs = inputs_of(world, arguments.json, links)
+    write_map(arguments.output, {"inputs": inputs})
+    warn(world)
+    translation = translated(world, arguments)
     report = Report(translation)
-    write_all(arguments.output, report, texts_of(translation), arguments.json, arguments.docs, uses)
+    write_all(arguments.output, report, texts_of(translation), inputs)
     print("\n".join(report.summary()))
     return 0
 
 
-def write_all(base: str, report: Report, texts: dict[str, str], json_files: list[str], docs: Optional[str], uses: Optional[dict[str, list[str]]]) -> None:
-    """Both texts, the report, and the map, which also says what was read, so that `ask` can read it again."""
-    inputs = {"json": [os.path.abspath(f) for f in json_files], "docs": docs, "uses": uses}
-    files = {".upper.txt": texts["upper"], ".lower.txt": texts["lower"], ".report": report.text(), ".map": report.map(inputs, texts)}
+def inputs_of(world: World, files: list[str], links: Optional[cargo.Links]) -> dict[str, Any]:
+    """What was read, so that `ask` can read it again."""
+    links = replace(links or cargo.Links(world.uses), doc_cfgs=world.doc_cfgs)
+    return {"json": [os.path.abspath(f) for f in files], "docs": os.path.abspath(world.pages.root.rstrip("/")), "links": links.kept()}
+
+
+def world_again(known: dict[str, Any], arguments: argparse.Namespace) -> World:
+    """What the map says that was read."""
+    inputs = known.get("inputs", {})
+    if "links" not in inputs:
+        raise BadInput("the map was made by another version of this tool: read the crates again")
+    return world_of(inputs["json"], arguments.docs or inputs["docs"], cargo.Links(**inputs["links"]))
+
+
+def warn(world: World) -> None:
+    """Told once, where the crates are read."""
+    for name, places in world.doc_cfgs.items():
+        print(f"from-rustdoc: warning: rustdoc sets `cfg(doc)`, on which items of {name} depend ({', '.join(places)}): what rests on them may be "
+              "there for rustdoc alone, or be hidden from it", file=sys.stderr, flush=True)
+
+
+def write_map(base: str, found: dict[str, Any]) -> None:
+    with open(base + ".map", "w", encoding="utf-8") as handle:
+        handle.write(json.dumps(found, indent=1) + "\n")
+
+
+def write_all(base: str, report: Report, texts: dict[str, str], inputs: dict[str, Any]) -> None:
+    """Both texts, the report, and the map with what was read."""
+    files = {".upper.txt": texts["upper"], ".lower.txt": texts["lower"], ".report": report.text()}
     for ending, text in files.items():
         with open(base + ending, "w", encoding="utf-8") as handle:
             handle.write(text)
+    write_map(base, report.map(inputs, texts))
 
 
 def kept(base: str) -> dict[str, Any]:
@@ -120,6 +165,8 @@ def kept(base: str) -> dict[str, Any]:
 
 def check(arguments: argparse.Namespace) -> int:
     known = kept(arguments.base)
+    if "sums" not in known:
+        return check_project(arguments.base, known["inputs"], world_again(known, arguments), arguments)
     answers = {}
     for mode in ("upper", "lower"):
         with open(f"{arguments.base}.{mode}.txt", encoding="utf-8") as handle:
@@ -127,84 +174,134 @@ def check(arguments: argparse.Namespace) -> int:
         if hashlib.sha256(text.encode()).hexdigest() != known["sums"][mode]:
             raise BadInput(f"{arguments.base}.{mode}.txt is not what was written: read the crates again")
         answers[mode] = run(text, arguments.program)
-    lines, good = verdict_lines(known["summary"], list(answers["upper"].crates), answers, known["places"])
-    print("\n".join(lines))
-    print("`accepted` in sets of linked crates is argued of the real crates, not proved: docs/RUSTDOC.md")
-    return 0 if good else 1
+    output = output_of(arguments, known["inputs"])
+    status = say_checks(check_verdicts(known["summary"], list(answers["upper"].crates), answers, known["places"]), output)
+    output.line("`accepted` in sets of linked crates is argued of the real crates, not proved: docs/RUSTDOC.md")
+    return status
+
+
+def output_of(arguments: argparse.Namespace, inputs: dict[str, Any]) -> Output:
+    """Standard output, with the sources that places name."""
+    folders = [inputs["links"]["root"]] if inputs["links"]["root"] else [os.path.dirname(file) for file in inputs["json"]]
+    return Output(Sources({"": folders}), arguments.message_format == "json")
 
 
 def ask(arguments: argparse.Namespace) -> int:
-    inputs = kept(arguments.base)["inputs"]
-    world = world_of(inputs["json"], arguments.docs or inputs["docs"], inputs["uses"])
-    reader = QuestionReader(world)
-    questions = [reader.read(text) for text in arguments.questions]
-    translation = Translation(world, quiet=arguments.quiet)
-    translation.roots = [root for question in questions for root in question.roots()]
-    translation.build()
-    for verdict in Asker(translation, arguments.program).ask(questions):
-        print(verdict.show())
-    return 0
+    known = kept(arguments.base)
+    return answered(known["inputs"], world_again(known, arguments), arguments)
 
 
-def later(arguments: argparse.Namespace) -> int:
-    uses = uses_of(arguments.metadata)
-    worlds = [world_of([file, *arguments.with_crates], arguments.docs, uses) for file in (arguments.old, arguments.new)]
-    crates = [next(c.name for c in w.crates.values() if c.file == f) for w, f in zip(worlds, (arguments.old, arguments.new))]
-    if crates[0] != crates[1]:
-        raise BadInput(f"{crates[0]} and {crates[1]} are two crates, not two versions of one")
-    release = added_impls(worlds[0], worlds[1], crates[0], arguments.private)
-    translations = [translated(w, arguments) for w in worlds]
-    ask_program(translations[1], crates[0], release.added, arguments.program)
-    release.apart += changed_auto_traits(translations, crates[0], arguments.program)
-    show = Show(worlds[1])
-    print(f"{crates[0]} {worlds[0].crates[crates[0]].version} to {worlds[1].crates[crates[0]].version}: {len(release.added)} impls are added")
-    for line in release.new_items + [j.show(show) for j in release.added]:
-        print(line)
-    for line in release.apart:
-        print(f"apart: {line}")
-    return 1 if release.is_breaking else 0
+def answered(inputs: dict[str, Any], world: World, arguments: argparse.Namespace) -> int:
+    """Each question by itself, so that one that is not understood spoils none."""
+    reader, answerer, output = QuestionReader(world), Answerer(world, arguments.program), output_of(arguments, inputs)
+    statuses = []
+    for written in arguments.questions:
+        try:
+            for question in reader.read_all(written):
+                verdict = answerer.answer(question)
+                message = answer_message(verdict, arguments.expect, arguments.program_that_explains, arguments.why)
+                say_answer(message, verdict, output)
+                statuses.append(message.status)
+        except (BadInput, Lossy) as error:
+            statuses.append(NO_ANSWER)
+            if output.is_json:
+                output.message(Message(f"no answer to `{written}`: {error}", "not-understood", "not understood"))
+            else:
+                print(f"from-rustdoc: no answer to `{written}`: {error}", file=sys.stderr, flush=True)
+    keep(world)
+    return worst(statuses)
+
+
+def ask_project(arguments: argparse.Namespace, extra: list[str]) -> int:
+    """Questions on a project, which is documented first; cargo knows what of that is to be done."""
+    _, inputs, world = documents(arguments.project, extra, arguments)
+    return answered(inputs, world, arguments)
+
+
+def documents(folder: str, extra: list[str], arguments: argparse.Namespace) -> tuple[str, dict[str, Any], World]:
+    """Documents a project, and writes the map, which is all that questions need: the base of its files, and what was read."""
+    docs = cargo.docs_folder(arguments.docs, folder)
+    found = cargo.document(folder, extra, arguments.quiet)
+    for name in sorted(set(found.doubled)):
+        print(f"from-rustdoc: {name} is there twice with one version, and the documents of one are read", file=sys.stderr)
+    crates = found.closure(found.members)
+    if not crates:
+        raise BadInput(f"{folder} has no library that is documented: a project of programs or procedural macros alone has nothing to read")
+    files = [found.files[c] for c in crates]
+    world = world_of(files, docs, found.links)
+    base = os.path.join(found.folder, crates[0])
+    inputs = inputs_of(world, files, found.links)
+    write_map(base, {"inputs": inputs})
+    warn(world)
+    return base, inputs, world
 
 
 def project(folder: str, extra: list[str], arguments: argparse.Namespace) -> int:
-    found = cargo.document(folder, extra, arguments.quiet)
-    for name in sorted(set(found.doubled)):
-        print(f"two versions of {name} are in use, and rustdoc keeps the documents of one: its items are taken as not given")
-    good = True
-    for crates in [found.closure(found.members)]:
-        good &= check_set(found, crates, arguments)
-    return 0 if good else 1
+    base, inputs, world = documents(folder, extra, arguments)
+    output_of(arguments, inputs).line(f"what `from-rustdoc ask {base} ..` needs is written: {base}.map")
+    return check_project(base, inputs, world, arguments)
 
 
-def check_set(found: cargo.Project, crates: list[str], arguments: argparse.Namespace) -> bool:
-    """Checks the crates in one text; where that is too long, each of them with what it uses."""
-    world = new_world(arguments.docs)
-    world.load([found.files[c] for c in crates], found.uses)
-    translation = translated(world, arguments)
+def check_project(base: str, inputs: dict[str, Any], world: World, arguments: argparse.Namespace) -> int:
+    """Judges each crate by a text of what its check looks at, so that no text grows with the project."""
+    output = output_of(arguments, inputs)
+    statuses, reports, missing = [], [], set()
+    for checks, report, not_given in checked(world, arguments):
+        statuses.append(say_checks(checks, output))
+        reports += report
+        missing |= not_given
+    reports += [f"not given: {name}: its impls are in neither text" for name in sorted(missing)]
+    with open(base + ".report", "w", encoding="utf-8") as handle:
+        handle.write("\n".join(reports) + "\n")
+    output.line(f"the report: {base}.report")
+    return worst(statuses)
+
+
+Judged = tuple[list[Checked], list[str], set[str]]
+# What the processes of one check share: they are copies of the one that read the crates.
+SHARED: list[tuple[World, argparse.Namespace]] = []
+
+
+def checked(world: World, arguments: argparse.Namespace) -> Iterator[Judged]:
+    """The crates' checks, by as many processes as are asked for, in the order of the crates."""
+    SHARED[:] = [(world, arguments)]
+    if arguments.jobs == 1 or len(world.crates) == 1:
+        yield from map(check_shared, world.crates)
+        return
+    reopen = getattr(getattr(world.pages, "store", None), "reopen", None)
+    with ProcessPoolExecutor(arguments.jobs, multiprocessing.get_context("fork"), reopen) as pool:
+        yield from pool.map(check_shared, world.crates)
+
+
+def check_shared(name: str) -> Judged:
+    world, arguments = SHARED[0]
+    return (*check_crate(world, name, arguments), set(world.missing))
+
+
+def check_crate(world: World, name: str, arguments: argparse.Namespace) -> tuple[list[Checked], list[str]]:
+    """What is said of one crate, and its part of the report."""
+    translation = cone_of_crate(world, name)
+    translation.build()
+    report = Report(translation)
     try:
         texts = texts_of(translation)
     except BadInput as error:
-        smaller = [found.closure([c]) for c in crates]
-        if "give fewer crates" not in str(error) or max(map(len, smaller)) == len(crates):
-            raise
-        return all([check_set(found, part, arguments) for part in smaller])
-    report = Report(translation)
-    places = {mode: report.places(mode) for mode in texts}
-    translation.say("the program checks the two texts")
+        return [Checked(name, "not settled", f"{name}: not settled: {error}")], report.of_crate(name)
     answers = {mode: run(text, arguments.program) for mode, text in texts.items()}
-    lines, good = verdict_lines(report.summary(), list(answers["upper"].crates), answers, places)
-    print("\n".join(lines + [s for s in report.summary() if s.startswith("not given")]))
-    base = os.path.join(os.path.dirname(os.path.dirname(found.files[crates[0]])), crates[0])
-    write_all(base, report, texts, [found.files[c] for c in crates], arguments.docs, found.uses)
-    print(f"the report, and what `from-rustdoc ask {base} ..` needs: {base}.*")
-    return good
+    places = {mode: report.places(mode) for mode in texts}
+    return check_verdicts(report.summary(), [crate_name(name)], answers, places), report.of_crate(name)
 
 
-def parser() -> argparse.ArgumentParser:
+# ---- words
+def parser(prog: str = "from-rustdoc") -> argparse.ArgumentParser:
     common = argparse.ArgumentParser(add_help=False)
     common.add_argument("--docs")
     common.add_argument("--program")
+    common.add_argument("--program-that-explains")
     common.add_argument("--quiet", action="store_true")
-    top = argparse.ArgumentParser(prog="from-rustdoc", usage=USAGE, add_help=True)
+    common.add_argument("--message-format", choices=("human", "json"), default="human")
+    common.add_argument("--jobs", type=int, default=os.cpu_count() or 1)
+    top = argparse.ArgumentParser(prog=prog, usage=USAGE, add_help=True)
     commands = top.add_subparsers(dest="command", required=True)
     one = commands.add_parser("read", parents=[common], usage=USAGE)
     one.add_argument("json", nargs="+")
@@ -214,32 +311,85 @@ def parser() -> argparse.ArgumentParser:
     two = commands.add_parser("check", parents=[common], usage=USAGE)
     two.add_argument("base")
     three = commands.add_parser("ask", parents=[common], usage=USAGE)
-    three.add_argument("base")
-    three.add_argument("questions", nargs="+")
+    three.add_argument("--project")
+    three.add_argument("--expect", choices=("yes", "no"))
+    three.add_argument("--why", action="store_true")
+    three.add_argument("words", nargs="+")
     four = commands.add_parser("later", parents=[common], usage=USAGE)
     four.add_argument("--private", action="store_true")
     four.add_argument("--with", dest="with_crates", action="append", default=[])
     four.add_argument("--metadata")
-    four.add_argument("old")
-    four.add_argument("new")
+    four.add_argument("--baseline")
+    four.add_argument("-p", "--package", action="append", default=[])
+    four.add_argument("files", nargs="*")
     five = commands.add_parser("project", parents=[common], usage=USAGE)
     five.add_argument("folder")
     return top
 
 
+def divided(words: list[str]) -> tuple[list[str], list[str]]:
+    """The words of this command, and cargo's own behind `--`."""
+    return (words[:words.index("--")], words[words.index("--") + 1:]) if "--" in words else (words, [])
+
+
+def run_command(arguments: argparse.Namespace, extra: list[str]) -> int:
+    if arguments.command == "project":
+        return project(arguments.folder, extra, arguments)
+    if arguments.command == "later":
+        return later(arguments, extra, world_of, links_of(arguments.metadata))
+    if arguments.command == "ask":
+        if arguments.project is None:
+            arguments.base, *arguments.questions = arguments.words
+            return ask(arguments)
+        arguments.questions = arguments.words
+        return ask_project(arguments, extra)
+    return {"read": read, "check": check}[arguments.command](arguments)
+
+
 def main(words: list[str]) -> int:
-    sys.setrecursionlimit(20000)
-    extra: list[str] = []
-    if "--" in words:
-        extra = words[words.index("--") + 1:]
-        words = words[:words.index("--")]
+    words, extra = divided(words)
     if words and words[0] not in ("read", "check", "ask", "later", "project") and os.path.isdir(words[0]):
         words = ["project", *words]
-    arguments = parser().parse_args(words)
+    return guarded("from-rustdoc", lambda: run_command(parser().parse_args(words), extra))
+
+
+def main_of_cargo(words: list[str]) -> int:
+    """`cargo celtisdarts check|ask|later`, in the project that stands here or that `--manifest-path` names."""
+    words, extra = divided(words[1:] if words[:1] == ["celtisdarts"] else words)
+    folder = "."
+    if "--manifest-path" in words[:-1]:
+        at = words.index("--manifest-path")
+        folder = os.path.dirname(words[at + 1]) or "."
+        words = words[:at] + words[at + 2:]
+    of_cargo = {"check": ["project", folder, *words[1:]], "ask": ["ask", "--project", folder, *words[1:]],
+                "later": ["later", *words[1:]] + (["--baseline", latest_tag(folder)] if "--baseline" not in words else []) + [folder]}
+    if not words or words[0] not in of_cargo:
+        print(USAGE_OF_CARGO, file=sys.stderr if words[:1] != ["--help"] else sys.stdout)
+        return 0 if words[:1] == ["--help"] else 2
+    return guarded("cargo celtisdarts", lambda: run_command(parser("cargo celtisdarts").parse_args(of_cargo[words[0]]), extra))
+
+
+def guarded(name: str, run_it: Callable[[], int]) -> int:
+    """The command's status. Whatever goes wrong ends with a line and the status of no answer, so that none is taken for an answer."""
+    sys.setrecursionlimit(20000)
     try:
-        if arguments.command == "project":
-            return project(arguments.folder, extra, arguments)
-        return {"read": read, "check": check, "ask": ask, "later": later}[arguments.command](arguments)
+        return run_it()
+    except (Damaged, sqlite3.DatabaseError) as error:
+        complaint = f"what was kept of std is damaged ({error}); it is removed, and made anew by the next call"
+        remove_stores()
     except (BadInput, Lossy) as error:
-        print(f"from-rustdoc: {error}", file=sys.stderr)
-        return 3
+        complaint = str(error)
+    except BrokenPipeError:
+        sys.stdout = open(os.devnull, "w", encoding="utf-8")
+        complaint = "standard output was closed"
+    except OSError as error:
+        complaint = f"{error.filename or 'a file'}: {error.strerror or error}"
+    except KeyboardInterrupt:
+        return 130
+    except Exception as error:
+        if os.environ.get("FROM_RUSTDOC_TRACE"):
+            raise
+        last = traceback.extract_tb(error.__traceback__)[-1]
+        complaint = f"a mistake of the translator: {type(error).__name__}: {' '.join(str(error).split())} ({os.path.basename(last.filename)}:{last.lineno})"
+    print(f"{name}: {complaint}", file=sys.stderr)
+    return NO_ANSWER

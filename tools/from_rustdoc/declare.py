@@ -13,7 +13,8 @@ from typing import Optional
 
 from .html_docs import is_std_key
 from .impls import Line
-from .render import FIELD, MAXIMAL_CLAUSES, NEVER, Renderer, Scope, as_arguments, bracketed, names_of, param_name, params_text
+from .project import Goal, Projector
+from .render import CLAUSE, FIELD, MAXIMAL_CLAUSES, NEVER, Renderer, Scope, as_arguments, bracketed, is_packed, names_of, param_name, params_text, text_params
 from .terms import (Array, Declaration, Function, Lossy, Named, Never, Pointer, Primitive, Reference, Tuple, Type, parameters_of)
 
 MAXIMAL_FIELDS = 64
@@ -30,9 +31,10 @@ class Cut:
 class Declarer:
     """Writes the declarations of one crate. `lines` has two forms of each line, upper and lower; `cuts` the structs that are cut."""
 
-    def __init__(self, renderer: Renderer, mine: list[Declaration]) -> None:
-        self.renderer = renderer
-        self.world = renderer.world
+    def __init__(self, projector: Projector, mine: list[Declaration]) -> None:
+        self.projector = projector
+        self.renderer: Renderer = projector.renderer
+        self.world = self.renderer.world
         self.mine = {self.world.name(d): d for d in mine}
         self.lines: list[tuple[str, str, Declaration]] = []
         self.cuts: list[Cut] = []
@@ -83,11 +85,17 @@ class Declarer:
         upper = f"{head}auto trait {name}" if declaration.is_auto else f"{head}trait {name}{params}{above}"
         lower = upper if is_std_key(declaration.key) else upper.replace("auto trait", "trait")
         self.add(upper, lower, declaration)
+        if declaration.key in self.renderer.anys:
+            line = f"{head}trait {self.renderer.any_name(declaration)}"
+            self.add(line, line, declaration)
+        types = [param_name(p.name) for p in declaration.params if p.kind == "type"]
+        consts = ["const " + param_name(p.name) for p in declaration.params if p.kind == "const"]
         for associated in sorted(declaration.associated):
             if (declaration.key, associated) in self.renderer.companions:
-                types = [param_name(p.name) for p in declaration.params if p.kind == "type"]
-                consts = ["const " + param_name(p.name) for p in declaration.params if p.kind == "const"]
                 line = f"trait {self.renderer.companion(declaration, associated)}{bracketed(types + ['A_'] + consts)}"
+                self.add(line, line, declaration)
+            if (declaration.key, associated) in self.renderer.thens:
+                line = f"{head}trait {self.renderer.then_name(declaration, associated)}{bracketed([*types, 'K_', *consts])}"
                 self.add(line, line, declaration)
         return True
 
@@ -102,7 +110,7 @@ class Declarer:
             self.cuts.append(Cut(declaration, ["an item that is not documented"], tail_unsure=True))
             self.add(head, head + "(str)", declaration)
             return True
-        fields, reasons = self.fields(declaration)
+        fields, reasons = self.fields(declaration) if not is_packed(declaration.params) else ([], ["more than 16 parameters"])
         for text in fields:
             for word in self.words(text or ""):
                 self.visit(word)
@@ -154,6 +162,8 @@ class Declarer:
 
     def mentioned(self, declaration: Declaration) -> list[str]:
         """Fields that mention the parameters that all fields but the last one mention (of an enum: all fields)."""
+        if is_packed(declaration.params):
+            return [f"({param_name(p.name)}, ())" for p in text_params(declaration.params) if p.kind == "type"]
         terms = declaration.fields if declaration.is_enum else declaration.fields[:-1]
         names: set[str] = set().union(*(parameters_of(t) for t in terms)) if terms else set()
         types = [param_name(p.name) for p in declaration.params if p.kind == "type" and p.name in names]
@@ -197,16 +207,27 @@ class Declarer:
         void = Line(f"{header} where {NEVER}", "void")
         if declaration.is_opaque or is_std_key(declaration.key):
             return Line(header, "fields"), void, ["an item that is not documented"]
+        if is_packed(declaration.params):
+            return Line(header, "fields"), void, ["more than 16 parameters"]
         clauses: list[str] = []
         lost: list[str] = []
         for term in declaration.fields:
             try:
                 clauses.append(f"{self.field(declaration, term)}: {self.world.name(trait)}")
             except Lossy as error:
-                lost.append(f"a field: {error}")
+                try:
+                    clauses.append(self.projected(declaration, term, trait))
+                except Lossy:
+                    lost.append(f"a field: {error}")
         clauses = list(dict.fromkeys(clauses))
         if len(clauses) > MAXIMAL_CLAUSES:
             clauses = clauses[:MAXIMAL_CLAUSES]
             lost.append("more than 64 fields")
         upper = Line(header + (f" where {', '.join(clauses)}" if clauses else ""), "fields")
         return upper, void if lost else upper, lost
+
+    def projected(self, declaration: Declaration, term: Type, trait: Declaration) -> str:
+        """The trait of a field with an associated type."""
+        consts = {p.name for p in declaration.params if p.kind == "const"}
+        scope = Scope(CLAUSE, names_of(declaration.params), predicates=declaration.predicates, const_params=consts)
+        return self.projector.said(Goal(self.world.name(trait), (self.renderer.resolved(term, scope),)), declaration.crate, scope)

@@ -22,31 +22,41 @@ class NotUnderstood(Exception):
 class Reader:
     """Reads tokens. `lookup` says what a path stands for: it gets the words of the path, or the number of a marked link."""
 
-    TOKEN = re.compile(r"\s+|(?P<mark>\x01\d+\x02)|(?P<lifetime>'\w+)|(?P<unknown>\?[A-Za-z_]\w*)|(?P<word>[A-Za-z_]\w*)|(?P<number>\d\w*)"
+    TOKEN = re.compile(r"\s+|(?P<mark>\x01\d+\x02)|(?P<lifetime>'\w+)|(?P<unknown>\?[A-Za-z_]\w*)|(?P<word>(?:r#)?[^\W\d]\w*(?:@\d[\w.+-]*)?)|(?P<number>\d\w*)"
                        r"|(?P<sign>::|->|=>|\.\.\.|\.\.|[<>()\[\]{},:;&*+!?=~#\"\-/|.])")
 
-    def __init__(self, text: str, lookup: Callable[[list[str]], Named_], unknowns: bool = False) -> None:
+    def __init__(self, text: str, lookup: Callable[[list[str]], Named_], unknowns: bool = False, params: Optional[set[str]] = None) -> None:
+        """`params` are the parameters in scope, where they are known."""
         self.text = text
         self.lookup = lookup
+        self.params = params
         self.tokens: list[tuple[str, str]] = []
+        self.places: list[int] = []
         self.at = 0
         place = 0
         while place < len(text):
             found = self.TOKEN.match(text, place)
             if not found:
                 self.tokens.append(("other", text[place]))
+                self.places.append(place)
                 place += 1
                 continue
-            place = found.end()
             kind = found.lastgroup
             if kind == "unknown" and not unknowns:
                 self.tokens += [("sign", "?"), ("word", found.group()[1:])]
+                self.places += [place, place + 1]
             elif kind:
                 self.tokens.append((kind, found.group(kind)))
+                self.places.append(place)
+            place = found.end()
 
     # ---- tokens
     def peek(self, ahead: int = 0) -> tuple[str, str]:
         return self.tokens[self.at + ahead] if self.at + ahead < len(self.tokens) else ("end", "")
+
+    def place(self) -> int:
+        """Where the next token begins in the text."""
+        return self.places[self.at] if self.at < len(self.places) else len(self.text)
 
     def at_end(self) -> bool:
         return self.peek()[0] == "end"
@@ -69,6 +79,18 @@ class Reader:
             raise NotUnderstood(f"a name expected at `{value}`")
         self.at += 1
         return value
+
+    def has_generics(self) -> bool:
+        """Whether what comes is `<..>` with parameters, and not `<T as Trait>::Name`."""
+        if self.peek()[1] != "<":
+            return False
+        ahead, depth = 0, 0
+        while self.peek(ahead)[0] != "end":
+            depth += (self.peek(ahead)[1] == "<") - (self.peek(ahead)[1] == ">")
+            ahead += 1
+            if depth == 0:
+                return self.peek(ahead)[1] != "::"
+        return True
 
     # ---- generics, bounds and where-clauses
     def generics(self) -> tuple[list[Param], list[Predicate]]:
@@ -172,7 +194,7 @@ class Reader:
                 return self.lookup([value])
             if kind != "word":
                 raise NotUnderstood(f"a path expected at `{value}`")
-            words.append(value)
+            words.append(value.removeprefix("r#"))
             if not (self.peek()[1] == "::" and self.peek(1)[0] in ("word", "mark")):
                 return self.lookup(words)
             self.at += 1
@@ -353,4 +375,6 @@ class Reader:
 
     def scope(self) -> frozenset[str]:
         """Names that are parameters where `name::Item` is read: in the documents paths are links, so any short or plain name."""
+        if self.params is not None:
+            return frozenset(self.params)
         return frozenset(v for k, v in self.tokens if k == "word" and (len(v) <= 2 or v[0].isupper()))

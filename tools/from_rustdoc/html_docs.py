@@ -45,6 +45,11 @@ class Pages:
         self.first_page: dict[str, str] = {}
         self.all_items: dict[str, list[str]] = {}
 
+    def version(self) -> str:
+        """The version of std that the documents are of, as `1.95.0` or `nightly`; empty where they do not say."""
+        found = re.search(r'data-channel="([^"]*)"', self.read("core/index.html") or "")
+        return found.group(1) if found else ""
+
     def read(self, path: str) -> Optional[str]:
         if self.archive is not None:
             return self.archive.get(path)

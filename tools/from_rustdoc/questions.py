@@ -1,24 +1,28 @@
 """Questions as Rust writes them, as lines of both texts, and one answer made of what the program says to each."""
 from __future__ import annotations
 
-from dataclasses import dataclass, field
+from dataclasses import dataclass, field, replace
 from typing import Callable, Optional
 
+from .assume import Assumed, Assumer, Candidate, asked_goal, with_clauses
 from .back import Back
 from .build import Translation
 from .checker import check_texts
 from .headers import FLOATS, PRIMITIVES, Named_, NotUnderstood, Reader
 from .html_docs import is_std_key
 from .impls import ImplWriter
+from .negative import Negatives
 from .program import Answer, run
-from .reach import Reach, Reacher
+from .reach import BY_PARTS, Reach, Reacher
 from .render import MAXIMAL_PARAMS, QUESTION, Scope, bracketed, is_sizedness, names_of
 from .show import Show
-from .terms import (BadInput, Bound, BoundsOf, Lossy, Named, Param, Parameter, Predicate, Projection, Type, Unknown,
-                    argument_values, put_bound, walk)
-from .text_form import read_text
+from .standard import FN_TRAITS
+from .terms import (Alias, BadInput, Bound, BoundsOf, Dyn, Lossy, Param, Parameter, Predicate, Projection, Type, Unknown,
+                    argument_values, keys_of, put, put_bound, rebuilt, rebuilt_bound, walk)
+from .text_form import Text, TextLine, read_text
 from .world import World, crate_name
 
+MAXIMAL_ROUNDS = 6
 PRELUDE = {"core::marker": "Send Sync Unpin Copy Sized PhantomData", "core::clone": "Clone", "core::default": "Default", "core::fmt": "Debug Display",
            "core::hash": "Hash Hasher BuildHasher", "core::cmp": "PartialEq Eq PartialOrd Ord Ordering", "core::option": "Option", "core::result": "Result",
            "core::ops": "Drop Fn FnMut FnOnce Deref DerefMut Index IndexMut Add Sub Mul Div Rem Neg Not", "core::error": "Error",
@@ -28,35 +32,91 @@ PRELUDE = {"core::marker": "Send Sync Unpin Copy Sized PhantomData", "core::clon
            "alloc::borrow": "Cow ToOwned", "std::collections": "HashMap HashSet BTreeMap BTreeSet VecDeque", "std::sync": "Mutex RwLock", "std::path": "Path PathBuf"}
 
 
+# The unknown that the tool itself puts for a value that it asks for.
+OWN = "value_"
+
+
+@dataclass(frozen=True)
+class Asked:
+    """A reference that a question asks, as lines of the texts; `refute` is empty where there is none."""
+    prove: str
+    refute: str = ""
+
+
 @dataclass
 class Question:
-    """A question with its lines; `whole` is false where a where-clause, or the value of a projection, could not be said."""
+    """A question with its lines: one for the trait, and one for the value of each associated type that the bound speaks of. `names` is what
+    the names of its lines stand for. `whole` is false where a where-clause, or the value of a projection, could not be said."""
     written: str
     subject: Type
     bound: Bound
     params: list[Param] = field(default_factory=list)
     predicates: list[Predicate] = field(default_factory=list)
     crate: str = ""
-    prove: str = ""
-    refute: str = ""
+    of_crate: str = ""
+    lines: list[Asked] = field(default_factory=list)
+    names: dict[str, Type] = field(default_factory=dict)
     whole: bool = True
+
+    @property
+    def prove(self) -> str:
+        return self.lines[0].prove
+
+    @property
+    def refute(self) -> str:
+        return self.lines[0].refute
 
     def roots(self) -> list[Type | Bound]:
         return [self.subject, self.bound, *(x for p in self.predicates for x in p)]
 
+    def has_unknowns(self) -> bool:
+        """Whether `?x` was written."""
+        return any(isinstance(part, Unknown) and part.name != OWN for root in self.roots() for term in terms_of(root) for part in walk(term))
+
+
+def terms_of(root: Type | Bound) -> tuple[Type, ...]:
+    return root.arguments + tuple(value for _, value in root.constraints) if isinstance(root, Bound) else (root,)
+
+
+@dataclass(frozen=True)
+class InText:
+    """A question as it was asked: `names` is what names of its lines stand for, `lines` are the lines of the upper and of the lower text."""
+    translation: Translation
+    crate: str
+    names: dict[str, Type]
+    lines: dict[str, str]
+
 
 @dataclass
 class Verdict:
-    """`word` is yes, no, unproved or not settled; `basis` says on what it rests."""
+    """`word` is yes, no, unproved or not settled; `basis` says on what it rests. `values` are those of unknowns as Rust writes them, `found`
+    as types. `asked` is the question as it was asked, of several that one that decides."""
     question: Question
     word: str
     basis: str = ""
     rests_on: list[str] = field(default_factory=list)
     values: str = ""
+    found: dict[str, Type] = field(default_factory=dict)
+    asked: Optional[InText] = None
 
     def show(self) -> str:
         tail = (f" {self.values}" if self.values else "") + (f"   ({self.basis})" if self.basis else "")
         return f"{self.question.written}    {self.word}{tail}" + "".join(f"\n    rests on {line}" for line in self.rests_on)
+
+
+BY_LAW = "by law"
+
+
+def joined(question: Question, verdicts: list[Verdict]) -> Verdict:
+    """One verdict on a question that holds where all of these do: yes where all say so, else what the first says that makes it fail."""
+    for word in ("no", "unproved", "not settled"):
+        for verdict in verdicts:
+            if verdict.word == word:
+                return replace(verdict, question=question)
+    basis = next((v.basis for v in verdicts if v.basis != BY_LAW), BY_LAW)
+    values = ", ".join(dict.fromkeys(v.values for v in verdicts if v.values))
+    found = {name: value for v in verdicts for name, value in v.found.items()}
+    return Verdict(question, "yes", basis, [line for v in verdicts for line in v.rests_on], values, found, verdicts[-1].asked if verdicts else None)
 
 
 class QuestionReader:
@@ -67,15 +127,27 @@ class QuestionReader:
     def lookup(self, words: list[str], params: set[str]) -> Named_:
         if len(words) == 1 and (words[0] in params or words[0] in PRIMITIVES or words[0] in FLOATS or words[0] == "_"):
             return "word", None, words[0]
-        key = self.key(words)
+        key = self.key([self.versioned(words[0]), *words[1:]])
         if key is None:
             raise BadInput(f"`{'::'.join(words)}` is not known: write its path, as `bytes::Bytes` or `std::vec::Vec`")
         declaration = self.world.get(key)
         return ("trait" if declaration.is_trait else "type" if declaration.kind == "type" else "struct"), key, declaration.name
 
+    def versioned(self, name: str) -> str:
+        """The crate of a name: of one that is there in two versions it has to have the version, or how that begins."""
+        wanted, _, version = name.partition("@")
+        found = [c for c in self.world.crates if c == name or c.partition("@")[0] == wanted and c.partition("@")[2].startswith(version)]
+        if not version and wanted in self.world.crates:
+            return wanted
+        if version and wanted in self.world.crates and self.world.crates[wanted].version.startswith(version):
+            return wanted
+        if len(found) > 1:
+            raise BadInput(f"`{name}` may be any of {', '.join(f'`{c}`' for c in found)}")
+        return found[0] if found else name
+
     def key(self, words: list[str]) -> Optional[str]:
         if words[0] in self.world.crates:
-            found = [d for d in self.world.declarations.values() if d.crate == words[0] and not is_std_key(d.key)]
+            found = self.world.crates[words[0]].items
             for test in (lambda d: d.public_path == words, lambda d: d.key == "::".join(words),
                          lambda d: d.name == words[-1] and d.public_path, lambda d: d.name == words[-1]):
                 keys = {d.key for d in found if test(d)}
@@ -84,33 +156,74 @@ class QuestionReader:
             return None
         if words[0] in ("std", "core", "alloc", "proc_macro") and len(words) > 1:
             return self.world.pages.key_of_any_kind(words)
+        if len(words) == 1 and words[0] in self.prelude:
+            return self.world.pages.key_of_any_kind(self.prelude[words[0]])
         if len(words) == 1:
-            own = {d.key for d in self.world.declarations.values() if d.name == words[0] and d.crate in self.world.crates and d.public_path}
+            own = {d.key for crate in self.world.crates.values() for d in crate.items if d.name == words[0] and d.public_path}
             if len(own) == 1:
                 return own.pop()
-            if words[0] in self.prelude:
-                return self.world.pages.key_of_any_kind(self.prelude[words[0]])
         return None
 
     def read(self, written: str) -> Question:
-        """`[<params>] type: bound [where clauses]`, with `?x` for unknowns."""
+        """A question by one bound."""
+        questions = self.read_all(written)
+        if len(questions) > 1:
+            raise BadInput(f"`{written}` is {len(questions)} questions")
+        return questions[0]
+
+    def read_all(self, written: str) -> list[Question]:
+        """`[<params>] type: bound [+ bound ..] [where clauses]`, with `?x` for unknowns: a question for each bound."""
         params: set[str] = set()
-        reader = Reader(written, lambda words: self.lookup(words, params), unknowns=True)
-        if reader.peek()[1] == "<":
-            reader_of_params = Reader(written[:written.index(">") + 1], lambda words: ("word", None, words[-1]))
-            params |= {p.name for p in reader_of_params.generics()[0]}
+        reader = Reader(written, lambda words: self.lookup(words, params), unknowns=True, params=params)
         try:
-            generics, predicates = reader.generics()
-            subject = reader.type()
+            params |= self.parameter_names(written)
+            generics, predicates = reader.generics() if reader.has_generics() else ([], [])
+            subject = self.plain(reader.type())
             reader.need(":")
-            bound = reader.bound()
+            start, bounds = reader.place(), self.bounds(reader)
+            end = reader.place()
             if reader.eat("where"):
                 predicates += reader.where()
-            if not reader.at_end() or bound is None:
+            if not reader.at_end():
                 raise NotUnderstood(f"`{reader.peek()[1]}` is too much")
         except NotUnderstood as error:
             raise BadInput(f"the question `{written}` is not understood: {error}")
-        return Question(written, subject, bound, generics, predicates)
+        predicates = [(self.plain(t), self.plain_bound(b)) for t, b in predicates]
+        return [Question(written if len(bounds) == 1 else f"{written[:start]}{text} {written[end:]}".strip(), subject, bound, generics, list(predicates))
+                for bound, text in bounds]
+
+    def bounds(self, reader: Reader) -> list[tuple[Bound, str]]:
+        """The bounds that are asked, each as it is written."""
+        found: list[tuple[Bound, str]] = []
+        while True:
+            place = reader.place()
+            bound = reader.bound()
+            if bound is not None and is_sizedness(bound):
+                raise NotUnderstood("`?Sized` asks nothing")
+            if bound is not None and not self.world.get(bound.key).is_trait:
+                raise NotUnderstood(f"`{reader.text[place:reader.place()].strip()}` is no trait")
+            if bound is not None:
+                found.append((self.plain_bound(bound), reader.text[place:reader.place()].strip()))
+            if not reader.eat("+"):
+                break
+        if not found:
+            raise NotUnderstood("it asks for no trait")
+        return found
+
+    @staticmethod
+    def parameter_names(written: str) -> set[str]:
+        reader = Reader(written, lambda words: ("word", None, words[-1]), unknowns=True)
+        return {p.name for p in reader.generics()[0]} if reader.has_generics() else set()
+
+    def plain(self, term: Type) -> Type:
+        """The type without aliases."""
+        if isinstance(term, Alias):
+            declaration = self.world.get(term.key)
+            return self.plain(put(declaration.fields[0], argument_values(declaration.params, term.arguments)))
+        return rebuilt(term, self.plain)
+
+    def plain_bound(self, bound: Bound) -> Bound:
+        return rebuilt_bound(bound, self.plain)
 
 
 class QuestionWriter:
@@ -121,10 +234,9 @@ class QuestionWriter:
 
     def asker(self, question: Question) -> str:
         """The crate that asks: that of the subject, else of the trait, if it sees all names; else the last one that does."""
-        named: list[str] = []
-        for term in [question.subject, *question.bound.arguments, *(t for t, _ in question.predicates)]:
-            named += [self.world.get(p.key).crate for p in walk(term) if isinstance(p, Named)]
-        named += [self.world.get(b.key).crate for b in [question.bound, *(b for _, b in question.predicates)] if not b.key.startswith("?")]
+        keys = [key for root in question.roots() for term in terms_of(root) for key in keys_of(term)]
+        keys += [bound.key for bound in (question.bound, *(b for _, b in question.predicates))]
+        named = [self.world.get(key).crate for key in keys if not key.startswith(("?", "prim:", "tuple:", "fn:"))]
         ours = [c for c in named if c in self.world.crates]
         for crate in ours + list(reversed(self.world.crates)):
             seen, todo = {crate}, [crate]
@@ -138,33 +250,50 @@ class QuestionWriter:
         raise Lossy("no crate of the text sees all that the question names")
 
     def write(self, question: Question) -> None:
+        question.whole = True
         names = names_of(question.params)
-        scope = Scope(QUESTION, names, predicates=question.predicates)
-        clauses: list[str] = []
-        unsized = {t.name for t, b in question.predicates if is_sizedness(b) and isinstance(t, Parameter)}
-        clauses += [f"{names[p.name]}: Sized" for p in question.params if p.kind == "type" and p.name not in unsized]
-        predicates = ImplWriter.with_inner_bounds(question.predicates)
-        for subject, bound in predicates:
-            for name, value in bound.constraints:
-                if not isinstance(value, BoundsOf):
-                    clauses += self.tried(question, lambda: self.translation.impl_writer.equation(subject, bound, name, value, scope)[0])
-        for subject, bound in predicates:
-            if not is_sizedness(bound):
-                clauses += self.tried(question, lambda: self.clause(subject, bound, scope))
-                self.values(question, subject, bound, scope)
-        declaration = self.renderer.need(question.bound.key, "trait", question.bound.arguments)
-        if question.bound.constraints:
-            raise Lossy("a question about an associated type")
-        asked = f"{self.renderer.type(question.subject, scope)}: {self.renderer.bound(declaration, question.bound, scope, question.subject)}"
+        scope, clauses = self.where(question, names)
+        goals = self.goals(question, scope)
         types = [names[p.name] for p in question.params if p.kind == "type"] + scope.fresh
         params = types + ["const " + names[p.name] for p in question.params if p.kind == "const"]
         if len(params) > MAXIMAL_PARAMS:
             raise Lossy("more than 16 parameters")
-        clauses = list(dict.fromkeys(clauses + scope.extra))
-        where = f" where {', '.join(clauses)}" if clauses else ""
-        question.crate = crate_name(question.crate or self.asker(question))
-        question.prove = f"prove in {question.crate} {bracketed(params)} {asked}{where}".replace("  ", " ")
-        question.refute = "" if params else f"refute in {question.crate} {asked}"
+        where = f" where {', '.join(dict.fromkeys(clauses))}" if clauses else ""
+        question.of_crate = question.of_crate or question.crate or self.asker(question)
+        question.crate = crate_name(question.of_crate)
+        question.names = {text: place for place, (text, _) in scope.projections.items()} | {text: Parameter(name) for name, text in names.items()}
+        head = f"in {question.crate} {bracketed(params)}".strip()
+        question.lines = [Asked(f"prove {head} {goal}{where}", "" if params else f"refute {head} {goal}") for goal in goals]
+
+    def where(self, question: Question, names: dict[str, str]) -> tuple[Scope, list[str]]:
+        """The where-clauses as the text has them, and the scope in which the values of associated types have names."""
+        predicates = ImplWriter.with_inner_bounds(question.predicates)
+        scope = Scope(QUESTION, names, predicates=predicates)
+        unsized = {t.name for t, b in question.predicates if is_sizedness(b) and isinstance(t, Parameter)}
+        clauses = [f"{names[p.name]}: Sized" for p in question.params if p.kind == "type" and p.name not in unsized]
+        for subject, bound in predicates:
+            for name, value in bound.constraints:
+                if not isinstance(value, BoundsOf):
+                    clauses += self.tried(question, lambda: self.translation.impl_writer.equation(subject, bound, name, value, scope))
+        for subject, bound in predicates:
+            if not is_sizedness(bound):
+                clauses += self.tried(question, lambda: self.clause(subject, bound, scope))
+                clauses += self.any_clauses(subject, bound, scope)
+                self.values(question, subject, bound, scope, clauses)
+        scope.is_closed = True
+        return scope, clauses + scope.extra
+
+    def goals(self, question: Question, scope: Scope) -> list[str]:
+        """What is asked: the trait, and the value of each associated type that the bound names."""
+        plain = replace(question.bound, constraints=())
+        declaration = self.renderer.need(plain.key, "trait", plain.arguments)
+        goals = [f"{self.renderer.type(question.subject, scope)}: {self.renderer.bound(declaration, plain, scope, question.subject)}"]
+        projector = self.translation.impl_writer.projector
+        for name, value in question.bound.constraints:
+            place = self.renderer.resolved(Projection(question.subject, plain, name), scope)
+            assert isinstance(place, Projection)
+            goals.append(projector.text(projector.equation(place, self.renderer.resolved(value, scope)), scope))
+        return goals
 
     @staticmethod
     def tried(question: Question, write: Callable[[], str]) -> list[str]:
@@ -174,24 +303,69 @@ class QuestionWriter:
             question.whole = False
             return []
 
+    def any_clauses(self, subject: Type, bound: Bound, scope: Scope) -> list[str]:
+        """Of a clause by `FnMut`: that the subject is `FnMut` and `FnOnce` at all."""
+        try:
+            declaration = self.renderer.need(bound.key, "trait", bound.arguments)
+            if not self.renderer.is_fn_trait(declaration):
+                return []
+            below = FN_TRAITS[:FN_TRAITS.index(declaration.name) + 1]
+            known = [d for d in self.renderer.traits.values() if self.renderer.is_fn_trait(d) and d.key in self.renderer.anys and d.name in below]
+            return [f"{self.renderer.type(subject, scope)}: {self.renderer.any_name(d)}" for d in known]
+        except Lossy:
+            return []
+
     def clause(self, subject: Type, bound: Bound, scope: Scope) -> str:
         declaration = self.renderer.need(bound.key, "trait", bound.arguments)
         return f"{self.renderer.type(subject, scope)}: {self.renderer.bound(declaration, bound, scope, subject)}"
 
-    def values(self, question: Question, subject: Type, bound: Bound, scope: Scope, depth: int = 0) -> None:
-        """A clause by a trait with associated types brings their values: a fresh parameter for each that the text speaks of."""
+    def values(self, question: Question, subject: Type, bound: Bound, scope: Scope, clauses: list[str], depth: int = 0) -> None:
+        """A clause by a trait with associated types brings their values: a fresh parameter for each that the text speaks of, with the
+        bounds that the trait declares of it."""
         try:
             declaration = self.renderer.need(bound.key, "trait", bound.arguments)
-            for name in sorted(declaration.associated):
-                if (declaration.key, name) in self.renderer.companions and not isinstance(subject, Projection):
-                    self.renderer.projection(Projection(subject, Bound(bound.key, bound.arguments), name), scope)
             values = argument_values(declaration.params, bound.arguments)
             values["Self"] = subject
+            for name in sorted(declaration.associated):
+                if (declaration.key, name) in self.renderer.companions:
+                    place = self.renderer.resolved(Projection(subject, Bound(bound.key, bound.arguments), name), scope)
+                    is_new = place not in scope.projections
+                    self.renderer.type(place, scope)
+                    if is_new:
+                        bounds = [put_bound(b, values) for b in declaration.item_bounds.get(name, [])]
+                        self.item_clauses(question, place, bounds, scope, clauses, depth)
             for above in declaration.supers:
                 if depth < 6 and not is_sizedness(above):
-                    self.values(question, subject, put_bound(above, values), scope, depth + 1)
+                    self.fixed_values(question, subject, put_bound(above, values), scope, clauses)
+                    self.values(question, subject, put_bound(above, values), scope, clauses, depth + 1)
         except Lossy:
             question.whole = False
+
+    def fixed_values(self, question: Question, subject: Type, above: Bound, scope: Scope, clauses: list[str]) -> None:
+        """The values that a supertrait fixes: `trait Bytes: Iterator<Item = u8>`."""
+        for name, value in above.constraints:
+            if isinstance(value, BoundsOf):
+                question.whole = False
+            elif self.renderer.resolved(Projection(subject, above, name), scope) not in scope.projections:
+                clauses += self.tried(question, lambda: self.translation.impl_writer.equation(subject, above, name, value, scope))
+
+    def item_clauses(self, question: Question, place: Type, bounds: list[Bound], scope: Scope, clauses: list[str], depth: int) -> None:
+        """What the trait declares of an associated type, as clauses on its value."""
+        if depth > 3:
+            question.whole = False
+            return
+        if not any(is_sizedness(b) for b in bounds):
+            clauses.append(f"{self.renderer.type(place, scope)}: Sized")
+        for bound in bounds:
+            if is_sizedness(bound):
+                continue
+            for name, value in bound.constraints:
+                if not isinstance(value, BoundsOf):
+                    clauses += self.tried(question, lambda: self.translation.impl_writer.equation(place, bound, name, value, scope))
+                else:
+                    question.whole = False
+            clauses += self.tried(question, lambda: self.clause(place, bound, scope))
+            self.values(question, place, bound, scope, clauses, depth + 1)
 
 
 class Asker:
@@ -203,49 +377,117 @@ class Asker:
         self.check = check
         self.show = Show(translation.world)
         self.answers: dict[str, Answer] = {}
+        self.text: Optional[Text] = None
 
     def ask(self, questions: list[Question]) -> list[Verdict]:
-        writer = QuestionWriter(self.translation)
-        good: list[Question] = []
-        verdicts: dict[int, Verdict] = {}
-        for question in questions:
-            try:
-                writer.write(question)
-                good.append(question)
-            except Lossy as error:
-                verdicts[id(question)] = Verdict(question, "not settled", f"the text cannot say the question: {error}")
-        asked = [q.prove for q in good] + [q.refute for q in good if q.refute]
-        texts = {mode: "\n".join(self.translation.text(mode)[0] + asked) + "\n" for mode in ("upper", "lower")}
+        good, verdicts = self.written(questions)
+        entries = [(question, asked) for question in good for asked in question.lines]
+        provable, refutable = [a for _, a in entries], [a for _, a in entries if a.refute]
+        texts = {mode: self.text_with(mode, [a.prove for a in provable] + [a.refute for a in refutable]) for mode in ("upper", "lower")}
         if self.check:
-            problems = check_texts(self.translation, texts["upper"], texts["lower"])
-            if problems:
-                raise BadInput("the texts break the rules of docs/RUSTDOC.md, which is a mistake of the translator: " + problems[0])
-        self.answers = {mode: run(text, self.program) for mode, text in texts.items()}
+            self.checked(texts)
         pieces = [p for p in self.translation.text("upper")[1] if p is not None]
         reacher = Reacher(read_text(texts["upper"]), pieces)
+        self.text = reacher.text
         lines = {line.text: line for line in reacher.text.lines if line.kind == "question"}
-        refuted = len(good)
-        for number, question in enumerate(good):
-            lower, upper = self.answers["lower"].questions[number], self.answers["upper"].questions[number]
-            no = False
-            if question.refute:
-                no = self.answers["upper"].questions[refuted] == "no"
-                refuted += 1
-            line = lines[question.prove]
+        assumed = self.assumed(good, lines, reacher)
+        self.answers = {mode: run(self.text_with(mode, [with_clauses(a.prove, assumed[id(q)].clauses[mode]) for q, a in entries]
+                                                 + [a.refute for a in refutable]), self.program) for mode in ("upper", "lower")}
+        refuted = dict(zip(refutable, self.answers["upper"].questions[len(entries):]))
+        found: dict[int, list[Verdict]] = {}
+        for number, (question, asked) in enumerate(entries):
+            line = lines[asked.prove]
             assert line.trait is not None
             reach = reacher.reach(line.self_type, line.trait, bool(line.clauses))
-            verdict = self.verdict(question, lower, upper, no, reach)
+            reach.join(assumed[id(question)].reach)
+            self.inside(question, reach)
+            ruled_out = Negatives(self.translation.world, reacher, question.crate).ruled_out(line.trait.key, line.self_type) if asked.refute else ""
+            lower, upper = (self.answers[mode].questions[number] for mode in ("lower", "upper"))
+            if assumed[id(question)].is_open and upper == "unproved":
+                question.whole = False
+            verdict = self.verdict(question, lower, upper, refuted.get(asked) == "no", reach)
+            if ruled_out and verdict.word not in ("yes", "no"):
+                verdict = Verdict(question, "no", f"argued: {ruled_out}")
             if verdict.word == "yes":
-                verdict.values = Back(self.translation.world).values(self.answers["lower"].values[number])
-            verdicts[id(question)] = verdict
-        return [verdicts[id(q)] for q in questions]
+                self.with_values(verdict, self.answers["lower"].values[number])
+            verdict.asked = InText(self.translation, question.crate, question.names,
+                                   {mode: with_clauses(asked.prove, assumed[id(question)].clauses[mode]) for mode in ("upper", "lower")})
+            found.setdefault(id(question), []).append(verdict)
+        return [verdicts[id(q)] if id(q) in verdicts else joined(q, found[id(q)]) for q in questions]
+
+    def text_with(self, mode: str, lines: list[str]) -> str:
+        return "\n".join(self.translation.text(mode)[0] + lines) + "\n"
+
+    def with_values(self, verdict: Verdict, printed: str) -> None:
+        back = Back(self.translation.world)
+        verdict.values = back.values(printed)
+        verdict.found = {name: put(value, verdict.question.names) for name, value in back.found(printed).items()}
+
+    def written(self, questions: list[Question]) -> tuple[list[Question], dict[int, Verdict]]:
+        """The questions that the text can say, and verdicts on the others. The text gets what a question needs beyond its names."""
+        writer = QuestionWriter(self.translation)
+        for _ in range(MAXIMAL_ROUNDS):
+            self.translation.renderer.grew = False
+            good: list[Question] = []
+            verdicts: dict[int, Verdict] = {}
+            for question in questions:
+                try:
+                    writer.write(question)
+                    good.append(question)
+                except Lossy as error:
+                    verdicts[id(question)] = Verdict(question, "not settled", f"the text cannot say the question: {error}")
+            if not self.translation.renderer.grew:
+                return good, verdicts
+            self.translation.build()
+        raise Lossy("what questions need kept growing; this is a fault of the translator")
+
+    def checked(self, texts: dict[str, str]) -> None:
+        problems = check_texts(self.translation, texts["upper"], texts["lower"])
+        if problems:
+            raise BadInput("the texts break the rules of docs/RUSTDOC.md, which is a mistake of the translator: " + problems[0])
+
+    def assumed(self, questions: list[Question], lines: dict[str, TextLine], reacher: Reacher) -> dict[int, Assumed]:
+        """What the where-clauses of each question say to the patterns that it leads to, asked in rounds: one may be needed for another."""
+        renderer, world = self.translation.renderer, self.translation.world
+        thens = {renderer.then_name(world.get(key), name): renderer.companion_name(world.get(key), name) for key, name in renderer.thens}
+        assumer = Assumer(reacher.text, thens)
+        found = {id(q): Assumed() for q in questions}
+        wanted = [(q, c) for q in questions for a in q.lines if lines[a.prove].clauses
+                  for c in assumer.all_candidates(lines[a.prove], reacher, found[id(q)])]
+        for _ in range(MAXIMAL_ROUNDS):
+            wanted = [(q, c) for q, c in wanted if any(c.clause not in found[id(q)].clauses[mode] for mode in ("upper", "lower"))]
+            if not self.ask_candidates(wanted, found, lines):
+                return found
+        for question, _ in wanted:
+            found[id(question)].is_open = True
+        return found
+
+    def ask_candidates(self, wanted: list[tuple[Question, Candidate]], found: dict[int, Assumed], lines: dict[str, TextLine]) -> bool:
+        """Whether a question got a clause more. What is not proved now may be with it."""
+        grew = False
+        for mode in ("upper", "lower") if wanted else ():
+            asked = [asked_goal(with_clauses(q.prove, found[id(q)].clauses[mode]), lines[q.prove], c.goal()) for q, c in wanted]
+            answers = run(self.text_with(mode, asked), self.program).questions
+            for (question, candidate), answer in zip(wanted, answers):
+                known = found[id(question)].clauses[mode]
+                if (answer == "yes" or mode == "upper" and answer != "unproved") and candidate.clause not in known:
+                    known.append(candidate.clause)
+                    grew = True
+        return grew
+
+    def inside(self, question: Question, reach: Reach) -> None:
+        """What the text leads to was looked for in all crates, where the text is a part of them."""
+        cone = self.translation.cone
+        for trait, arguments in reach.references if cone is not None else ():
+            if trait not in BY_PARTS and cone is not None and not cone.covers((trait, arguments)):
+                raise BadInput(f"the part of the crates for `{question.written}` is too small, which is a mistake of the translator: {trait} of {arguments}")
 
     def verdict(self, question: Question, lower: str, upper: str, no: bool, reach: Reach) -> Verdict:
         lost = self.losses(reach)
         if lower == "yes" and no:
             raise BadInput(f"the two texts contradict each other at `{question.written}`, which is a mistake of the translator")
         if lower == "yes":
-            return Verdict(question, "yes", self.basis_of_yes(question, reach))
+            return Verdict(question, "yes", self.basis_of_yes(reach))
         unsure = self.unsure(reach)
         if no and not unsure:
             return Verdict(question, "no", self.basis_of_no(question, reach))
@@ -260,13 +502,23 @@ class Asker:
         why = "the upper text has a proof, the lower one none" if upper == "yes" else f"the upper text says {upper}, the lower one {lower}"
         return Verdict(question, "not settled", why, reasons if upper == "yes" or unsure or not question.whole else [])
 
-    def basis_of_yes(self, question: Question, reach: Reach) -> str:
+    def basis_of_yes(self, reach: Reach) -> str:
         # The lower text's proof is one by the crates' own rules; that those of a cut struct are its rules is argued.
         cut = self.cut_structs(reach)
-        return f"argued: the auto traits of {cut[0]} are written by its fields" if cut else "by law"
+        if cut:
+            return f"argued: the auto traits of {cut[0]} are written by its fields"
+        return self.argued_of_all(reach) or BY_LAW
+
+    def argued_of_all(self, reach: Reach) -> str:
+        """Why no law covers an answer, be it yes or no; empty where one does."""
+        crates = {self.text.names[n].crate for n in reach.traits | reach.types if n in self.text.names} if self.text is not None else set()
+        for name, places in self.translation.world.doc_cfgs.items():
+            if crate_name(name) in crates:
+                return f"argued: items of {name} depend on `cfg(doc)`, which rustdoc sets ({', '.join(places)})"
+        return ""
 
     def basis_of_no(self, question: Question, reach: Reach) -> str:
-        if any(isinstance(p, Unknown) for t in (question.subject, *question.bound.arguments) for p in walk(t)):
+        if question.has_unknowns():
             return "argued: the question has unknowns"
         if reach.longest is None or reach.longest >= 64 or not reach.is_complete:
             return "argued: the question leads to chains without end"
@@ -274,7 +526,12 @@ class Asker:
         if cut:
             return f"argued: the auto traits of {cut[0]} are written by its fields"
         narrowed = [w for w in self.translation.of_std if w.impl.narrowed and w.impl.trait and w.impl.trait.key in self.reached_keys(reach)]
-        return f"argued: {narrowed[0].impl.source} is written {narrowed[0].impl.narrowed}" if narrowed else "by law"
+        if narrowed:
+            return f"argued: {narrowed[0].impl.source} is written {narrowed[0].impl.narrowed}"
+        return self.argued_of_all(reach) or BY_LAW
+
+    def above(self, trait: str) -> set[str]:
+        return self.text.above(trait) if self.text is not None else set()
 
     def reached_keys(self, reach: Reach) -> set[str]:
         return {d.key for d in self.translation.renderer.traits.values() if self.translation.world.name(d) in reach.traits}
@@ -312,6 +569,12 @@ class Asker:
         for declaration in self.translation.renderer.structs.values():
             if declaration.key.startswith("other:") and self.translation.world.name(declaration) in reach.types:
                 found[f"{declaration.source}: its impls are not known"] = None
+        renderer, world = self.translation.renderer, self.translation.world
+        valued = {n: world.name(world.get(key)) for key, name in {**renderer.companions, **renderer.thens}
+                  for n in (renderer.companion_name(world.get(key), name), renderer.then_name(world.get(key), name))}
+        if any(trait in valued and isinstance(terms[0], Dyn) and any(valued[trait] in self.above(b.key) for b in terms[0].bounds)
+               for trait, terms in reach.references):
+            found["an associated type of a dyn, which the text has not"] = None
         if "Unsize" in reach.traits:
             found["`Unsize`, which std's types have by fields that are private"] = None
         return list(found)

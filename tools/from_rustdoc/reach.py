@@ -25,8 +25,17 @@ class Reach:
     structs: set[str] = field(default_factory=set)
     traits: set[str] = field(default_factory=set)
     types: set[str] = field(default_factory=set)
+    references: set[Reference_] = field(default_factory=set)
     is_complete: bool = True
     longest: Optional[int] = None
+
+    def join(self, other: Reach) -> None:
+        """With what another question leads to."""
+        self.pieces += other.pieces
+        self.structs |= other.structs
+        self.traits |= other.traits
+        self.types |= other.types
+        self.references |= other.references
 
 
 def bind(pattern: Type, term: Type, params: set[str], values: dict[str, Type]) -> bool:
@@ -90,11 +99,13 @@ class Reacher:
             return longest
 
         found.longest = visit((bound.key, (subject, *bound.arguments)))
+        found.references = set(length)
         return found
 
     def children(self, reference: Reference_, found: Reach) -> list[Reference_]:
         trait, arguments = reference
         found.traits.add(trait)
+        found.references.add(reference)
         found.types |= {part.key for term in arguments for part in walk(term) if isinstance(part, Named)}
         children: list[Reference_] = []
         written_for: set[str] = set()

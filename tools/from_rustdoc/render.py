@@ -6,15 +6,16 @@ parameter stands for it, elsewhere the caller drops the whole clause or leaves t
 from __future__ import annotations
 
 import re
-from dataclasses import dataclass, field
+from dataclasses import dataclass, field, replace
 from typing import Optional
 
 from .headers import FLOATS, PRIMITIVES
 from .html_docs import is_std_key
+from .objects import OBJECT, above, has_values, shape_of
 from .standard import FN_TRAITS
-from .terms import (Alias, Array, Bound, BoundsOf, Constant, Declaration, Dyn, Function, Lossy, Named, Never, Param, Parameter, Pointer,
+from .terms import (Alias, Array, Bound, BoundsOf, Constant, Declaration, Dyn, Function, Lossy, Named, Never, Param, Parameter, Part, Pointer,
                     Predicate, Primitive, Projection, Reference, Slice, Tuple, Type, Unknown, Unsayable, argument_values, put,
-                    put_bound)
+                    put_bound, rebuilt)
 from .world import World
 
 HEADER, CLAUSE, FIELD, QUESTION = "header", "clause", "field", "question"
@@ -22,11 +23,13 @@ ALWAYS = {"Ref_": "fundamental struct Ref_<T>(T, ())", "RefMut_": "fundamental s
           "PtrConst_": "struct PtrConst_<T>(T, ())", "PtrMut_": "struct PtrMut_<T>(T, ())", "f32": "struct f32", "f64": "struct f64"}
 MAXIMAL_PARAMS, MAXIMAL_ITEMS, MAXIMAL_CLAUSES = 16, 12, 64
 NEVER = "u8: Never_"
+THEN = "__Then"
 
 
 @dataclass
 class Scope:
-    """What one line has in scope, and what was lost in it."""
+    """What one line has in scope, and what was lost in it. `projections` are those with a name; those of a header are `owed` their clauses.
+    `is_closed`: no projection of a question gets a name any more."""
     mode: str
     params: dict[str, str]
     predicates: list[Predicate] = field(default_factory=list)
@@ -34,9 +37,12 @@ class Scope:
     fresh: list[str] = field(default_factory=list)
     fresh_consts: list[str] = field(default_factory=list)
     extra: list[str] = field(default_factory=list)
-    projections: dict[tuple[str, str, str], tuple[str, frozenset[str]]] = field(default_factory=dict)
+    projections: dict[Type, tuple[str, frozenset[str]]] = field(default_factory=dict)
+    owed: list[tuple[Projection | Part, str]] = field(default_factory=list)
+    const_params: set[str] = field(default_factory=set)
     used: set[str] = field(default_factory=set)
     coarse: bool = False
+    is_closed: bool = False
 
     def fresh_type(self) -> str:
         self.fresh.append(f"X{len(self.fresh) + 1}_")
@@ -58,9 +64,25 @@ def param_name(name: str) -> str:
     return name if re.fullmatch(r"[A-Z][0-9]*", name) else "p_" + name
 
 
+def is_packed(params: list[Param]) -> bool:
+    """Whether there are more than a struct of the text may have: then tuples of twelve types each are its arguments."""
+    return len(params) > MAXIMAL_PARAMS
+
+
+def packed(terms: tuple[Type, ...]) -> tuple[Type, ...]:
+    return tuple(Tuple(terms[n:n + MAXIMAL_ITEMS]) for n in range(0, len(terms), MAXIMAL_ITEMS))
+
+
+def text_params(params: list[Param]) -> list[Param]:
+    """The parameters in the order of the text, types first."""
+    types = [p for p in params if p.kind == "type"]
+    if is_packed(params):
+        types = [Param("type", f"Types{n}") for n in range(len(packed(tuple(Parameter(p.name) for p in types))))]
+    return types + [p for p in params if p.kind == "const"]
+
+
 def params_text(params: list[Param]) -> str:
-    types = [param_name(p.name) for p in params if p.kind == "type"]
-    return bracketed(types + ["const " + param_name(p.name) for p in params if p.kind == "const"])
+    return bracketed([("const " if p.kind == "const" else "") + param_name(p.name) for p in text_params(params)])
 
 
 def as_arguments(params: str) -> str:
@@ -77,7 +99,9 @@ def is_sizedness(bound: Bound) -> bool:
 
 
 class Renderer:
-    """`structs`, `traits`, `special` and `companions` are what the text needs; `grew` says that one of them has become larger."""
+    """`structs`, `traits`, `special`, `companions`, `thens` and `anys` are what the text needs; `grew` says that one of them has become
+    larger. `further` are the traits that the text has beside a trait, by name, each with the key of that trait.
+    `names_values`: whether each trait that asks patterns has a companion too, for the where-clauses of questions."""
 
     def __init__(self, world: World) -> None:
         self.world = world
@@ -85,6 +109,10 @@ class Renderer:
         self.traits: dict[str, Declaration] = {}
         self.special: dict[str, None] = {}
         self.companions: dict[tuple[str, str], None] = {}
+        self.thens: dict[tuple[str, str], None] = {}
+        self.anys: dict[str, None] = {}
+        self.further: dict[str, str] = {}
+        self.names_values = False
         self.lost_supers: dict[str, list[str]] = {}
         self.cyclic: set[str] = set()
         self.grew = True
@@ -93,6 +121,8 @@ class Renderer:
     def need(self, key: Optional[str], kind: str = "", arguments: tuple[Type, ...] = ()) -> Declaration:
         declaration = self.world.get(key, kind, arguments)
         kept = self.traits if declaration.is_trait else self.structs
+        if declaration.is_trait and is_packed(declaration.params):
+            raise Lossy(f"the trait `{declaration.name}` of more than 16 parameters")
         if declaration.key not in kept:
             kept[declaration.key] = declaration
             self.grew = True
@@ -108,8 +138,40 @@ class Renderer:
         """The companion trait for an associated type: `Iterator__Item<A>` says that `Item` is `A`."""
         if (declaration.key, name) not in self.companions:
             self.companions[(declaration.key, name)] = None
+            self.further[self.companion_name(declaration, name)] = declaration.key
             self.grew = True
-        return f"{self.world.name(declaration)}__{name}"[:60]
+        return self.companion_name(declaration, name)
+
+    def companion_name(self, declaration: Declaration, name: str) -> str:
+        return f"{self.world.name(declaration)}__{name}"[:56]
+
+    def then(self, declaration: Declaration, name: str) -> str:
+        """The trait that asks a pattern of the value of an associated type: `Iterator__Item__Then<Wrap_<K>>` says that K has `Item`."""
+        if (declaration.key, name) not in self.thens:
+            self.thens[(declaration.key, name)] = None
+            self.further[self.then_name(declaration, name)] = declaration.key
+            self.grew = True
+        if self.names_values:
+            self.companion(declaration, name)
+        return self.then_name(declaration, name)
+
+    def any(self, declaration: Declaration) -> str:
+        """Of `Fn`, `FnMut` and `FnOnce` the trait that says that a type has it for some arguments: what has none is told by that."""
+        if declaration.key not in self.anys:
+            self.anys[declaration.key] = None
+            self.further[self.any_name(declaration)] = declaration.key
+            self.grew = True
+        return self.any_name(declaration)
+
+    def any_name(self, declaration: Declaration) -> str:
+        return self.world.name(declaration) + "__Any"
+
+    @staticmethod
+    def is_fn_trait(declaration: Declaration) -> bool:
+        return declaration.name in FN_TRAITS and is_std_key(declaration.key)
+
+    def then_name(self, declaration: Declaration, name: str) -> str:
+        return self.companion_name(declaration, name) + THEN
 
     # ---- types
     def type(self, term: Type, scope: Scope) -> str:
@@ -167,6 +229,8 @@ class Renderer:
                 return self.world.name(declaration) + self.arguments(declaration, arguments, scope, term)
             case Projection():
                 return self.projection(term, scope)
+            case Part():
+                return self.named_by_header(term, scope)
             case Unsayable(why):
                 raise Lossy(why)
         raise Lossy("a type that the text has not")
@@ -196,22 +260,51 @@ class Renderer:
         return f"fn({', '.join(written)})" + ("" if result == "()" else f" -> {result}")
 
     def dyn(self, bounds: tuple[Bound, ...], scope: Scope) -> str:
-        written: list[tuple[bool, str]] = []
+        principal: list[Bound] = []
+        autos: list[Declaration] = []
         for bound in bounds:
             declaration = self.need(bound.key, "trait", bound.arguments)
-            if bound.constraints and scope.mode != FIELD:
-                raise Lossy(f"`dyn {declaration.name}` with associated types")
             if declaration.is_auto and not is_std_key(declaration.key):
                 raise Lossy(f"a dyn with the auto trait `{declaration.name}`")
             if self.lost(declaration):
                 raise Lossy(f"`dyn {declaration.name}`, of whose supertraits the text cannot say all")
-            written.append((declaration.is_auto, self.bound(declaration, bound, scope, Unsayable("`Self` of a dyn"))))
-        written.sort(key=lambda entry: entry[0])
-        if sum(not auto for auto, _ in written) > 1:
+            if declaration.is_auto:
+                autos.append(declaration)
+            else:
+                principal.append(replace(bound, key=declaration.key))
+        if len(principal) > 1:
             raise Lossy("a dyn of two traits")
-        if not written:
+        if not bounds:
             raise Lossy("a dyn without a trait")
-        return "dyn " + " + ".join(text for _, text in written)
+        if principal and has_values(self.world, principal[0]):
+            try:
+                return self.object(principal[0], autos, scope)
+            except Lossy:
+                if scope.mode != FIELD:
+                    raise
+        written = [self.bound(self.need(b.key, "trait", b.arguments), b, scope, Unsayable("`Self` of a dyn")) for b in principal]
+        return "dyn " + " + ".join(written + [self.world.name(auto) for auto in autos])
+
+    def object(self, bound: Bound, autos: list[Declaration], scope: Scope) -> str:
+        """A `dyn` with associated types by the struct of its shape."""
+        declaration = self.need(bound.key, "trait", bound.arguments)
+        plain = replace(bound, constraints=())
+        given: dict[tuple[str, str], Type] = {}
+        for name, value in bound.constraints:
+            owner = self.bound_with(plain, name)
+            if owner is None or isinstance(value, BoundsOf):
+                raise Lossy(f"`dyn {declaration.name}` with the associated type `{name}`")
+            given[(self.world.get(owner.key).key, name)] = value
+        fixed = {(self.world.key_of(b.key), name) for b in above(self.world, plain) for name, _ in b.constraints}
+        if set(given) & fixed:
+            raise Lossy(f"`dyn {declaration.name}` with an associated type that a supertrait fixes")
+        places = tuple(sorted(given))
+        shape = shape_of(self.world, plain, places, tuple(sorted(a.key for a in autos)))
+        self.need(OBJECT)
+        self.need(shape.declaration.key)
+        arguments = self.argument_list(declaration, plain.arguments, scope, Unsayable("`Self` of a dyn"))
+        count = len(arguments) - sum(p.kind == "const" for p in declaration.params)
+        return self.world.name(shape.declaration) + bracketed(arguments[:count] + [self.type(given[place], scope) for place in places] + arguments[count:])
 
     def constant(self, text: str, scope: Scope, of_array: bool = False) -> str:
         text = str(text).strip().strip("{}").strip()
@@ -235,7 +328,8 @@ class Renderer:
         raise Lossy(f"the constant `{text}`")
 
     # ---- arguments and bounds
-    def arguments(self, declaration: Declaration, arguments: tuple[Type, ...], scope: Scope, itself: Type) -> str:
+    def filled(self, declaration: Declaration, arguments: tuple[Type, ...], itself: Type) -> list[Type]:
+        """The arguments, with defaults where they are missing."""
         params, given = declaration.params, list(arguments)
         if len(given) > len(params):
             raise Lossy(f"the arguments of `{declaration.name}`")
@@ -246,30 +340,38 @@ class Renderer:
                 raise Lossy(f"an omitted argument of `{declaration.name}`")
             values[param.name] = put(param.default, values)
             given.append(values[param.name])
-        written: list[str] = []
-        for kind in ("type", "const"):
-            for param, argument in zip(params, given):
-                if param.kind != kind:
-                    continue
-                if kind == "type":
-                    if isinstance(argument, Constant):
-                        raise Lossy(f"the arguments of `{declaration.name}`")
-                    written.append(self.type(argument, scope))
-                elif isinstance(argument, Constant):
-                    written.append(self.constant(argument.text, scope))
-                elif isinstance(argument, Parameter):
-                    written.append(self.constant(argument.name, scope))
-                elif isinstance(argument, Unknown):
-                    written.append("?" + argument.name)
-                else:
-                    raise Lossy(f"the arguments of `{declaration.name}`")
-        return bracketed(written)
+        return given
+
+    def arguments(self, declaration: Declaration, arguments: tuple[Type, ...], scope: Scope, itself: Type) -> str:
+        return bracketed(self.argument_list(declaration, arguments, scope, itself))
+
+    def argument_list(self, declaration: Declaration, arguments: tuple[Type, ...], scope: Scope, itself: Type) -> list[str]:
+        params, given = declaration.params, self.filled(declaration, arguments, itself)
+        types = tuple(a for p, a in zip(params, given) if p.kind == "type")
+        if any(isinstance(t, Constant) for t in types):
+            raise Lossy(f"the arguments of `{declaration.name}`")
+        written = self.types(packed(types) if is_packed(params) else types, scope)
+        for param, argument in zip(params, given):
+            if param.kind != "const":
+                continue
+            if isinstance(argument, Constant):
+                written.append(self.constant(argument.text, scope))
+            elif isinstance(argument, Parameter):
+                written.append(self.constant(argument.name, scope))
+            elif isinstance(argument, Unknown):
+                written.append("?" + argument.name)
+            else:
+                raise Lossy(f"the arguments of `{declaration.name}`")
+        return written
 
     def bound(self, declaration: Declaration, bound: Bound, scope: Scope, itself: Type) -> str:
-        is_fn = declaration.name in FN_TRAITS and is_std_key(declaration.key)
-        if is_fn and len(bound.arguments) == 1 and not isinstance(bound.arguments[0], (Tuple, Parameter, Unknown)):
-            raise Lossy(f"`{declaration.name}` of no tuple")
+        self.refuse_fn_of_no_tuple(declaration, bound)
         return self.world.name(declaration) + self.arguments(declaration, bound.arguments, scope, itself)
+
+    @staticmethod
+    def refuse_fn_of_no_tuple(declaration: Declaration, bound: Bound) -> None:
+        if Renderer.is_fn_trait(declaration) and len(bound.arguments) == 1 and not isinstance(bound.arguments[0], (Tuple, Parameter, Unknown, Projection, Part)):
+            raise Lossy(f"`{declaration.name}` of no tuple")
 
     def lost(self, declaration: Declaration) -> list[str]:
         """The supertraits of a trait, and of those above it, that the text cannot say. A `dyn` of such a trait is not written."""
@@ -320,8 +422,14 @@ class Renderer:
     def companion_bound(self, declaration: Declaration, bound: Bound, name: str, value: Type, scope: Scope) -> str:
         if name not in declaration.associated:
             raise Lossy(f"the associated type `{name}` of a supertrait")
-        arguments = self.arguments(declaration, bound.arguments, scope, Unsayable("`Self` as an argument"))
-        return self.companion(declaration, name) + bracketed([arguments[1:-1], self.type(value, scope)])
+        arguments = self.argument_list(declaration, bound.arguments, scope, Unsayable("`Self` as an argument"))
+        return self.companion(declaration, name) + bracketed(self.with_value(declaration, arguments, self.type(value, scope)))
+
+    @staticmethod
+    def with_value(declaration: Declaration, arguments: list[str], value: str) -> list[str]:
+        """The arguments with one more type: behind the types, before the constants."""
+        place = len(arguments) - sum(p.kind == "const" for p in declaration.params)
+        return arguments[:place] + [value] + arguments[place:]
 
     # ---- associated types
     def bound_with(self, bound: Bound, name: str, depth: int = 0) -> Optional[Bound]:
@@ -335,8 +443,8 @@ class Renderer:
         if name in declaration.associated:
             return bound
         values = argument_values(declaration.params, bound.arguments)
-        for above in declaration.supers:
-            found = self.bound_with(put_bound(above, values), name, depth + 1)
+        for further in declaration.supers:
+            found = self.bound_with(put_bound(further, values), name, depth + 1)
             if found:
                 return found
         return None
@@ -346,30 +454,68 @@ class Renderer:
         found = None
         if term.bound is not None:
             found = self.bound_with(term.bound, term.name)
-        else:
+        if found is None and term.bound is None or found is not None and self.is_short(found):
             for subject, bound in scope.predicates:
-                if subject == term.subject:
-                    found = found or self.bound_with(bound, term.name)
+                other = self.bound_with(bound, term.name) if self.same_subject(subject, term.subject) else None
+                if other is not None and (found is None or self.is_short(found) and self.world.get(other.key).key == self.world.get(found.key).key):
+                    found = other
         if found is None:
             raise Lossy(f"the associated type `{term.name}` of an unknown trait")
         return found
 
+    def is_short(self, bound: Bound) -> bool:
+        """Whether arguments are left away that have no default, as rustdoc does in `T::Out` of `T: Own<u8>`."""
+        params = self.world.get(bound.key, "trait", bound.arguments).params
+        return not bound.arguments and any(p.default is None for p in params)
+
+    def same_subject(self, left: Type, right: Type) -> bool:
+        """Whether two subjects are one, where `I::Item` may stand for `<I as Iterator>::Item`."""
+        if isinstance(left, Projection) and isinstance(right, Projection) and (left.bound is None or right.bound is None):
+            return left.name == right.name and self.same_subject(left.subject, right.subject)
+        return left == right
+
+    def resolved(self, term: Type, scope: Scope) -> Type:
+        """The type with aliases put in, and with the trait and all its arguments in each projection."""
+        match term:
+            case Alias(key, arguments):
+                declaration = self.world.get(key)
+                if declaration.fields:
+                    return self.resolved(put(declaration.fields[0], argument_values(declaration.params, arguments)), scope)
+            case Projection(subject, _, name):
+                bound = self.owner(term, scope)
+                declaration = self.need(bound.key, "trait", bound.arguments)
+                given = self.filled(declaration, bound.arguments, subject)
+                arguments = tuple(self.resolved(a, scope) for a in given)
+                return Projection(self.resolved(subject, scope), Bound(declaration.key, arguments), name)
+        return rebuilt(term, lambda part: self.resolved(part, scope))
+
     def projection(self, term: Projection, scope: Scope) -> str:
         """A projection goes by the name that an equation or the header gives it; in a header it gets a fresh parameter."""
-        bound = self.owner(term, scope)
-        declaration = self.need(bound.key, "trait", bound.arguments)
-        companion = self.companion(declaration, term.name)
-        subject = self.type(term.subject, scope)
-        arguments = self.arguments(declaration, bound.arguments, scope, term.subject)
-        place = (subject, companion, arguments)
-        if place in scope.projections:
-            name, used = scope.projections[place]
-            scope.used |= used
-            return name
-        if scope.mode in (HEADER, QUESTION):
+        place = self.resolved(term, scope)
+        assert isinstance(place, Projection) and place.bound is not None
+        declaration = self.need(place.bound.key, "trait", place.bound.arguments)
+        companion = self.companion(declaration, place.name)
+        if scope.mode == HEADER or place in scope.projections:
+            return self.named_by_header(place, scope)
+        if scope.mode == QUESTION and not scope.is_closed:
+            subject = self.type(place.subject, scope)
+            arguments = self.argument_list(declaration, place.bound.arguments, scope, place.subject)
             name = scope.fresh_type()
             scope.projections[place] = (name, frozenset())
-            scope.extra.append(f"{subject}: {self.world.name(declaration)}{arguments}")
-            scope.extra.append(f"{subject}: {companion}{bracketed([arguments[1:-1], name])}")
+            scope.extra.append(f"{subject}: {self.world.name(declaration)}{bracketed(arguments)}")
+            scope.extra.append(f"{subject}: {companion}{bracketed(self.with_value(declaration, arguments, name))}")
             return name
         raise Lossy(f"the associated type `{term.name}`")
+
+    @staticmethod
+    def named_by_header(place: Projection | Part, scope: Scope) -> str:
+        """The name of a projection; in a header a new one, which is owed the clauses that say what it is."""
+        if place not in scope.projections:
+            if scope.mode != HEADER:
+                raise Lossy("an associated type")
+            name = scope.fresh_type()
+            scope.projections[place] = (name, frozenset())
+            scope.owed.append((place, name))
+        name, used = scope.projections[place]
+        scope.used |= used
+        return name

@@ -2,20 +2,28 @@
 from __future__ import annotations
 
 import hashlib
-import json
 from collections import Counter
+from dataclasses import astuple
 from typing import Any
 
 from .build import Translation
 from .html_docs import is_std_key
 from .show import Show
 from .terms import Lossy
+from .world import crate_name
 
+PATTERNED = "a clause on an associated type, which keeps less apart than rustc's"
 ERRS = "the upper text has it more often than the crate, the lower one not at all"
 
 
 def plain(text: str) -> str:
     return "".join(c if 32 <= ord(c) < 127 else "?" for c in text)
+
+
+def is_of(line: str, crate: str) -> bool:
+    """Whether the line of a summary is on the crate, by its name in the text."""
+    name, version = (line.split(":")[0].split(" ") + [""])[:2]
+    return crate in (crate_name(name), crate_name(f"{name}@{version}"))
 
 
 class Report:
@@ -38,7 +46,7 @@ class Report:
             total = sum(count.values())
             rest = [f"{count['loss']} with a loss"] * (count["loss"] > 0) + [f"{count['out']} out"] * (count["out"] > 0)
             said = "all whole" if count["whole"] == total else f"{count['whole']} whole, " + ", ".join(rest)
-            lines.append(f"{crate.name} {crate.version}: {total} impls, {said}")
+            lines.append(f"{crate.name.split('@')[0]} {crate.version}: {total} impls, {said}")
         for name, times in sorted(self.world.missing.items()):
             lines.append(f"not given: {name}, named {times} times: its impls are in neither text")
         return lines
@@ -57,11 +65,17 @@ class Report:
         lines += [f"std, narrowed: {w.impl.source}: {w.impl.narrowed}" for w in self.translation.of_std if w.impl.narrowed]
         return lines
 
-    def item_lines(self) -> list[str]:
+    def of_crate(self, name: str) -> list[str]:
+        """What became of the items of one crate."""
+        lines = [line for line in self.summary() if is_of(line, crate_name(name))] + self.item_lines(name)
+        return [plain(line) for line in lines]
+
+    def item_lines(self, name: str = "") -> list[str]:
+        """Of all crates, or of one alone."""
         lines = []
         cuts = {cut.declaration.key: cut for cut in self.translation.cuts}
         for crate in self.world.crates.values():
-            for declaration in crate.declarations.values():
+            for declaration in crate.declarations.values() if name in ("", crate.name) else ():
                 what = f"{declaration.source}: {declaration.kind} {self.show.item(declaration)}"
                 if declaration.is_trait:
                     lost = self.translation.renderer.supertraits(declaration)[1]
@@ -73,6 +87,8 @@ class Report:
                 else:
                     lines.append(f"whole {what}")
         for written in self.translation.of_crates:
+            if name not in ("", written.impl.crate):
+                continue
             what = f"{written.impl.source}: {self.show.header(written.impl)}"
             notes = [f"({n})" for n in written.unknown]
             if written.fate == "whole":
@@ -91,9 +107,9 @@ class Report:
         return "\n".join(plain(line) for line in lines) + "\n"
 
     # ---- from the texts back to sources
-    def places(self, mode: str) -> dict[str, list[list[str]]]:
-        """For each crate of the text the source and header of each of its impls, in order."""
-        places: dict[str, list[list[str]]] = {}
+    def places(self, mode: str) -> dict[str, list[list[Any]]]:
+        """For each crate of the text the source, header, losses and place of each of its impls, in order."""
+        places: dict[str, list[list[Any]]] = {}
         for crate in self.translation.crates:
             places[crate.name] = []
             for piece in crate.pieces:
@@ -106,25 +122,12 @@ class Report:
                         except Lossy:
                             pass
                     losses = "; ".join(piece.written.losses) if piece.written is not None else ""
-                    places[crate.name].append([piece.source, plain(header), plain(losses)])
+                    if not losses and "__Then<" in line.text:
+                        losses = PATTERNED
+                    place = piece.written.impl.place if piece.written is not None else None
+                    places[crate.name].append([piece.source, plain(header), plain(losses), list(astuple(place)) if place else None])
         return places
 
-    def map(self, inputs: dict[str, Any], texts: dict[str, str]) -> str:
+    def map(self, inputs: dict[str, Any], texts: dict[str, str]) -> dict[str, Any]:
         sums = {mode: hashlib.sha256(text.encode()).hexdigest() for mode, text in texts.items()}
-        return json.dumps({"inputs": inputs, "sums": sums, "summary": self.summary(),
-                           "places": {mode: self.places(mode) for mode in ("upper", "lower")}}, indent=1) + "\n"
-
-
-def explain_refusal(verdict: str, crate: str, places: dict[str, list[list[str]]]) -> str:
-    """`overlap impl 3 with std 200` and `orphan impl 3 nonlocal` with the sources and headers that the numbers stand for."""
-    words = verdict.split()
-    if words[:1] == ["overlap"]:
-        source, header, losses = places[crate][int(words[2]) - 1]
-        other_source, other_header, other_losses = places[words[4]][int(words[5]) - 1]
-        tail = f"\n    rests on a loss: {losses or other_losses}" if losses or other_losses else ""
-        return f"overlap: {header} ({source})\n       with: {other_header} ({other_source}){tail}"
-    if words[:1] == ["orphan"]:
-        source, header, losses = places[crate][int(words[2]) - 1]
-        tail = f"\n    rests on a loss: {losses}" if losses else ""
-        return f"orphan impl: {header} ({source}): {' '.join(words[3:])}{tail}"
-    return verdict
+        return {"inputs": inputs, "sums": sums, "summary": self.summary(), "places": {mode: self.places(mode) for mode in ("upper", "lower")}}

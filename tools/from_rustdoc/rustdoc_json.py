@@ -1,51 +1,88 @@
-"""Crates as rustdoc's JSON tells them, read into the intermediate form. One number of the format is known, and no other is guessed at."""
+"""Crates as rustdoc's JSON tells them, read into the intermediate form. `formats` says of which numbers of the format."""
 from __future__ import annotations
 
 import json
+import os
 import re
+from dataclasses import dataclass
 from typing import Any, Optional
 
+from .formats import agreed, first_column
 from .html_docs import Pages
 from .terms import (UNIT, Alias, Array, BadInput, Bound, BoundsOf, Constant, Declaration, Dyn, Function, Impl, Named, Never,
-                    Param, Parameter, Pointer, Predicate, Primitive, Projection, Reference, Slice, Tuple, Type, Unsayable,
-                    argument_values, put)
+                    Param, Parameter, Place, Pointer, Predicate, Primitive, Projection, Reference, Slice, Tuple, Type, Unsayable,
+                    argument_values, head_of, put)
 
-FORMAT = 57
 STD_CRATES = ("core", "alloc", "std", "proc_macro", "test")
 ITEMS = ("struct", "enum", "union", "trait")
+FUNDAMENTAL = re.compile(r"#\[(fundamental|attr = Fundamental)\]")
+
+
+@dataclass(frozen=True)
+class ItemName:
+    key: str
+    name: str
+    public_path: Optional[list[str]]
 
 
 def kind_and_body(item: dict[str, Any]) -> tuple[str, Any]:
     return next(iter(item["inner"].items()))
 
 
+def stem_of(crate: dict[str, Any]) -> str:
+    """The name of an external crate's compiled file, without its ending."""
+    return os.path.basename(crate.get("path") or "").rsplit(".", 1)[0]
+
+
 class JsonCrate:
-    """One crate's JSON. `load` fills `declarations` and `impls`."""
+    """One crate's JSON. `load` fills `declarations` and `impls`. The crate may go by another name than its own, and of those that it names
+    `artifacts` has the names by their compiled files, where these are not their own."""
     needs_private = True
 
-    def __init__(self, file: str, pages: Pages) -> None:
+    def __init__(self, file: str, pages: Pages, name: str = "", artifacts: Optional[dict[str, str]] = None) -> None:
         self.file = file
         self.pages = pages
         try:
             with open(file, encoding="utf-8") as handle:
-                self.json = json.load(handle)
+                self.json = agreed(json.load(handle), file)
         except (OSError, ValueError) as error:
             raise BadInput(f"{file}: cannot be read as JSON: {error}")
-        number = self.json.get("format_version")
-        if number != FORMAT:
-            raise BadInput(f"{file}: rustdoc's JSON has the format number {number}, and {FORMAT} alone is known here (rustdoc 1.95). "
-                           f"Make it with that toolchain, as by `cargo +1.95 doc`, or mend FORMAT and what changed in tools/from_rustdoc/rustdoc_json.py")
         if self.needs_private and not self.json.get("includes_private"):
             raise BadInput(f"{file}: has no private items; make it with `--document-private-items --document-hidden-items`")
         self.index: dict[str, Any] = self.json["index"]
-        self.name: str = self.index[str(self.json["root"])]["name"]
+        self.name: str = name or self.index[str(self.json["root"])]["name"]
         self.version: str = self.json.get("crate_version") or ""
-        self.external = {int(number): crate["name"] for number, crate in self.json["external_crates"].items()}
+        self.first_column = first_column(self.json)
+        self.external = {int(number): (artifacts or {}).get(stem_of(crate), crate["name"]) for number, crate in self.json["external_crates"].items()}
         self.keys: dict[int, Optional[str]] = {}
         self.declarations: dict[str, Declaration] = {}
         self.aliases: dict[str, Declaration] = {}
         self.impls: list[Impl] = []
         self.names_crates: dict[str, None] = {}
+
+    # ---- of all items at once, as `kept.KeptCrate` has it too
+    @property
+    def heads(self) -> list[tuple[str, str]]:
+        """The trait and the head of each impl."""
+        return [(i.trait.key if i.trait else "", head_of(i.self_type)) for i in self.impls]
+
+    @property
+    def items(self) -> list[ItemName]:
+        return [ItemName(d.key, d.name, d.public_path) for d in [*self.declarations.values(), *self.aliases.values()]]
+
+    @property
+    def std_version(self) -> str:
+        """The version of std that the crate was compiled with; empty where it does not say."""
+        for crate in self.json["external_crates"].values():
+            found = re.fullmatch(r"https://doc\.rust-lang\.org/([^/]*)/?", crate.get("html_root_url") or "")
+            if found and crate["name"] in ("core", "std"):
+                return found.group(1)
+        return ""
+
+    @property
+    def sources(self) -> list[str]:
+        """The files of its items."""
+        return sorted({item["span"]["filename"] for item in self.index.values() if item["crate_id"] == 0 and item.get("span")})
 
     # ---- keys
     def item(self, number: Optional[int]) -> Optional[dict[str, Any]]:
@@ -86,6 +123,14 @@ class JsonCrate:
         file = re.sub(r"^.*/registry/(src/[^/]*/)?", "", span["filename"])
         return f"{file}:{span['begin'][0]}"
 
+    def place(self, item: dict[str, Any]) -> Optional[Place]:
+        span = item.get("span")
+        if not span:
+            return None
+        (line, column), (end_line, end_column) = span["begin"], span.get("end") or span["begin"]
+        by = 1 - self.first_column
+        return Place(span["filename"], line, column + by, end_line, end_column + by)
+
     # ---- the whole crate
     def load(self) -> None:
         for item in self.index.values():
@@ -96,13 +141,14 @@ class JsonCrate:
             assert key is not None
             if key in self.declarations:
                 key = self.keys[item["id"]] = f"{key}#{item['id']}"
-            self.declarations[key] = Declaration(kind, key, self.name, item["name"], source=self.source(item), path=key, item=item)
+            self.declarations[key] = Declaration(kind, key, self.name, item["name"], source=self.source(item), path=key, place=self.place(item),
+                                                 item=item)
         for item in self.index.values():
             kind, body = kind_and_body(item)
             if kind == "type_alias" and item["crate_id"] == 0:
                 key = self.key(item["id"])
                 assert key is not None
-                alias = Declaration("type", key, self.name, item["name"], source=self.source(item), path=key)
+                alias = Declaration("type", key, self.name, item["name"], source=self.source(item), path=key, place=self.place(item))
                 alias.params, _ = self.generics(body["generics"], None)
                 alias.fields = [self.type(body["type"], None)]
                 self.aliases[key] = alias
@@ -121,18 +167,22 @@ class JsonCrate:
     def read_declaration(self, declaration: Declaration) -> None:
         kind, body = kind_and_body(declaration.item)
         declaration.params, declaration.predicates = self.generics(body["generics"], None)
-        declaration.is_fundamental = any("fundamental" in str(a) for a in declaration.item.get("attrs", []))
+        declaration.is_fundamental = any(FUNDAMENTAL.search(str(a)) for a in declaration.item.get("attrs", []))
         if kind == "trait":
             declaration.is_auto = body["is_auto"]
             declaration.supers = self.bounds(body["bounds"], None)
             declaration.supers += [bound for subject, bound in declaration.predicates if subject == Parameter("Self")]
             inside = [self.item(number) for number in body["items"]]
             declaration.associated = {i["name"] for i in inside if i and kind_and_body(i)[0] == "assoc_type"}
+            declaration.item_bounds = {i["name"]: self.bounds(i["inner"]["assoc_type"]["bounds"], None)
+                                       for i in inside if i and kind_and_body(i)[0] == "assoc_type"}
             return
         declaration.is_enum = kind != "struct"
         itself = declaration.itself()
+        variants = self.variants_of_fields(body) if kind == "enum" else {}
         for number in self.field_numbers(kind, body):
             found = self.item(number)
+            declaration.field_names.append(variants.get(number, "") + found["name"] if found else "")
             declaration.fields.append(self.type(found["inner"]["struct_field"], itself) if found else Unsayable("a field that is not documented"))
 
     def field_numbers(self, kind: str, body: dict[str, Any]) -> list[Optional[int]]:
@@ -154,11 +204,18 @@ class JsonCrate:
                 numbers += form["tuple"] if "tuple" in form else form["struct"]["fields"]
         return numbers
 
+    def variants_of_fields(self, body: dict[str, Any]) -> dict[Optional[int], str]:
+        """Of each field of an enum its variant."""
+        found: dict[Optional[int], str] = {}
+        for variant in filter(None, map(self.item, body["variants"])):
+            found.update(dict.fromkeys(self.field_numbers("enum", {"variants": [variant["id"]]}), f"{variant['name']}."))
+        return found
+
     def read_impl(self, item: dict[str, Any], body: dict[str, Any]) -> None:
         itself = self.type(body["for"], None)
         params, predicates = self.generics(body["generics"], itself)
         impl = Impl(self.name, self.source(item), self.trait_bound(body["trait"], itself), itself, params, predicates,
-                    is_negative=body["is_negative"])
+                    is_negative=body["is_negative"], is_computed=body["is_synthetic"], place=self.place(item))
         for number in body["items"]:
             inside = self.item(number)
             if inside and kind_and_body(inside)[0] == "assoc_type" and inside["inner"]["assoc_type"].get("type") is not None:

@@ -66,6 +66,8 @@ class Show:
                 return f"{'' if plain else 'unsafe '}fn({', '.join(map(self.type, inputs))})" + ("" if output == UNIT else f" -> {self.type(output)}")
             case Dyn(bounds):
                 return f"(dyn {self.bounds(bounds)})" if len(bounds) > 1 else f"dyn {self.bounds(bounds)}"
+            case Named(key, arguments) if key in self.world.shape_of_key:
+                return self.type(self.world.shape_of_key[key].dyn(arguments))
             case Named(key, arguments) | Alias(key, arguments):
                 return self.path(key) + self.arguments(arguments)
             case Constant(text):

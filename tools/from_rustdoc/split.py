@@ -2,7 +2,8 @@
 
 The traits of operators have an impl for each pair of integers, by value and by reference. A trait that has no supertrait goes before
 `alloc`, into a crate of its own with its impls for built-in types; those for std's types stay. So each impl is in the crate of its
-trait or of its type, as before. What stands in for references goes there too, and with it the auto traits, and impls of these, `Clone` and `Copy` for it.
+trait or of its type, as before. A trait with an impl that only the trait's own crate may have, as `impl<T> BitOr<NonZero<T>> for T`, where T comes
+before any type of that crate, stays. What stands in for references goes there too, and with it the auto traits, and impls of these, `Clone` and `Copy` for it.
 """
 from __future__ import annotations
 
@@ -11,7 +12,7 @@ from typing import TYPE_CHECKING
 from .headers import FLOATS
 from .html_docs import is_std_key, kind_and_name, rust_crate_of
 from .render import is_sizedness
-from .terms import Declaration, Pointer, Primitive, Reference, keys_of
+from .terms import Array, Declaration, Function, Named, Never, Pointer, Primitive, Reference, Slice, Tuple, keys_of
 
 if TYPE_CHECKING:
     from .build import CrateText, Piece
@@ -40,6 +41,26 @@ def is_of_built_in_types(piece: Piece) -> bool:
     return all(key.startswith(("prim:", "tuple:", "fn:")) for term in terms for key in keys_of(term))
 
 
+def may_stay(piece: Piece) -> bool:
+    """Whether the impl may stand in `alloc` though its trait does not: a type of `alloc` comes before each parameter."""
+    impl = piece.written.impl if piece.written else None
+    if impl is None or impl.trait is None:
+        return False
+    for term in (impl.self_type, *impl.trait.arguments):
+        while isinstance(term, Reference):
+            term = term.target
+        if isinstance(term, Named) and not is_of_references(term):
+            return True
+        if not isinstance(term, (Primitive, Named, Pointer, Array, Slice, Tuple, Function, Never)):
+            return False
+    return False
+
+
+def is_of_references(term: Named) -> bool:
+    """Whether it is fundamental, so that what stands in it counts: `Box` and `Pin`."""
+    return kind_and_name(term.key)[1] in ("Box", "Pin") if is_std_key(term.key) else True
+
+
 def is_auto_trait(piece: Piece) -> bool:
     return piece.declaration is not None and piece.declaration.is_auto
 
@@ -66,8 +87,12 @@ def split(alloc: CrateText, new: type[CrateText]) -> list[CrateText]:
             groups.setdefault(declaration.key, []).append(piece)
     for piece in alloc.pieces:
         trait = piece.written.impl.trait if piece.is_impl and piece.written else None
-        if trait is not None and trait.key in groups and is_of_built_in_types(piece):
+        if trait is None or trait.key not in groups:
+            continue
+        if is_of_built_in_types(piece):
             groups[trait.key].append(piece)
+        elif not may_stay(piece):
+            groups.pop(trait.key)
     crates = [new("core_ops", [])]
     crates[0].pieces = [p for p in alloc.pieces if p.source == "built in" and not p.is_impl]
     crates[0].pieces += [p for p in alloc.pieces if is_auto_trait(p)] + [p for p in alloc.pieces if is_special_impl(p)]

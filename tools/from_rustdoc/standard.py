@@ -10,14 +10,16 @@ from typing import Iterator, Optional
 
 from .html_docs import Pages, is_std_key, kind_and_name, rust_crate_of
 from .headers import NotUnderstood, Reader
-from .terms import (Array, Bound, Declaration, Function, Impl, Named, Param, Parameter, Predicate, Primitive, Reference, Slice, Tuple, Type,
-                    parameters_of, put, put_bound, rebuilt, rebuilt_bound)
+from .terms import (ANY_HEAD, Array, Bound, Declaration, Function, Impl, Named, Param, Parameter, Predicate, Primitive, Reference, Slice, Tuple, Type,
+                    head_of, parameters_of, put, put_bound, rebuilt, rebuilt_bound)
 
 # Of core and alloc one crate is made: core's impls reason about alloc's types by negative impls, which a text has not.
 HOMES = {"core": "alloc", "alloc": "alloc"}
 FN_TRAITS = ("FnOnce", "FnMut", "Fn")
 MAXIMAL_ITEMS = 12
 FROM_THE_TOP = "trait.impl"
+# Behind this a page has the impls of auto traits that nobody wrote.
+COMPUTED = 'id="synthetic-implementations"'
 MANY = re.compile(r"\((\w+)₁, \1₂, …, \1ₙ\)")
 
 # Structs of std whose last field may be unsized: private fields are not in the documents. "" stands for the first parameter.
@@ -45,6 +47,7 @@ class Standard:
         self.declarations: dict[str, Declaration] = {}
         self.found: list[Header] = []
         self.values: dict[str, dict[str, dict[str, Type]]] = {}
+        self.by_head: dict[str, list[tuple[str, Impl]]] = {}
 
     # ---- declarations
     def declaration(self, key: str) -> Declaration:
@@ -66,6 +69,7 @@ class Standard:
         associated = re.findall(r'type <a href="#associatedtype\.([A-Za-z0-9_]+)', fragment.group(1))
         declaration.associated = set(associated)
         try:
+            self.read_item_bounds(declaration, fragment.group(1))
             self.read_declaration(declaration, reader)
         except NotUnderstood as error:
             declaration.not_understood = str(error)
@@ -75,6 +79,13 @@ class Standard:
             elif declaration.params:
                 declaration.tail = Parameter(declaration.params[0].name)
         return declaration
+
+    def read_item_bounds(self, declaration: Declaration, fragment: str) -> None:
+        """The bounds of associated types: `type IntoIter: Iterator<Item = Self::Item>;`."""
+        for name, rest in re.findall(r'type <a href="#associatedtype\.([A-Za-z0-9_]+)"[^>]*>[^<]*</a>(.*?);(?=\s|$)', fragment, re.S):
+            reader = self.pages.reader(rest, declaration.path)
+            if reader.eat(":"):
+                declaration.item_bounds[name] = reader.bounds()
 
     @staticmethod
     def read_declaration(declaration: Declaration, reader: Reader) -> None:
@@ -113,14 +124,24 @@ class Standard:
         """The impls of auto traits for a type of std, computed ones too, from its page."""
         page, text = self.pages.page(self.pages.own_page(key))
         impls: list[tuple[Header, Impl]] = []
-        for fragment, _ in self.pages.impl_sections(text):
+        written, _, computed = text.partition(COMPUTED)
+        for fragment, is_computed in [(f, False) for f, _ in self.pages.impl_sections(written)] + [(f, True) for f, _ in self.pages.impl_sections(computed)]:
             impl = self.impl(fragment, page, "", rust_crate_of(key))
             if impl.trait is None or not is_std_key(impl.trait.key) or not self.declaration(impl.trait.key).is_auto:
                 continue
+            impl.is_computed = is_computed
             header = Header(Pages.plain(fragment), page)
             self.found.append(header)
             impls.append((header, impl))
         return impls
+
+    def impls_with_head(self, key: str, head: Optional[str]) -> list[Impl]:
+        """The impls of a trait whose self type may have the head; all of them for None. `impls_of_trait` counts headers, this does not."""
+        if key not in self.by_head:
+            before = len(self.found)
+            self.by_head[key] = [(head_of(i.self_type), i) for _, i in self.impls_of_trait(key)]
+            del self.found[before:]
+        return [i for its, i in self.by_head[key] if head is None or its in (head, ANY_HEAD)]
 
     def impl(self, fragment: str, page: str, rest: str, crate: str) -> Impl:
         impl = Impl(home_of(crate), "std: " + Pages.plain(fragment))

@@ -101,6 +101,21 @@ class Projection:
 
 
 @dataclass(frozen=True)
+class Form:
+    """A type in which the names stand for any types: of `I: Iterator<Item = (A, B)>` that is (A, B)."""
+    pattern: Type
+    names: tuple[str, ...]
+
+
+@dataclass(frozen=True)
+class Part:
+    """What `name` stands for where the value of the projection has the form."""
+    whole: Projection
+    form: Form
+    name: str
+
+
+@dataclass(frozen=True)
 class Constant:
     """A const argument, as source."""
     text: str
@@ -118,8 +133,9 @@ class Unsayable:
 
 
 Type = Union[Primitive, Never, Parameter, Unknown, Reference, Pointer, Slice, Array, Tuple, Function, Dyn, Named, Alias,
-             Projection, Constant, BoundsOf, Unsayable]
+             Projection, Part, Constant, BoundsOf, Unsayable]
 UNIT = Tuple(())
+ANY_HEAD = "_"
 
 
 @dataclass(frozen=True)
@@ -142,6 +158,16 @@ class Param:
 Predicate = tuple[Type, Bound]
 
 
+@dataclass(frozen=True)
+class Place:
+    """Where an item stands in its source. Lines and columns begin with 1; the last column is the one behind the item."""
+    file: str
+    line: int
+    column: int
+    end_line: int
+    end_column: int
+
+
 @dataclass
 class Declaration:
     """A struct (enums and unions too), a trait, or an alias of std (its one field is what it stands for)."""
@@ -156,6 +182,7 @@ class Declaration:
     fields: list[Type] = field(default_factory=list)
     supers: list[Bound] = field(default_factory=list)
     associated: set[str] = field(default_factory=set)
+    item_bounds: dict[str, list[Bound]] = field(default_factory=dict)
     is_auto: bool = False
     is_fundamental: bool = False
     is_opaque: bool = False
@@ -163,6 +190,8 @@ class Declaration:
     tail: Optional[Type] = None
     not_understood: str = ""
     public_path: Optional[list[str]] = None
+    place: Optional[Place] = None
+    field_names: list[str] = field(default_factory=list)
     item: dict = field(default_factory=dict)
 
     @property
@@ -177,7 +206,7 @@ class Declaration:
 @dataclass
 class Impl:
     """An impl as read. `trait` is None where the header was not understood (`error` says why). `narrowed` says that it is written for
-    less than it holds of, in both texts, and why."""
+    less than it holds of, in both texts, and why. `is_computed`: one of an auto trait that nobody wrote."""
     crate: str
     source: str
     trait: Optional[Bound] = None
@@ -185,9 +214,11 @@ class Impl:
     params: list[Param] = field(default_factory=list)
     predicates: list[Predicate] = field(default_factory=list)
     is_negative: bool = False
+    is_computed: bool = False
     associated: dict[str, Type] = field(default_factory=dict)
     error: str = ""
     narrowed: str = ""
+    place: Optional[Place] = None
 
     def copy(self) -> Impl:
         return replace(self, params=list(self.params), predicates=list(self.predicates), associated=dict(self.associated))
@@ -208,6 +239,8 @@ def parts(term: Type) -> tuple[Type, ...]:
             return tuple(a for b in bounds for a in b.arguments) + tuple(v for b in bounds for _, v in b.constraints)
         case Projection(subject, bound, _):
             return (subject,) + (bound.arguments if bound else ())
+        case Part(whole, _, _):
+            return (whole,)
     return ()
 
 
@@ -243,6 +276,10 @@ def rebuilt(term: Type, change: Callable[[Type], Type]) -> Type:
             return BoundsOf(tuple(rebuilt_bound(b, change) for b in bounds))
         case Projection(subject, bound, name):
             return Projection(change(subject), rebuilt_bound(bound, change) if bound else None, name)
+        case Part(whole, form, name):
+            changed = change(whole)
+            assert isinstance(changed, Projection)
+            return Part(changed, form, name)
     return term
 
 
@@ -315,3 +352,29 @@ def parameters_of(term: Type) -> set[str]:
             case Array(_, length):
                 names.add(length.strip("{} "))
     return names
+
+
+def head_of(term: Type) -> str:
+    """What an impl's self type begins with: an impl concludes nothing of a type with another head. `_` where it may be anything."""
+    match term:
+        case Named(key, _):
+            return key
+        case Reference(mutable, _):
+            return "&mut" if mutable else "&"
+        case Pointer(mutable, _):
+            return "*mut" if mutable else "*const"
+        case Primitive(name):
+            return "prim:" + name
+        case Never():
+            return "!"
+        case Slice(_):
+            return "[]"
+        case Array(_, _):
+            return "[;]"
+        case Tuple(items):
+            return f"tuple:{len(items)}"
+        case Function(inputs, _, True):
+            return f"fn:{len(inputs)}"
+        case Dyn(bounds) if not any(b.constraints for b in bounds):
+            return "dyn"
+    return ANY_HEAD

@@ -7,7 +7,8 @@ from typing import Optional
 
 from .headers import Named_, NotUnderstood, Reader
 from .render import FLOATS
-from .terms import Bound, Constant, Dyn, Named, Param, Parameter, Predicate, Type, UNIT, parts, walk
+from .terms import (Array, Bound, Constant, Dyn, Function, Named, Never, Param, Parameter, Predicate, Primitive, Slice, Tuple, Type, UNIT, Unknown,
+                    parts, walk)
 
 MAXIMAL = {"bytes": 1048576, "crates": 255, "items": 4096, "name": 64, "params": 16, "fields": 64, "clauses": 64, "bounds": 64, "depth": 64}
 
@@ -210,6 +211,36 @@ class TextReader:
 def depth(term: Type) -> int:
     inner = [depth(t) for t in parts(term) if not isinstance(t, Constant)]
     return 1 + (max(inner) if inner else 0)
+
+
+def written(term: Type) -> str:
+    """The type as the text writes it."""
+    match term:
+        case Primitive(name) | Parameter(name):
+            return name
+        case Constant(text):
+            return text
+        case Never():
+            return "!"
+        case Unknown(name):
+            return "?" + name
+        case Slice(element):
+            return f"[{written(element)}]"
+        case Array(element, length):
+            return f"[{written(element)}; {length}]"
+        case Tuple(items):
+            return f"({written(items[0])},)" if len(items) == 1 else f"({', '.join(map(written, items))})"
+        case Function(inputs, output, _):
+            return f"fn({', '.join(map(written, inputs))})" + ("" if output == UNIT else f" -> {written(output)}")
+        case Dyn(bounds):
+            return "dyn " + " + ".join(map(written_bound, bounds))
+        case Named(key, arguments):
+            return written_bound(Bound(key, arguments))
+    raise AssertionError(f"a type that no text has: {term}")
+
+
+def written_bound(bound: Bound) -> str:
+    return bound.key + (f"<{', '.join(map(written, bound.arguments))}>" if bound.arguments else "")
 
 
 def read_text(text: str) -> Text:

@@ -1,15 +1,20 @@
 """All crates of one text: those that are read, std, and what is named of crates that were not given. Items by key, and their names in the text."""
 from __future__ import annotations
 
+import os
 import re
 from collections import defaultdict
-from typing import Optional
+from typing import Iterator, Optional, Union
 
+from . import doc_cfg
+from .cargo import Links
 from .headers import INTEGERS
 from .html_docs import Pages, is_std_key, rust_crate_of
+from .kept import KeptCrate, Keeper
+from .objects import Place, Shape
 from .rustdoc_json import STD_CRATES, JsonCrate
 from .standard import FN_TRAITS, Standard
-from .terms import BadInput, Constant, Declaration, Lossy, Param, Type
+from .terms import ANY_HEAD, BadInput, Constant, Declaration, Impl, Lossy, Param, Type
 
 RESERVED = frozenset(("crate uses fundamental struct auto trait impl for where prove refute in later supers bool char str mut "
                       "const fn dyn").split() + INTEGERS)
@@ -17,10 +22,12 @@ CORE_NAMES = frozenset("Sized Clone Copy Tuple FnPtr FnOnce FnMut Fn Unsize Box 
 # Traits of Rust's core that the text's `core` has just so. (Its `Box` and `Fn` have other parameters, and nobody can add to them.)
 CORE_TRAITS = frozenset("Sized Clone Copy Tuple Unsize".split())
 STD_TEXTS = ("alloc", "std")
+AnyCrate = Union[JsonCrate, KeptCrate]
 
 
 def crate_name(name: str) -> str:
-    """A crate's name in the text."""
+    """A crate's name in the text; `name@version` has its version in it."""
+    name = re.sub(r"[^A-Za-z0-9_]", "_", name)
     return name + "_" if name in RESERVED or name == "core" else name
 
 
@@ -28,30 +35,42 @@ class World:
     def __init__(self, pages: Pages, standard: Optional[Standard] = None) -> None:
         self.standard = standard or Standard(pages)
         self.pages = self.standard.pages
-        self.crates: dict[str, JsonCrate] = {}
+        self.crates: dict[str, AnyCrate] = {}
         self.declarations: dict[str, Declaration] = {}
-        self.by_name: dict[tuple[str, str], list[Declaration]] = defaultdict(list)
+        self.homes: dict[str, AnyCrate] = {}
+        self.by_name: dict[tuple[str, str], list[str]] = defaultdict(list)
         self.uses: dict[str, list[str]] = {}
         self.missing: dict[str, int] = defaultdict(int)
+        self.doc_cfgs: dict[str, list[str]] = {}
         self.names: dict[str, str] = {}
+        self.named: dict[str, str] = {}
         self.taken: set[str] = set()
+        self.by_trait: dict[str, dict[str, list[tuple[str, int]]]] = {}
+        self.patterns: dict[tuple[str, str], Declaration] = {}
+        self.shapes: dict[tuple[str, tuple[Place, ...], tuple[str, ...]], Shape] = {}
+        self.shape_of_key: dict[str, Shape] = {}
 
     # ---- reading
-    def load(self, files: list[str], metadata: Optional[dict[str, list[str]]] = None) -> None:
-        """Reads the crates; `metadata` says which crates each one uses. Without it they use those that their items name."""
-        read = [JsonCrate(file, self.pages) for file in files]
+    def load(self, files: list[str], links: Optional[Links] = None) -> None:
+        """Reads the crates; `links` says which crates each one uses. Without it they use those that their items name."""
+        keeper: Optional[Keeper] = getattr(self.pages, "keeper", None)
+        names, artifacts = (links.names, links.artifacts) if links else ({}, {})
+        read: list[AnyCrate] = [keeper.crate(file, self.pages, names.get(file, ""), artifacts) if keeper
+                                else JsonCrate(file, self.pages, names.get(file, ""), artifacts) for file in files]
         given = {crate.name for crate in read}
         if len(given) < len(read):
             raise BadInput("two of the files are of crates with one name; give one version of a crate at a time")
         for crate in read:
+            self.same_std(crate)
             if crate.name in STD_TEXTS or crate.name.startswith("core_ops"):
                 raise BadInput(f"{crate.file}: the text has a crate of its own with that name, for std")
-            crate.load()
-            for declaration in [*crate.declarations.values(), *crate.aliases.values()]:
-                self.declarations[declaration.key] = declaration
-                self.by_name[(declaration.crate, declaration.name)].append(declaration)
+            if isinstance(crate, JsonCrate):
+                crate.load()
+            for item in crate.items:
+                self.homes[item.key] = crate
+                self.by_name[(crate.name, item.name)].append(item.key)
         for crate in read:
-            used = (metadata or {}).get(crate.name)
+            used = links.uses.get(crate.name) if links else None
             self.uses[crate.name] = [n for n in (crate.names_crates if used is None else used) if n in given and n != crate.name]
         by_name = {crate.name: crate for crate in read}
         done: set[str] = set()
@@ -66,6 +85,27 @@ class World:
         for crate in read:
             visit(crate.name)
 
+        self.find_doc_cfgs(links)
+
+    def same_std(self, crate: AnyCrate) -> None:
+        """Answers would be of no crate that there is, if it was compiled with another std than the documents are of."""
+        known = self.pages.version()
+        if known and crate.std_version and known != crate.std_version:
+            raise BadInput(f"{crate.file} was made by Rust {crate.std_version}, and std's documents in {self.pages.root} are of {known}: "
+                           "name those of that version by --docs")
+
+    def find_doc_cfgs(self, links: Optional[Links]) -> None:
+        """What rustdoc's `cfg(doc)` may have added to a crate, or hidden."""
+        if links is not None and links.doc_cfgs is not None:
+            self.doc_cfgs = links.doc_cfgs
+            return
+        for crate in self.crates.values():
+            above = os.path.dirname(os.path.abspath(crate.file))
+            roots = [links.root if links else "", above, *(os.path.normpath(os.path.join(above, *[".."] * n)) for n in range(1, 6))]
+            found = doc_cfg.places(crate.sources, roots, links.cfgs.get(crate.name) if links else None)
+            if found:
+                self.doc_cfgs[crate.name] = found
+
     # ---- items
     def get(self, key: Optional[str], kind: str = "", arguments: tuple[Type, ...] = ()) -> Declaration:
         """The item of a key. One of a crate that was not given becomes opaque, if `kind` says what it would be."""
@@ -76,15 +116,19 @@ class World:
             if found.not_understood:
                 raise Lossy(f"the declaration of `{found.name}` in std is not understood ({found.not_understood})")
             return found
+        if key in self.homes:
+            home = self.homes[key]
+            self.declarations[key] = home.declarations[key] if key in home.declarations else home.aliases[key]
+            return self.get(key)
         if is_std_key(key):
             self.declarations[key] = self.standard.declaration(key)
             return self.get(key)
         if key.startswith("other:"):
             crate, rest = key[len("other:"):].split("::", 1)
             same_name = self.by_name.get((crate, rest.split("::")[-1]), [])
-            exact = [d for d in same_name if d.key == f"{crate}::{rest}"]
+            exact = [k for k in same_name if k == f"{crate}::{rest}"]
             if exact or len(same_name) == 1:
-                self.declarations[key] = (exact or same_name)[0]
+                self.declarations[key] = self.get((exact or same_name)[0])
                 return self.declarations[key]
             self.missing[key[len("other:"):]] += 1
             source = "not given: " + key[len("other:"):]
@@ -94,6 +138,37 @@ class World:
             return self.opaque(key, crate, name, kind, arguments, f"declared in a body: {crate}::{name}")
         raise Lossy(f"the item {key} is not known")
 
+    def known(self, key: str) -> Optional[Declaration]:
+        """The item, if it is one of a crate that is read or was asked for before."""
+        if key not in self.declarations and key in self.homes:
+            return self.get(key)
+        return self.declarations.get(key)
+
+    def key_of(self, key: str) -> str:
+        """The item's own key, for one that another crate names."""
+        try:
+            return self.get(key).key
+        except Lossy:
+            return key
+
+    def impls_of(self, trait: str, head: Optional[str]) -> Iterator[Impl]:
+        """The impls that crates have of a trait, those whose self type may have the head; all for None."""
+        if not self.by_trait:
+            self.find_impls()
+        by_head = self.by_trait.get(trait, {})
+        for its in by_head if head is None else dict.fromkeys((head, ANY_HEAD)):
+            for name, number in by_head.get(its, []):
+                yield self.crates[name].impls[number]
+
+    def find_impls(self) -> None:
+        known: dict[str, str] = {}
+        for crate in self.crates.values():
+            for number, places in enumerate(crate.heads):
+                for place in places:
+                    if place not in known:
+                        known[place] = self.key_of(place) if "::" in place or is_std_key(place) else place
+                self.by_trait.setdefault(known[places[0]], {}).setdefault(known[places[1]], []).append((crate.name, number))
+
     def opaque(self, key: str, crate: str, name: str, kind: str, arguments: tuple[Type, ...], source: str) -> Declaration:
         if not kind:
             raise Lossy(source)
@@ -101,6 +176,13 @@ class World:
         declaration = Declaration(kind, key, crate, name, source=source, path=f"{crate}::{name}", params=params, is_opaque=True)
         self.declarations[key] = declaration
         return declaration
+
+    def add_special(self, declaration: Declaration) -> None:
+        """An item of the text alone, by its own name."""
+        self.declarations[declaration.key] = declaration
+        self.names[declaration.key] = declaration.name
+        self.named[declaration.name] = declaration.key
+        self.taken.add(declaration.name)
 
     # ---- names
     def is_cores(self, declaration: Declaration) -> bool:
@@ -112,12 +194,14 @@ class World:
             return self.names[declaration.key]
         if self.is_cores(declaration):
             self.names[declaration.key] = declaration.name
+            self.named[declaration.name] = declaration.key
             return declaration.name
         for candidate in self.candidates(declaration):
             name = re.sub(r"[^A-Za-z0-9_]", "_", candidate)[:50]
             if name not in self.taken and name not in RESERVED and name not in CORE_NAMES and not name[0].isdigit():
                 self.taken.add(name)
                 self.names[declaration.key] = name
+                self.named[name] = declaration.key
                 return name
         raise AssertionError("no name is left")
 

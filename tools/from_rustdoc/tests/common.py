@@ -7,9 +7,12 @@ import sys
 
 from ..build import Translation
 from ..html_docs import Pages
+from ..program import proved_program
 from ..world import World
 
 HERE = os.path.dirname(os.path.abspath(__file__))
+PROGRAM = os.environ.get("FROM_RUSTDOC_PROGRAM")
+WHY_NO_PROGRAM = "" if PROGRAM or proved_program() else "there is no proved program of these sources"
 sys.setrecursionlimit(20000)
 
 

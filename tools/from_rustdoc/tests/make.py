@@ -1,7 +1,8 @@
 #!/usr/bin/env python3
 """Makes the kept JSON anew: of the crates beside this file, by the rustdoc that is on the PATH, and of the pages of std that they name.
 
-What the translator does not read (documentation, functions, blanket impls) is cut out of both.
+What the translator does not read (documentation, functions, blanket impls) is cut out of both. With a rustdoc of another version as
+its word it makes json/formats.NUMBER.json of that.
 """
 from __future__ import annotations
 
@@ -18,22 +19,31 @@ sys.path.insert(0, os.path.dirname(os.path.dirname(HERE)))
 
 from from_rustdoc.cargo import FLAGS, docs_folder  # noqa: E402
 from from_rustdoc.html_docs import Pages  # noqa: E402
+from from_rustdoc.standard import COMPUTED  # noqa: E402
+from from_rustdoc.tests.pairs import all_pairs, library, rustdoc  # noqa: E402
 
-CRATES = ("shapes", "before", "after")
+# Each with the crates that it uses.
+CRATES: dict[str, list[str]] = {"shapes": [], "before": [], "after": [], "ab": [], "user": ["ab"], "reasons": [],
+                                "formats": []}
 READ = ("struct", "enum", "union", "variant", "struct_field", "trait", "impl", "assoc_type", "module", "use", "type_alias")
 # Pages that no kept crate names, but the translator or a question does.
 MORE = ("core/marker/trait.Send.html core/marker/trait.Sync.html core/marker/trait.Unpin.html core/panic/unwind_safe/trait.UnwindSafe.html "
         "core/panic/unwind_safe/trait.RefUnwindSafe.html core/marker/trait.Sized.html core/marker/trait.PointeeSized.html core/marker/trait.MetaSized.html "
         "core/ops/function/trait.FnMut.html core/ops/function/trait.FnOnce.html core/default/trait.Default.html core/fmt/trait.Debug.html core/clone/trait.Clone.html core/marker/trait.Copy.html core/marker/trait.Unsize.html core/cmp/trait.Eq.html "
         "core/option/enum.Option.html alloc/vec/struct.Vec.html alloc/boxed/struct.Box.html alloc/string/struct.String.html "
-        "alloc/alloc/struct.Global.html core/alloc/trait.Allocator.html core/cell/struct.Cell.html core/marker/struct.PhantomData.html").split()
+        "alloc/alloc/struct.Global.html core/alloc/trait.Allocator.html core/cell/struct.Cell.html core/marker/struct.PhantomData.html "
+        "core/iter/traits/collect/trait.IntoIterator.html core/iter/traits/iterator/trait.Iterator.html alloc/vec/struct.IntoIter.html alloc/rc/struct.Rc.html "
+        "core/fmt/type.Result.html core/result/enum.Result.html core/fmt/struct.Error.html core/marker/trait.Tuple.html core/num/nonzero/trait.ZeroablePrimitive.html core/num/trait.ZeroablePrimitive.html").split()
 
 
 def trimmed(data: dict[str, Any]) -> dict[str, Any]:
     index = {}
+    of_traits = {number for item in data["index"].values() if "trait" in item["inner"] and item["crate_id"] == 0 for number in item["inner"]["trait"]["items"]}
     for number, item in data["index"].items():
         kind, body = next(iter(item["inner"].items()))
-        if item["crate_id"] != 0 or kind not in READ:
+        if int(number) in of_traits and kind in ("function", "assoc_const"):
+            item["inner"] = {kind: {name: body[name] for name in ("has_body", "value") if name in body}}
+        elif item["crate_id"] != 0 or kind not in READ:
             continue
         if kind == "impl" and (body["blanket_impl"] is not None or body["trait"] is None or body["is_synthetic"]):
             continue
@@ -48,16 +58,32 @@ def trimmed(data: dict[str, Any]) -> dict[str, Any]:
     named = set(re.findall(r'"id": (\d+)', text))
     paths = {n: p for n, p in data["paths"].items() if n in named}
     crates = {str(p["crate_id"]) for p in paths.values()}
-    external = {n: {"name": c["name"]} for n, c in data["external_crates"].items() if n in crates}
+    external = {n: {k: c[k] for k in ("name", "html_root_url")} for n, c in data["external_crates"].items() if n in crates}
     return {"root": data["root"], "crate_version": "1.0.0", "includes_private": True, "index": index, "paths": paths,
             "external_crates": external, "format_version": data["format_version"]}
 
 
-def crate_json(name: str, folder: str) -> dict[str, Any]:
-    words = ["rustdoc", "--edition", "2021", os.path.join(HERE, "crates", name + ".rs"), "-o", folder, *FLAGS.split()]
-    subprocess.run(words, check=True, env={**os.environ, "RUSTC_BOOTSTRAP": "1"})
+def crate_json(name: str, folder: str, rustdoc: str = "rustdoc") -> dict[str, Any]:
+    source, edition = os.path.join(HERE, "crates", name + ".rs"), ["--edition", "2021"]
+    used = [word for other in CRATES.get(name, []) for word in ("--extern", f"{other}={folder}/lib{other}.rmeta")]
+    environment = {**os.environ, "RUSTC_BOOTSTRAP": "1"}
+    if any(name in others for others in CRATES.values()):
+        subprocess.run(["rustc", *edition, "--crate-type", "lib", "--cap-lints", "allow", "--emit", "metadata", source, "--out-dir", folder, *used], check=True,
+                       env=environment)
+    subprocess.run([rustdoc, "--cap-lints", "allow", *edition, source, "-o", folder, *used, *FLAGS.split()], check=True, env=environment)
     with open(os.path.join(folder, name + ".json"), encoding="utf-8") as handle:
         return trimmed(json.load(handle))
+
+
+def pair_json(version: str, folder: str) -> dict[str, Any]:
+    """The library of releases/pairs.txt, all pairs in it."""
+    with open(rustdoc(folder, library(all_pairs(), version), version), encoding="utf-8") as handle:
+        return trimmed(json.load(handle))
+
+
+def write(name: str, data: Any) -> None:
+    with open(os.path.join(HERE, "json", name + ".json"), "w", encoding="utf-8") as handle:
+        json.dump(data, handle, separators=(",", ":"), sort_keys=True, ensure_ascii=False)
 
 
 def pages_of(crates: list[dict[str, Any]], pages: Pages) -> dict[str, str]:
@@ -103,6 +129,8 @@ def cut_down(kept: dict[str, str], keys: set[Any], pages: Pages) -> dict[str, st
         declared = re.search(r'<pre class="rust item-decl"><code>.*?</code></pre>', text, re.S)
         parts = [source.group() if source else "", shorter_declaration(declared.group()) if declared else ""]
         for header, rest in Pages.impl_sections(text):
+            if COMPUTED in text and text.index(COMPUTED) < text.index(header) and COMPUTED not in parts[-1]:
+                parts.append(f"<h2 {COMPUTED}></h2>")
             values = "".join(re.findall(r'<section id="associatedtype[^>]*>.*?</section>', rest, re.S))
             if has_kept_links(header + values, path, keys, pages) and "T₁" not in header:
                 parts.append(f'<section id="impl-" class="impl"><h3 class="code-header">{shorter(header)}</h3></section>')
@@ -129,6 +157,7 @@ def cut_down(kept: dict[str, str], keys: set[Any], pages: Pages) -> dict[str, st
 
 def shorter(fragment: str) -> str:
     """Links alone are kept of the markup."""
+    fragment = re.sub(r'<div class="where">|<span class="where[^>]*>', " ", fragment)
     return re.sub(r"<(?!/?a\b|br)[^>]*>", "", re.sub(r' title="[^"]*"', "", re.sub("<wbr>", "", fragment)))
 
 
@@ -141,16 +170,19 @@ def shorter_declaration(text: str) -> str:
     return f'<pre class="rust item-decl"><code>{shorter(head)}{{{" ".join(types)}</code></pre>'
 
 
-def main() -> None:
-    crates = []
+def main(words: list[str]) -> None:
+    """All of it; or the crate `formats` alone by another rustdoc, whose number is in the file's name."""
     with tempfile.TemporaryDirectory() as folder:
-        for name in CRATES:
-            crates.append(crate_json(name, folder))
-            with open(os.path.join(HERE, "json", name + ".json"), "w", encoding="utf-8") as handle:
-                json.dump(crates[-1], handle, separators=(",", ":"), sort_keys=True)
-    with open(os.path.join(HERE, "json", "std.json"), "w", encoding="utf-8") as handle:
-        json.dump(pages_of(crates, Pages(docs_folder(None))), handle, separators=(",", ":"), sort_keys=True, ensure_ascii=False)
+        if words:
+            other = crate_json("formats", folder, words[0])
+            write(f"formats.{other['format_version']}", other)
+            return
+        crates = {name: crate_json(name, folder) for name in CRATES}
+        crates |= {f"pairs_{version}": pair_json(version, folder) for version in ("old", "new")}
+    for name, data in crates.items():
+        write(name, data)
+    write("std", pages_of(list(crates.values()), Pages(docs_folder(None))))
 
 
 if __name__ == "__main__":
-    main()
+    main(sys.argv[1:])

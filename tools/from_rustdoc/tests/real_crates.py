@@ -22,8 +22,10 @@ from ..html_docs import Pages
 from ..later import added_impls, ask_program
 from ..program import TOP, run
 from ..questions import Asker
-from ..report import Report, explain_refusal
+from ..report import Report
 from ..show import Show
+from ..messages import Sources, rendered
+from ..verdicts import refusal
 from ..terms import BadInput
 from ..world import World
 from .generated import compiled, questions
@@ -100,7 +102,7 @@ class RealCrates(unittest.TestCase):
             for mode, text in texts.items():
                 places = Report(translation).places(mode)
                 for name, verdict in run(text, PROGRAM).refusals().items():
-                    told = f"{crate}, {mode}: {name}: {explain_refusal(verdict, name, places)}"
+                    told = f"{crate}, {mode}: {name}: {rendered(refusal(verdict, name, places), Sources())}"
                     # An overlap of the upper text alone that rests on a loss is not settled, which is no refusal.
                     (unsettled if mode == "upper" and "rests on a loss" in told else refused).append(told)
             print(f"{crate}: {'; '.join(Report(translation).summary()[-1:])}", file=sys.stderr, flush=True)

@@ -1,6 +1,6 @@
 """Texts that look right and let wrong answers through. The translator does not write them, and its checker refuses each.
 
-C1 to C7 as in docs/RUSTDOC.md: a supertrait dropped (twice: `Sup` and `Sized`), fields dropped, two impls with one line, an impl
+C8 to C10 are those of patterns; C1 to C7 as in docs/RUSTDOC.md: a supertrait dropped (twice: `Sup` and `Sized`), fields dropped, two impls with one line, an impl
 of an auto trait that the crate has not, a clause turned into its supertrait, a header widened though it can be said.
 """
 from __future__ import annotations
@@ -40,7 +40,7 @@ class Counterexamples(unittest.TestCase):
             self.refused(mode, "struct shapes__Tail<T>(u8, T)", "struct shapes__Tail<T>(T, u8)", "a field that is not the crate's")
 
     def test_c4_two_impls_get_one_line(self) -> None:
-        line = "impl<T> shapes__Local for shapes__Two<T> where T: Sized, T: shapes__Second"
+        line = "impl<T> shapes__Local for shapes__Two<T> where T: Sized, T: shapes__Second, T: shapes__Second__Of__Then<Wrap_<Pat3_>>"
         self.refused("upper", line, "", "each impl has its own line")
         self.refused("upper", line, "impl<T> shapes__Local for T", "a header that is not the crate's")
 
@@ -48,7 +48,7 @@ class Counterexamples(unittest.TestCase):
         line = "impl shapes__Sup for u8"
         self.refused("upper", line, line + "\nimpl Send for shapes__Free where u8: Never_", "each impl has its own line")
         self.refused("upper", "impl<T> Send for shapes__Raw<T> where T: Sized, T: Send", "impl<T> Send for shapes__Raw<T> where u8: Never_", "a void impl")
-        self.refused("upper", "impl<I> Send for shapes__Peeked<I> where I: Send", "impl<I> Send for shapes__Peeked<I> where u8: Never_", "a void impl")
+        self.refused("upper", "impl<I> Send for shapes__Peeked<I> where I: Send, I: Iterator__Item__Then<Wrap_<Pat4_>>", "impl<I> Send for shapes__Peeked<I> where u8: Never_", "a void impl")
 
     def test_c6_a_clause_becomes_its_supertrait(self) -> None:
         for mode in ("upper", "lower"):
@@ -66,11 +66,29 @@ class Counterexamples(unittest.TestCase):
         self.refused("lower", line, line.replace("T: shapes__Sup", "u8: shapes__Sup"), "a clause by `shapes__Sup`")
 
     def test_an_impl_with_a_loss_in_the_lower_text(self) -> None:
-        lossy = "impl<S> Debug for shapes__Raw<S> where S: Sized, S: shapes__Shape"
+        lossy = "impl<X1_> shapes__Draw for X1_"
         self.assertIn(lossy, self.good["upper"])
         self.assertNotIn(lossy, crate_part(self.good["lower"], "shapes"))
         line = "impl<W> Default for" if "impl<W> Default for" in self.good["lower"] else "impl shapes__Sup for u8"
         self.refused("lower", line, line + "\n" + lossy, "each impl has its own line")
+
+    def test_c9_a_pattern_means_something_else(self) -> None:
+        line = "impl<H> Apply_<H> for Pat1_ where H: Debug"
+        for mode in ("upper", "lower"):
+            self.refused(mode, line, "impl<H> Apply_<H> for Pat1_ where H: Clone", "a clause by `Clone`, which the impl has not")
+            self.refused(mode, line, "impl Apply_<u8> for Pat1_", "an equation that the impl has not")
+            self.refused(mode, line, "impl<H> Apply_<H> for Pat2_", "a pattern with two meanings")
+
+    def test_c10_an_impl_asks_patterns_of_another_value(self) -> None:
+        line = "impl<I, K_> Iterator__Item__Then<Wrap_<K_>> for shapes__Peeked<I> where I: Sized, I: Iterator, "
+        for mode in ("upper", "lower"):
+            self.refused(mode, line + "I: Iterator__Item__Then<Wrap_<K_>>", line + "K_: Apply_<u8>", "of another value than the impl's")
+            self.refused(mode, line + "I: Iterator__Item__Then<Wrap_<K_>>", line[:-2], "no pattern is asked")
+
+    def test_c8_what_stands_around_patterns(self) -> None:
+        """Without these no impl that may come would be seen, or patterns had other impls."""
+        self.refused("upper", "struct Wrap_<K>", "fundamental struct Wrap_<K>", "`Wrap_` are not")
+        self.refused("upper", "fundamental trait Apply_<V>", "trait Apply_<V>", "`Apply_`")
 
     def test_faults_and_limits_are_seen(self) -> None:
         self.refused("upper", "struct shapes__Free(u8)", "struct shapes__Free(u9)", "the name `u9` is not known")

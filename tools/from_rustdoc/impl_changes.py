@@ -1,0 +1,294 @@
+"""What a release changes of impls. Each old one is asked for in the new version, with its clauses: a proof says that nothing is lost. Each
+new one that the old version does not prove stands in a section of its own, a line `later`, and the program says whether it is
+compatible; why it is not is this script's word."""
+from __future__ import annotations
+
+from dataclasses import dataclass, field
+from typing import Optional
+
+from .claims import Claim, Judge
+from .cone import cone_of_questions
+from .impls import Written
+from .item_changes import change
+from .messages import Message, at
+from .open_walk import downstream, is_sealed, met_in_header
+from .program import run
+from .questions import Question, Verdict
+from .render import is_sizedness
+from .terms import BadInput, Bound, Impl, Lossy, Named, Parameter, Predicate, Type, argument_values, put, put_bound, walk
+from .versions import Gone, Header, Versions, all_keys, bound_keys, is_private, names_private, plain_params
+from .world import World, crate_name
+
+
+# What nothing is told of.
+KNOWN = "the old version proves it already"
+
+
+@dataclass
+class Judged:
+    """An added impl. `word` is compatible, breaking, not settled where the text cannot say it, or why it is in no section (private, sealed);
+    it is empty until the program was asked."""
+    impl: Impl
+    word: str
+    reason: str = ""
+
+
+@dataclass
+class Kept:
+    """An impl of the old version that the new one has not as it was; `again` are those of the new one with its header."""
+    impl: Impl
+    clauses: frozenset[Predicate]
+    again: list[Impl] = field(default_factory=list)
+
+
+class ImplChanges:
+    """`troubled` are old items whose impls are not compared, by their keys, with what was told of them."""
+
+    def __init__(self, versions: Versions, troubled: dict[str, Message], with_private: bool, program: Optional[str] = None) -> None:
+        self.versions = versions
+        self.troubled = troubled
+        self.with_private = with_private
+        self.program = program
+        self.messages: list[Message] = []
+        self.added: list[Judged] = []
+        self.uncompared: dict[str, int] = {}
+
+    def run(self) -> None:
+        old, new = self.of(self.versions.old), self.of(self.versions.new)
+        self.lost(old, new)
+        self.new_ones(old, new)
+        for key, count in self.uncompared.items():
+            self.troubled[key].note(f"its impls are not compared: {count}")
+
+    def of(self, world: World) -> dict[Header, list[tuple[Impl, frozenset[Predicate]]]]:
+        """The crate's impls by their headers, without those of auto traits, which are asked for."""
+        found: dict[Header, list[tuple[Impl, frozenset[Predicate]]]] = {}
+        for impl in world.crates[self.versions.crate].impls:
+            if impl.trait is not None and not is_auto(world, impl):
+                header, clauses = self.versions.header(world, impl)
+                found.setdefault(header, []).append((impl, clauses))
+        return found
+
+    # ---- what is lost
+    def lost(self, old: dict[Header, list[tuple[Impl, frozenset[Predicate]]]], new: dict[Header, list[tuple[Impl, frozenset[Predicate]]]]) -> None:
+        claims: list[Claim] = []
+        for header, impls in old.items():
+            again = new.get(header, [])
+            for impl, clauses in impls:
+                if impl.is_negative or self.is_hidden(impl):
+                    continue
+                same = next((i for i, c in again if c == clauses), None)
+                if same is not None:
+                    self.values(impl, same)
+                else:
+                    claims += self.claim(Kept(impl, clauses, [i for i, _ in again]))
+        self.messages += Judge(self.versions.new, self.program).settle(claims)
+
+    def is_hidden(self, impl: Impl) -> bool:
+        """Whether nobody else can name what the header names."""
+        return names_private(self.versions.old, self.versions.before, header_keys(impl))
+
+    def claim(self, kept: Kept) -> list[Claim]:
+        impl, versions = kept.impl, self.versions
+        assert impl.trait is not None
+        trouble = next((own for own in map(versions.old.key_of, header_keys(impl)) if own in self.troubled), None)
+        if trouble is not None:
+            self.uncompared[trouble] = self.uncompared.get(trouble, 0) + 1
+            return []
+        header = versions.show_old.header(impl)
+        code = "impl-bounds-changed" if kept.again else "impl-removed"
+        if kept.again:
+            message = change(code, f"`{header}` asks for more", at(kept.again[0].place), at(impl.place, "", "old"))
+        else:
+            message = change(code, f"`{header}` is removed", [], at(impl.place, "it was here", "old"))
+        try:
+            predicates = versions.predicates_to_new(impl.predicates)
+            subject, bound = versions.to_new(impl.self_type), versions.bound_to_new(impl.trait)
+        except Gone as gone:
+            message.word = "not settled"
+            self.messages.append(message.note(f"it names `{gone}`, which is gone"))
+            return []
+        params = plain_params(impl.params)
+        predicates += self.of_names([subject, *bound.arguments])
+        found = [Claim(Question(self.asked(impl), subject, bound, params, predicates, crate=versions.crate), message)]
+        return found + self.value_claims(kept, subject, bound, predicates)
+
+    def of_names(self, terms: list[Type]) -> list[Predicate]:
+        """What the new version asks of whoever names these types: a new bound of one is told of it, and not of its impls too."""
+        found: list[Predicate] = []
+        for part in (part for term in terms for part in walk(term)):
+            item = self.versions.after.items.get(self.versions.new.key_of(part.key)) if isinstance(part, Named) else None
+            if item is not None and isinstance(part, Named):
+                values = argument_values(item.params, part.arguments)
+                found += [(put(t, values), put_bound(b, values)) for t, b in item.predicates if not is_sizedness(b)]
+        return found
+
+    def value_claims(self, kept: Kept, subject: Type, bound: Bound, predicates: list[Predicate]) -> list[Claim]:
+        """Where another impl stands for the old one, its associated types are to be those of the old one."""
+        claims = []
+        for name, value in kept.impl.associated.items():
+            message = self.other_value(kept.impl, name, kept.again[0] if kept.again else None)
+            try:
+                asked = Bound(bound.key, bound.arguments, ((name, self.versions.to_new(value)),))
+            except Gone:
+                continue
+            claims.append(Claim(Question(f"{self.asked(kept.impl)} with its `{name}`", subject, asked, plain_params(kept.impl.params), predicates,
+                                         crate=self.versions.crate), message))
+        return claims
+
+    def asked(self, impl: Impl) -> str:
+        """An impl as a question."""
+        show = self.versions.show_old
+        assert impl.trait is not None
+        names = ", ".join(("const " if p.kind == "const" else "") + p.name for p in impl.params)
+        where = ", ".join(f"{show.type(t)}: {show.bound(b)}" for t, b in impl.predicates)
+        return (f"<{names}> " if names else "") + f"{show.type(impl.self_type)}: {show.bound(impl.trait)}" + (f" where {where}" if where else "")
+
+    def values(self, old: Impl, new: Impl) -> None:
+        """Associated types of an impl that is there again."""
+        before, after = self.versions.values(self.versions.old, old), self.versions.values(self.versions.new, new)
+        for name, value in before.items():
+            if name in after and after[name] != value:
+                self.messages.append(self.other_value(old, name, new))
+
+    def other_value(self, old: Impl, name: str, new: Optional[Impl]) -> Message:
+        became = f"`{self.versions.show_new.type(new.associated[name])}`" if new is not None and name in new.associated else "another type"
+        return change("associated-value-changed", f"`{self.versions.show_old.header(old)}`: `{name}` is {became}, and was "
+                      f"`{self.versions.show_old.type(old.associated[name])}`", at(new.place if new is not None else None), at(old.place, "", "old"))
+
+    # ---- what is added
+    def new_ones(self, old: dict[Header, list[tuple[Impl, frozenset[Predicate]]]], new: dict[Header, list[tuple[Impl, frozenset[Predicate]]]]) -> None:
+        fresh = [self.narrowed(impl) for header, impls in new.items() for impl, clauses in impls if all(c != clauses for _, c in old.get(header, []))]
+        proved = self.proved_before(fresh)
+        self.added = [self.judged(impl, proved.get(id(impl))) for impl in fresh]
+        self.ask_program()
+        self.messages += [self.told(judged) for judged in self.added if judged.reason != KNOWN]
+
+    def narrowed(self, impl: Impl) -> Impl:
+        """The part of an added impl that an impl of an older crate can meet: new parameters of its trait have their defaults there."""
+        assert impl.trait is not None
+        trait = self.versions.new.get(impl.trait.key, "trait", impl.trait.arguments)
+        before = self.versions.before.items.get(self.versions.older.get(trait.key, ""))
+        if before is None or len(before.params) >= len(impl.trait.arguments):
+            return impl
+        values: dict[str, Type] = {}
+        for param, argument in list(zip(trait.params, impl.trait.arguments))[len(before.params):]:
+            if isinstance(argument, Parameter) and param.default is not None:
+                values[argument.name] = param.default
+        found = impl.copy()
+        found.trait, found.self_type = put_bound(impl.trait, values), put(impl.self_type, values)
+        found.predicates = [(put(t, values), put_bound(b, values)) for t, b in impl.predicates]
+        found.params = [p for p in impl.params if p.name not in values]
+        return found
+
+    def old_bound(self, bound: Bound) -> Bound:
+        """The bound in the old version, without arguments that are the defaults of new parameters."""
+        before = self.versions.before.items.get(self.versions.older.get(self.versions.new.key_of(bound.key), ""))
+        trait = self.versions.new.get(bound.key, "trait", bound.arguments)
+        count = len(before.params) if before is not None else len(bound.arguments)
+        if all(argument == param.default for param, argument in list(zip(trait.params, bound.arguments))[count:]):
+            bound = Bound(bound.key, bound.arguments[:count], bound.constraints)
+        return self.versions.bound_to_old(bound)
+
+    def proved_before(self, fresh: list[Impl]) -> dict[int, Verdict]:
+        """What the old version says to each: where it has a proof nothing is added."""
+        asked: list[tuple[Impl, Question]] = []
+        for impl in fresh:
+            assert impl.trait is not None
+            try:
+                asked.append((impl, Question("", self.versions.to_old(impl.self_type), self.old_bound(impl.trait), plain_params(impl.params),
+                                             self.versions.predicates_to_old(impl.predicates), crate=self.versions.crate)))
+            except Gone:
+                pass
+        asked = [(impl, question) for impl, question in asked if not impl.is_negative]
+        verdicts = Judge(self.versions.old, self.program).ask([question for _, question in asked])
+        return {id(impl): verdict for (impl, _), verdict in zip(asked, verdicts)}
+
+    def judged(self, impl: Impl, before: Optional[Verdict]) -> Judged:
+        """One added impl, as far as the program is not asked for it: what nobody else can name is in no section, and what a section cannot
+        say is told here."""
+        assert impl.trait is not None
+        world = self.versions.new
+        if before is not None and before.word == "yes":
+            return Judged(impl, "compatible", KNOWN)
+        trait = world.get(impl.trait.key, "trait", impl.trait.arguments)
+        if not self.with_private:
+            subject = world.get(impl.self_type.key, "struct", impl.self_type.arguments) if isinstance(impl.self_type, Named) else None
+            if is_private(world, trait) or (subject is not None and is_private(world, subject) and subject.key not in self.versions.after.kinds):
+                return Judged(impl, "private", "nobody else can name it, so it is in no section")
+            if is_sealed(world, trait):
+                return Judged(impl, "sealed", "nobody else can implement the trait, so it is in no section")
+        if trait.crate in world.crates and trait.key in self.versions.after.kinds and trait.key not in self.versions.older:
+            return Judged(impl, "compatible", "its trait is new")
+        return Judged(impl, "")
+
+    def ask_program(self) -> None:
+        """Has the program judge the impls that wait for it, by a section for each behind a text that has what their headers name."""
+        waiting = [j for j in self.added if not j.word]
+        for judged, verdict in zip(waiting, self.verdicts([j.impl for j in waiting])):
+            judged.word = verdict.split()[0] if verdict else "not settled"
+            judged.reason = self.reason(judged.impl) if judged.word == "breaking" else "" if verdict else "the text cannot say its header"
+
+    def verdicts(self, impls: list[Impl]) -> list[str]:
+        try:
+            return self.verdicts_together(impls) if impls else []
+        except (BadInput, Lossy):
+            return [""] if len(impls) == 1 else [v for impl in impls for v in self.verdicts([impl])]
+
+    def verdicts_together(self, impls: list[Impl]) -> list[str]:
+        """The program's word on each header, empty where the text cannot say it. Clauses are not looked at, so none are written."""
+        questions = [Question("", i.self_type, i.trait, plain_params(i.params), [], crate=self.versions.crate) for i in impls if i.trait is not None]
+        translation = cone_of_questions(self.versions.new, questions)
+        translation.keep.add(crate_name(self.versions.crate))
+        translation.build()
+        lines = [header_of(translation.impl_writer.write(without_clauses(impl))) for impl in impls]
+        if translation.renderer.grew:
+            translation.build()
+        asked = [line for line in lines if line]
+        sections = [text for line in asked for text in (f"later {crate_name(self.versions.crate)}", line)]
+        verdicts = iter(run("\n".join(translation.text("upper")[0] + sections) + "\n", self.program).releases if asked else [])
+        return [next(verdicts) if line else "" for line in lines]
+
+    def reason(self, impl: Impl) -> str:
+        """Why the program says that an impl is breaking."""
+        assert impl.trait is not None
+        world = self.versions.new
+        trait = world.get(impl.trait.key, "trait", impl.trait.arguments)
+        if trait.is_fundamental:
+            return "the trait is fundamental: others may rely on there being no such impl"
+        met = met_in_header(world, trait, impl)
+        if met is not None:
+            return f"another crate may have `{downstream(self.versions.show_new, trait, impl, met)}`"
+        return "its header is none that the crate may have"
+
+    def told(self, judged: Judged) -> Message:
+        header = self.versions.show_new.header(judged.impl)
+        text = f"`{header}` breaks crates that have an impl of their own" if judged.word == "breaking" else f"`{header}`"
+        message = change("impl-added", text if judged.word != "not settled" else f"`{header}` is added", at(judged.impl.place), word=judged.word)
+        if judged.word not in ("breaking", "not settled"):
+            message.children = []
+        return message.note(judged.reason) if judged.reason else message
+
+
+def is_auto(world: World, impl: Impl) -> bool:
+    assert impl.trait is not None
+    try:
+        return world.get(impl.trait.key, "trait", impl.trait.arguments).is_auto
+    except Lossy:
+        return False
+
+
+def header_keys(impl: Impl) -> list[str]:
+    assert impl.trait is not None
+    return bound_keys(impl.trait) + all_keys(impl.self_type)
+
+
+def without_clauses(impl: Impl) -> Impl:
+    """The header alone, as of a positive impl: what it meets is the same."""
+    found = impl.copy()
+    found.predicates, found.is_negative, found.associated = [], False, {}
+    return found
+
+
+def header_of(written: Written) -> str:
+    return next((line.text.partition(" where ")[0] for line in written.upper if line.role == "impl"), "")

@@ -1,0 +1,67 @@
+"""The command `later`: two JSON files, or a project and its older version, which are documented first."""
+from __future__ import annotations
+
+import argparse
+import os
+import signal
+import sys
+from typing import Callable, Optional
+
+from .baseline import documented
+from .cargo import Links
+from .later import Release, compared
+from .messages import BAD, Message, Output, Sources, worst
+from .terms import BadInput
+from .world import World
+
+# Reads crates: their files, std's documents, and how they belong together.
+WorldReader = Callable[[list[str], Optional[str], Optional[Links]], World]
+
+
+def told(release: Release, output: Output) -> int:
+    for message in release.messages:
+        # What others cannot name is counted; `--private` has it judged.
+        if output.is_json or message.word not in ("private", "sealed"):
+            output.message(message)
+    output.summary(release.summary(), release.crate, release.answer, release.status,
+                   counts={word: release.count(word) for word in dict.fromkeys(m.word for m in release.messages)})
+    return release.status
+
+
+def of_files(arguments: argparse.Namespace, read: WorldReader, links: Optional[Links]) -> int:
+    """Compares two JSON files."""
+    files = arguments.files
+    worlds = [read([file, *arguments.with_crates], arguments.docs, links) for file in files]
+    crates = [next(c.name for c in w.crates.values() if c.file == f) for w, f in zip(worlds, files)]
+    if crates[0] != crates[1]:
+        raise BadInput(f"{crates[0]} and {crates[1]} are two crates, not two versions of one")
+    folders = [os.path.dirname(os.path.abspath(file)) for file in files]
+    output = Output(Sources({"old": folders[:1], "": folders[1:]}), arguments.message_format == "json")
+    return told(compared(worlds[0], worlds[1], crates[0], arguments.private, arguments.program), output)
+
+
+def of_project(arguments: argparse.Namespace, extra: list[str], read: WorldReader) -> int:
+    """Compares each library of a project with an older version of the project."""
+    signal.signal(signal.SIGTERM, lambda number, frame: sys.exit(143))
+    folder = arguments.files[0] if arguments.files else "."
+    statuses = []
+    with documented(arguments.baseline, folder, extra, arguments.quiet) as both:
+        output = Output(Sources({"old": [both.old.root], "": [both.new.root]}), arguments.message_format == "json")
+        for name in both.members(arguments.package):
+            if name not in both.new.files:
+                output.message(Message(f"the library `{name}` is gone", "crate-removed", "breaking", name))
+                statuses.append(BAD)
+                continue
+            worlds = [read([p.files[c] for c in p.closure([name])], arguments.docs, p.links) for p in (both.old, both.new)]
+            statuses.append(told(compared(worlds[0], worlds[1], name, arguments.private, arguments.program), output))
+    return worst(statuses)
+
+
+def later(arguments: argparse.Namespace, extra: list[str], read: WorldReader, links: Optional[Links]) -> int:
+    if arguments.baseline is not None:
+        if len(arguments.files) > 1:
+            raise BadInput("`later --baseline` takes one project")
+        return of_project(arguments, extra, read)
+    if len(arguments.files) != 2:
+        raise BadInput("`later` takes two JSON files, the older one first, or `--baseline` with a revision or a folder")
+    return of_files(arguments, read, links)

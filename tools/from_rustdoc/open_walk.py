@@ -1,0 +1,97 @@
+"""Which impls another crate may have, by the walk of the orphan rule: through references and fundamental structs, and into nothing else."""
+from __future__ import annotations
+
+from typing import Optional
+
+from .show import Show
+from .terms import (Bound, Declaration, Impl, Lossy, Named, Parameter, Projection, Reference, Type, Unsayable, argument_values, parameters_of, put,
+                    rebuilt)
+from .world import World
+
+
+def met_parameter(world: World, term: Type) -> Optional[Type]:
+    """The parameter (or unknown type) that the open walk of a type meets."""
+    match term:
+        case Parameter() | Projection() | Unsayable():
+            return term
+        case Reference(_, target):
+            return met_parameter(world, target)
+        case Named(key, arguments):
+            try:
+                declaration = world.get(key, "struct", arguments)
+            except Lossy:
+                return None
+            if declaration.is_fundamental:
+                for argument in arguments:
+                    found = met_parameter(world, argument)
+                    if found is not None:
+                        return found
+    return None
+
+
+def written_arguments(trait: Declaration, impl: Impl) -> list[Type]:
+    """The self type, and the trait's type arguments with defaults put in."""
+    assert impl.trait is not None
+    values = argument_values(trait.params, impl.trait.arguments)
+    return [impl.self_type] + [put(values[p.name], {"Self": impl.self_type}) for p in trait.params if p.kind == "type"]
+
+
+def met_in_header(world: World, trait: Declaration, impl: Impl) -> Optional[Type]:
+    return next((met for met in (met_parameter(world, term) for term in written_arguments(trait, impl)) if met is not None), None)
+
+
+def downstream(show: Show, trait: Declaration, impl: Impl, met: Type) -> str:
+    """An impl of another crate that this one would meet: its own type stands where the walk meets a parameter."""
+    assert impl.trait is not None
+    mine = Parameter("Mine")
+
+    def changed(term: Type) -> Type:
+        return mine if term == met else rebuilt(term, changed)
+
+    values = {p.name: changed(a) for p, a in zip(trait.params, impl.trait.arguments)}
+    bound = Bound(impl.trait.key, tuple(values.values()))
+    self_type = changed(impl.self_type)
+    left = {n for t in (self_type, *bound.arguments) for n in parameters_of(t)} & {p.name for p in impl.params}
+    special = impl.copy()
+    special.params = [p for p in impl.params if p.name in left]
+    special.trait, special.self_type, special.is_negative = bound, self_type, False
+    return show.header(special)
+
+
+def is_sealed(world: World, trait: Declaration) -> bool:
+    """Whether nobody else can implement the trait: of it, or of a trait above it, nobody else can have an impl. That is so if it has no
+    public path, and no impl of its own is for types of others."""
+    return closed(world, trait, set())
+
+
+def closed(world: World, trait: Declaration, above: set[str]) -> bool:
+    todo, seen = [trait], set(above)
+    while todo:
+        declaration = todo.pop()
+        if declaration.key in seen:
+            continue
+        seen.add(declaration.key)
+        if declaration.crate in world.crates and declaration.public_path is None and not is_for_others(world, declaration, seen):
+            return True
+        todo += supertraits(world, declaration)
+    return False
+
+
+def supertraits(world: World, trait: Declaration) -> list[Declaration]:
+    found = []
+    for bound in trait.supers:
+        try:
+            found.append(world.get(bound.key, "trait", bound.arguments))
+        except Lossy:
+            pass
+    return found
+
+
+def is_for_others(world: World, trait: Declaration, above: set[str]) -> bool:
+    """Whether some impl of the trait may be for a type of another crate: not if it asks the very trait, or one like it, of that type."""
+    for impl in world.impls_of(trait.key, None):
+        met = None if impl.is_negative else met_in_header(world, trait, impl)
+        asked = [world.known(world.key_of(b.key)) for t, b in impl.predicates if t == met]
+        if met is not None and not any(d is not None and (d.key == trait.key or closed(world, d, above)) for d in asked):
+            return True
+    return False

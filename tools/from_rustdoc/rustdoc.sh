@@ -1,0 +1,41 @@
+#!/bin/sh
+# What cargo calls in rustdoc's place: makes the JSON of a library, in a folder of its own, so that two versions of a crate have two files.
+#
+# FROM_RUSTDOC_JSON is the folder of all; FROM_RUSTDOC_FLAGS are the flags that ask for JSON, FROM_RUSTDOC_TOOL is rustdoc itself. Beside the JSON
+# stand, in `unit`, the folder of the package's manifest and what is set by `--cfg`, a line each. Lints are not told, and fail nothing.
+# shellcheck disable=SC2086
+tool=${FROM_RUSTDOC_TOOL:-rustdoc}
+name=
+hash=
+cfgs=
+is_library=
+before=
+for word do
+    case $before:$word in
+        --crate-name:*) name=$word ;;
+        -C:metadata=*) hash=${word#metadata=} ;;
+        --crate-type:lib | --crate-type:rlib | --crate-type:dylib | --crate-type:cdylib | --crate-type:staticlib) is_library=yes ;;
+        --cfg:*) cfgs="$cfgs$word
+" ;;
+    esac
+    before=$word
+done
+[ -n "$name" ] || exec "$tool" "$@"
+[ -n "$is_library" ] || exit 0
+place=$FROM_RUSTDOC_JSON/$name-$hash
+mkdir -p "$place" || exit 3
+printf '%s\n%s' "$CARGO_MANIFEST_DIR" "$cfgs" > "$place/unit" || exit 3
+count=$#
+before=
+while [ "$count" -gt 0 ]; do
+    word=$1
+    shift
+    count=$((count - 1))
+    case $before in
+        -o | --out-dir) word=$place ;;
+    esac
+    before=$word
+    set -- "$@" "$word"
+done
+export RUSTC_BOOTSTRAP=1
+exec "$tool" "$@" --cap-lints allow $FROM_RUSTDOC_FLAGS

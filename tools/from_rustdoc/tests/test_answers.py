@@ -1,0 +1,113 @@
+"""Questions as people write them, of the crate `ab`, each answered by a text of its own. What rustc says of each is in the table: where it
+refuses a bound the answer is `no` or `unproved`, by whether a later version may have the impl."""
+from __future__ import annotations
+
+import contextlib
+import io
+import os
+import tempfile
+import unittest
+from unittest import mock
+
+from ..answer import Answerer
+from ..command import main
+from ..program import proved_program
+from ..questions import QuestionReader
+from ..terms import BadInput
+from .common import kept, world
+
+WIDE = "ab::Wide<" + "u8, " * 16
+WITH_TYPES = {
+    "Vec<u8>: IntoIterator<Item = u8>": "yes", "Vec<u8>: IntoIterator<Item = u16>": "unproved", "Vec<u8>: IntoIterator<Item = u8, IntoIter: Send + Sync>": "yes",
+    "<Vec<u8> as IntoIterator>::IntoIter: Send": "yes", "<Vec<u8> as IntoIterator>::Item: Copy": "yes", "<Vec<ab::Sb> as IntoIterator>::Item: Copy": "no",
+    "<T> <Vec<T> as IntoIterator>::IntoIter: Send where T: Send": "yes", "<T> <Vec<T> as IntoIterator>::IntoIter: Send": "unproved",
+    "<I: Iterator<Item = u8>> ab::Bytes<I>: Iterator<Item = u8>": "yes", "<I: Iterator<Item = u8>> ab::Bytes<I>: Iterator<Item = u16>": "unproved",
+    "<I: Iterator<Item = u8>> <ab::Bytes<I> as Iterator>::Item: Default": "yes", "<I> ab::Bytes<I>: Send where I: Iterator<Item = u8>, I: Send": "yes",
+    "<I: Iterator> <I as IntoIterator>::Item: Copy where I::Item: Copy": "yes", "<I: Iterator> <I as IntoIterator>::Item: Copy": "unproved",
+    "fn(u8) -> bool: Fn(u8) -> bool": "yes", "fn(u8) -> bool: Fn(u8) -> u8": "unproved", "ab::Pred<fn(u8) -> bool>: ab::Ta": "yes",
+    "ab::Pred<fn(u8) -> u8>: ab::Ta": "unproved", "<F: FnMut(u8) -> bool> ab::Pred<F>: ab::Ta": "yes",
+    "<u8 as Iterator>::Item: Send": "unproved"}
+OF_DYN = {
+    "dyn Iterator<Item = u8>: ab::Ta": "yes", "dyn Iterator<Item = u8> + Send: ab::Ta": "yes", "dyn Iterator<Item = u16>: ab::Ta": "no",
+    "Box<dyn Fn(u8) -> u8>: ab::Ta": "yes", "Box<dyn Fn(u8) -> bool>: ab::Ta": "no", "Box<dyn Fn(u8) -> bool>: Fn(u8) -> bool": "yes",
+    "ab::Fixed<dyn ab::Numbers>: ab::Ta": "yes", "ab::Fixed<dyn Iterator<Item = u8>>: ab::Ta": "yes", "ab::Fixed<dyn Iterator<Item = u16>>: ab::Ta": "unproved",
+    "ab::OfDyn: Send": "yes", "ab::OfOther: Send": "unproved", "dyn Iterator<Item = u8>: Send": "no", "dyn Iterator<Item = u8> + Send: Send": "yes",
+    "dyn Iterator<Item = u8>: Sized": "no"}
+NEGATIVE = {
+    "ab::Shared: Send": "no", "ab::Pointed: Send": "no", "ab::Pointed: Sync": "yes", "ab::Around: Send": "no", "ab::Around: Sync": "yes",
+    "ab::Here<alloc::rc::Rc<u8>>: Send": "no", "ab::Here<u8>: Send": "yes", "alloc::rc::Rc<u8>: Send": "no", "&alloc::rc::Rc<u8>: Send": "no",
+    "(u8, [*const u8; 4]): Send": "no", "Vec<alloc::rc::Rc<u8>>: Send": "unproved"}
+OTHERS = {
+    "ab::Sb: ab::Ta": "yes", "ab::Kept<u8>: Send": "yes", "core::fmt::Result: Send": "yes", "user::Mine<ab::Kept<u8>>: ab::Ta": "yes",
+    "user::Mine<ab::Sb>: Clone": "yes", "for<'a> fn(&'a u8): Send": "yes",
+    WIDE + "u16>: ab::Ta": "yes", WIDE + "u8>: ab::Ta": "no", WIDE + "u16>: Send": "not settled"}
+
+
+@unittest.skipUnless(proved_program(), "there is no proved program of these sources")
+class Answers(unittest.TestCase):
+    @classmethod
+    def setUpClass(cls) -> None:
+        found = world("ab", "user")
+        cls.reader, cls.answerer = QuestionReader(found), Answerer(found)
+
+    def answers(self, wanted: dict[str, str]) -> None:
+        for written, word in wanted.items():
+            (question,) = self.reader.read_all(written)
+            verdict = self.answerer.answer(question)
+            self.assertEqual(verdict.word, word, verdict.show())
+
+    def test_with_associated_types(self) -> None:
+        self.answers(WITH_TYPES)
+
+    def test_of_dyn_types_with_associated_types(self) -> None:
+        self.answers(OF_DYN)
+
+    def test_negative_impls_rule_out(self) -> None:
+        self.answers(NEGATIVE)
+        verdict = self.answerer.answer(self.reader.read("ab::Shared: Send"))
+        self.assertTrue(verdict.basis.startswith("argued: `impl<T, A> !Send for Rc<T, A>` (std: "), verdict.basis)
+
+    def test_computed_impls_rule_nothing_out(self) -> None:
+        """rustdoc shows `impl !RefUnwindSafe for Rc` though nobody wrote it; `IntoIter` is not `Sync` by `Rc`'s own."""
+        self.answers({"alloc::vec::IntoIter<alloc::rc::Rc<u8>>: Sync": "unproved"})
+
+    def test_names_aliases_and_many_parameters(self) -> None:
+        self.answers(OTHERS)
+
+    def test_values_are_told(self) -> None:
+        for written, values in (("fn(u8) -> bool: FnOnce(u8) -> ?r", "?r = bool"), ("dyn Iterator<Item = u8>: Iterator<Item = ?x>", "?x = u8"),
+                                (f"ab::Wide<?x, {'u8, ' * 15}u16>: ab::Ta", "?x = u8")):
+            verdict = self.answerer.answer(self.reader.read(written))
+            self.assertEqual((verdict.word, verdict.values), ("yes", values), written)
+
+    def test_two_bounds_are_two_questions(self) -> None:
+        questions = self.reader.read_all("ab::Around: Send + Sync")
+        self.assertEqual([q.written for q in questions], ["ab::Around: Send", "ab::Around: Sync"])
+        self.assertEqual([self.answerer.answer(q).word for q in questions], ["no", "yes"])
+        self.assertEqual([q.written for q in self.reader.read_all("<T> Vec<T>: Clone + Send where T: Clone")],
+                         ["<T> Vec<T>: Clone where T: Clone", "<T> Vec<T>: Send where T: Clone"])
+
+
+class NoAnswers(unittest.TestCase):
+    def test_what_is_no_question_is_told_in_a_line(self) -> None:
+        reader = QuestionReader(world("ab"))
+        for written, why in (("ab::Sb: ?Sized", "asks nothing"), ("ab::Sb: Vec<u8>", "is no trait"), ("ab::Sb: 'static", "asks for no trait"),
+                             ("<T: Send", "is not understood"), ("<T as", "is not understood"), ("ab::Sb", "is not understood"), ("", "is not understood"),
+                             ("ab::Sx: Send", "is not known"), ("Vec<u8>::Item Send", "is not understood")):
+            with self.assertRaisesRegex(BadInput, why, msg=written):
+                reader.read_all(written)
+
+    @unittest.skipUnless(proved_program(), "there is no proved program of these sources")
+    def test_one_bad_question_ends_with_3_and_the_others_are_answered(self) -> None:
+        with tempfile.TemporaryDirectory() as folder, mock.patch.dict(os.environ, {"XDG_CACHE_HOME": folder}):
+            base = os.path.join(folder, "ab")
+            with contextlib.redirect_stdout(io.StringIO()) as said, contextlib.redirect_stderr(io.StringIO()) as errors:
+                self.assertEqual(main(["read", "-o", base, "--docs", kept("std"), kept("ab")]), 0)
+                status = main(["ask", base, "ab::Sb: Send", "ab::Sx: Send", "<u8 as Nothing>::Item: Send", "ab::Sb: ab::Ta"])
+            self.assertEqual(status, 3)
+            self.assertEqual([line.split("    ")[1].split()[0] for line in said.getvalue().splitlines() if line.startswith("ab::")], ["yes", "yes"])
+            self.assertEqual(errors.getvalue().count("no answer to"), 2)
+
+
+if __name__ == "__main__":
+    unittest.main()

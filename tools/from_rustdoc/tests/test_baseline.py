@@ -1,0 +1,105 @@
+"""A project and its older version, by `later --baseline` and by `cargo celtisdarts`: with git, cargo and rustdoc, where these are there."""
+from __future__ import annotations
+
+import os
+import shutil
+import subprocess
+import tempfile
+import unittest
+
+from ..cargo import docs_folder
+from ..terms import BadInput
+from .common import HERE, WHY_NO_PROGRAM
+
+TOOLS = os.path.dirname(os.path.dirname(HERE))
+OLD = "pub struct S<T>(pub T);\npub trait Draw {}\nimpl<T> Draw for S<T> {}\n"
+NEW = "pub struct S<T>(pub T);\npub trait Draw {}\nimpl<T> Draw for S<T> {}\nimpl<T> Draw for &T {}\n"
+
+
+def missing() -> str:
+    for name in ("git", "cargo", "rustdoc"):
+        if not shutil.which(name):
+            return f"there is no {name}"
+    try:
+        docs_folder(None)
+    except BadInput as error:
+        return str(error)
+    return WHY_NO_PROGRAM
+
+
+@unittest.skipIf(missing(), missing())
+class Baseline(unittest.TestCase):
+    room: str
+    project: str
+
+    @classmethod
+    def setUpClass(cls) -> None:
+        cls.room = cls.enterClassContext(tempfile.TemporaryDirectory())  # type: ignore[attr-defined]
+        cls.project = os.path.join(cls.room, "work", "project")
+        cls.environment = {**os.environ, "XDG_CACHE_HOME": os.path.join(cls.room, "cache"), "PATH": os.path.join(cls.room, "bin") + os.pathsep + os.environ["PATH"]}
+        os.makedirs(os.path.join(cls.room, "bin"))
+        os.symlink(os.path.join(TOOLS, "cargo-celtisdarts"), os.path.join(cls.room, "bin", "cargo-celtisdarts"))
+        cls.write(cls.project, OLD)
+        with open(os.path.join(cls.project, ".gitignore"), "w", encoding="utf-8") as handle:
+            handle.write("target\nCargo.lock\n")
+        for words in (["init", "-q"], ["add", "-A"], ["commit", "-qm", "old"], ["tag", "v1.0"]):
+            cls.git(*words)
+        cls.write(cls.project, NEW)
+
+    @staticmethod
+    def write(folder: str, source: str) -> None:
+        os.makedirs(os.path.join(folder, "src"), exist_ok=True)
+        with open(os.path.join(folder, "Cargo.toml"), "w", encoding="utf-8") as handle:
+            handle.write('[package]\nname = "to-draw"\nversion = "1.0.0"\nedition = "2021"\n')
+        with open(os.path.join(folder, "src", "lib.rs"), "w", encoding="utf-8") as handle:
+            handle.write(source)
+
+    @classmethod
+    def git(cls, *words: str) -> str:
+        # (In the folder above the project: the repository is larger than it.)
+        top = os.path.dirname(cls.project)
+        return subprocess.run(["git", "-c", "user.name=n", "-c", "user.email=e@example.org", *words], cwd=top, check=True, stdout=subprocess.PIPE, text=True).stdout
+
+    def ended(self, *words: str, folder: str = "") -> tuple[int, str, str]:
+        done = subprocess.run(words, cwd=folder or self.project, env=self.environment, stdout=subprocess.PIPE, stderr=subprocess.PIPE, text=True)
+        return done.returncode, done.stdout, done.stderr
+
+    def later(self, *words: str) -> tuple[int, str, str]:
+        return self.ended(os.path.join(TOOLS, "from-rustdoc"), "later", *words)
+
+    def test_a_revision_is_documented_in_a_folder_of_its_own_that_goes_again(self) -> None:
+        status, out, err = self.later("--baseline", "HEAD")
+        self.assertEqual(status, 1, err)
+        self.assertIn("another crate may have `impl to_draw::Draw for &Mine`", out)
+        self.assertIn("src/lib.rs:4:1", out)
+        self.assertEqual(self.git("worktree", "list").count("\n"), 1)
+        self.assertEqual(self.git("status", "--short", "--untracked-files=all").split(), ["M", "project/src/lib.rs"])
+
+    def test_a_folder_is_compared_where_it_stands(self) -> None:
+        there = os.path.join(self.room, "older")
+        self.write(there, OLD)
+        self.assertEqual(self.later("--baseline", there, ".")[0], 1)
+        self.assertFalse(os.path.exists(os.path.join(there, "target")))
+        # It has other sources now, and cargo is asked anew.
+        self.write(there, NEW)
+        status, out, err = self.later("--baseline", there, ".", "-p", "to-draw")
+        self.assertEqual((status, out), (0, "to_draw 1.0.0 to 1.0.0: compatible (nothing that is looked at has changed)\n"), err)
+
+    def test_what_is_no_version_is_told(self) -> None:
+        for words, why in [(["--baseline", "v9"], "v9 is no folder with a Cargo.toml, and no revision of"), (["--baseline", self.room], "has no Cargo.toml"),
+                           (["--baseline", "HEAD", "-p", "other"], "the older version has no library other; it has to_draw")]:
+            status, out, err = self.later(*words)
+            self.assertEqual((status, out), (3, ""), words)
+            self.assertIn(why, err.splitlines()[-1])
+
+    def test_cargo_runs_it(self) -> None:
+        status, out, err = self.ended("cargo", "celtisdarts", "later", "--quiet")
+        self.assertEqual(status, 1, err)
+        self.assertIn("to_draw 1.0.0 to 1.0.0: breaking (1 breaking)", out)
+        status, out, _ = self.ended("cargo", "celtisdarts", "ask", "to_draw::S<u8>: to_draw::Draw", "--expect", "yes")
+        self.assertEqual((status, out), (0, "to_draw::S<u8>: to_draw::Draw    yes   (by law)\n"))
+        manifest = os.path.join(self.project, "Cargo.toml")
+        status, out, _ = self.ended("cargo", "celtisdarts", "check", "--manifest-path", manifest, folder=self.room)
+        self.assertEqual(status, 0)
+        self.assertIn("to_draw 1.0.0: coherent. 2 impls, all whole", out)
+        self.assertEqual(self.ended("cargo", "celtisdarts", "nothing")[0], 2)

@@ -1,0 +1,213 @@
+"""Projects: what cargo is asked and what it says, two versions of one crate, and what is told where there is nothing to read. The last tests run
+cargo on a small project that needs no other crates, where it is installed."""
+from __future__ import annotations
+
+import contextlib
+import io
+import json
+import os
+import shutil
+import subprocess
+import tempfile
+import unittest
+from typing import Any
+from unittest import mock
+
+from ..cargo import HERE, Unit, artifacts_of, docs_folder, pinned, read_metadata, shared_flags
+from ..command import main
+from ..doc_cfg import lines
+from ..program import proved_program
+from ..terms import BadInput
+from ..world import World
+from .common import kept, pages
+
+
+def package(name: str, version: str = "1.0.0", kind: str = "lib") -> dict[str, Any]:
+    return {"id": f"{name} {version}", "version": version, "targets": [{"name": name, "kind": [kind]}]}
+
+
+def used(name: str, kind: object = None, version: str = "1.0.0") -> dict[str, Any]:
+    return {"pkg": f"{name} {version}", "dep_kinds": [{"kind": kind}]}
+
+
+def metadata(packages: list[dict[str, Any]], uses: dict[str, list[dict[str, Any]]], members: list[str]) -> str:
+    return json.dumps({"packages": packages, "workspace_members": members, "workspace_root": "/w",
+                       "resolve": {"nodes": [{"id": p["id"], "deps": uses.get(p["id"], [])} for p in packages]}})
+
+
+class Metadata(unittest.TestCase):
+    def test_what_uses_what_is_cargos_word(self) -> None:
+        text = metadata([package("a"), package("b-c"), package("m", kind="proc-macro"), package("t")],
+                        {"a 1.0.0": [used("b-c"), used("m"), used("t", "dev")]}, ["a 1.0.0"])
+        project = read_metadata(text)
+        self.assertEqual((project.uses["a"], project.members, project.doubled), (["b_c"], ["a"], []))
+
+    def test_what_was_not_documented_in_this_run_does_not_count(self) -> None:
+        text = metadata([package("a"), package("b"), package("c")], {"a 1.0.0": [used("b")]}, ["a 1.0.0", "c 1.0.0"])
+        project = read_metadata(text, {"a 1.0.0": Unit("a.json", None), "b 1.0.0": Unit("b.json", None)})
+        self.assertEqual((project.members, project.files), (["a"], {"a": "a.json", "b": "b.json"}))
+
+    def test_two_versions_have_two_names(self) -> None:
+        packages = [package("a"), package("d", "0.1.0"), package("d", "0.2.0"), package("m")]
+        uses = {"a 1.0.0": [used("m"), used("d", None, "0.2.0")], "m 1.0.0": [used("d", None, "0.1.0")]}
+        units = {p["id"]: Unit(p["id"].replace(" ", "-") + ".json", None) for p in packages}
+        project = read_metadata(metadata(packages, uses, ["a 1.0.0"]), units, {"libd-1": "d 0.1.0", "libd-2": "d 0.2.0", "libm-3": "m 1.0.0"})
+        self.assertEqual(project.uses, {"a": ["m", "d@0.2.0"], "d@0.1.0": [], "d@0.2.0": [], "m": ["d@0.1.0"]})
+        self.assertEqual(project.links.names, {"d-0.1.0.json": "d@0.1.0", "d-0.2.0.json": "d@0.2.0"})
+        self.assertEqual(project.links.artifacts, {"libd-1": "d@0.1.0", "libd-2": "d@0.2.0"})
+        self.assertEqual(project.doubled, [])
+        del units["d 0.1.0"]
+        self.assertEqual(read_metadata(metadata(packages, uses, ["a 1.0.0"]), units).uses["a"], ["m", "d"])
+
+    def test_compiled_files_are_known_by_cargos_messages(self) -> None:
+        said = '{"reason": "compiler-artifact", "package_id": "d 1", "filenames": ["/t/deps/libd-77.rmeta"]}\nnoise\n{"reason": "build-finished"}\n'
+        self.assertEqual(artifacts_of(said), {"libd-77": "d 1"})
+
+    def test_features_go_to_metadata_too(self) -> None:
+        self.assertEqual(shared_flags(["--offline", "--no-deps", "--features", "a,b", "-j", "2"]), ["--offline", "--features", "a,b"])
+
+
+class Told(unittest.TestCase):
+    def test_what_pins_the_toolchain_is_named(self) -> None:
+        with tempfile.TemporaryDirectory() as folder, mock.patch.dict(os.environ):
+            os.environ.pop("RUSTUP_TOOLCHAIN", None)
+            os.makedirs(os.path.join(folder, "in"))
+            open(os.path.join(folder, "rust-toolchain"), "w", encoding="utf-8").close()
+            self.assertIn("rust-toolchain pins the toolchain", pinned(os.path.join(folder, "in")))
+            with mock.patch.dict(os.environ, {"RUSTUP_TOOLCHAIN": "stable"}):
+                self.assertEqual(pinned(folder), "")
+
+    def test_a_folder_without_documents_is_refused_before_anything_is_made(self) -> None:
+        with tempfile.TemporaryDirectory() as folder:
+            with self.assertRaisesRegex(BadInput, "has no documents of std"):
+                docs_folder(folder)
+
+    def test_documents_of_another_version_are_refused(self) -> None:
+        other = pages()
+        with mock.patch.object(type(other), "version", return_value="1.94.0"):
+            with self.assertRaisesRegex(BadInput, r"was made by Rust 1\.95\.0, and std's documents in .* are of 1\.94\.0"):
+                World(other).load([kept("ab")])
+        with mock.patch.object(type(other), "version", return_value="1.95.0"):
+            World(other).load([kept("ab")])
+
+
+class DocCfg(unittest.TestCase):
+    def test_what_depends_on_it(self) -> None:
+        text = ('#[cfg(doc)] impl A for u8 {}\n#[cfg(all(feature = "x", not(doc)))]\n#[cfg_attr(docsrs, doc(cfg(feature = "x")))]\n#[cfg(any(test, doc))]\n'
+                '// #[cfg(doc)]\n#[cfg_attr(doc, derive(Clone))]\n#[cfg(all(unix, doc))]\n#[doc = "cfg(doc)"]\n#[cfg(any(unix, doc))]\n'
+                'cfg_if! { if #[cfg( doc )] {} }\n#[doc(cfg(feature = "doc"))]\n#[cfg(any(all(doc, docsrs), unix))]\n')
+        self.assertEqual(list(lines(text, None)), [1, 2, 4, 6, 7, 9, 10, 12])
+        self.assertEqual(list(lines(text, frozenset({"unix"}))), [1, 4, 6, 7, 10])
+        self.assertEqual(list(lines(text, frozenset({'feature="x"'}))), [1, 2, 4, 6, 9, 10])
+
+
+class Wrapper(unittest.TestCase):
+    """`rustdoc.sh` with a program in rustdoc's place that writes its words."""
+
+    def called(self, *words: str) -> tuple[list[str], dict[str, str]]:
+        with tempfile.TemporaryDirectory() as folder:
+            tool = os.path.join(folder, "tool")
+            with open(tool, "w", encoding="utf-8") as handle:
+                handle.write('#!/bin/sh\nprintf "%s\\n" "$RUSTC_BOOTSTRAP" "$@"\n')
+            os.chmod(tool, 0o755)
+            environment = {"PATH": os.environ["PATH"], "FROM_RUSTDOC_TOOL": tool, "FROM_RUSTDOC_JSON": os.path.join(folder, "json"),
+                           "FROM_RUSTDOC_FLAGS": "-Z json", "CARGO_MANIFEST_DIR": "/a b"}
+            done = subprocess.run([os.path.join(HERE, "rustdoc.sh"), *words], env=environment, stdout=subprocess.PIPE, text=True, check=True)
+            units = {}
+            for top, _, names in os.walk(os.path.join(folder, "json")):
+                for name in names:
+                    with open(os.path.join(top, name), encoding="utf-8") as handle:
+                        units[os.path.basename(top)] = handle.read()
+            return done.stdout.replace(folder, "").splitlines(), units
+
+    def test_a_library_gets_a_folder_of_its_own(self) -> None:
+        said, units = self.called("--crate-type", "lib", "--crate-name", "d", "src/my lib.rs", "-o", "/doc", "--cfg", 'feature="x"', "--cfg", "has_it",
+                                  "-C", "metadata=77")
+        self.assertEqual(said, ["1", "--crate-type", "lib", "--crate-name", "d", "src/my lib.rs", "-o", "/json/d-77", "--cfg", 'feature="x"', "--cfg", "has_it",
+                                "-C", "metadata=77", "--cap-lints", "allow", "-Z", "json"])
+        self.assertEqual(units, {"d-77": '/a b\nfeature="x"\nhas_it\n'})
+
+    def test_others_are_left_alone(self) -> None:
+        self.assertEqual(self.called("-vV"), (["", "-vV"], {}))
+        self.assertEqual(self.called("--crate-type", "bin", "--crate-name", "d", "-o", "/doc"), ([], {}))
+        self.assertEqual(self.called("--crate-type", "proc-macro", "--crate-name", "d", "-o", "/doc"), ([], {}))
+
+
+FILES = {
+    "Cargo.toml": '[workspace]\nmembers = ["app", "mid"]\nexclude = ["old", "new"]\nresolver = "2"\n',
+    "app/Cargo.toml": '[package]\nname = "app"\nversion = "0.1.0"\nedition = "2021"\n[features]\nextra = ["mid/more"]\n'
+                      '[dependencies]\nmid = { path = "../mid" }\ndbl = { path = "../new" }\n',
+    "app/src/lib.rs": "#![deny(warnings)]\nfn unused() {}\npub struct X(pub mid::M, pub dbl::A);\nimpl dbl::T for X {}\n"
+                      "pub trait Mark {}\n#[cfg(doc)]\nimpl Mark for u64 {}\n",
+    "mid/Cargo.toml": '[package]\nname = "mid"\nversion = "0.1.0"\nedition = "2021"\n[features]\nmore = ["dbl/more"]\n[dependencies]\ndbl = { path = "../old" }\n',
+    "mid/src/lib.rs": "#![deny(warnings)]\nfn unused() {}\npub struct M(pub dbl::A);\nimpl dbl::T for M {}\n",
+    "old/Cargo.toml": '[package]\nname = "dbl"\nversion = "0.1.0"\nedition = "2021"\n[features]\nmore = []\n[workspace]\n',
+    "old/src/lib.rs": 'pub struct A(pub u8);\npub trait T {}\nimpl T for A {}\n#[cfg(feature = "more")]\npub struct More(*const u8);\n',
+    "new/Cargo.toml": '[package]\nname = "dbl"\nversion = "0.2.0"\nedition = "2021"\n[workspace]\n',
+    "new/src/lib.rs": "pub struct A(pub *const u8);\npub trait T {}\n",
+    "bin/Cargo.toml": '[package]\nname = "bin"\nversion = "0.1.0"\nedition = "2021"\n[workspace]\n',
+    "bin/src/main.rs": "fn main() {}\n",
+    "mac/Cargo.toml": '[package]\nname = "mac"\nversion = "0.1.0"\nedition = "2021"\n[lib]\nproc-macro = true\n[workspace]\n',
+    "mac/src/lib.rs": "",
+}
+
+
+@unittest.skipUnless(shutil.which("cargo") and shutil.which("rustdoc"), "there is no cargo")
+@unittest.skipUnless(proved_program(), "there is no proved program of these sources")
+class Projects(unittest.TestCase):
+    def setUp(self) -> None:
+        room = tempfile.TemporaryDirectory()
+        self.addCleanup(room.cleanup)
+        self.folder = room.name
+        patch = mock.patch.dict(os.environ, {"XDG_CACHE_HOME": os.path.join(self.folder, "cache"), "CARGO_NET_OFFLINE": "true"})
+        patch.start()
+        self.addCleanup(patch.stop)
+        for name, text in FILES.items():
+            os.makedirs(os.path.dirname(os.path.join(self.folder, name)), exist_ok=True)
+            with open(os.path.join(self.folder, name), "w", encoding="utf-8") as handle:
+                handle.write(text)
+
+    def call(self, *words: str) -> tuple[int, str, str]:
+        with contextlib.redirect_stdout(io.StringIO()) as said, contextlib.redirect_stderr(io.StringIO()) as errors:
+            status = main(list(words))
+        return status, said.getvalue(), errors.getvalue()
+
+    def project(self, folder: str, *extra: str) -> tuple[int, str, str]:
+        return self.call("project", os.path.join(self.folder, folder), "--docs", kept("std"), "--jobs", "1", "--quiet", "--", "--quiet", *extra)
+
+    def ask(self, base: str, *questions: str) -> list[str]:
+        """The words of the answers, with what they rest on."""
+        status, said, errors = self.call("ask", os.path.join(self.folder, base), *questions)
+        self.assertEqual((status, errors), (0, ""))
+        return [" ".join(line.split("    ")[1].split()) for line in said.splitlines() if not line.startswith(" ")]
+
+    def test_two_versions_lints_features_and_what_rustdoc_alone_sees(self) -> None:
+        status, said, errors = self.project("app", "--features", "extra")
+        self.assertEqual(status, 0, said + errors)
+        self.assertEqual([line.split(".")[0] for line in said.splitlines() if ": coherent" in line], ["dbl 0", "dbl 0", "mid 0", "app 0"])
+        self.assertRegex(errors, r"warning: rustdoc sets `cfg\(doc\)`, on which items of app depend \(lib\.rs:6\)")
+        base = "target/from-rustdoc/app"
+        self.assertEqual([a.split(" ")[0] for a in self.ask(base, "app::X: dbl@0.2.0::T", "app::X: dbl@0.1::T", "mid::M: dbl@0.1.0::T", "dbl@0.1.0::A: Send",
+                                                           "dbl@0.2.0::A: Send", "dbl@0.1.0::More: Send")], ["yes", "no", "yes", "yes", "no", "no"])
+        self.assertEqual(self.ask(base, "u64: app::Mark"), ["yes (argued: items of app depend on `cfg(doc)`, which rustdoc sets (lib.rs:6))"])
+        status, _, errors = self.call("ask", os.path.join(self.folder, base), "dbl::A: Send")
+        self.assertEqual(status, 3)
+        self.assertIn("`dbl` may be any of `dbl@0.2.0`, `dbl@0.1.0`", errors)
+
+    def test_what_an_earlier_run_has_left_does_not_count(self) -> None:
+        self.assertEqual(self.project("app")[0], 0)
+        status, said, _ = self.project("mid")
+        self.assertEqual(status, 0)
+        self.assertEqual([line.split(":")[0] for line in said.splitlines() if ": coherent" in line], ["dbl 0.1.0", "mid 0.1.0"])
+
+    def test_without_a_library_there_is_nothing_to_read(self) -> None:
+        for name in ("bin", "mac"):
+            status, _, errors = self.project(name)
+            self.assertEqual(status, 3, errors)
+            self.assertIn("has no library that is documented", errors)
+        status, _, errors = self.project("cache")
+        self.assertEqual((status, errors.count("\n")), (3, 1))
+
+
+if __name__ == "__main__":
+    unittest.main()

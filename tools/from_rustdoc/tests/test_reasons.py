@@ -1,0 +1,72 @@
+"""Why questions on the crate `reasons` have no proof, or by what: each step as it stands in crates/reasons.rs, with its line. The first step of
+each is what rustc's error names, worked out by hand."""
+from __future__ import annotations
+
+import unittest
+
+from ..answer import Answerer
+from ..program import proved_program
+from ..questions import QuestionReader
+from ..reasons import why
+from .common import PROGRAM, world
+
+NO_PROGRAM = "" if proved_program("celtisdarts_explain") else "there is no proved program that explains"
+
+
+@unittest.skipIf(NO_PROGRAM, NO_PROGRAM)
+class Reasons(unittest.TestCase):
+    @classmethod
+    def setUpClass(cls) -> None:
+        cls.world = world("reasons")
+
+    def told(self, written: str, with_proof: bool = False) -> list[str]:
+        """Each step with its line in the source."""
+        (question,) = QuestionReader(self.world).read_all(written)
+        notes = why(Answerer(self.world, PROGRAM).answer(question), None, with_proof)
+        return [note.text + "".join(f" (line {span.place.line})" for span in note.spans) for note in notes]
+
+    def test_why_a_type_is_not_send(self) -> None:
+        self.assertEqual(self.told("reasons::Either<u8>: Send"), [
+            "`Rc<u8>: Send` does not hold: std has `impl<T, A> !Send for Rc<T, A>`",
+            "required for `reasons::Inner: Send`: its field `count` is `Rc<u8>` (line 4)",
+            "required for `Vec<reasons::Inner>: Send`, by `impl<T, A> Send for Vec<T, A>` (std)",
+            "required for `reasons::Outer<u8>: Send`: its field `inner` is `Vec<reasons::Inner>` (line 5)",
+            "required for `reasons::Either<u8>: Send`: its field `Right.outer` is `reasons::Outer<u8>` (line 6)"])
+
+    def test_a_type_in_itself_is_no_reason(self) -> None:
+        self.assertEqual(self.told("reasons::Cycle: Send"), [
+            "`Rc<u8>: Send` does not hold: std has `impl<T, A> !Send for Rc<T, A>`",
+            "required for `reasons::Cycle: Send`: its field `count` is `Rc<u8>` (line 7)"])
+
+    def test_impls_have_their_lines(self) -> None:
+        self.assertEqual(self.told("Option<Vec<u16>>: reasons::Show")[:3], [
+            "`u16: reasons::Show` does not hold",
+            "required for `Vec<u16>: reasons::Show`, by `impl<T> reasons::Show for Vec<T>` (line 10)",
+            "required for `Option<Vec<u16>>: reasons::Show`, by `impl<T> reasons::Show for Option<T>` (line 11)"])
+
+    def test_what_the_clauses_lack_is_named(self) -> None:
+        self.assertIn("ask it with `where T: reasons::Show`", self.told("<T> Vec<T>: reasons::Show"))
+        self.assertEqual(self.told("<I: Iterator> reasons::All<I>: reasons::Show")[0], "`<I as Iterator>::Item: Clone` does not hold")
+
+    def test_patterns_are_told_as_associated_types(self) -> None:
+        self.assertEqual(self.told("reasons::All<alloc::vec::IntoIter<reasons::NoClone>>: reasons::Show")[:3], [
+            "`reasons::NoClone: Clone` does not hold",
+            "it is asked of the value of `<IntoIter<reasons::NoClone> as Iterator>::Item`",
+            "required for `reasons::All<IntoIter<reasons::NoClone>>: reasons::Show`, by `impl<I> reasons::Show for reasons::All<I>` (line 13)"])
+        self.assertEqual(self.told("reasons::Fun<fn(u8) -> u8>: reasons::Show")[0], "`<fn(u8) -> u8 as FnOnce<(u8,)>>::Output == bool` does not hold")
+
+    def test_a_trait_that_nothing_implements_is_named(self) -> None:
+        self.assertIn("nothing that is seen implements `reasons::Need`", self.told("core::cell::Cell<u8>: reasons::Show"))
+
+    def test_no_name_of_the_text_is_told(self) -> None:
+        for written in ("reasons::Either<u8>: Sync", "Vec<reasons::NoClone>: Clone", "reasons::All<u8>: reasons::Show", "Option<reasons::Inner>: Clone",
+                        "reasons::Fun<u8>: reasons::Show", "&reasons::Inner: Send", "reasons::Outer<*const u8>: Send"):
+            for line in self.told(written):
+                self.assertNotRegex(line, r"_\b|__|Never|line \d+ of|<stdin>", written)
+
+    def test_a_proof_is_told_where_it_is_asked_for(self) -> None:
+        self.assertEqual(self.told("Option<Vec<u8>>: reasons::Show"), [])
+        self.assertEqual(self.told("Option<Vec<u8>>: reasons::Show", with_proof=True), [
+            "`Option<Vec<u8>>: reasons::Show`: `impl<T> reasons::Show for Option<T>` (line 11)",
+            "  `Vec<u8>: reasons::Show`: `impl<T> reasons::Show for Vec<T>` (line 10)",
+            "    `u8: reasons::Show`: `impl reasons::Show for u8` (line 9)"])

@@ -1,0 +1,178 @@
+"""Two versions of one crate: which item of the newer one is which of the older one, and types of either as the other one has them.
+
+Items are the same if a public path names both, wherever they are declared; private ones if they have one key.
+"""
+from __future__ import annotations
+
+from typing import Callable
+
+from .html_docs import is_std_key
+from .show import Show
+from .surface import Surface, surface_of
+from .terms import (Alias, Bound, BoundsOf, Constant, Declaration, Dyn, Impl, Named, Param, Parameter, Predicate, Projection, Type, keys_of,
+                    parameters_of, put, put_bound, rebuilt, walk)
+from .world import World
+
+Header = tuple[object, ...]
+
+
+class Gone(Exception):
+    """An item of the old version that the new one has not."""
+
+
+def rekeyed(term: Type, change: Callable[[str], str]) -> Type:
+    """The type with other keys for its items."""
+    def inner(part: Type) -> Type:
+        return rekeyed(part, change)
+
+    match term:
+        case Named(key, arguments):
+            return Named(change(key), tuple(map(inner, arguments)))
+        case Alias(key, arguments):
+            return Alias(change(key), tuple(map(inner, arguments)))
+        case Dyn(bounds):
+            return Dyn(tuple(rekeyed_bound(b, change) for b in bounds))
+        case BoundsOf(bounds):
+            return BoundsOf(tuple(rekeyed_bound(b, change) for b in bounds))
+        case Projection(subject, bound, name):
+            return Projection(inner(subject), rekeyed_bound(bound, change) if bound else None, name)
+    return rebuilt(term, inner)
+
+
+def rekeyed_bound(bound: Bound, change: Callable[[str], str]) -> Bound:
+    key = bound.key if bound.key.startswith("?") else change(bound.key)
+    return Bound(key, tuple(rekeyed(a, change) for a in bound.arguments), tuple((n, rekeyed(v, change)) for n, v in bound.constraints), bound.maybe)
+
+
+def bound_keys(bound: Bound) -> list[str]:
+    return [bound.key] + [key for term in (*bound.arguments, *(v for _, v in bound.constraints)) for key in all_keys(term)]
+
+
+def all_keys(term: Type) -> list[str]:
+    """The keys of items in a type, those of projections' traits too."""
+    found = [key for key in keys_of(term) if not key.startswith(("prim:", "tuple:", "fn:"))]
+    return found + [part.bound.key for part in walk(term) if isinstance(part, Projection) and part.bound is not None]
+
+
+class Versions:
+    def __init__(self, old: World, new: World, crate: str) -> None:
+        self.old = old
+        self.new = new
+        self.crate = crate
+        self.before: Surface = surface_of(old, crate)
+        self.after: Surface = surface_of(new, crate)
+        self.show_old, self.show_new = Show(old), Show(new)
+        self.newer: dict[str, str] = {}
+        self.older: dict[str, str] = {}
+        for path in sorted(self.before.by_path, key=lambda p: (p.count("::"), p)):
+            if path in self.after.by_path:
+                for key, later in pairs_of(self.before, self.before.by_path[path], self.after, self.after.by_path[path]):
+                    self.newer.setdefault(key, later)
+                    self.older.setdefault(later, key)
+
+    # ---- from the old version to the new one
+    def new_key(self, key: str) -> str:
+        own = self.old.key_of(key)
+        if own in self.newer:
+            return self.newer[own]
+        if is_std_key(own) or own in self.new.homes or own.startswith(("other:", "hidden:")):
+            return own
+        raise Gone(own)
+
+    def old_key(self, key: str) -> str:
+        own = self.new.key_of(key)
+        if own in self.older:
+            return self.older[own]
+        if is_std_key(own) or own in self.old.homes or own.startswith(("other:", "hidden:")):
+            return own
+        raise Gone(own)
+
+    def to_new(self, term: Type) -> Type:
+        return rekeyed(term, self.new_key)
+
+    def bound_to_new(self, bound: Bound) -> Bound:
+        return rekeyed_bound(bound, self.new_key)
+
+    def predicates_to_new(self, predicates: list[Predicate]) -> list[Predicate]:
+        return [(self.to_new(t), self.bound_to_new(b)) for t, b in predicates]
+
+    def to_old(self, term: Type) -> Type:
+        return rekeyed(term, self.old_key)
+
+    def bound_to_old(self, bound: Bound) -> Bound:
+        return rekeyed_bound(bound, self.old_key)
+
+    def predicates_to_old(self, predicates: list[Predicate]) -> list[Predicate]:
+        return [(self.to_old(t), self.bound_to_old(b)) for t, b in predicates]
+
+    # ---- what is equal in both
+    def common_key(self, world: World, key: str) -> str:
+        """One key for both versions: that of the old one, where there is one."""
+        own = world.key_of(key)
+        return self.older.get(own, own) if world is self.new else own
+
+    def common(self, world: World, term: Type) -> Type:
+        return rekeyed(term, lambda key: self.common_key(world, key))
+
+    def common_bound(self, world: World, bound: Bound) -> Bound:
+        return rekeyed_bound(bound, lambda key: self.common_key(world, key))
+
+    def header(self, world: World, impl: Impl) -> tuple[Header, frozenset[Predicate]]:
+        """The header and the clauses of an impl, parameters by their order, items by their common keys."""
+        assert impl.trait is not None
+        values = numbered(impl)
+        kinds = tuple(p.kind for name in values for p in impl.params if p.name == name)
+        trait = self.common_bound(world, put_bound(impl.trait, values))
+        itself = self.common(world, put(impl.self_type, values))
+        clauses = frozenset((self.common(world, put(t, values)), self.common_bound(world, put_bound(b, values))) for t, b in impl.predicates)
+        return (impl.is_negative, kinds, trait, itself), clauses
+
+    def values(self, world: World, impl: Impl) -> dict[str, Type]:
+        """The associated types of an impl, in the same form."""
+        return {name: self.common(world, put(value, numbered(impl))) for name, value in impl.associated.items()}
+
+
+def pairs_of(before: Surface, key: str, after: Surface, later: str) -> list[tuple[str, str]]:
+    """What one path names in both versions, and what stands behind it where it is an alias of one."""
+    found = [(before.behind.get(key, key), after.behind.get(later, later))]
+    return found + [(key, later)] if key in before.behind and later in after.behind else found
+
+
+def numbered(impl: Impl) -> dict[str, Type]:
+    consts = {p.name for p in impl.params if p.kind == "const"}
+    return {n: Constant(f"P{k}") if n in consts else Parameter(f"P{k}") for k, n in enumerate(parameter_order(impl))}
+
+
+def parameter_order(impl: Impl) -> list[str]:
+    """An impl's parameters in the order in which they stand in its header."""
+    own = [p.name for p in impl.params]
+    names: list[str] = []
+    assert impl.trait is not None
+    for term in [impl.self_type, *impl.trait.arguments]:
+        found = in_order(term)
+        names += [n for n in found if n in own]
+        names += sorted((n for n in parameters_of(term) - set(found) if n in own), key=own.index)
+    return list(dict.fromkeys(names + own))
+
+
+def in_order(term: Type) -> list[str]:
+    return [part.name for part in walk(term) if isinstance(part, Parameter)]
+
+
+# ---- who can name what
+def is_private(world: World, declaration: Declaration) -> bool:
+    return declaration.crate in world.crates and declaration.public_path is None
+
+
+def names_private(world: World, surface: Surface, keys: list[str]) -> bool:
+    """Whether one of the items is of a given crate, and no path of this one, or of its own, names it."""
+    for key in keys:
+        declaration = world.known(world.key_of(key))
+        if key.startswith(("?", "hidden:")) or (declaration is not None and declaration.key not in surface.kinds and is_private(world, declaration)):
+            return True
+    return False
+
+
+def plain_params(params: list[Param]) -> list[Param]:
+    """The parameters of a question: defaults say nothing there."""
+    return [Param(p.kind, p.name) for p in params]
