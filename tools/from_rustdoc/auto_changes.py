@@ -9,7 +9,7 @@ from dataclasses import dataclass, replace
 from typing import Iterator, Optional
 
 from .build import AUTO_TRAITS
-from .claims import Claim, Judge
+from .claims import Claim, Judge, Programs
 from .impl_changes import is_auto
 from .item_changes import change
 from .messages import Message, at
@@ -34,20 +34,20 @@ class Asked:
 
 
 class AutoChanges:
-    def __init__(self, versions: Versions, troubled: dict[str, Message], program: Optional[str] = None) -> None:
+    def __init__(self, versions: Versions, troubled: dict[str, Message], programs: Programs) -> None:
         self.versions = versions
         self.troubled = troubled
-        self.program = program
+        self.programs = programs
         self.keys = {name: versions.old.pages.key(page) or "" for name, page in AUTO_TRAITS.items()}
         self.messages: list[Message] = []
 
     def run(self) -> None:
         asked = [a for item in self.types() for name in AUTO_TRAITS for a in self.questions(item, name)]
-        before = Judge(self.versions.old, self.program).ask([a.old for a in asked])
+        before = Judge(self.versions.old, self.programs).ask([a.old for a in asked])
         held = [a for a, verdict in zip(asked, before) if verdict.word == "yes"]
-        after = Judge(self.versions.new, self.program).ask([a.new for a in held])
+        after = Judge(self.versions.new, self.programs).ask([a.new for a in held])
         self.compare(list(zip(held, after)))
-        self.messages += Judge(self.versions.new, self.program).settle(list(self.of_impls()))
+        self.messages += Judge(self.versions.new, self.programs).settle(list(self.of_impls()))
         self.added()
 
     def types(self) -> Iterator[Item]:
@@ -98,6 +98,7 @@ class AutoChanges:
         message = change("auto-trait-lost", f"{after.shown()} {how} `{asked.trait}` any more", at(after.place), word=word)
         message.note(f"`{asked.new.written}` was yes, and is {verdict.word}")
         message.basis, message.rests_on = verdict.basis, verdict.rests_on
+        message.children += Judge(self.versions.new, self.programs).reasons(verdict)
         return message
 
     def of_impls(self) -> Iterator[Claim]:

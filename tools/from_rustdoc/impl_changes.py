@@ -6,7 +6,7 @@ from __future__ import annotations
 from dataclasses import dataclass, field
 from typing import Optional
 
-from .claims import Claim, Judge
+from .claims import Claim, Judge, Programs
 from .cone import cone_of_questions
 from .impls import Written
 from .item_changes import change
@@ -44,11 +44,11 @@ class Kept:
 class ImplChanges:
     """`troubled` are old items whose impls are not compared, by their keys, with what was told of them."""
 
-    def __init__(self, versions: Versions, troubled: dict[str, Message], with_private: bool, program: Optional[str] = None) -> None:
+    def __init__(self, versions: Versions, troubled: dict[str, Message], with_private: bool, programs: Programs) -> None:
         self.versions = versions
         self.troubled = troubled
         self.with_private = with_private
-        self.program = program
+        self.programs = programs
         self.messages: list[Message] = []
         self.added: list[Judged] = []
         self.uncompared: dict[str, int] = {}
@@ -82,7 +82,7 @@ class ImplChanges:
                     self.values(impl, same)
                 else:
                     claims += self.claim(Kept(impl, clauses, [i for i, _ in again]))
-        self.messages += Judge(self.versions.new, self.program).settle(claims)
+        self.messages += Judge(self.versions.new, self.programs).settle(claims)
 
     def is_hidden(self, impl: Impl) -> bool:
         """Whether nobody else can name what the header names."""
@@ -201,7 +201,7 @@ class ImplChanges:
             except Gone:
                 pass
         asked = [(impl, question) for impl, question in asked if not impl.is_negative]
-        verdicts = Judge(self.versions.old, self.program).ask([question for _, question in asked])
+        verdicts = Judge(self.versions.old, self.programs).ask([question for _, question in asked])
         return {id(impl): verdict for (impl, _), verdict in zip(asked, verdicts)}
 
     def judged(self, impl: Impl, before: Optional[Verdict]) -> Judged:
@@ -246,7 +246,7 @@ class ImplChanges:
             translation.build()
         asked = [line for line in lines if line]
         sections = [text for line in asked for text in (f"later {crate_name(self.versions.crate)}", line)]
-        verdicts = iter(run("\n".join(translation.text("upper")[0] + sections) + "\n", self.program).releases if asked else [])
+        verdicts = iter(run("\n".join(translation.text("upper")[0] + sections) + "\n", self.programs.answers).releases if asked else [])
         return [next(verdicts) if line else "" for line in lines]
 
     def reason(self, impl: Impl) -> str:

@@ -20,6 +20,7 @@ from typing import Iterator, Optional
 
 from ..cargo import Project, docs_folder, document
 from ..kept import KeptPages, KeptStandard
+from ..claims import Programs
 from ..later import compared
 from ..messages import Message
 from ..program import proved_program
@@ -172,7 +173,7 @@ class RealReleases(unittest.TestCase):
                     continue
                 tried += 1
                 old = self.world(copy.document(), crate)
-                messages = [m for m in compared(old, new, crate, program=PROGRAM).messages if m.code == "impl-added"]
+                messages = [m for m in compared(old, new, crate, programs=Programs(PROGRAM)).messages if m.code == "impl-added"]
                 yield from self.judged(copy, new, impl, messages, count, before)
             finally:
                 copy.restore(impl.place, before)
