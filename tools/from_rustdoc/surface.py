@@ -14,10 +14,12 @@ MAXIMAL_PATH = 8
 
 @dataclass
 class Generics:
-    """The parameters of an item, with its clauses on types, and those on lifetimes as text in which parameters go by their number."""
+    """The parameters of an item, with its clauses on types, and those on lifetimes as text in which parameters go by their number; `consts`
+    are the types of those that are constants."""
     params: list[Param] = field(default_factory=list)
     predicates: list[Predicate] = field(default_factory=list)
     lifetimes: list[str] = field(default_factory=list)
+    consts: dict[str, str] = field(default_factory=dict)
     outlives: dict[str, str] = field(default_factory=dict)
 
 
@@ -226,6 +228,8 @@ def read_generics(crate: JsonCrate, generics: dict[str, Any], into: Generics) ->
     into.lifetimes = [p["name"] for p in generics["params"] if "lifetime" in p["kind"]]
     for param in generics["params"]:
         kind, body = next(iter(param["kind"].items()))
+        if kind == "const":
+            into.consts[param["name"]] = body["type"].get("primitive", "") if isinstance(body["type"], dict) else ""
         for name in body["outlives"] if kind == "lifetime" else []:
             add_outlives(into, param["name"], name)
         for bound in body["bounds"] if kind == "type" else []:
