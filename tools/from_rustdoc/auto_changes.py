@@ -16,6 +16,7 @@ from .messages import Message, at
 from .questions import Question, Verdict
 from .surface import Item
 from .terms import Bound, Impl, Named, Param, Parameter, Predicate
+from .unchanged import Unchanged
 from .versions import Gone, Versions, names_private, plain_params
 from .world import World
 
@@ -51,10 +52,11 @@ class AutoChanges:
         self.added()
 
     def types(self) -> Iterator[Item]:
-        """The public types of both versions whose arguments are the same."""
+        """The public types of both versions whose arguments are the same, and whose auto traits may be others."""
+        unchanged = Unchanged(self.versions, set(self.keys.values()))
         for old_key in self.versions.newer:
             item = self.versions.before.items.get(old_key)
-            if item is not None and item.is_type and old_key not in self.troubled:
+            if item is not None and item.is_type and old_key not in self.troubled and not unchanged.is_so(old_key):
                 yield item
 
     # ---- what is asked
