@@ -26,7 +26,7 @@ from ..messages import Message
 from ..program import proved_program
 from ..render import is_sizedness
 from ..show import Show
-from ..terms import Bound, Impl, Lossy, Parameter, Place, Type, put, put_bound
+from ..terms import BadInput, Bound, Impl, Lossy, Parameter, Place, Type, put, put_bound
 from ..world import World
 from .real_crates import REGISTRY
 
@@ -57,7 +57,7 @@ class Copy:
         self.name = name
         self.place = os.path.join(room, name)
         self.user = os.path.join(room, "user-of-" + name)
-        shutil.copytree(source, self.place, ignore=shutil.ignore_patterns("tests", "benches", "examples"))
+        shutil.copytree(source, self.place)
         os.makedirs(os.path.join(self.user, "src"))
         os.makedirs(os.path.join(self.user, ".cargo"))
         self.write("Cargo.toml", f'[package]\nname = "user"\nversion = "0.1.0"\nedition = "2021"\n[dependencies]\n{name} = {{ path = "../{name}" }}\n[workspace]\n')
@@ -149,8 +149,11 @@ class RealReleases(unittest.TestCase):
                 print(f"{name} is not in the registry", file=sys.stderr)
                 continue
             with tempfile.TemporaryDirectory() as room:
-                for line in self.of_crate(Copy(room, name, source), count):
-                    wrong.append(f"{name}: {line}")
+                try:
+                    for line in self.of_crate(Copy(room, name, source), count):
+                        wrong.append(f"{name}: {line}")
+                except BadInput as error:
+                    print(f"{name}: left out: {error}", file=sys.stderr)
             print(f"{name}: {dict(count)}", file=sys.stderr, flush=True)
         self.assertEqual(wrong, [])
         self.assertGreater(count["breaking"] + count["compatible"], 0)
