@@ -9,13 +9,14 @@ from dataclasses import dataclass, replace
 from typing import Iterator, Optional
 
 from .build import AUTO_TRAITS
-from .claims import Claim, Judge
+from .claims import Claim, Judge, Programs
 from .impl_changes import is_auto
 from .item_changes import change
 from .messages import Message, at
 from .questions import Question, Verdict
 from .surface import Item
 from .terms import Bound, Impl, Named, Param, Parameter, Predicate
+from .unchanged import Unchanged
 from .versions import Gone, Versions, names_private, plain_params
 from .world import World
 
@@ -34,27 +35,28 @@ class Asked:
 
 
 class AutoChanges:
-    def __init__(self, versions: Versions, troubled: dict[str, Message], program: Optional[str] = None) -> None:
+    def __init__(self, versions: Versions, troubled: dict[str, Message], programs: Programs) -> None:
         self.versions = versions
         self.troubled = troubled
-        self.program = program
+        self.programs = programs
         self.keys = {name: versions.old.pages.key(page) or "" for name, page in AUTO_TRAITS.items()}
         self.messages: list[Message] = []
 
     def run(self) -> None:
         asked = [a for item in self.types() for name in AUTO_TRAITS for a in self.questions(item, name)]
-        before = Judge(self.versions.old, self.program).ask([a.old for a in asked])
+        before = Judge(self.versions.old, self.programs).ask([a.old for a in asked])
         held = [a for a, verdict in zip(asked, before) if verdict.word == "yes"]
-        after = Judge(self.versions.new, self.program).ask([a.new for a in held])
+        after = Judge(self.versions.new, self.programs).ask([a.new for a in held])
         self.compare(list(zip(held, after)))
-        self.messages += Judge(self.versions.new, self.program).settle(list(self.of_impls()))
+        self.messages += Judge(self.versions.new, self.programs).settle(list(self.of_impls()))
         self.added()
 
     def types(self) -> Iterator[Item]:
-        """The public types of both versions whose arguments are the same."""
+        """The public types of both versions whose arguments are the same, and whose auto traits may be others."""
+        unchanged = Unchanged(self.versions, set(self.keys.values()))
         for old_key in self.versions.newer:
             item = self.versions.before.items.get(old_key)
-            if item is not None and item.is_type and old_key not in self.troubled:
+            if item is not None and item.is_type and old_key not in self.troubled and not unchanged.is_so(old_key):
                 yield item
 
     # ---- what is asked
@@ -98,6 +100,7 @@ class AutoChanges:
         message = change("auto-trait-lost", f"{after.shown()} {how} `{asked.trait}` any more", at(after.place), word=word)
         message.note(f"`{asked.new.written}` was yes, and is {verdict.word}")
         message.basis, message.rests_on = verdict.basis, verdict.rests_on
+        message.children += Judge(self.versions.new, self.programs).reasons(verdict)
         return message
 
     def of_impls(self) -> Iterator[Claim]:

@@ -8,6 +8,7 @@ from .answer import Answerer
 from .cone import cone_of_questions
 from .messages import Message
 from .questions import Asker, Question, Verdict
+from .reasons import why
 from .terms import BadInput, Lossy
 from .world import World
 
@@ -22,12 +23,19 @@ class Claim:
     word: str = "breaking"
 
 
+@dataclass(frozen=True)
+class Programs:
+    """The program that answers, and the one that explains; the proved ones that are here where none is named."""
+    answers: Optional[str] = None
+    explains: Optional[str] = None
+
+
 class Judge:
     """Has questions answered in one version."""
 
-    def __init__(self, world: World, program: Optional[str] = None) -> None:
+    def __init__(self, world: World, programs: Programs) -> None:
         self.world = world
-        self.program = program
+        self.programs = programs
 
     def ask(self, questions: list[Question]) -> list[Verdict]:
         found: list[Verdict] = []
@@ -40,14 +48,14 @@ class Judge:
         try:
             translation = cone_of_questions(self.world, questions)
             translation.build()
-            found = Asker(translation, self.program).ask(questions)
+            found = Asker(translation, self.programs.answers).ask(questions)
         except (BadInput, Lossy):
             found = [Verdict(question, "not settled") for question in questions]
         return [self.alone(v.question) if v.word == "not settled" else v for v in found]
 
     def alone(self, question: Question) -> Verdict:
         try:
-            return Answerer(self.world, self.program).answer(question)
+            return Answerer(self.world, self.programs.answers).answer(question)
         except (BadInput, Lossy) as error:
             return Verdict(question, "not settled", f"the question cannot be asked: {error}")
 
@@ -56,8 +64,17 @@ class Judge:
         found = []
         for claim, verdict in zip(claims, self.ask([claim.question for claim in claims])):
             if verdict.word != "yes":
-                found.append(told(claim, verdict))
+                found.append(self.told(claim, verdict))
         return found
+
+    def told(self, claim: Claim, verdict: Verdict) -> Message:
+        message = told(claim, verdict)
+        message.children += self.reasons(verdict)
+        return message
+
+    def reasons(self, verdict: Verdict) -> list[Message]:
+        """Why there is no proof; what might be done about it is not said of a release."""
+        return [note for note in why(verdict, self.programs.explains) if note.level == "note"] if verdict.word != "not settled" else []
 
 
 def told(claim: Claim, verdict: Verdict) -> Message:

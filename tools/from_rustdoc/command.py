@@ -22,6 +22,7 @@ from .cone import cone_of_crate
 from .html_docs import Pages
 from .kept import Damaged, KeptPages, KeptStandard, remove_stores
 from .later_command import later
+from .made_by import current, made_by
 from .messages import NO_ANSWER, Message, Output, Sources, worst
 from .program import run
 from .questions import QuestionReader
@@ -213,7 +214,10 @@ def answered(inputs: dict[str, Any], world: World, arguments: argparse.Namespace
 
 
 def ask_project(arguments: argparse.Namespace, extra: list[str]) -> int:
-    """Questions on a project, which is documented first; cargo knows what of that is to be done."""
+    """Questions on a project, which is documented first where its documents are of older sources."""
+    known = current(arguments.project, extra) if os.path.isfile(os.path.join(arguments.project, "Cargo.toml")) else None
+    if known is not None:
+        return answered(known["inputs"], world_again(known, arguments), arguments)
     _, inputs, world = documents(arguments.project, extra, arguments)
     return answered(inputs, world, arguments)
 
@@ -231,7 +235,7 @@ def documents(folder: str, extra: list[str], arguments: argparse.Namespace) -> t
     world = world_of(files, docs, found.links)
     base = os.path.join(found.folder, crates[0])
     inputs = inputs_of(world, files, found.links)
-    write_map(base, {"inputs": inputs})
+    write_map(base, {"inputs": inputs, "made_by": made_by(folder, extra, cargo.metadata(folder, extra, []))})
     warn(world)
     return base, inputs, world
 

@@ -19,10 +19,9 @@ READ = ("module", "use", "struct", "enum", "union", "variant", "struct_field", "
         "assoc_const")
 # What no answer looks at.
 IGNORED = {"module": "is_crate is_stripped", "use": "source", "struct": "impls", "enum": "impls has_stripped_variants", "union": "impls has_stripped_fields",
-           "variant": "discriminant", "trait": "implementations", "impl": "provided_trait_methods", "const parameter": "type",
-           "function pointer": "generic_params", "signature": "", "header": "is_const is_async", "dyn trait": "generic_params", "dyn type": "lifetime",
-           "bound": "generic_params", "where-clause": "generic_params", "constant": "is_literal", "reference": "lifetime", "plain struct": "has_stripped_fields",
-           "struct variant": "has_stripped_fields", "equation": "", "use of captures": ""}
+           "plain struct": "has_stripped_fields", "struct variant": "has_stripped_fields", "variant": "discriminant", "trait": "implementations",
+           "impl": "provided_trait_methods", "function pointer": "generic_params", "header": "is_const is_async", "dyn trait": "generic_params",
+           "dyn type": "lifetime", "bound": "generic_params", "where-clause": "generic_params", "constant": "is_literal", "reference": "lifetime"}
 Check = Callable[[Any], None]
 
 
@@ -170,7 +169,7 @@ class Agreement:
             kind, "parameter",
             lifetime=lambda body: self.fields(body, "lifetime", outlives=self.each(text)),
             type=lambda body: self.fields(body, "type parameter", bounds=self.bounds, default=self.maybe(self.type), is_synthetic=self.of_kind(bool)),
-            const=lambda body: self.fields(body, "const parameter", default=self.maybe(text))))
+            const=lambda body: self.fields(body, "const parameter", type=self.type, default=self.maybe(text))))
 
     def clause(self, clause: Any) -> None:
         self.variant(

@@ -6,7 +6,7 @@ from __future__ import annotations
 from dataclasses import dataclass, field
 from typing import Optional
 
-from .claims import Claim, Judge
+from .claims import Claim, Judge, Programs
 from .cone import cone_of_questions
 from .impls import Written
 from .item_changes import change
@@ -15,7 +15,7 @@ from .open_walk import downstream, is_sealed, met_in_header
 from .program import run
 from .questions import Question, Verdict
 from .render import is_sizedness
-from .terms import BadInput, Bound, Impl, Lossy, Named, Parameter, Predicate, Type, argument_values, put, put_bound, walk
+from .terms import BadInput, Bound, Declaration, Impl, Lossy, Named, Parameter, Predicate, Type, argument_values, put, put_bound, walk
 from .versions import Gone, Header, Versions, all_keys, bound_keys, is_private, names_private, plain_params
 from .world import World, crate_name
 
@@ -44,11 +44,11 @@ class Kept:
 class ImplChanges:
     """`troubled` are old items whose impls are not compared, by their keys, with what was told of them."""
 
-    def __init__(self, versions: Versions, troubled: dict[str, Message], with_private: bool, program: Optional[str] = None) -> None:
+    def __init__(self, versions: Versions, troubled: dict[str, Message], with_private: bool, programs: Programs) -> None:
         self.versions = versions
         self.troubled = troubled
         self.with_private = with_private
-        self.program = program
+        self.programs = programs
         self.messages: list[Message] = []
         self.added: list[Judged] = []
         self.uncompared: dict[str, int] = {}
@@ -82,7 +82,7 @@ class ImplChanges:
                     self.values(impl, same)
                 else:
                     claims += self.claim(Kept(impl, clauses, [i for i, _ in again]))
-        self.messages += Judge(self.versions.new, self.program).settle(claims)
+        self.messages += Judge(self.versions.new, self.programs).settle(claims)
 
     def is_hidden(self, impl: Impl) -> bool:
         """Whether nobody else can name what the header names."""
@@ -166,10 +166,9 @@ class ImplChanges:
 
     def narrowed(self, impl: Impl) -> Impl:
         """The part of an added impl that an impl of an older crate can meet: new parameters of its trait have their defaults there."""
-        assert impl.trait is not None
-        trait = self.versions.new.get(impl.trait.key, "trait", impl.trait.arguments)
-        before = self.versions.before.items.get(self.versions.older.get(trait.key, ""))
-        if before is None or len(before.params) >= len(impl.trait.arguments):
+        trait = trait_of(self.versions.new, impl)
+        before = self.versions.before.items.get(self.versions.older.get(trait.key, "")) if trait is not None else None
+        if trait is None or impl.trait is None or before is None or len(before.params) >= len(impl.trait.arguments):
             return impl
         values: dict[str, Type] = {}
         for param, argument in list(zip(trait.params, impl.trait.arguments))[len(before.params):]:
@@ -198,10 +197,10 @@ class ImplChanges:
             try:
                 asked.append((impl, Question("", self.versions.to_old(impl.self_type), self.old_bound(impl.trait), plain_params(impl.params),
                                              self.versions.predicates_to_old(impl.predicates), crate=self.versions.crate)))
-            except Gone:
+            except (Gone, Lossy):
                 pass
         asked = [(impl, question) for impl, question in asked if not impl.is_negative]
-        verdicts = Judge(self.versions.old, self.program).ask([question for _, question in asked])
+        verdicts = Judge(self.versions.old, self.programs).ask([question for _, question in asked])
         return {id(impl): verdict for (impl, _), verdict in zip(asked, verdicts)}
 
     def judged(self, impl: Impl, before: Optional[Verdict]) -> Judged:
@@ -211,7 +210,9 @@ class ImplChanges:
         world = self.versions.new
         if before is not None and before.word == "yes":
             return Judged(impl, "compatible", KNOWN)
-        trait = world.get(impl.trait.key, "trait", impl.trait.arguments)
+        trait = trait_of(world, impl)
+        if trait is None:
+            return Judged(impl, "not settled", "its trait is not known")
         if not self.with_private:
             subject = world.get(impl.self_type.key, "struct", impl.self_type.arguments) if isinstance(impl.self_type, Named) else None
             if is_private(world, trait) or (subject is not None and is_private(world, subject) and subject.key not in self.versions.after.kinds):
@@ -246,14 +247,13 @@ class ImplChanges:
             translation.build()
         asked = [line for line in lines if line]
         sections = [text for line in asked for text in (f"later {crate_name(self.versions.crate)}", line)]
-        verdicts = iter(run("\n".join(translation.text("upper")[0] + sections) + "\n", self.program).releases if asked else [])
+        verdicts = iter(run("\n".join(translation.text("upper")[0] + sections) + "\n", self.programs.answers).releases if asked else [])
         return [next(verdicts) if line else "" for line in lines]
 
     def reason(self, impl: Impl) -> str:
         """Why the program says that an impl is breaking."""
-        assert impl.trait is not None
-        world = self.versions.new
-        trait = world.get(impl.trait.key, "trait", impl.trait.arguments)
+        world, trait = self.versions.new, trait_of(self.versions.new, impl)
+        assert trait is not None
         if trait.is_fundamental:
             return "the trait is fundamental: others may rely on there being no such impl"
         met = met_in_header(world, trait, impl)
@@ -270,12 +270,18 @@ class ImplChanges:
         return message.note(judged.reason) if judged.reason else message
 
 
-def is_auto(world: World, impl: Impl) -> bool:
+def trait_of(world: World, impl: Impl) -> Optional[Declaration]:
+    """The impl's trait; None where it is not known."""
     assert impl.trait is not None
     try:
-        return world.get(impl.trait.key, "trait", impl.trait.arguments).is_auto
+        return world.get(impl.trait.key, "trait", impl.trait.arguments)
     except Lossy:
-        return False
+        return None
+
+
+def is_auto(world: World, impl: Impl) -> bool:
+    trait = trait_of(world, impl)
+    return trait is not None and trait.is_auto
 
 
 def header_keys(impl: Impl) -> list[str]:

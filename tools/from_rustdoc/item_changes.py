@@ -23,7 +23,7 @@ SIZED = "core/marker/trait.Sized.html"
 MAXIMAL_DEPTH = 8
 # What rustc says of a crate that a change breaks.
 RUSTC = {"item-removed": "E0425 or E0432", "alias-removed": "E0425 or E0432", "kind-changed": "E0404, E0423 or E0782", "alias-retargeted": "E0277 or E0308",
-         "parameter-added": "E0107", "parameter-removed": "E0107", "parameter-kind-changed": "E0747", "default-removed": "E0107",
+         "parameter-added": "E0107", "parameter-removed": "E0107", "parameter-kind-changed": "E0308 or E0747", "default-removed": "E0107",
          "default-changed": "E0308", "lifetime-added": "E0106", "lifetime-removed": "E0107", "bound-added": "E0271 or E0277",
          "lifetime-bound-added": "E0310 or E0477", "supertrait-added": "E0271 or E0277", "supertrait-removed": "E0277, E0308 or E0599",
          "associated-type-added": "E0046 or E0191", "associated-type-removed": "E0220", "associated-type-bound-added": "E0277",
@@ -180,6 +180,10 @@ class ItemChanges:
             if b.kind != a.kind:
                 self.tell("parameter-kind-changed", f"{new.shown()}: the parameter `{a.name}` is a {a.kind}, and `{b.name}` was a {b.kind}", at(new.place))
                 return
+            if b.kind == "const" and old.consts.get(b.name) != new.consts.get(a.name):
+                self.tell("parameter-kind-changed", f"{new.shown()}: the parameter `{a.name}` is `{new.consts.get(a.name)}`, and was `{old.consts.get(b.name)}`",
+                          at(new.place))
+                return
         if after > before and any(p.default is None for p in new.params[before:]):
             name = next(p.name for p in new.params[before:] if p.default is None)
             self.tell("parameter-added", f"{new.shown()} has a new parameter without a default: `{name}`", at(new.place))
@@ -324,7 +328,8 @@ class ItemChanges:
                     above = self.versions.old.get(found.key, "trait", found.arguments)
                 except Lossy:
                     continue
-                todo.append((above, {**argument_values(above.params, found.arguments), "Self": itself}, depth + 1))
+                arguments = {n: put(v, {"Self": itself}) for n, v in argument_values(above.params, found.arguments).items()}
+                todo.append((above, {**arguments, "Self": itself}, depth + 1))
                 if is_std_key(above.key) or not is_private(self.versions.old, above) or above.key in self.versions.before.kinds:
                     later = self.there(found)
                     if later is not None:

@@ -2,12 +2,11 @@
 from __future__ import annotations
 
 from dataclasses import dataclass, field
-from typing import Optional
 
 from .auto_changes import AutoChanges
+from .claims import Judge, Programs, worst_first
 from .impl_changes import ImplChanges
 from .item_changes import ItemChanges
-from .claims import Judge, worst_first
 from .messages import BAD, FINE, UNSETTLED, Message, worst
 from .versions import Versions
 from .world import World
@@ -39,15 +38,15 @@ class Release:
         return f"{self.crate} {old} to {new}: {self.answer}" + (f" ({', '.join(counts)})" if counts else " (nothing that is looked at has changed)")
 
 
-def compared(old: World, new: World, crate: str, with_private: bool = False, program: Optional[str] = None) -> Release:
+def compared(old: World, new: World, crate: str, with_private: bool = False, programs: Programs = Programs()) -> Release:
     versions = Versions(old, new, crate)
     items = ItemChanges(versions)
     items.run()
-    impls = ImplChanges(versions, items.troubled, with_private, program)
+    impls = ImplChanges(versions, items.troubled, with_private, programs)
     impls.run()
-    autos = AutoChanges(versions, items.troubled, program)
+    autos = AutoChanges(versions, items.troubled, programs)
     autos.run()
-    messages = items.messages + Judge(new, program).settle(items.claims) + impls.messages + autos.messages + items.new_items
+    messages = items.messages + Judge(new, programs).settle(items.claims) + impls.messages + autos.messages + items.new_items
     for message in messages:
         message.crate = crate
     return Release(crate, (old.crates[crate].version, new.crates[crate].version), worst_first(messages))

@@ -9,6 +9,7 @@ from typing import Callable, Optional
 
 from .baseline import documented
 from .cargo import Links
+from .claims import Programs
 from .later import Release, compared
 from .messages import BAD, Message, Output, Sources, worst
 from .terms import BadInput
@@ -16,6 +17,10 @@ from .world import World
 
 # Reads crates: their files, std's documents, and how they belong together.
 WorldReader = Callable[[list[str], Optional[str], Optional[Links]], World]
+
+
+def programs_of(arguments: argparse.Namespace) -> Programs:
+    return Programs(arguments.program, arguments.program_that_explains)
 
 
 def told(release: Release, output: Output) -> int:
@@ -37,7 +42,7 @@ def of_files(arguments: argparse.Namespace, read: WorldReader, links: Optional[L
         raise BadInput(f"{crates[0]} and {crates[1]} are two crates, not two versions of one")
     folders = [os.path.dirname(os.path.abspath(file)) for file in files]
     output = Output(Sources({"old": folders[:1], "": folders[1:]}), arguments.message_format == "json")
-    return told(compared(worlds[0], worlds[1], crates[0], arguments.private, arguments.program), output)
+    return told(compared(worlds[0], worlds[1], crates[0], arguments.private, programs_of(arguments)), output)
 
 
 def of_project(arguments: argparse.Namespace, extra: list[str], read: WorldReader) -> int:
@@ -53,7 +58,7 @@ def of_project(arguments: argparse.Namespace, extra: list[str], read: WorldReade
                 statuses.append(BAD)
                 continue
             worlds = [read([p.files[c] for c in p.closure([name])], arguments.docs, p.links) for p in (both.old, both.new)]
-            statuses.append(told(compared(worlds[0], worlds[1], name, arguments.private, arguments.program), output))
+            statuses.append(told(compared(worlds[0], worlds[1], name, arguments.private, programs_of(arguments)), output))
     return worst(statuses)
 
 

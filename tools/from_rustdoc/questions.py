@@ -14,10 +14,10 @@ from .impls import ImplWriter
 from .negative import Negatives
 from .program import Answer, run
 from .reach import BY_PARTS, Reach, Reacher
-from .render import MAXIMAL_PARAMS, QUESTION, Scope, bracketed, is_sizedness, names_of
+from .render import CLAUSE, MAXIMAL_PARAMS, QUESTION, Scope, bracketed, is_sizedness, names_of
 from .show import Show
 from .standard import FN_TRAITS
-from .terms import (Alias, BadInput, Bound, BoundsOf, Dyn, Lossy, Param, Parameter, Predicate, Projection, Type, Unknown,
+from .terms import (Alias, BadInput, Bound, BoundsOf, Declaration, Dyn, Lossy, Param, Parameter, Predicate, Projection, Type, Unknown, Unsayable,
                     argument_values, keys_of, put, put_bound, rebuilt, rebuilt_bound, walk)
 from .text_form import Text, TextLine, read_text
 from .world import World, crate_name
@@ -324,7 +324,7 @@ class QuestionWriter:
         bounds that the trait declares of it."""
         try:
             declaration = self.renderer.need(bound.key, "trait", bound.arguments)
-            values = argument_values(declaration.params, bound.arguments)
+            values = {name: put(value, {"Self": subject}) for name, value in argument_values(declaration.params, bound.arguments).items()}
             values["Self"] = subject
             for name in sorted(declaration.associated):
                 if (declaration.key, name) in self.renderer.companions:
@@ -336,10 +336,21 @@ class QuestionWriter:
                         self.item_clauses(question, place, bounds, scope, clauses, depth)
             for above in declaration.supers:
                 if depth < 6 and not is_sizedness(above):
+                    if not self.is_said(declaration, above):
+                        clauses += self.tried(question, lambda: self.clause(subject, put_bound(above, values), scope))
                     self.fixed_values(question, subject, put_bound(above, values), scope, clauses)
                     self.values(question, subject, put_bound(above, values), scope, clauses, depth + 1)
         except Lossy:
             question.whole = False
+
+    def is_said(self, declaration: Declaration, above: Bound) -> bool:
+        """Whether the text has the supertrait: `PartialOrd<Self>` of `Ord` it has not, so a clause by `Ord` comes with one by that."""
+        try:
+            scope = Scope(CLAUSE, names_of(declaration.params))
+            self.renderer.bound(self.renderer.need(above.key, "trait", above.arguments), above, scope, Unsayable("`Self` as an argument of a supertrait"))
+            return True
+        except Lossy:
+            return False
 
     def fixed_values(self, question: Question, subject: Type, above: Bound, scope: Scope, clauses: list[str]) -> None:
         """The values that a supertrait fixes: `trait Bytes: Iterator<Item = u8>`."""

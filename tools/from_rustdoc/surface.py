@@ -14,10 +14,12 @@ MAXIMAL_PATH = 8
 
 @dataclass
 class Generics:
-    """The parameters of an item, with its clauses on types, and those on lifetimes as text in which parameters go by their number."""
+    """The parameters of an item, with its clauses on types, and those on lifetimes as text in which parameters go by their number; `consts`
+    are the types of those that are constants."""
     params: list[Param] = field(default_factory=list)
     predicates: list[Predicate] = field(default_factory=list)
     lifetimes: list[str] = field(default_factory=list)
+    consts: dict[str, str] = field(default_factory=dict)
     outlives: dict[str, str] = field(default_factory=dict)
 
 
@@ -92,7 +94,7 @@ class SurfaceReader:
         self.by_glob: dict[str, tuple[str, str]] = {}
         top = self.crate(crate)
         assert top is not None
-        self.module(top, top.json["root"], (crate,), False, {})
+        self.module(top, top.json["root"], (crate.split("@")[0],), False, {})
         for path, (key, kind) in self.by_glob.items():
             self.take(path, key, kind)
         for path, key in self.surface.by_path.items():
@@ -107,7 +109,8 @@ class SurfaceReader:
         if name not in self.crates:
             self.crates[name] = None
             if name in self.world.crates:
-                read = JsonCrate(self.world.crates[name].file, self.world.pages)
+                links = self.world.links
+                read = JsonCrate(self.world.crates[name].file, self.world.pages, name if "@" in name else "", links.artifacts if links else None)
                 read.load()
                 self.crates[name] = read
         return self.crates[name]
@@ -151,12 +154,13 @@ class SurfaceReader:
     def foreign(self, crate: JsonCrate, number: int, found: dict[str, Any], inside: tuple[str, ...], is_all: bool, is_glob: bool,
                 stack: dict[tuple[str, int], int]) -> None:
         """An item or module of another crate that is exported."""
-        other = self.crate(found["path"][0])
+        name = crate.external.get(found["crate_id"], found["path"][0])
+        other = self.crate(name)
         there = self.number_of(other, found["path"]) if other is not None else None
         if found["kind"] == "module":
             if other is not None and there is not None:
                 self.module(other, there, inside, is_glob or is_all, stack)
-            elif found["path"][0] not in STD_CRATES:
+            elif name not in STD_CRATES:
                 self.surface.closed.add("::".join(found["path"]))
         elif found["kind"] in KINDS and not is_all:
             key = self.world.key_of(crate.key(number) or "")
@@ -164,9 +168,9 @@ class SurfaceReader:
 
     @staticmethod
     def number_of(crate: JsonCrate, path: list[str]) -> Optional[int]:
-        if path == [crate.name]:
+        if len(path) == 1:
             return int(crate.json["root"])
-        return next((int(n) for n, p in crate.json["paths"].items() if p["crate_id"] == 0 and p["path"] == path), None)
+        return next((int(n) for n, p in crate.json["paths"].items() if p["crate_id"] == 0 and p["path"][1:] == path[1:]), None)
 
     def add(self, path: tuple[str, ...], key: str, kind: str, is_glob: bool, number: Optional[tuple[JsonCrate, int]]) -> None:
         """What stands in a module itself hides what a glob brings."""
@@ -224,6 +228,8 @@ def read_generics(crate: JsonCrate, generics: dict[str, Any], into: Generics) ->
     into.lifetimes = [p["name"] for p in generics["params"] if "lifetime" in p["kind"]]
     for param in generics["params"]:
         kind, body = next(iter(param["kind"].items()))
+        if kind == "const":
+            into.consts[param["name"]] = body["type"].get("primitive", "") if isinstance(body["type"], dict) else ""
         for name in body["outlives"] if kind == "lifetime" else []:
             add_outlives(into, param["name"], name)
         for bound in body["bounds"] if kind == "type" else []:

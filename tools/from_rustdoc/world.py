@@ -42,6 +42,7 @@ class World:
         self.uses: dict[str, list[str]] = {}
         self.missing: dict[str, int] = defaultdict(int)
         self.doc_cfgs: dict[str, list[str]] = {}
+        self.links: Optional[Links] = None
         self.names: dict[str, str] = {}
         self.named: dict[str, str] = {}
         self.taken: set[str] = set()
@@ -53,6 +54,7 @@ class World:
     # ---- reading
     def load(self, files: list[str], links: Optional[Links] = None) -> None:
         """Reads the crates; `links` says which crates each one uses. Without it they use those that their items name."""
+        self.links = links
         keeper: Optional[Keeper] = getattr(self.pages, "keeper", None)
         names, artifacts = (links.names, links.artifacts) if links else ({}, {})
         read: list[AnyCrate] = [keeper.crate(file, self.pages, names.get(file, ""), artifacts) if keeper

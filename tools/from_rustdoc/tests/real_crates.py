@@ -8,7 +8,6 @@ from __future__ import annotations
 
 import os
 import shutil
-import subprocess
 import sys
 import tempfile
 import unittest
@@ -19,14 +18,12 @@ from ..build import Translation
 from ..cargo import Project, docs_folder, document
 from ..checker import check_texts
 from ..html_docs import Pages
-from ..later import added_impls, ask_program
 from ..program import TOP, run
 from ..questions import Asker
-from ..report import Report
-from ..show import Show
 from ..messages import Sources, rendered
-from ..verdicts import refusal
+from ..report import Report
 from ..terms import BadInput
+from ..verdicts import refusal
 from ..world import World
 from .generated import compiled, questions
 
@@ -130,77 +127,3 @@ class RealCrates(unittest.TestCase):
                     wrong.append(f"{crate}: {a.rust}: {verdict.word} ({verdict.basis}), {a.question.prove}")
             print(f"{crate}: {sum(count.values())} questions so far: {dict(count)}", file=sys.stderr, flush=True)
         self.assertEqual(wrong, [])
-
-
-@unittest.skipIf(missing(), missing())
-class RealReleases(unittest.TestCase):
-    """`bytes` without one of its impls, as an older release, and as it is: a crate that uses it compiles with both exactly if the added
-    impl is compatible."""
-
-    ADDED = [({"impl<T> PartialEq<&T> for bytes::Bytes": "breaking", "impl<T> PartialOrd<&T> for bytes::Bytes": "breaking"},
-              ["impl<'a, T: ?Sized> PartialEq<&'a T> for Bytes", "impl<'a, T: ?Sized> PartialOrd<&'a T> for Bytes"],
-              "pub struct Mine; impl PartialEq<Mine> for bytes::Bytes { fn eq(&self, _: &Mine) -> bool { true } } "
-              "impl PartialEq<&Mine> for bytes::Bytes { fn eq(&self, _: &&Mine) -> bool { true } }"),
-             ({"impl From<String> for bytes::Bytes": "compatible"}, ["impl From<String> for Bytes"],
-              "pub struct Mine; impl From<Mine> for bytes::Bytes { fn from(_: Mine) -> Self { bytes::Bytes::new() } }")]
-
-    def test_a_release_is_judged_as_rustc_judges_the_crates_that_use_it(self) -> None:
-        if not version("bytes"):
-            self.skipTest("bytes is not in the registry")
-        for words, headers, user in self.ADDED:
-            with tempfile.TemporaryDirectory() as folder:
-                worlds = []
-                compiles = []
-                for release in ("old", "new"):
-                    place = os.path.join(folder, release)
-                    copy_of_bytes(os.path.join(place, "bytes"))
-                    if release == "old":
-                        without(os.path.join(place, "bytes", "src", "bytes.rs"), headers)
-                    project = document(os.path.join(place, "bytes"), ["--offline"], quiet=True)
-                    world = World(Pages(docs_folder(None)))
-                    world.load([project.files["bytes"]], project.uses)
-                    worlds.append(world)
-                    compiles.append(user_compiles(place, user))
-                release_of_bytes = added_impls(worlds[0], worlds[1], "bytes", False)
-                translation = Translation(worlds[1])
-                translation.build()
-                ask_program(translation, "bytes", release_of_bytes.added, PROGRAM)
-                self.assertEqual({Show(worlds[1]).header(j.impl): j.word for j in release_of_bytes.added}, words)
-                self.assertEqual(release_of_bytes.apart, [])
-                self.assertEqual(compiles, [True, "breaking" not in words.values()])
-
-
-def copy_of_bytes(place: str) -> None:
-    """The sources of `bytes` with a manifest that asks for no other crate."""
-    shutil.copytree(os.path.join(REGISTRY, f"bytes-{version('bytes')}", "src"), os.path.join(place, "src"))
-    with open(os.path.join(place, "Cargo.toml"), "w", encoding="utf-8") as handle:
-        handle.write(f'[package]\nname = "bytes"\nversion = "{version("bytes")}"\nedition = "2018"\n[features]\ndefault = ["std"]\nstd = []\n[workspace]\n')
-
-
-def without(file: str, headers: list[str]) -> None:
-    """Takes the impls with these headers, up to the brace in the first column, out of a source, and their uses in two others."""
-    with open(file, encoding="utf-8") as handle:
-        lines = handle.read().split("\n")
-    for header in headers:
-        start = next(n for n, line in enumerate(lines) if line.startswith(header))
-        end = next(n for n in range(start, len(lines)) if lines[n] == "}")
-        del lines[start:end + 1]
-    text = "\n".join(lines)
-    for subject, by_slices in (("&[u8]", "other.as_slice() == *self"), ("&str", "other.as_slice() == self.as_bytes()")):
-        old = f"impl PartialEq<Bytes> for {subject} {{\n    fn eq(&self, other: &Bytes) -> bool {{\n        "
-        text = text.replace(old + "*other == *self", old + by_slices)
-    with open(file, "w", encoding="utf-8") as handle:
-        handle.write(text)
-
-
-def user_compiles(place: str, source: str) -> bool:
-    folder = os.path.join(place, "user")
-    os.makedirs(os.path.join(folder, "src"))
-    with open(os.path.join(folder, "Cargo.toml"), "w", encoding="utf-8") as handle:
-        handle.write('[package]\nname = "user"\nversion = "0.1.0"\nedition = "2021"\n[dependencies]\nbytes = { path = "../bytes" }\n')
-    with open(os.path.join(folder, "src", "lib.rs"), "w", encoding="utf-8") as handle:
-        handle.write(source + "\n")
-    done = subprocess.run(["cargo", "check", "--offline"], cwd=folder, stdout=subprocess.DEVNULL, stderr=subprocess.PIPE, text=True)
-    if done.returncode != 0 and "E0119" not in done.stderr:
-        raise AssertionError(done.stderr)
-    return done.returncode == 0

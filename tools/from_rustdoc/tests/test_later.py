@@ -9,6 +9,7 @@ import shutil
 import tempfile
 import unittest
 
+from ..claims import Programs
 from ..later import Release, compared
 from ..messages import Message
 from ..world import World
@@ -52,7 +53,7 @@ class Later(unittest.TestCase):
         with tempfile.TemporaryDirectory() as folder:
             new = World(pages())
             new.load([renamed("after", "before", folder)])
-            return compared(world("before"), new, "before", with_private, PROGRAM)
+            return compared(world("before"), new, "before", with_private, Programs(PROGRAM))
 
     def of(self, release: Release, code: str) -> dict[str, str]:
         return {m.text: m.word for m in release.messages if m.code == code}
@@ -97,7 +98,7 @@ class Later(unittest.TestCase):
         self.assertEqual(self.of(self.release, "item-added"), {"struct before::Fresh": "new", "trait before::Decode": "new"})
 
     def test_a_release_that_changes_nothing_is_compatible(self) -> None:
-        release = compared(world("before"), world("before"), "before", program=PROGRAM)
+        release = compared(world("before"), world("before"), "before", programs=Programs(PROGRAM))
         self.assertEqual((release.messages, release.answer, release.status), ([], "compatible", 0))
 
 
@@ -109,7 +110,7 @@ class Pairs(unittest.TestCase):
     @classmethod
     def setUpClass(cls) -> None:
         cls.pairs = all_pairs()
-        cls.told = told(compared(world("pairs_old"), world("pairs_new"), "pairs", program=PROGRAM))
+        cls.told = told(compared(world("pairs_old"), world("pairs_new"), "pairs", programs=Programs(PROGRAM)))
 
     def test_each_pair_is_told_as_it_was_worked_out(self) -> None:
         for pair in self.pairs:
