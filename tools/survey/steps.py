@@ -1,0 +1,277 @@
+"""The steps of a survey, of one crate each: document, read, check, ask, judge. Each leaves a file of results in the crate's folder."""
+from __future__ import annotations
+
+import contextlib
+import fcntl
+import json
+import os
+import re
+import shutil
+import subprocess
+import tempfile
+import time
+from collections import Counter
+from dataclasses import asdict, dataclass
+from typing import Any, Iterator, Optional
+
+from from_rustdoc.cargo import Project
+from from_rustdoc.terms import BadInput
+
+from . import compare, results, translator
+from .compiler import OPEN, REJECTED, Compiler, Held
+from .documents import Crate, Documents
+from .generate import Asked, Generator
+from .registry import Dependency, Package, write_project
+from .results import Skipped, Step
+
+BATCH = 150
+CARGO = ["--offline"]
+
+
+@dataclass
+class Place:
+    """Where a survey is: its folder, the registry, the folder that cargo builds in (one of its own for each crate if none is given),
+    the program that answers texts, and how many processes cargo may use."""
+    out: str
+    registry: Optional[str] = None
+    target: Optional[str] = None
+    program: Optional[str] = None
+    jobs: int = 1
+
+    def folder(self, package: Package) -> str:
+        return os.path.join(self.out, "crates", package.folder)
+
+    def file(self, package: Package, step: str) -> str:
+        return os.path.join(self.folder(package), step + ".jsonl")
+
+    def build(self, folder: str) -> str:
+        return os.path.abspath(self.target or os.path.join(folder, "target"))
+
+
+# ---- documents
+@contextlib.contextmanager
+def locked(folder: str) -> Iterator[None]:
+    """One step at a time has cargo's folder: the documents in it are those of one project."""
+    os.makedirs(folder, exist_ok=True)
+    with open(os.path.join(folder, "survey.lock"), "w", encoding="utf-8") as handle:
+        fcntl.flock(handle, fcntl.LOCK_EX)
+        yield
+
+
+@contextlib.contextmanager
+def told_to(file: str) -> Iterator[None]:
+    """What processes say on stderr goes to a file."""
+    kept = os.dup(2)
+    with open(file, "w", encoding="utf-8") as handle:
+        os.dup2(handle.fileno(), 2)
+    try:
+        yield
+    finally:
+        os.dup2(kept, 2)
+        os.close(kept)
+
+
+def first_error(file: str) -> str:
+    """The first error that cargo told, with the package that it is in."""
+    with open(file, encoding="utf-8", errors="replace") as handle:
+        lines = handle.read().splitlines()
+    errors = [line for line in lines if re.match(r"error(\[\w+\])?:", line)]
+    package = next((m.group(1) for m in (re.search(r"could not (?:document|compile) `([^`]*)`", line) for line in lines) if m), "")
+    return (f"in {package}: " if package else "") + (errors[0] if errors else lines[-1] if lines else "cargo said nothing")
+
+
+def documented(folder: str, place: Place, log: str) -> Project:
+    """Documents a project in cargo's folder, where no documents of another one are left, and takes them from there."""
+    target = place.build(folder)
+    with locked(target), told_to(log):
+        documents = os.path.join(target, "from-rustdoc", "doc")
+        shutil.rmtree(documents, ignore_errors=True)
+        os.environ["CARGO_TARGET_DIR"] = target
+        try:
+            project = translator.document(os.path.join(folder, "project"), [*CARGO, "-j", str(place.jobs)])
+        except BadInput as error:
+            raise BadInput(first_error(log) if os.path.getsize(log) else str(error))
+        kept = os.path.join(folder, "doc")
+        shutil.rmtree(kept, ignore_errors=True)
+        os.makedirs(kept)
+        for name, file in project.files.items():
+            project.files[name] = shutil.move(file, os.path.join(kept, f"{name}.json"))
+    if place.target is None:
+        shutil.rmtree(target, ignore_errors=True)
+    return project
+
+
+def save_project(folder: str, project: Project) -> None:
+    files = {name: os.path.relpath(file, folder) for name, file in project.files.items()}
+    with open(os.path.join(folder, "project.json"), "w", encoding="utf-8") as handle:
+        json.dump({"files": files, "uses": project.uses, "doubled": project.doubled, "members": project.members}, handle)
+
+
+def load_project(folder: str) -> Project:
+    try:
+        with open(os.path.join(folder, "project.json"), encoding="utf-8") as handle:
+            data = json.load(handle)
+    except OSError:
+        raise Skipped("it is not documented")
+    files = {name: os.path.abspath(os.path.join(folder, file)) for name, file in data["files"].items()}
+    return Project(data["members"], data["uses"], files, data["doubled"])
+
+
+def document(place: Place, package: Package, step: Step) -> None:
+    folder = place.folder(package)
+    if package.kind != "lib":
+        raise Skipped({"proc-macro": "a procedural macro: it has no items"}.get(package.kind, "it has no library"))
+    write_project(os.path.join(folder, "project"), [Dependency(package)], place.registry)
+    project = documented(folder, place, os.path.join(folder, "document.log"))
+    if package.crate not in project.files:
+        raise BadInput("two versions of it are in use, and rustdoc keeps the documents of one" if package.crate in project.doubled else
+                       f"cargo made no documents of a crate {package.crate}")
+    save_project(folder, project)
+    sizes = {name: os.path.getsize(file) for name, file in project.files.items()}
+    step.figures = {"crates": len(sizes), "bytes": sum(sizes.values()), "own_bytes": sizes[package.crate], "doubled": sorted(set(project.doubled))}
+
+
+# ---- reading and checks
+def crates_of(project: Project, crate: str) -> list[str]:
+    return [project.files[name] for name in project.closure([crate])]
+
+
+def read(place: Place, package: Package, step: Step) -> None:
+    """Reads the crate and what it uses, twice: the second time from what was kept."""
+    project = load_project(place.folder(package))
+    files = crates_of(project, package.crate)
+    began = time.monotonic()
+    world = translator.read(files, project.uses)
+    middle = time.monotonic()
+    translator.read(files, project.uses)
+    crate = world.crates[package.crate]
+    step.figures = {"crates": len(world.crates), "first": round(middle - began, 2), "second": round(time.monotonic() - middle, 2),
+                    "items": len(crate.declarations), "impls": len(crate.impls)}
+
+
+def check(place: Place, package: Package, step: Step) -> None:
+    project = load_project(place.folder(package))
+    world = translator.read(crates_of(project, package.crate), project.uses)
+    found = translator.check(world, package.crate, place.program)
+    fates = Counter(impl["fate"] for impl in found.impls)
+    step.figures = {"word": found.word, "verdict_why": found.why, "impls": len(found.impls), "whole": fates["whole"], "loss": fates["loss"],
+                    "out": fates["out"]}
+    for impl in found.impls:
+        step.add("impl", **impl)
+
+
+# ---- questions
+def metadata_of(place: Place, folder: str, package: Package) -> dict[str, str]:
+    """The crates' metadata as rustc reads it, by the crates' names; of two versions of one crate neither, but for the crate itself."""
+    words = ["cargo", "check", *CARGO, "-j", str(place.jobs), "--message-format", "json", "--target-dir",
+             os.path.join(place.build(folder), "from-rustdoc")]
+    with locked(place.build(folder)):
+        done = subprocess.run(words, cwd=os.path.join(folder, "project"), stdout=subprocess.PIPE, stderr=subprocess.PIPE, text=True)
+    if done.returncode != 0:
+        raise BadInput(f"cargo check failed: {(done.stderr.splitlines() or ['it said nothing'])[-1]}")
+    found: dict[str, list[tuple[str, str]]] = {}
+    for line in done.stdout.splitlines():
+        message = json.loads(line)
+        if message.get("reason") == "compiler-artifact" and "lib" in message["target"]["kind"]:
+            for file in message["filenames"]:
+                if file.endswith(".rmeta"):
+                    found.setdefault(message["target"]["name"].replace("-", "_"), []).append((message["package_id"], file))
+    return chosen(found, package)
+
+
+def chosen(found: dict[str, list[tuple[str, str]]], package: Package) -> dict[str, str]:
+    kept = {}
+    for name, files in found.items():
+        if name == "surveyed":
+            continue
+        own = [file for number, file in files if name == package.crate and number.endswith(f"@{package.version}")]
+        if len(files) == 1 or own:
+            kept[name] = (own or [files[0][1]])[0]
+    return kept
+
+
+def ask(place: Place, package: Package, count: int, step: Step) -> None:
+    """Questions about the crate, to rustc and, where rustc takes them, to the translator."""
+    folder = place.folder(package)
+    project = load_project(folder)
+    files = {name: project.files[name] for name in project.closure([package.crate])}
+    crate = Crate(files[package.crate], Documents(files))
+    asked = Generator(crate, f"{package.name} {package.version}").questions(count)
+    if not asked:
+        raise Skipped("it has no public items of which a question can be asked")
+    externs = metadata_of(place, folder, package)
+    rows, figures = answered(asked, externs, files, project.uses, os.path.join(folder, package.crate), place.program)
+    step.figures = figures
+    for row in rows:
+        step.add("question", **row)
+
+
+def answered(asked: list[Asked], externs: dict[str, str], files: dict[str, str], uses: dict[str, list[str]], base: str,
+             program: Optional[str]) -> tuple[list[dict[str, Any]], dict[str, Any]]:
+    """A row for each question, and the times that rustc and the translator took."""
+    began = time.monotonic()
+    with tempfile.TemporaryDirectory() as room:
+        compiler = Compiler(externs, sorted({os.path.dirname(file) for file in externs.values()}), room)
+        held = [h for start in range(0, len(asked), BATCH) for h in compiler.held(asked[start:start + BATCH])]
+    middle = time.monotonic()
+    translator.write_base(base, list(files.values()), uses)
+    said = answers(asked, held, base, program)
+    rows = [compare.row(a, s, h) for a, s, h in zip(asked, said, held)]
+    return rows, {"rustc_seconds": round(middle - began, 2), "translator_seconds": round(time.monotonic() - middle, 2), "rounds": compiler.rounds,
+                  "counts": dict(compare.counts(rows))}
+
+
+def answers(asked: list[Asked], held: list[Held], base: str, program: Optional[str]) -> list[translator.Said]:
+    """Those that rustc decides are asked."""
+    places = [n for n, h in enumerate(held) if h.word not in (REJECTED, OPEN)]
+    told = translator.ask(base, [asked[n].written() for n in places], program)
+    found = dict(zip(places, told))
+    return [found.get(n, translator.Said("not asked")) for n in range(len(asked))]
+
+
+# ---- releases
+def without_impls(file: str, to: str) -> int:
+    """A crate's documents without the impls of traits that it writes; how many these were."""
+    with open(file, encoding="utf-8") as handle:
+        data = json.load(handle)
+    taken = {number for number, item in data["index"].items() if is_added(item)}
+    data["index"] = {number: item for number, item in data["index"].items() if number not in taken}
+    for item in data["index"].values():
+        body = next(iter(item["inner"].values()))
+        for key in ("impls", "implementations"):
+            if isinstance(body, dict) and key in body:
+                body[key] = [number for number in body[key] if str(number) not in taken]
+    with open(to, "w", encoding="utf-8") as handle:
+        json.dump(data, handle)
+    return len(taken)
+
+
+def is_added(item: dict[str, Any]) -> bool:
+    body = item["inner"].get("impl")
+    return body is not None and body["trait"] is not None and not body["is_synthetic"] and body["blanket_impl"] is None
+
+
+def judge(place: Place, package: Package, older: Optional[Package], step: Step) -> None:
+    """The release from an earlier version; where there is none, each impl of the crate as if this version had added it."""
+    folder = place.folder(package)
+    project = load_project(folder)
+    new = project.files[package.crate]
+    beside = [project.files[name] for name in project.closure([package.crate]) if name != package.crate]
+    if older is not None:
+        old, how = load_project(place.folder(older)).files[older.crate], "release"
+    else:
+        old, how = os.path.join(folder, "without_impls.json"), "as if added"
+        without_impls(new, old)
+    found = translator.later(old, new, beside, place.program)
+    if older is None:
+        os.remove(old)
+        found.apart = []
+    if found.why:
+        raise BadInput(found.why)
+    words = Counter(j.word for j in found.judged)
+    step.figures = {"how": how, "before": older.version if older else "", "judged": len(found.judged), "breaking": words["breaking"],
+                    "compatible": words["compatible"], "not_settled": words["not settled"], "apart": len(found.apart)}
+    for judged in found.judged:
+        step.add("judged", how=how, **asdict(judged))
+    for text in found.apart:
+        step.add("apart", text=text, change=text.split(":")[0])
