@@ -19,12 +19,11 @@ create table uses (name text, version text, used text);
 create table impls (name text, version text, header text, source text, fate text, losses text, trait text, type text);
 create table questions (name text, version text, how text, question text, said text, basis text, foundation text, rests_on text, rustc text,
                         rustc_why text, verdict text);
-create table judged (name text, version text, how text, header text, source text, word text, reason text);
-create table apart (name text, version text, change text, text text);
+create table changes (name text, version text, how text, code text, word text, text text, header text, source text, reason text);
 create index impls_by_trait on impls (trait, type);
-create index judged_by_word on judged (word);
+create index changes_by_word on changes (word);
 """
-TABLES = {"impl": "impls", "question": "questions", "judged": "judged", "apart": "apart"}
+TABLES = {"impl": "impls", "question": "questions", "change": "changes"}
 STEPS = ("document", "read", "check", "ask", "judge")
 OWN = ("kind", "step", "status", "why", "seconds", "processor", "memory")
 

@@ -7,7 +7,7 @@ from typing import Any, Sequence
 LONGEST = 12
 LINES = 40
 # Impls of other crates that a breaking impl may meet: of the same trait, for a type of the same name, in a crate that uses this one.
-WHOM = """select distinct i.name || ' ' || i.version from judged j
+WHOM = """select distinct i.name || ' ' || i.version from changes j
           join impls own on own.name = j.name and own.version = j.version and own.header = j.header
           join uses u on u.used = replace(j.name, '-', '_')
           join impls i on i.name = u.name and i.version = u.version and i.trait = own.trait and i.type = own.type
@@ -72,15 +72,21 @@ class Page:
             "where verdict = 'wrong' order by 1 limit ?", (LINES,)))
 
     def releases(self) -> None:
-        self.table("Added impls judged", ("as", "verdict", "impls"), self.rows("select how, word, count(*) from judged group by 1, 2 order by 1, 3 desc"))
+        self.table("Added impls judged", ("as", "answer", "impls"),
+                   self.rows("select how, word, count(*) from changes where code = 'impl-added' group by 1, 2 order by 1, 3 desc"))
         rows = []
         for number, crate, header, reason in self.rows(
-                "select rowid, name || ' ' || version, header, reason from judged where word = 'breaking' order by how = 'as if added', name limit ?", (LINES,)):
+                "select rowid, name || ' ' || version, header, reason from changes where word = 'breaking' and code = 'impl-added' "
+                "order by how = 'as if added', name limit ?", (LINES,)):
             whom = [name for (name,) in self.rows(WHOM, (number,))]
             rows.append((crate, header, reason, ", ".join(whom[:4]) or "none of these"))
         self.table("Breaking, and whom", ("crate", "added", "why", "crates here that have such an impl"), rows)
-        self.table("What no section says, between versions", ("change", "times", "crates"), self.rows(
-            "select change, count(*), count(distinct name) from apart group by 1 order by 2 desc limit ?", (LINES,)))
+        self.table("Releases", ("release", "answer"), self.rows(
+            "select name || ' ' || json_extract(figures, '$.before') || ' to ' || version, json_extract(figures, '$.answer') from steps "
+            "where step = 'judge' and status = 'done' and json_extract(figures, '$.how') = 'release' order by 1 limit ?", (LINES,)))
+        self.table("What else these releases change", ("class", "answer", "times", "releases"), self.rows(
+            "select code, word, count(*), count(distinct name || version) from changes where how = 'release' and code <> 'impl-added' "
+            "group by 1, 2 order by 3 desc limit ?", (LINES,)))
 
     def times(self) -> None:
         rows = [(step, count, round(total, 1), round(total / count, 2), round(most, 1), memory) for step, count, total, most, memory in self.rows(

@@ -5,7 +5,7 @@ What is drawn is only meant to be plausible. A question that rustc does not take
 from __future__ import annotations
 
 import random
-from dataclasses import dataclass, field
+from dataclasses import dataclass, field, replace
 from typing import Callable, Optional
 
 from .documents import TYPES, Crate, Json, body_of
@@ -54,6 +54,10 @@ class Asked:
         head = f"<{', '.join(self.params)}> " if self.params else ""
         tail = f" where {', '.join(self.clauses)}" if self.clauses else ""
         return f"{head}{self.subject}: {' + '.join(self.bounds)}{tail}"
+
+    def parts(self) -> list[str]:
+        """The questions of one bound each that this one is."""
+        return [replace(self, bounds=(bound,)).written() for bound in self.bounds]
 
     def rust(self, number: int) -> list[str]:
         """Three lines: one that rustc takes if the bounds are well formed, one if the subject is, and one if the bounds hold."""

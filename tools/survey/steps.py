@@ -25,6 +25,7 @@ from .registry import Dependency, Package, write_project
 from .results import Skipped, Step
 
 BATCH = 150
+ADDED = "impl-added"
 CARGO = ["--offline"]
 
 
@@ -114,7 +115,7 @@ def load_project(folder: str) -> Project:
     except OSError:
         raise Skipped("it is not documented")
     files = {name: os.path.abspath(os.path.join(folder, file)) for name, file in data["files"].items()}
-    return Project(data["members"], data["uses"], files, data["doubled"])
+    return Project(members=data["members"], uses=data["uses"], files=files, doubled=data["doubled"])
 
 
 def document(place: Place, package: Package, step: Step) -> None:
@@ -224,7 +225,7 @@ def answered(asked: list[Asked], externs: dict[str, str], files: dict[str, str],
 def answers(asked: list[Asked], held: list[Held], base: str, program: Optional[str]) -> list[translator.Said]:
     """Those that rustc decides are asked."""
     places = [n for n, h in enumerate(held) if h.word not in (REJECTED, OPEN)]
-    told = translator.ask(base, [asked[n].written() for n in places], program)
+    told = translator.ask(base, [asked[n] for n in places], program)
     found = dict(zip(places, told))
     return [found.get(n, translator.Said("not asked")) for n in range(len(asked))]
 
@@ -262,16 +263,16 @@ def judge(place: Place, package: Package, older: Optional[Package], step: Step) 
     else:
         old, how = os.path.join(folder, "without_impls.json"), "as if added"
         without_impls(new, old)
-    found = translator.later(old, new, beside, place.program)
-    if older is None:
-        os.remove(old)
-        found.apart = []
-    if found.why:
-        raise BadInput(found.why)
-    words = Counter(j.word for j in found.judged)
-    step.figures = {"how": how, "before": older.version if older else "", "judged": len(found.judged), "breaking": words["breaking"],
-                    "compatible": words["compatible"], "not_settled": words["not settled"], "apart": len(found.apart)}
-    for judged in found.judged:
-        step.add("judged", how=how, **asdict(judged))
-    for text in found.apart:
-        step.add("apart", text=text, change=text.split(":")[0])
+    try:
+        found = translator.later(old, new, beside, place.program)
+    finally:
+        if older is None:
+            os.remove(old)
+    # What else is told of a version without impls is nothing that its authors did.
+    changes = [c for c in found.changes if older is not None or c.code == ADDED]
+    words = Counter(c.word for c in changes if c.code == ADDED)
+    step.figures = {"how": how, "before": older.version if older else "", "answer": found.answer if older else "", "added": sum(words.values()),
+                    "breaking": words["breaking"], "compatible": words["compatible"], "not_settled": words["not settled"],
+                    "changes": len(changes) - sum(words.values())}
+    for change in changes:
+        step.add("change", how=how, **asdict(change))

@@ -2,8 +2,9 @@
 the documents of a project, reading, and the check of one crate among others."""
 from __future__ import annotations
 
-import argparse
+import json
 import os
+import re
 import subprocess
 import sys
 from dataclasses import dataclass, field
@@ -17,11 +18,15 @@ from from_rustdoc.show import Show
 from from_rustdoc.terms import BadInput, Lossy
 from from_rustdoc.world import World, crate_name
 
+from .generate import Asked
+
 SCRIPT = os.path.join(TOP, "tools", "from-rustdoc")
 WORDS = ("not settled", "unproved", "yes", "no")
 REFUSED = "no answer"
 TOLD = "from-rustdoc: "
+RESTS, BETWEEN = "    rests on ", "    "
 CHUNK = 100
+MAXIMAL_FAILURES = 5
 
 
 # ---- questions
@@ -50,22 +55,21 @@ def program_words(program: Optional[str]) -> list[str]:
     return ["--program", program] if program else []
 
 
-def ask(base: str, questions: list[str], program: Optional[str] = None) -> list[Said]:
-    """The answers to all, some at a time. Where one ends a call without an answer, the others are asked again without it."""
-    answers: dict[int, Said] = {}
-    todo = [list(range(start, min(start + CHUNK, len(questions)))) for start in range(0, len(questions), CHUNK)]
-    while todo:
-        numbers = todo.pop(0)
-        done = call(["ask", base, "--quiet", *program_words(program), *(questions[n] for n in numbers)])
-        found = read_answers(done, [questions[n] for n in numbers])
-        answers.update({numbers[place]: said for place, said in found.items()})
-        left = [n for n in numbers if n not in answers]
-        if len(left) == 1 and (len(numbers) == 1 or done.status == 0):
-            answers[left[0]] = Said(REFUSED, last_told(done.error) or f"status {done.status}")
-        elif left:
-            half = (len(left) + 1) // 2
-            todo = [part for part in (left[:half], left[half:]) if part] + todo
-    return [answers[n] for n in range(len(questions))]
+def ask(base: str, questions: Sequence[Asked], program: Optional[str] = None) -> list[Said]:
+    """The answers to all, some at a time. A question that ends a call has no answer, and those behind it are asked again."""
+    answers: list[Said] = []
+    without = 0
+    while len(answers) < len(questions):
+        asked = questions[len(answers):len(answers) + CHUNK]
+        done = call(["ask", base, "--quiet", *program_words(program), *(question.written() for question in asked)])
+        found = read_answers(done, asked)
+        answers += found
+        without = 0 if found else without + 1
+        if without > MAXIMAL_FAILURES:
+            raise BadInput(f"no question is answered: {last_told(done.error)}")
+        if len(found) < len(asked):
+            answers.append(Said(REFUSED, last_told(done.error) or f"status {done.status}"))
+    return answers
 
 
 def last_told(error: str) -> str:
@@ -74,40 +78,51 @@ def last_told(error: str) -> str:
     return (told or lines or [""])[-1].removeprefix(TOLD).strip()
 
 
-def read_answers(done: Called, questions: list[str]) -> dict[int, Said]:
-    """The answers by the place of their questions. One to `A + B` may come in several lines, which are joined."""
-    found: dict[int, Said] = {}
-    place = -1
-    for line in done.output.splitlines():
-        if line.startswith("    rests on ") and place >= 0:
-            found[place].rests_on.append(line.removeprefix("    rests on "))
+def read_answers(done: Called, questions: Sequence[Asked]) -> list[Said]:
+    """The answers to the first questions, up to the one that ended the call. Several bounds have an answer each, which are joined."""
+    refused = dict(found for line in done.error.splitlines() if (found := read_refusal(line)) is not None)
+    lines = answer_lines(done.output)
+    answers: list[Said] = []
+    for question in questions:
+        if question.written() in refused:
+            answers.append(Said(REFUSED, refused[question.written()]))
+            while lines and lines[0][0] in map(plain, question.parts()):
+                lines.pop(0)
             continue
-        following = next((n for n in range(max(place, 0), len(questions)) if line.startswith(questions[n] + "    ") and n not in found), None)
-        if following is not None:
-            place = following
-            found[place] = said(line.removeprefix(questions[place]).strip())
-        else:
-            joining = next((n for n in range(max(place, 0), len(questions)) if is_part(line, questions[n])), None)
-            if joining is None:
-                continue
-            place = joining
-            part = said(line[line.rindex("    ", 0, basis_at(line)):].strip())
-            found[place] = joined(found[place], part) if place in found else part
-    for line in done.error.splitlines():
-        for number, question in enumerate(questions):
-            if line.startswith(f"{TOLD}no answer to `{question}`"):
-                found[number] = Said(REFUSED, line.removeprefix(f"{TOLD}no answer to `{question}`: "))
+        parts: list[Said] = []
+        for part in question.parts():
+            if not lines or lines[0][0] != plain(part):
+                return answers
+            parts.append(lines.pop(0)[1])
+        answers.append(joined(parts))
+    return answers
+
+
+def read_refusal(line: str) -> Optional[tuple[str, str]]:
+    """``from-rustdoc: no answer to `u8: Odd`: why`` as the question and the reason."""
+    head = f"{TOLD}no answer to `"
+    if not line.startswith(head) or "`: " not in line:
+        return None
+    question, _, why = line.removeprefix(head).partition("`: ")
+    return question, why
+
+
+def plain(text: str) -> str:
+    return " ".join(text.split())
+
+
+def answer_lines(output: str) -> list[tuple[str, Said]]:
+    """Each answer behind its question, with the losses that it rests on and without the reasons that are given."""
+    found: list[tuple[str, Said]] = []
+    for line in output.splitlines():
+        if line.startswith(RESTS) and found:
+            found[-1][1].rests_on.append(line.removeprefix(RESTS))
+        elif not line.startswith(" ") and BETWEEN in line:
+            question, _, rest = line.partition(BETWEEN)
+            answer = said(rest.strip())
+            if answer.word in WORDS:
+                found.append((plain(question), answer))
     return found
-
-
-def basis_at(line: str) -> int:
-    place = line.find("   (")
-    return place if place >= 0 else len(line)
-
-
-def is_part(line: str, question: str) -> bool:
-    """Whether a line answers one bound of a question with several: it begins as the question does, up to the first bound."""
-    return " + " in question and "    " in line and line.split(": ")[0] == question.split(": ")[0]
 
 
 def said(text: str) -> Said:
@@ -117,11 +132,11 @@ def said(text: str) -> Said:
     return Said(word, text[start + 4:].removesuffix(")") if start >= 0 else "")
 
 
-def joined(one: Said, other: Said) -> Said:
-    """Of two bounds: no if one is, yes if both are."""
+def joined(parts: Sequence[Said]) -> Said:
+    """Of several bounds: no if one is, yes if all are."""
     order = ("no", "unproved", "not settled", "yes")
-    worse = min((one, other), key=lambda s: order.index(s.word) if s.word in order else len(order))
-    return Said(worse.word, worse.basis, one.rests_on + other.rests_on)
+    worst = min(parts, key=lambda part: order.index(part.word))
+    return Said(worst.word, worst.basis, [line for part in parts for line in part.rests_on])
 
 
 # ---- documents, reading, checks
@@ -186,53 +201,43 @@ def name_of(show: Show, key: Optional[str]) -> str:
     return show.path(key) if key else ""
 
 
-def arguments_of(program: Optional[str]) -> argparse.Namespace:
-    return argparse.Namespace(program=program, docs=None, quiet=True, jobs=1, all_std=False)
-
-
 # ---- releases
 @dataclass
-class Judged:
-    """A line of `later` on an added impl, or, of what no section says, on a change."""
-    header: str
-    source: str
+class Change:
+    """What `later` tells of a release: its class, as `impl-added`, the answer, and of an impl its header and its place."""
+    code: str
     word: str
+    text: str
+    header: str = ""
+    source: str = ""
     reason: str = ""
 
 
 @dataclass
 class Release:
-    judged: list[Judged] = field(default_factory=list)
-    apart: list[str] = field(default_factory=list)
-    why: str = ""
+    answer: str
+    changes: list[Change] = field(default_factory=list)
 
 
 def later(old: str, new: str, beside: list[str], program: Optional[str]) -> Release:
-    done = call(["later", "--quiet", *program_words(program), *(word for file in beside for word in ("--with", file)), old, new])
+    words = ["later", "--quiet", "--message-format", "json", *program_words(program)]
+    done = call([*words, *(word for file in beside for word in ("--with", file)), old, new])
     if done.status not in (0, 1, 4):
-        return Release(why=last_told(done.error) or f"status {done.status}")
+        raise BadInput(last_told(done.error) or f"status {done.status}")
     return read_release(done.output)
 
 
 def read_release(output: str) -> Release:
-    found = Release()
+    found = Release("")
     for line in output.splitlines():
-        if line.startswith("apart: "):
-            found.apart.append(line.removeprefix("apart: "))
-        elif line.startswith("impl"):
-            head, _, verdict = line.rpartition("): ") if "; " not in line else before_reason(line)
-            header_text, _, source = head.rpartition(" (")
-            word, _, reason = verdict.partition("; ")
-            found.judged.append(Judged(header_text, source, word, reason))
+        message = json.loads(line)
+        if message["$message_type"] == "summary":
+            found.answer = message["answer"]
+            continue
+        header = re.search(r"`(impl\b[^`]*)`", message["message"])
+        span = message["spans"][0] if message["spans"] else None
+        found.changes.append(Change(message["class"] or "", message["answer"] or "", message["message"], header.group(1) if header else "",
+                                    f"{span['file_name']}:{span['line_start']}" if span else "", "; ".join(c["message"] for c in message["children"])))
+    if not found.answer:
+        raise BadInput("`later` ended without a last word")
     return found
-
-
-def before_reason(line: str) -> tuple[str, str, str]:
-    """`impl .. (file:1): breaking; why` at the colon behind the place: a reason may have such a colon too."""
-    place = line.index("): ", 0, len(line))
-    for word in ("compatible", "breaking", "not settled", "private", "sealed"):
-        at = line.find(f"): {word}")
-        if at >= 0:
-            place = at
-            break
-    return line[:place], "): ", line[place + 3:]
