@@ -118,11 +118,11 @@ def load_project(folder: str) -> Project:
     return Project(members=data["members"], uses=data["uses"], files=files, doubled=data["doubled"])
 
 
-def document(place: Place, package: Package, step: Step) -> None:
+def document(place: Place, package: Package, step: Step, features: tuple[str, ...] = ()) -> None:
     folder = place.folder(package)
     if package.kind != "lib":
         raise Skipped({"proc-macro": "a procedural macro: it has no items"}.get(package.kind, "it has no library"))
-    write_project(os.path.join(folder, "project"), [Dependency(package)], place.registry)
+    write_project(os.path.join(folder, "project"), [Dependency(package, features)], place.registry)
     project = documented(folder, place, os.path.join(folder, "document.log"))
     if package.crate not in project.files:
         raise BadInput("two versions of it are in use, and rustdoc keeps the documents of one" if package.crate in project.doubled else

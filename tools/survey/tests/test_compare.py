@@ -24,7 +24,8 @@ def error(question: int, part: int, code: str, message: str = "told") -> dict[st
 class Settled(unittest.TestCase):
     def held(self, rounds: list[list[dict[str, Any]]]) -> list[str]:
         """The verdicts, if rustc has these errors in its rounds, and none in the one behind them."""
-        left = iter([*rounds, []])
+        nothing: list[dict[str, Any]] = []
+        left = iter([*rounds, nothing])
         self.texts: list[list[str]] = []
 
         def errors(lines: list[str]) -> list[dict[str, Any]]:

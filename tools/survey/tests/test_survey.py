@@ -85,7 +85,7 @@ class Steps(Room):
         self.assertEqual((head["status"], head["why"], line["header"]), ("failed", "the registry is on fire", "impl A for B"))
 
     def test_a_fault_is_a_line_too(self) -> None:
-        (head,) = results.measured("check", lambda step: step.figures.update(1 // 0 and {}))
+        (head,) = results.measured("check", lambda step: step.add("impl", number=1 // 0))
         self.assertEqual((head["status"], head["why"].split(":")[1].strip()), ("failed", "ZeroDivisionError"))
 
     def test_cargos_first_error_and_the_crate_that_it_is_in(self) -> None:
