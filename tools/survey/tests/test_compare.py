@@ -57,8 +57,9 @@ class Settled(unittest.TestCase):
         self.assertEqual(self.held([[error(0, 0, "E0310"), error(1, 2, "E0310")]])[:2], [REJECTED, LIFETIMES])
 
     def test_an_error_elsewhere_is_an_error(self) -> None:
-        with self.assertRaisesRegex(BadInput, "belongs to no question"):
-            self.held([[{**error(0, 0, "E0463"), "spans": []}]])
+        for elsewhere in ({**error(0, 0, "E0463"), "spans": []}, error(9, 2, "E0277"), error(-1, 2, "E0463")):
+            with self.assertRaisesRegex(BadInput, "belongs to no question"):
+                self.held([[elsewhere]])
 
 
 class Answers(unittest.TestCase):
@@ -90,6 +91,9 @@ class Answers(unittest.TestCase):
         told = "from-rustdoc: no answer to `own::T1: Send`: `own::T1` is not known\n"
         output = "own::T0: Send    yes   (by law)\nown::T2: Send    yes   (by law)\nown::T3: Send    yes   (by law)\n"
         self.assertEqual([said.word for said in self.read(output, told)], ["yes", REFUSED, "yes", "yes"])
+
+    def test_an_answer_to_another_question_is_none(self) -> None:
+        self.assertEqual(self.read("own::T0: Send    yes   (by law)\nown::T2: Send    no   (by law)\n"), [Said("yes", "by law")])
 
     def test_one_that_ends_the_call(self) -> None:
         self.assertEqual(self.read("own::T0: Send    yes   (by law)\n", "Traceback ..\nKeyError: 1\n"), [Said("yes", "by law")])

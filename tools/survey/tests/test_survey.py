@@ -97,15 +97,27 @@ class Steps(Room):
                  "libc": [("registry#libc@0.2.0", "libc.rmeta")], "surveyed": [("path#surveyed@0.1.0", "own.rmeta")]}
         self.assertEqual(chosen(found, Package("nom", "7.1.1")), {"nom": "new.rmeta", "libc": "libc.rmeta"})
 
+    def test_what_an_added_impl_is(self) -> None:
+        for body, is_one in [({}, True), ({"trait": None}, False), ({"is_synthetic": True}, False), ({"blanket_impl": {"generic": "T"}}, False)]:
+            impl = {"trait": {"path": "A"}, "is_synthetic": False, "blanket_impl": None, **body}
+            self.assertEqual(is_added({"inner": {"impl": impl}}), is_one, body)
+        self.assertFalse(is_added({"inner": {"struct": {"impls": []}}}))
+
     def test_a_crate_without_its_impls(self) -> None:
         kept = os.path.join(TOP, "tools", "from_rustdoc", "tests", "json", "before.json")
         with open(kept, encoding="utf-8") as handle:
             impls = [n for n, item in json.load(handle)["index"].items() if is_added(item)]
-        file = os.path.join(self.room, "without.json")
-        self.assertEqual(without_impls(kept, file), len(impls))
         self.assertGreater(len(impls), 3)
+        with open(kept, encoding="utf-8") as handle:
+            data = json.load(handle)
+        struct = next(item for item in data["index"].values() if "struct" in item["inner"])
+        struct["inner"]["struct"]["impls"] = [int(impls[0]), 999999]
+        file = os.path.join(self.room, "without.json")
+        self.assertEqual(without_impls(put(self.room, "with.json", json.dumps(data)), file), len(impls))
         with open(file, encoding="utf-8") as handle:
-            self.assertEqual([item for item in json.load(handle)["index"].values() if is_added(item)], [])
+            left = json.load(handle)["index"]
+        self.assertEqual([item for item in left.values() if is_added(item)], [])
+        self.assertEqual(left[str(struct["id"])]["inner"]["struct"]["impls"], [999999])
 
     def test_lines_that_are_none_are_an_error(self) -> None:
         for text in ("{", "[]", '{"step": "read"}'):
@@ -118,10 +130,10 @@ def step_line(step: str, status: str = "done", **more: Any) -> dict[str, Any]:
 
 
 class Joined(Room):
-    PACKAGES = [Package("base", "1.0.0"), Package("user", "0.1.0"), Package("derive", "0.1.0", "proc-macro")]
+    PACKAGES = [Package("base", "1.0.0"), Package("user", "0.1.0"), Package("other", "0.1.0"), Package("derive", "0.1.0", "proc-macro")]
 
     def database(self) -> str:
-        """Two crates, of which one has an impl that a new one of the other meets, and one that failed."""
+        """A crate, two that use it, of which one has an impl that a new one of the first meets, and one that failed."""
         header = "impl<T> PartialEq<&T> for base::B"
         impl = {"kind": "impl", "source": "b.rs:1", "losses": [], "trait": "PartialEq", "type": "base::B"}
         question = {"kind": "question", "how": "auto trait", "question": "base::B: Send", "said": "yes", "basis": "by law", "foundation": "by law", "rests_on": [],
@@ -138,6 +150,10 @@ class Joined(Room):
         put(user, "project.json", json.dumps({"uses": {"user": ["middle"], "middle": ["base"]}}))
         results.write(os.path.join(user, "check.jsonl"), [step_line("check", word="not settled", verdict_why="overlap: one | other"),
                                                           {**impl, "header": "impl PartialEq<&user::U> for base::B", "fate": "whole"}])
+        other = os.path.join(self.room, "crates", "other-0.1.0")
+        put(other, "project.json", json.dumps({"uses": {"other": ["base"]}}))
+        results.write(os.path.join(other, "check.jsonl"), [step_line("check", word="coherent"),
+                                                           {**impl, "header": "impl PartialEq<u8> for other::O", "type": "other::O", "fate": "whole"}])
         results.write(os.path.join(self.room, "crates", "derive-0.1.0", "document.jsonl"), [{**step_line("document", "failed"), "why": "in derive: error: no"}])
         file = os.path.join(self.room, "survey.sqlite")
         database.joined(self.room, self.PACKAGES, file)
@@ -147,11 +163,11 @@ class Joined(Room):
         connection = sqlite3.connect(self.database())
         counts = {table: connection.execute(f"select count(*) from {table}").fetchone()[0] for table in ("crates", "steps", "impls", "questions", "changes", "uses")}
         connection.close()
-        self.assertEqual(counts, {"crates": 3, "steps": 6, "impls": 3, "questions": 2, "changes": 1, "uses": 2})
+        self.assertEqual(counts, {"crates": 4, "steps": 7, "impls": 4, "questions": 2, "changes": 1, "uses": 3})
 
     def test_the_page_has_the_figures(self) -> None:
         page = figures.page(self.database())
-        for line in ("3 crates with their versions: 2 lib, 1 proc-macro.", "| whole | 2 | 66.7 % |", "| document | 1 | 1 | 0 |", "## Questions held against rustc: 1",
+        for line in ("4 crates with their versions: 3 lib, 1 proc-macro.", "| whole | 3 | 75.0 % |", "| document | 1 | 1 | 0 |", "## Questions held against rustc: 1",
                      "| base 1.0.0 | base::B: Send | yes (by law) | no E0277 told |", "| document | in derive: error: no | 1 |",
                      "| user 0.1.0 | not settled | overlap: one \\| other |", "Documents: 3 MB with what each crate uses, 1 MB of the crates themselves."):
             self.assertIn(line, page)
