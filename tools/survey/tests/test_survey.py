@@ -98,7 +98,9 @@ class Steps(Room):
         self.assertEqual(chosen(found, Package("nom", "7.1.1")), {"nom": "new.rmeta", "libc": "libc.rmeta"})
 
     def test_what_an_added_impl_is(self) -> None:
-        for body, is_one in [({}, True), ({"trait": None}, False), ({"is_synthetic": True}, False), ({"blanket_impl": {"generic": "T"}}, False)]:
+        cases: list[tuple[dict[str, Any], bool]] = [({}, True), ({"trait": None}, False), ({"is_synthetic": True}, False),
+                                                    ({"blanket_impl": {"generic": "T"}}, False)]
+        for body, is_one in cases:
             impl = {"trait": {"path": "A"}, "is_synthetic": False, "blanket_impl": None, **body}
             self.assertEqual(is_added({"inner": {"impl": impl}}), is_one, body)
         self.assertFalse(is_added({"inner": {"struct": {"impls": []}}}))
