@@ -78,13 +78,14 @@ def used_by(folder: str, package: Package) -> Iterator[str]:
     """The crates that a crate uses, itself and through others."""
     try:
         with open(os.path.join(folder, "project.json"), encoding="utf-8") as handle:
-            uses: dict[str, list[str]] = json.load(handle)["uses"]
+            uses: dict[str, list[str]] = json.load(handle)["links"]["uses"]
     except OSError:
         return
-    todo, seen = [package.crate], {package.crate}
+    name = package.crate if package.crate in uses else f"{package.crate}@{package.version}"
+    todo, seen = [name], {name}
     while todo:
         for used in uses.get(todo.pop(), []):
             if used not in seen:
                 seen.add(used)
                 todo.append(used)
-                yield used
+                yield used.split("@")[0]

@@ -14,7 +14,7 @@ from collections import Counter
 from dataclasses import asdict, dataclass
 from typing import Any, Iterator, Optional
 
-from from_rustdoc.cargo import Project
+from from_rustdoc.cargo import Links, Project
 from from_rustdoc.terms import BadInput
 
 from . import compare, results, translator
@@ -82,11 +82,9 @@ def first_error(file: str) -> str:
 
 
 def documented(folder: str, place: Place, log: str) -> Project:
-    """Documents a project in cargo's folder, where no documents of another one are left, and takes them from there."""
+    """Documents a project in cargo's folder, and takes the documents from there."""
     target = place.build(folder)
     with locked(target), told_to(log):
-        documents = os.path.join(target, "from-rustdoc", "doc")
-        shutil.rmtree(documents, ignore_errors=True)
         os.environ["CARGO_TARGET_DIR"] = target
         try:
             project = translator.document(os.path.join(folder, "project"), [*CARGO, "-j", str(place.jobs)])
@@ -103,9 +101,13 @@ def documented(folder: str, place: Place, log: str) -> Project:
 
 
 def save_project(folder: str, project: Project) -> None:
-    files = {name: os.path.relpath(file, folder) for name, file in project.files.items()}
+    """The project, with the names of its files from the crate's folder on."""
+    links: dict[str, Any] = {**project.links.kept(), "names": {}}
+    cfgs = {name: sorted(found) for name, found in project.links.cfgs.items() if found is not None}
+    data = {"files": {name: os.path.relpath(file, folder) for name, file in project.files.items()}, "links": links, "cfgs": cfgs,
+            "doubled": project.doubled, "members": project.members}
     with open(os.path.join(folder, "project.json"), "w", encoding="utf-8") as handle:
-        json.dump({"files": files, "uses": project.uses, "doubled": project.doubled, "members": project.members}, handle)
+        json.dump(data, handle)
 
 
 def load_project(folder: str) -> Project:
@@ -115,7 +117,18 @@ def load_project(folder: str) -> Project:
     except OSError:
         raise Skipped("it is not documented")
     files = {name: os.path.abspath(os.path.join(folder, file)) for name, file in data["files"].items()}
-    return Project(members=data["members"], uses=data["uses"], files=files, doubled=data["doubled"])
+    links = Links(**data["links"])
+    links.names = {file: name for name, file in files.items() if "@" in name}
+    links.cfgs = {name: frozenset(cfgs) for name, cfgs in data["cfgs"].items()}
+    return Project(links, data["members"], files, data["doubled"])
+
+
+def own_name(project: Project, package: Package) -> str:
+    """The crate's name among those of its project: with its version, where there are two of them."""
+    name = next((n for n in (package.crate, f"{package.crate}@{package.version}") if n in project.files), None)
+    if name is None:
+        raise BadInput(f"cargo made no documents of a crate {package.crate}")
+    return name
 
 
 def document(place: Place, package: Package, step: Step, features: tuple[str, ...] = ()) -> None:
@@ -124,36 +137,35 @@ def document(place: Place, package: Package, step: Step, features: tuple[str, ..
         raise Skipped({"proc-macro": "a procedural macro: it has no items"}.get(package.kind, "it has no library"))
     write_project(os.path.join(folder, "project"), [Dependency(package, features)], place.registry)
     project = documented(folder, place, os.path.join(folder, "document.log"))
-    if package.crate not in project.files:
-        raise BadInput("two versions of it are in use, and rustdoc keeps the documents of one" if package.crate in project.doubled else
-                       f"cargo made no documents of a crate {package.crate}")
+    name = own_name(project, package)
     save_project(folder, project)
-    sizes = {name: os.path.getsize(file) for name, file in project.files.items()}
-    step.figures = {"crates": len(sizes), "bytes": sum(sizes.values()), "own_bytes": sizes[package.crate], "doubled": sorted(set(project.doubled))}
+    sizes = {crate: os.path.getsize(file) for crate, file in project.files.items()}
+    step.figures = {"crates": len(sizes), "bytes": sum(sizes.values()), "own_bytes": sizes[name], "versions": sorted(n for n in sizes if "@" in n)}
 
 
 # ---- reading and checks
-def crates_of(project: Project, crate: str) -> list[str]:
-    return [project.files[name] for name in project.closure([crate])]
+def crates_of(project: Project, name: str) -> list[str]:
+    return [project.files[used] for used in project.closure([name])]
 
 
 def read(place: Place, package: Package, step: Step) -> None:
     """Reads the crate and what it uses, twice: the second time from what was kept."""
     project = load_project(place.folder(package))
-    files = crates_of(project, package.crate)
+    name = own_name(project, package)
+    files = crates_of(project, name)
     began = time.monotonic()
-    world = translator.read(files, project.uses)
+    world = translator.read(files, project.links)
     middle = time.monotonic()
-    translator.read(files, project.uses)
-    crate = world.crates[package.crate]
+    translator.read(files, project.links)
+    crate = world.crates[name]
     step.figures = {"crates": len(world.crates), "first": round(middle - began, 2), "second": round(time.monotonic() - middle, 2),
-                    "items": len(crate.declarations), "impls": len(crate.impls)}
+                    "items": len(crate.declarations), "impls": len(crate.impls), "doc_cfgs": len(world.doc_cfgs)}
 
 
 def check(place: Place, package: Package, step: Step) -> None:
     project = load_project(place.folder(package))
-    world = translator.read(crates_of(project, package.crate), project.uses)
-    found = translator.check(world, package.crate, place.program)
+    name = own_name(project, package)
+    found = translator.check(translator.read(crates_of(project, name), project.links), name, place.program)
     fates = Counter(impl["fate"] for impl in found.impls)
     step.figures = {"word": found.word, "verdict_why": found.why, "impls": len(found.impls), "whole": fates["whole"], "loss": fates["loss"],
                     "out": fates["out"]}
@@ -195,19 +207,20 @@ def ask(place: Place, package: Package, count: int, step: Step) -> None:
     """Questions about the crate, to rustc and, where rustc takes them, to the translator."""
     folder = place.folder(package)
     project = load_project(folder)
-    files = {name: project.files[name] for name in project.closure([package.crate])}
-    crate = Crate(files[package.crate], Documents(files))
-    asked = Generator(crate, f"{package.name} {package.version}").questions(count)
+    name = own_name(project, package)
+    files = {used: project.files[used] for used in project.closure([name])}
+    # Of two versions of a crate that it uses a question could name either.
+    documents = Documents({used: file for used, file in files.items() if "@" not in used})
+    asked = Generator(Crate(files[name], documents), f"{package.name} {package.version}").questions(count)
     if not asked:
         raise Skipped("it has no public items of which a question can be asked")
     externs = metadata_of(place, folder, package)
-    rows, figures = answered(asked, externs, files, project.uses, os.path.join(folder, package.crate), place.program)
-    step.figures = figures
+    rows, step.figures = answered(asked, externs, list(files.values()), project.links, os.path.join(folder, package.crate), place.program)
     for row in rows:
         step.add("question", **row)
 
 
-def answered(asked: list[Asked], externs: dict[str, str], files: dict[str, str], uses: dict[str, list[str]], base: str,
+def answered(asked: list[Asked], externs: dict[str, str], files: list[str], links: Links, base: str,
              program: Optional[str]) -> tuple[list[dict[str, Any]], dict[str, Any]]:
     """A row for each question, and the times that rustc and the translator took."""
     began = time.monotonic()
@@ -215,7 +228,7 @@ def answered(asked: list[Asked], externs: dict[str, str], files: dict[str, str],
         compiler = Compiler(externs, sorted({os.path.dirname(file) for file in externs.values()}), room)
         held = [h for start in range(0, len(asked), BATCH) for h in compiler.held(asked[start:start + BATCH])]
     middle = time.monotonic()
-    translator.write_base(base, list(files.values()), uses)
+    translator.write_base(base, files, links)
     said = answers(asked, held, base, program)
     rows = [compare.row(a, s, h) for a, s, h in zip(asked, said, held)]
     return rows, {"rustc_seconds": round(middle - began, 2), "translator_seconds": round(time.monotonic() - middle, 2), "rounds": compiler.rounds,
@@ -256,10 +269,13 @@ def judge(place: Place, package: Package, older: Optional[Package], step: Step) 
     """The release from an earlier version; where there is none, each impl of the crate as if this version had added it."""
     folder = place.folder(package)
     project = load_project(folder)
-    new = project.files[package.crate]
-    beside = [project.files[name] for name in project.closure([package.crate]) if name != package.crate]
+    name = own_name(project, package)
+    new = project.files[name]
+    # `later` takes one version of each crate that both versions use.
+    beside = [project.files[used] for used in project.closure([name]) if "@" not in used and used != name]
     if older is not None:
-        old, how = load_project(place.folder(older)).files[older.crate], "release"
+        before = load_project(place.folder(older))
+        old, how = before.files[own_name(before, older)], "release"
     else:
         old, how = os.path.join(folder, "without_impls.json"), "as if added"
         without_impls(new, old)

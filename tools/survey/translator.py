@@ -2,6 +2,7 @@
 the documents of a project, reading, and the check of one crate among others."""
 from __future__ import annotations
 
+import argparse
 import json
 import os
 import re
@@ -11,20 +12,16 @@ from dataclasses import dataclass, field
 from typing import Any, Optional, Sequence
 
 from from_rustdoc import cargo, command
-from from_rustdoc.cone import cone_of_crate
-from from_rustdoc.program import TOP, run
-from from_rustdoc.report import Report, explain_refusal
-from from_rustdoc.show import Show
-from from_rustdoc.terms import BadInput, Lossy
-from from_rustdoc.world import World, crate_name
+from from_rustdoc.cargo import Links, Project
+from from_rustdoc.program import TOP
+from from_rustdoc.terms import BadInput
+from from_rustdoc.world import World
 
 from .generate import Asked
 
 SCRIPT = os.path.join(TOP, "tools", "from-rustdoc")
-WORDS = ("not settled", "unproved", "yes", "no")
-REFUSED = "no answer"
+REFUSED, NOT_UNDERSTOOD = "no answer", "not understood"
 TOLD = "from-rustdoc: "
-RESTS, BETWEEN = "    rests on ", "    "
 CHUNK = 100
 MAXIMAL_FAILURES = 5
 
@@ -61,7 +58,7 @@ def ask(base: str, questions: Sequence[Asked], program: Optional[str] = None) ->
     without = 0
     while len(answers) < len(questions):
         asked = questions[len(answers):len(answers) + CHUNK]
-        done = call(["ask", base, "--quiet", *program_words(program), *(question.written() for question in asked)])
+        done = call(["ask", "--quiet", "--message-format", "json", *program_words(program), base, *(question.written() for question in asked)])
         found = read_answers(done, asked)
         answers += found
         without = 0 if found else without + 1
@@ -80,125 +77,102 @@ def last_told(error: str) -> str:
 
 def read_answers(done: Called, questions: Sequence[Asked]) -> list[Said]:
     """The answers to the first questions, up to the one that ended the call. Several bounds have an answer each, which are joined."""
-    refused = dict(found for line in done.error.splitlines() if (found := read_refusal(line)) is not None)
-    lines = answer_lines(done.output)
+    messages = [m for m in map(read_message, done.output.splitlines()) if m is not None]
     answers: list[Said] = []
     for question in questions:
-        if question.written() in refused:
-            answers.append(Said(REFUSED, refused[question.written()]))
-            while lines and lines[0][0] in map(plain, question.parts()):
-                lines.pop(0)
+        if messages and messages[0].get("answer") == NOT_UNDERSTOOD and messages[0]["message"].startswith(f"no answer to `{question.written()}`: "):
+            answers.append(Said(REFUSED, messages.pop(0)["message"].removeprefix(f"no answer to `{question.written()}`: ")))
             continue
         parts: list[Said] = []
         for part in question.parts():
-            if not lines or lines[0][0] != plain(part):
+            if not messages or not plain(messages[0]["message"]).startswith(f"`{plain(part)}`: "):
                 return answers
-            parts.append(lines.pop(0)[1])
+            parts.append(said(messages.pop(0)))
         answers.append(joined(parts))
     return answers
 
 
-def read_refusal(line: str) -> Optional[tuple[str, str]]:
-    """``from-rustdoc: no answer to `u8: Odd`: why`` as the question and the reason."""
-    head = f"{TOLD}no answer to `"
-    if not line.startswith(head) or "`: " not in line:
+def read_message(line: str) -> Optional[dict[str, Any]]:
+    """A diagnostic of the translator; None for other lines."""
+    try:
+        found = json.loads(line)
+    except ValueError:
         return None
-    question, _, why = line.removeprefix(head).partition("`: ")
-    return question, why
+    return found if isinstance(found, dict) and found.get("$message_type") == "diagnostic" else None
 
 
 def plain(text: str) -> str:
     return " ".join(text.split())
 
 
-def answer_lines(output: str) -> list[tuple[str, Said]]:
-    """Each answer behind its question, with the losses that it rests on and without the reasons that are given."""
-    found: list[tuple[str, Said]] = []
-    for line in output.splitlines():
-        if line.startswith(RESTS) and found:
-            found[-1][1].rests_on.append(line.removeprefix(RESTS))
-        elif not line.startswith(" ") and BETWEEN in line:
-            question, _, rest = line.partition(BETWEEN)
-            answer = said(rest.strip())
-            if answer.word in WORDS:
-                found.append((plain(question), answer))
-    return found
-
-
-def said(text: str) -> Said:
-    """`yes ?x = u8   (by law)` as its parts."""
-    word = next((w for w in WORDS if text == w or text.startswith(w + " ")), text.split(" ")[0])
-    start = text.find("   (")
-    return Said(word, text[start + 4:].removesuffix(")") if start >= 0 else "")
+def said(message: dict[str, Any]) -> Said:
+    return Said(message["answer"] or "", message["basis"] or "", list(message["rests_on"]))
 
 
 def joined(parts: Sequence[Said]) -> Said:
     """Of several bounds: no if one is, yes if all are."""
     order = ("no", "unproved", "not settled", "yes")
-    worst = min(parts, key=lambda part: order.index(part.word))
+    worst = min(parts, key=lambda part: order.index(part.word) if part.word in order else -1)
     return Said(worst.word, worst.basis, [line for part in parts for line in part.rests_on])
 
 
 # ---- documents, reading, checks
-def document(folder: str, extra: list[str]) -> cargo.Project:
+def document(folder: str, extra: list[str]) -> Project:
     return cargo.document(folder, extra, quiet=True)
 
 
-def write_base(base: str, files: list[str], uses: dict[str, list[str]]) -> None:
+def read(files: list[str], links: Links) -> World:
+    return command.world_of(files, None, links)
+
+
+def write_base(base: str, files: list[str], links: Links) -> None:
     """What `ask` needs."""
-    command.write_map(base, {"inputs": command.inputs_of(files, None, uses)})
-
-
-def read(files: list[str], uses: dict[str, list[str]]) -> World:
-    return command.world_of(files, None, uses)
+    command.write_map(base, {"inputs": command.inputs_of(read(files, links), files, links)})
 
 
 @dataclass
 class CheckedCrate:
     word: str
-    why: str
+    why: str = ""
     impls: list[dict[str, Any]] = field(default_factory=list)
 
 
 def check(world: World, name: str, program: Optional[str]) -> CheckedCrate:
     """Whether a crate is coherent beside what it uses, and what became of each of its impls."""
-    translation = cone_of_crate(world, name)
-    translation.build()
-    impls = impls_of(translation, world, name)
-    try:
-        texts = command.texts_of(translation)
-        answers = {mode: run(text, program) for mode, text in texts.items()}
-    except BadInput as error:
-        return CheckedCrate("not settled", str(error), impls)
-    places = {mode: Report(translation).places(mode) for mode in texts}
-    lines, good = command.verdict_lines([f"{name} : "], [crate_name(name)], answers, places)
-    if good:
+    checks, report = command.check_crate(world, name, argparse.Namespace(program=program, quiet=True))
+    impls = [impl for impl in map(read_impl, report) if impl is not None]
+    if not checks:
         return CheckedCrate("coherent", "", impls)
-    word = "not coherent" if ": not coherent" in lines[0] else "not settled"
-    refused = answers["upper"].crates.get(crate_name(name), "")
-    return CheckedCrate(word, explain_refusal(refused, crate_name(name), places["upper"]), impls)
+    message = checks[0].message
+    return CheckedCrate(checks[0].word, message.text if message is not None else checks[0].line if checks[0].word != "coherent" else "", impls)
 
 
-def impls_of(translation: Any, world: World, name: str) -> list[dict[str, Any]]:
-    show = Show(world)
-    found = []
-    for written in translation.of_crates:
-        if written.impl.crate == name and written.impl.trait is not None:
-            found.append({"header": header(show, written.impl), "source": written.impl.source, "fate": written.fate,
-                          "losses": list(written.losses) + list(written.unknown), "trait": name_of(show, written.impl.trait.key),
-                          "type": name_of(show, getattr(written.impl.self_type, "key", ""))})
-    return found
+def read_impl(line: str) -> Optional[dict[str, Any]]:
+    """A line of the report on an impl: its fate, its place, its header, and its losses."""
+    found = re.match(r"(whole|loss|out) (.*?:\d+): (impl\b.*)", line)
+    if found is None:
+        return None
+    fate, source, rest = found.groups()
+    header, _, losses = rest.partition(": ")
+    trait, subject = names_of(header)
+    return {"header": header.split(" (")[0] if fate == "whole" else header, "source": source, "fate": fate, "losses": losses, "trait": trait, "type": subject}
 
 
-def header(show: Show, impl: Any) -> str:
-    try:
-        return show.header(impl)
-    except Lossy as error:
-        return f"an impl that cannot be shown: {error}"
+def names_of(header: str) -> tuple[str, str]:
+    """The names of the trait and of the type: `impl<T> PartialEq<&T> for bytes::Bytes` is of `PartialEq` and `bytes::Bytes`."""
+    depth, rest = 0, header.removeprefix("impl")
+    if rest.startswith("<"):
+        for place, letter in enumerate(rest):
+            depth += {"<": 1, ">": -1}.get(letter, 0) if rest[place - 1:place + 1] != "->" else 0
+            if depth == 0:
+                rest = rest[place + 1:]
+                break
+    trait, _, subject = rest.strip().partition(" for ")
+    return name_in(trait.lstrip("!")), name_in(subject)
 
 
-def name_of(show: Show, key: Optional[str]) -> str:
-    return show.path(key) if key else ""
+def name_in(text: str) -> str:
+    return re.sub(r"^(&('static )?(mut )?|\*(const|mut) )+", "", text.strip()).split("<")[0].split(" (")[0].strip()
 
 
 # ---- releases

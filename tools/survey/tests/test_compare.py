@@ -10,7 +10,7 @@ from from_rustdoc.terms import BadInput
 from ..compare import compared, foundation
 from ..compiler import FAILS, HEAD, HOLDS, LIFETIMES, OPEN, REJECTED, Held, settle
 from ..generate import Asked
-from ..translator import REFUSED, Called, Said, answer_lines, read_answers, read_release
+from ..translator import REFUSED, Called, Said, names_of, read_answers, read_impl, read_release
 
 ASKED = [Asked("auto trait", f"own::T{n}", ("Send",)) for n in range(4)]
 
@@ -62,41 +62,60 @@ class Settled(unittest.TestCase):
                 self.held([[elsewhere]])
 
 
+def answer(question: str, word: str, basis: str = "by law", rests_on: tuple[str, ...] = (), values: str = "") -> dict[str, Any]:
+    return {"$message_type": "diagnostic", "message": f"`{question}`: {word}{values}", "answer": word, "basis": basis, "rests_on": list(rests_on),
+            "children": [{"message": "`own::T0: Send`: a reason"}]}
+
+
+def refusal(question: str, why: str) -> dict[str, Any]:
+    return {"$message_type": "diagnostic", "message": f"no answer to `{question}`: {why}", "answer": "not understood", "basis": None, "rests_on": []}
+
+
 class Answers(unittest.TestCase):
-    def read(self, output: str, told: str = "", asked: list[Asked] | None = None) -> list[Said]:
-        return read_answers(Called(0, output, told), asked or ASKED)
+    def read(self, messages: list[dict[str, Any]], asked: list[Asked] | None = None) -> list[Said]:
+        output = "".join(json.dumps(message) + "\n" for message in messages)
+        return read_answers(Called(0, output, ""), asked or ASKED)
 
-    def test_lines(self) -> None:
-        output = ("own::T0: Send    yes   (by law)\n"
-                  "own::T1: Send    not settled   (the upper text has a proof, the lower one none)\n"
-                  "    rests on a.rs:1: impl A for B: dropped\n"
-                  "    rests on a.rs:2: impl A for C: dropped\n"
-                  "own::T2: Send    no   (argued: chains without end)\n"
-                  "    = note: `*const u8` has no `Send`\n"
-                  "own::T3: Send    unproved   (neither text has a proof)\n")
-        self.assertEqual(self.read(output), [
-            Said("yes", "by law"), Said("not settled", "the upper text has a proof, the lower one none", ["a.rs:1: impl A for B: dropped", "a.rs:2: impl A for C: dropped"]),
-            Said("no", "argued: chains without end"), Said("unproved", "neither text has a proof")])
+    def test_messages(self) -> None:
+        found = self.read([answer("own::T0: Send", "yes"), answer("own::T1: Send", "not settled", "the upper text has a proof", ("a.rs:1: dropped",)),
+                           answer("own::T2: Send", "no", "argued: chains without end"), answer("own::T3: Send", "unproved", "neither text has a proof")])
+        self.assertEqual(found, [Said("yes", "by law"), Said("not settled", "the upper text has a proof", ["a.rs:1: dropped"]),
+                                 Said("no", "argued: chains without end"), Said("unproved", "neither text has a proof")])
 
-    def test_values_of_unknowns_stand_behind_the_word(self) -> None:
-        self.assertEqual(answer_lines("Vec<?x>: Clone    yes ?x = u8   (by law)\n"), [("Vec<?x>: Clone", Said("yes", "by law"))])
+    def test_lines_that_are_no_messages_are_passed_over(self) -> None:
+        lines = "from-rustdoc: a word\n" + json.dumps({"$message_type": "summary"}) + "\n[]\n" + json.dumps(answer("own::T0: Send", "yes")) + "\n"
+        self.assertEqual(read_answers(Called(0, lines, ""), ASKED), [Said("yes", "by law")])
 
     def test_several_bounds_are_joined(self) -> None:
         asked = [Asked("A + B", "own::T", ("A", "B"), ("T",), ("T: C",)), ASKED[0]]
-        parts = "<T> own::T: A where T: C    {}   (by law)\n<T> own::T: B where T: C    {}   (else)\nown::T0: Send    yes   (by law)\n"
         for words, joined in [(("yes", "yes"), "yes"), (("yes", "no"), "no"), (("unproved", "not settled"), "unproved"), (("not settled", "yes"), "not settled")]:
-            self.assertEqual([said.word for said in self.read(parts.format(*words), asked=asked)], [joined, "yes"])
+            messages = [answer("<T> own::T: A where T: C", words[0]), answer("<T> own::T: B  where T: C", words[1]), answer("own::T0: Send", "yes")]
+            self.assertEqual([said.word for said in self.read(messages, asked)], [joined, "yes"])
 
     def test_one_that_is_refused(self) -> None:
-        told = "from-rustdoc: no answer to `own::T1: Send`: `own::T1` is not known\n"
-        output = "own::T0: Send    yes   (by law)\nown::T2: Send    yes   (by law)\nown::T3: Send    yes   (by law)\n"
-        self.assertEqual([said.word for said in self.read(output, told)], ["yes", REFUSED, "yes", "yes"])
+        found = self.read([answer("own::T0: Send", "yes"), refusal("own::T1: Send", "`own::T1` is not known"), answer("own::T2: Send", "yes"), answer("own::T3: Send", "no")])
+        self.assertEqual(found[1], Said(REFUSED, "`own::T1` is not known"))
+        self.assertEqual([said.word for said in found], ["yes", REFUSED, "yes", "no"])
 
     def test_an_answer_to_another_question_is_none(self) -> None:
-        self.assertEqual(self.read("own::T0: Send    yes   (by law)\nown::T2: Send    no   (by law)\n"), [Said("yes", "by law")])
+        self.assertEqual(self.read([answer("own::T0: Send", "yes"), answer("own::T2: Send", "no")]), [Said("yes", "by law")])
 
     def test_one_that_ends_the_call(self) -> None:
-        self.assertEqual(self.read("own::T0: Send    yes   (by law)\n", "Traceback ..\nKeyError: 1\n"), [Said("yes", "by law")])
+        self.assertEqual(self.read([answer("own::T0: Send", "yes")]), [Said("yes", "by law")])
+
+
+class Reports(unittest.TestCase):
+    def test_lines_on_impls(self) -> None:
+        line = "loss a-1.0/src/b.rs:7: impl<T> own::Tr<Vec<T>> for &'static mut own::B<T>: the associated type `Item`: dropped (the upper text has it more often)"
+        self.assertEqual(read_impl(line), {
+            "header": "impl<T> own::Tr<Vec<T>> for &'static mut own::B<T>", "source": "a-1.0/src/b.rs:7", "fate": "loss", "trait": "own::Tr", "type": "own::B",
+            "losses": "the associated type `Item`: dropped (the upper text has it more often)"})
+        self.assertEqual([read_impl(line) for line in ("whole b.rs:1: struct own::B", "own 1.0: 3 impls, all whole", "cut b.rs:2: struct own::C: why")], [None] * 3)
+
+    def test_names_of_the_trait_and_of_the_type(self) -> None:
+        for header, names in [("impl<T> PartialEq<&T> for bytes::Bytes", ("PartialEq", "bytes::Bytes")), ("impl !Send for own::N", ("Send", "own::N")),
+                              ("impl<F: Fn() -> T, T> own::Run for own::Boxed<F>", ("own::Run", "own::Boxed")), ("impl own::Tr for *const u8", ("own::Tr", "u8"))]:
+            self.assertEqual(names_of(header), names, header)
 
 
 class Compared(unittest.TestCase):

@@ -149,11 +149,11 @@ class Joined(Room):
         results.write(os.path.join(base, "ask.jsonl"), [step_line("ask"), question, {**question, "verdict": "not well formed"}])
         results.write(os.path.join(base, "judge.jsonl"), [step_line("judge", how="as if added"), change])
         user = os.path.join(self.room, "crates", "user-0.1.0")
-        put(user, "project.json", json.dumps({"uses": {"user": ["middle"], "middle": ["base"]}}))
+        put(user, "project.json", json.dumps({"links": {"uses": {"user": ["middle@1.0.0"], "middle@1.0.0": ["base"]}}}))
         results.write(os.path.join(user, "check.jsonl"), [step_line("check", word="not settled", verdict_why="overlap: one | other"),
                                                           {**impl, "header": "impl PartialEq<&user::U> for base::B", "fate": "whole"}])
         other = os.path.join(self.room, "crates", "other-0.1.0")
-        put(other, "project.json", json.dumps({"uses": {"other": ["base"]}}))
+        put(other, "project.json", json.dumps({"links": {"uses": {"other": ["base"]}}}))
         results.write(os.path.join(other, "check.jsonl"), [step_line("check", word="coherent"),
                                                            {**impl, "header": "impl PartialEq<u8> for other::O", "type": "other::O", "fate": "whole"}])
         results.write(os.path.join(self.room, "crates", "derive-0.1.0", "document.jsonl"), [{**step_line("document", "failed"), "why": "in derive: error: no"}])
