@@ -1,0 +1,110 @@
+"""What rustc says of generated questions: a file of functions, three lines for each question, compiled against the crates' metadata."""
+from __future__ import annotations
+
+import json
+import os
+import subprocess
+from dataclasses import dataclass, field
+from typing import Any, Callable
+
+from from_rustdoc.terms import BadInput
+
+from .generate import Asked
+
+HOLDS, FAILS, REJECTED, LIFETIMES, OPEN = "yes", "no", "not well formed", "lifetimes", "not decided"
+# A bound that does not hold, an associated type with another value.
+FAILING = ("E0277", "E0271")
+UNDECIDED = ("E0275", "E0282", "E0283", "E0284")
+# Of lifetimes alone, where the types are right.
+OF_LIFETIMES = ("E0309", "E0310", "E0311", "E0477", "E0478", "E0491", "E0521", "E0597", "E0621", "E0700", "E0716", "E0759")
+TOLD_OF_LIFETIMES = ("is not general enough", "lifetime may not live long enough", "does not live long enough", "mismatched lifetimes")
+MAXIMAL_ROUNDS = 12
+LINES = 3
+HEAD = ["#![allow(warnings)]", "extern crate alloc;"]
+
+
+@dataclass
+class Held:
+    """What rustc says of a question, and why: the code of its error and its first line."""
+    word: str
+    why: str = ""
+
+
+@dataclass
+class Compiler:
+    """`externs` are the metadata of the crates by name, `dependencies` the folders of what they use."""
+    externs: dict[str, str]
+    dependencies: list[str]
+    folder: str
+    edition: str = "2021"
+    rounds: int = field(default=0, init=False)
+
+    def words(self, file: str) -> list[str]:
+        found = ["rustc", "--edition", self.edition, "--crate-type", "lib", "--crate-name", "questions", "--emit", "metadata", "--error-format", "json",
+                 "--out-dir", self.folder, file]
+        for name, path in sorted(self.externs.items()):
+            found += ["--extern", f"{name}={path}"]
+        return found + [word for folder in self.dependencies for word in ("-L", f"dependency={folder}")]
+
+    def errors(self, lines: list[str]) -> list[dict[str, Any]]:
+        file = os.path.join(self.folder, "questions.rs")
+        with open(file, "w", encoding="utf-8") as handle:
+            handle.write("\n".join(lines) + "\n")
+        self.rounds += 1
+        done = subprocess.run(self.words(file), stdout=subprocess.PIPE, stderr=subprocess.PIPE, text=True)
+        told = [json.loads(line) for line in done.stderr.splitlines() if line.startswith("{")]
+        found = [message for message in told if message.get("level") in ("error", "error: internal compiler error")]
+        if done.returncode != 0 and not found:
+            raise BadInput(f"rustc ended with status {done.returncode}: {done.stderr[-300:].strip()}")
+        return found
+
+    def held(self, asked: list[Asked]) -> list[Held]:
+        return settle(asked, self.errors)
+
+
+def settle(asked: list[Asked], errors: Callable[[list[str]], list[dict[str, Any]]]) -> list[Held]:
+    """Compiles in rounds. What has an error is judged by it and left out of the next round, since an error of one phase hides those of
+    later phases; what is left when all compiles holds."""
+    left = dict(enumerate(asked))
+    held = [Held(HOLDS) for _ in asked]
+    for _ in range(MAXIMAL_ROUNDS):
+        lines = list(HEAD)
+        for number, question in enumerate(asked):
+            lines += question.rust(number) if number in left else [""] * LINES
+        found = errors(lines)
+        judged = by_question(found, left)
+        if not judged:
+            if found:
+                first = found[0]["message"]
+                raise BadInput(f"an error of rustc belongs to no question: {first}")
+            return held
+        for number, verdict in judged.items():
+            held[number] = verdict
+            left.pop(number)
+    raise BadInput("rustc found errors in each round")
+
+
+def by_question(messages: list[dict[str, Any]], left: dict[int, Asked]) -> dict[int, Held]:
+    """The verdicts that errors give. A line that is not well formed outweighs a bound that does not hold."""
+    found: dict[int, Held] = {}
+    for message in messages:
+        code = (message.get("code") or {}).get("code", "") or ""
+        for span in message["spans"]:
+            place = span["line_start"] - 1 - len(HEAD)
+            if not span["is_primary"] or not span["file_name"].endswith("questions.rs") or place < 0 or place // LINES not in left:
+                continue
+            number, part = divmod(place, LINES)
+            why = f"{code} {message['message'].splitlines()[0]}".strip()
+            verdict = Held(word_of(code, message["message"], part), why)
+            if number not in found or found[number].word != REJECTED:
+                found[number] = verdict
+    return found
+
+
+def word_of(code: str, told: str, part: int) -> str:
+    is_asked = part == LINES - 1
+    if code in OF_LIFETIMES or any(words in told for words in TOLD_OF_LIFETIMES):
+        return LIFETIMES if is_asked else REJECTED
+    if code in UNDECIDED:
+        return OPEN
+    return FAILS if is_asked and code in FAILING else REJECTED

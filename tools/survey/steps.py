@@ -1,0 +1,294 @@
+"""The steps of a survey, of one crate each: document, read, check, ask, judge. Each leaves a file of results in the crate's folder."""
+from __future__ import annotations
+
+import contextlib
+import fcntl
+import json
+import os
+import re
+import shutil
+import subprocess
+import tempfile
+import time
+from collections import Counter
+from dataclasses import asdict, dataclass
+from typing import Any, Iterator, Optional
+
+from from_rustdoc.cargo import Links, Project
+from from_rustdoc.terms import BadInput
+
+from . import compare, results, translator
+from .compiler import OPEN, REJECTED, Compiler, Held
+from .documents import Crate, Documents
+from .generate import Asked, Generator
+from .registry import Dependency, Package, write_project
+from .results import Skipped, Step
+
+BATCH = 150
+ADDED = "impl-added"
+CARGO = ["--offline"]
+
+
+@dataclass
+class Place:
+    """Where a survey is: its folder, the registry, the folder that cargo builds in (one of its own for each crate if none is given),
+    the program that answers texts, and how many processes cargo may use."""
+    out: str
+    registry: Optional[str] = None
+    target: Optional[str] = None
+    program: Optional[str] = None
+    jobs: int = 1
+
+    def folder(self, package: Package) -> str:
+        return os.path.join(self.out, "crates", package.folder)
+
+    def file(self, package: Package, step: str) -> str:
+        return os.path.join(self.folder(package), step + ".jsonl")
+
+    def build(self, folder: str) -> str:
+        return os.path.abspath(self.target or os.path.join(folder, "target"))
+
+
+# ---- documents
+@contextlib.contextmanager
+def locked(folder: str) -> Iterator[None]:
+    """One step at a time has cargo's folder: the documents in it are those of one project."""
+    os.makedirs(folder, exist_ok=True)
+    with open(os.path.join(folder, "survey.lock"), "w", encoding="utf-8") as handle:
+        fcntl.flock(handle, fcntl.LOCK_EX)
+        yield
+
+
+@contextlib.contextmanager
+def told_to(file: str) -> Iterator[None]:
+    """What processes say on stderr goes to a file."""
+    kept = os.dup(2)
+    with open(file, "w", encoding="utf-8") as handle:
+        os.dup2(handle.fileno(), 2)
+    try:
+        yield
+    finally:
+        os.dup2(kept, 2)
+        os.close(kept)
+
+
+def first_error(file: str) -> str:
+    """The first error that cargo told, with the package that it is in."""
+    with open(file, encoding="utf-8", errors="replace") as handle:
+        lines = handle.read().splitlines()
+    errors = [line for line in lines if re.match(r"error(\[\w+\])?:", line)]
+    package = next((m.group(1) for m in (re.search(r"could not (?:document|compile) `([^`]*)`", line) for line in lines) if m), "")
+    return (f"in {package}: " if package else "") + (errors[0] if errors else lines[-1] if lines else "cargo said nothing")
+
+
+def documented(folder: str, place: Place, log: str) -> Project:
+    """Documents a project in cargo's folder, and takes the documents from there."""
+    target = place.build(folder)
+    with locked(target), told_to(log):
+        os.environ["CARGO_TARGET_DIR"] = target
+        try:
+            project = translator.document(os.path.join(folder, "project"), [*CARGO, "-j", str(place.jobs)])
+        except BadInput as error:
+            raise BadInput(first_error(log) if os.path.getsize(log) else str(error))
+        kept = os.path.join(folder, "doc")
+        shutil.rmtree(kept, ignore_errors=True)
+        os.makedirs(kept)
+        for name, file in project.files.items():
+            project.files[name] = shutil.move(file, os.path.join(kept, f"{name}.json"))
+    if place.target is None:
+        shutil.rmtree(target, ignore_errors=True)
+    return project
+
+
+def save_project(folder: str, project: Project) -> None:
+    """The project, with the names of its files from the crate's folder on."""
+    links: dict[str, Any] = {**project.links.kept(), "names": {}}
+    cfgs = {name: sorted(found) for name, found in project.links.cfgs.items() if found is not None}
+    data = {"files": {name: os.path.relpath(file, folder) for name, file in project.files.items()}, "links": links, "cfgs": cfgs,
+            "doubled": project.doubled, "members": project.members}
+    with open(os.path.join(folder, "project.json"), "w", encoding="utf-8") as handle:
+        json.dump(data, handle)
+
+
+def load_project(folder: str) -> Project:
+    try:
+        with open(os.path.join(folder, "project.json"), encoding="utf-8") as handle:
+            data = json.load(handle)
+    except OSError:
+        raise Skipped("it is not documented")
+    files = {name: os.path.abspath(os.path.join(folder, file)) for name, file in data["files"].items()}
+    links = Links(**data["links"])
+    links.names = {file: name for name, file in files.items() if "@" in name}
+    links.cfgs = {name: frozenset(cfgs) for name, cfgs in data["cfgs"].items()}
+    return Project(links, data["members"], files, data["doubled"])
+
+
+def own_name(project: Project, package: Package) -> str:
+    """The crate's name among those of its project: with its version, where there are two of them."""
+    name = next((n for n in (package.crate, f"{package.crate}@{package.version}") if n in project.files), None)
+    if name is None:
+        raise BadInput(f"cargo made no documents of a crate {package.crate}")
+    return name
+
+
+def document(place: Place, package: Package, step: Step, features: tuple[str, ...] = ()) -> None:
+    folder = place.folder(package)
+    if package.kind != "lib":
+        raise Skipped({"proc-macro": "a procedural macro: it has no items"}.get(package.kind, "it has no library"))
+    write_project(os.path.join(folder, "project"), [Dependency(package, features)], place.registry)
+    project = documented(folder, place, os.path.join(folder, "document.log"))
+    name = own_name(project, package)
+    save_project(folder, project)
+    sizes = {crate: os.path.getsize(file) for crate, file in project.files.items()}
+    step.figures = {"crates": len(sizes), "bytes": sum(sizes.values()), "own_bytes": sizes[name], "versions": sorted(n for n in sizes if "@" in n)}
+
+
+# ---- reading and checks
+def crates_of(project: Project, name: str) -> list[str]:
+    return [project.files[used] for used in project.closure([name])]
+
+
+def read(place: Place, package: Package, step: Step) -> None:
+    """Reads the crate and what it uses, twice: the second time from what was kept."""
+    project = load_project(place.folder(package))
+    name = own_name(project, package)
+    files = crates_of(project, name)
+    began = time.monotonic()
+    world = translator.read(files, project.links)
+    middle = time.monotonic()
+    translator.read(files, project.links)
+    crate = world.crates[name]
+    step.figures = {"crates": len(world.crates), "first": round(middle - began, 2), "second": round(time.monotonic() - middle, 2),
+                    "items": len(crate.declarations), "impls": len(crate.impls), "doc_cfgs": len(world.doc_cfgs)}
+
+
+def check(place: Place, package: Package, step: Step) -> None:
+    project = load_project(place.folder(package))
+    name = own_name(project, package)
+    found = translator.check(translator.read(crates_of(project, name), project.links), name, place.program)
+    fates = Counter(impl["fate"] for impl in found.impls)
+    step.figures = {"word": found.word, "verdict_why": found.why, "impls": len(found.impls), "whole": fates["whole"], "loss": fates["loss"],
+                    "out": fates["out"]}
+    for impl in found.impls:
+        step.add("impl", **impl)
+
+
+# ---- questions
+def metadata_of(place: Place, folder: str, package: Package) -> dict[str, str]:
+    """The crates' metadata as rustc reads it, by the crates' names; of two versions of one crate neither, but for the crate itself."""
+    words = ["cargo", "check", *CARGO, "-j", str(place.jobs), "--message-format", "json", "--target-dir",
+             os.path.join(place.build(folder), "from-rustdoc")]
+    with locked(place.build(folder)):
+        done = subprocess.run(words, cwd=os.path.join(folder, "project"), stdout=subprocess.PIPE, stderr=subprocess.PIPE, text=True)
+    if done.returncode != 0:
+        raise BadInput(f"cargo check failed: {(done.stderr.splitlines() or ['it said nothing'])[-1]}")
+    found: dict[str, list[tuple[str, str]]] = {}
+    for line in done.stdout.splitlines():
+        message = json.loads(line)
+        if message.get("reason") == "compiler-artifact" and "lib" in message["target"]["kind"]:
+            for file in message["filenames"]:
+                if file.endswith(".rmeta"):
+                    found.setdefault(message["target"]["name"].replace("-", "_"), []).append((message["package_id"], file))
+    return chosen(found, package)
+
+
+def chosen(found: dict[str, list[tuple[str, str]]], package: Package) -> dict[str, str]:
+    kept = {}
+    for name, files in found.items():
+        if name == "surveyed":
+            continue
+        own = [file for number, file in files if name == package.crate and number.endswith(f"@{package.version}")]
+        if len(files) == 1 or own:
+            kept[name] = (own or [files[0][1]])[0]
+    return kept
+
+
+def ask(place: Place, package: Package, count: int, step: Step) -> None:
+    """Questions about the crate, to rustc and, where rustc takes them, to the translator."""
+    folder = place.folder(package)
+    project = load_project(folder)
+    name = own_name(project, package)
+    files = {used: project.files[used] for used in project.closure([name])}
+    # Of two versions of a crate that it uses a question could name either.
+    documents = Documents({used: file for used, file in files.items() if "@" not in used})
+    asked = Generator(Crate(files[name], documents), f"{package.name} {package.version}").questions(count)
+    if not asked:
+        raise Skipped("it has no public items of which a question can be asked")
+    externs = metadata_of(place, folder, package)
+    rows, step.figures = answered(asked, externs, list(files.values()), project.links, os.path.join(folder, package.crate), place.program)
+    for row in rows:
+        step.add("question", **row)
+
+
+def answered(asked: list[Asked], externs: dict[str, str], files: list[str], links: Links, base: str,
+             program: Optional[str]) -> tuple[list[dict[str, Any]], dict[str, Any]]:
+    """A row for each question, and the times that rustc and the translator took."""
+    began = time.monotonic()
+    with tempfile.TemporaryDirectory() as room:
+        compiler = Compiler(externs, sorted({os.path.dirname(file) for file in externs.values()}), room)
+        held = [h for start in range(0, len(asked), BATCH) for h in compiler.held(asked[start:start + BATCH])]
+    middle = time.monotonic()
+    translator.write_base(base, files, links)
+    said = answers(asked, held, base, program)
+    rows = [compare.row(a, s, h) for a, s, h in zip(asked, said, held)]
+    return rows, {"rustc_seconds": round(middle - began, 2), "translator_seconds": round(time.monotonic() - middle, 2), "rounds": compiler.rounds,
+                  "counts": dict(compare.counts(rows))}
+
+
+def answers(asked: list[Asked], held: list[Held], base: str, program: Optional[str]) -> list[translator.Said]:
+    """Those that rustc decides are asked."""
+    places = [n for n, h in enumerate(held) if h.word not in (REJECTED, OPEN)]
+    told = translator.ask(base, [asked[n] for n in places], program)
+    found = dict(zip(places, told))
+    return [found.get(n, translator.Said("not asked")) for n in range(len(asked))]
+
+
+# ---- releases
+def without_impls(file: str, to: str) -> int:
+    """A crate's documents without the impls of traits that it writes; how many these were."""
+    with open(file, encoding="utf-8") as handle:
+        data = json.load(handle)
+    taken = {number for number, item in data["index"].items() if is_added(item)}
+    data["index"] = {number: item for number, item in data["index"].items() if number not in taken}
+    for item in data["index"].values():
+        body = next(iter(item["inner"].values()))
+        for key in ("impls", "implementations"):
+            if isinstance(body, dict) and key in body:
+                body[key] = [number for number in body[key] if str(number) not in taken]
+    with open(to, "w", encoding="utf-8") as handle:
+        json.dump(data, handle)
+    return len(taken)
+
+
+def is_added(item: dict[str, Any]) -> bool:
+    body = item["inner"].get("impl")
+    return body is not None and body["trait"] is not None and not body["is_synthetic"] and body["blanket_impl"] is None
+
+
+def judge(place: Place, package: Package, older: Optional[Package], step: Step) -> None:
+    """The release from an earlier version; where there is none, each impl of the crate as if this version had added it."""
+    folder = place.folder(package)
+    project = load_project(folder)
+    name = own_name(project, package)
+    new = project.files[name]
+    # `later` takes one version of each crate that both versions use.
+    beside = [project.files[used] for used in project.closure([name]) if "@" not in used and used != name]
+    if older is not None:
+        before = load_project(place.folder(older))
+        old, how = before.files[own_name(before, older)], "release"
+    else:
+        old, how = os.path.join(folder, "without_impls.json"), "as if added"
+        without_impls(new, old)
+    try:
+        found = translator.later(old, new, beside, place.program)
+    finally:
+        if older is None:
+            os.remove(old)
+    # What else is told of a version without impls is nothing that its authors did.
+    changes = [c for c in found.changes if older is not None or c.code == ADDED]
+    words = Counter(c.word for c in changes if c.code == ADDED)
+    step.figures = {"how": how, "before": older.version if older else "", "answer": found.answer if older else "", "added": sum(words.values()),
+                    "breaking": words["breaking"], "compatible": words["compatible"], "not_settled": words["not settled"],
+                    "changes": len(changes) - sum(words.values())}
+    for change in changes:
+        step.add("change", how=how, **asdict(change))
