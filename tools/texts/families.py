@@ -46,11 +46,12 @@ SUPERTRAITS = [
     Family("leaf_of_dyn", makers.leaf_of_dyn, (511, 2047)),
     Family("supertraits_of_clause", makers.supertraits_of_clause, (2047, 8191)),
     Family("supertraits_of_three", makers.supertraits_of_three, (1093, 9841)),
-    Family("supertraits_of_impl", makers.supertraits_of_impl, (127, 511)),
+    Family("supertraits_of_impl", makers.supertraits_of_impl, (2047, 8191)),
     Family("endless_supertraits", makers.endless_supertraits, (10, 40)),
     Family("plain_lattice", makers.plain_lattice, (8, 32)),
     Family("supers_of_chain", makers.supers_of_chain, (1000, 4000)),
     Family("supers_of_tower", makers.supers_of_tower, (500, 2000)),
+    Family("supers_of_tall_tower", makers.supers_of_tall_tower, (2000, 8000)),
     Family("supers_in_core", makers.supers_in_core, (15000, 60000), rust=None),
 ]
 

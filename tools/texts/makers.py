@@ -539,6 +539,16 @@ def supers_of_tower(count: int) -> Lines:
     return lines + numbered("impl R# for u8", count) + ["supers in base"]
 
 
+def supers_of_tall_tower(count: int) -> Lines:
+    """The same over crates of 2,000 traits that use one another, with such a line for each."""
+    lines: Lines = []
+    for first in range(1, count + 1, 2000):
+        crate, numbers = first // 2000, range(first, min(first + 2000, count + 1))
+        lines.append(f"crate c{crate}" + (f" uses c{crate - 1}" if crate else ""))
+        lines += [f"trait R{k}" + (f": R{k - 1}" if k > 1 else "") for k in numbers] + [f"impl R{k} for u8" for k in numbers]
+    return lines + [f"supers in c{crate}" for crate in range((count + 1999) // 2000)]
+
+
 def supers_in_core(count: int) -> Lines:
     """The supertraits of core's own impls, asked again and again."""
     return ["crate base"] + ["supers in core"] * count

@@ -77,6 +77,8 @@ def figure_of(measuring: Measuring, startup: float, family: Family, size: int) -
     run = best_of(measuring.program, depth, text, measuring.limits, measuring.runs)
     seconds = max(run.seconds - startup, 0.0)
     stopped = stopped_of(run)
+    if stopped == "time":
+        seconds = float(measuring.limits.seconds)
     return Figure(size, len(text), depth, seconds, run.peak, stopped, "" if stopped else said_of(run.output))
 
 
@@ -92,7 +94,8 @@ def judged_of(measuring: Measuring, rustc: str, solver: str, startup: float, fam
         if found.stopped or found.seconds > LONG:
             break
     assert best is not None
-    return Judged(max(best.seconds - startup * best.crates, 0.0), best.peak, best.crates, best.accepted, best.stopped)
+    seconds = best.seconds if best.stopped == "time" else max(best.seconds - startup * best.crates, 0.0)
+    return Judged(seconds, best.peak, best.crates, best.accepted, best.stopped)
 
 
 @dataclass(frozen=True)

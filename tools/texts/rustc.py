@@ -65,7 +65,8 @@ def judge(rustc: str, solver: str, lines: list[str], form: Form, depth: int, lim
             run = compile_crate(rustc, solver, crate, source, folder, left)
             seconds, peak, count = seconds + run.seconds, max(peak, run.peak or 0), count + 1
             if run.stopped or seconds > limits.seconds:
-                return Judged(seconds, peak or None, count, False, run.stopped or "time")
+                reason = run.stopped or "time"
+                return Judged(float(limits.seconds) if reason == "time" else seconds, peak or None, count, False, reason)
             if run.status != 0:
                 return Judged(seconds, peak or None, count, False, "")
     return Judged(seconds, peak or None, count, True, "")
