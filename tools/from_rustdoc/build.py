@@ -62,14 +62,14 @@ def without_empty(crates: list[CrateText], keep: set[str]) -> list[CrateText]:
 
 
 class Translation:
-    """All crates of a world, or the part that `cone` has chosen."""
+    """All crates of a world, or the part that `cone` has chosen. `with_patterns`: whether clauses on associated types are said."""
 
-    def __init__(self, world: World, whole_std: bool = False, quiet: bool = True, cone: Optional[Chosen] = None) -> None:
+    def __init__(self, world: World, whole_std: bool = False, quiet: bool = True, cone: Optional[Chosen] = None, with_patterns: bool = True) -> None:
         self.world = world
         self.cone = cone
         self.standard: Standard = world.standard
         self.renderer = Renderer(world)
-        self.impl_writer = ImplWriter(self.renderer, self.standard)
+        self.impl_writer = ImplWriter(self.renderer, self.standard, with_patterns)
         self.whole_std = whole_std
         self.quiet = quiet
         self.leaves: set[str] = set(USUAL_LEAVES)

@@ -5,6 +5,7 @@ but the names of items. The rules, with the reason for each, are in docs/RUSTDOC
 """
 from __future__ import annotations
 
+import functools
 from collections import Counter
 from typing import Callable, Iterator, Optional
 
@@ -30,10 +31,10 @@ class Checker:
         self.hidden: set[str] = set()
         self.own: list[Predicate] = []
 
-    def check(self, upper: str, lower: str) -> list[str]:
-        """What is wrong with the two texts; nothing where they keep the rules."""
-        pieces = {mode: [p for p in self.translation.text(mode)[1] if p is not None] for mode in ("upper", "lower")}
-        texts = {"upper": read_text(upper), "lower": read_text(lower)}
+    def check(self, written: dict[str, str]) -> list[str]:
+        """What is wrong with the texts; nothing where they keep the rules."""
+        pieces = {mode: [p for p in self.translation.text(mode)[1] if p is not None] for mode in written}
+        texts = {mode: read_text(text) for mode, text in written.items()}
         owners = [(self.world.get(key), name) for key, name in self.renderer.thens]
         thens = {self.renderer.then_name(declaration, name): (self.world.name(declaration), name) for declaration, name in owners}
         self.unfolders = {mode: Unfolder(text, thens) for mode, text in texts.items()}
@@ -238,8 +239,8 @@ class Checker:
                 sized |= {p.name for p in impl.params if self.matches(subject, Parameter(p.name), names, fresh)}
             same = [n for n, p in enumerate(wanted) if self.same_clause(subject, bound, p, names, fresh)]
             found |= set(same)
-            if bound.key in self.fn_traits():
-                if not any(self.fn_traits().get(bound.key, 9) <= self.rank_of(b) and self.matches(subject, t, names, fresh) for t, b in wanted):
+            if bound.key in self.fn_traits:
+                if not any(self.fn_traits.get(bound.key, 9) <= self.rank_of(b) and self.matches(subject, t, names, fresh) for t, b in wanted):
                     self.complain(mode, line, f"a clause by `{bound.key}`, which the impl has not")
                 continue
             is_size = bound.key == "Sized" and any(self.matches(subject, Parameter(p.name), names, fresh) for p in impl.params)
@@ -253,6 +254,7 @@ class Checker:
         if any(p.kind == "type" and p.name not in unsized and p.name not in sized for p in impl.params):
             self.complain(mode, line, "clauses are dropped: `Sized` of a parameter")
 
+    @functools.cached_property
     def fn_traits(self) -> dict[str, int]:
         """The traits that say that a type has `FnOnce`, `FnMut` or `Fn` for some arguments; one has those of a lower rank too."""
         return {self.renderer.any_name(d): FN_TRAITS.index(d.name) for d in self.renderer.traits.values() if self.renderer.is_fn_trait(d)}
@@ -495,5 +497,6 @@ def is_void(line: TextLine) -> bool:
     return line.text.endswith(" where u8: Never_")
 
 
-def check_texts(translation: Translation, upper: str, lower: str) -> list[str]:
-    return Checker(translation).check(upper, lower)
+def check_texts(translation: Translation, texts: dict[str, str]) -> list[str]:
+    """What is wrong with the texts, which are "upper", "lower", or both."""
+    return Checker(translation).check(texts)

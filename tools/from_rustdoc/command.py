@@ -17,8 +17,7 @@ from . import cargo
 from .baseline import latest_tag
 from .answer import Answerer
 from .build import Translation
-from .checker import check_texts
-from .cone import cone_of_crate
+from .crate_check import check_crate, texts_of
 from .html_docs import Pages
 from .kept import Damaged, KeptPages, KeptStandard, remove_stores
 from .later_command import later
@@ -30,7 +29,7 @@ from .report import Report
 from .standard_json import JsonStandard, json_folder
 from .terms import BadInput, Lossy
 from .verdicts import Checked, answer_message, check_verdicts, say_answer, say_checks
-from .world import World, crate_name
+from .world import World
 
 USAGE = """from-rustdoc: a translator of crates to texts for this program, and of its answers back. It is not proved: docs/RUSTDOC.md.
 
@@ -93,18 +92,6 @@ def translated(world: World, arguments: argparse.Namespace) -> Translation:
     translation = Translation(world, whole_std=getattr(arguments, "all_std", False), quiet=arguments.quiet)
     translation.build()
     return translation
-
-
-def texts_of(translation: Translation) -> dict[str, str]:
-    """Both texts, checked: a text that breaks a rule is not written."""
-    texts = {}
-    for mode in ("upper", "lower"):
-        text = "\n".join(translation.text(mode, comments=True)[0]) + "\n"
-        texts[mode] = text if len(text) < 1 << 20 else "\n".join(translation.text(mode)[0]) + "\n"
-    problems = check_texts(translation, texts["upper"], texts["lower"])
-    if problems:
-        raise BadInput("the texts break the rules of docs/RUSTDOC.md, so they are not written: " + "; ".join(problems[:3]))
-    return texts
 
 
 # ---- the commands
@@ -279,21 +266,7 @@ def checked(world: World, arguments: argparse.Namespace) -> Iterator[Judged]:
 
 def check_shared(name: str) -> Judged:
     world, arguments = SHARED[0]
-    return (*check_crate(world, name, arguments), set(world.missing))
-
-
-def check_crate(world: World, name: str, arguments: argparse.Namespace) -> tuple[list[Checked], list[str]]:
-    """What is said of one crate, and its part of the report."""
-    translation = cone_of_crate(world, name)
-    translation.build()
-    report = Report(translation)
-    try:
-        texts = texts_of(translation)
-    except BadInput as error:
-        return [Checked(name, "not settled", f"{name}: not settled: {error}")], report.of_crate(name)
-    answers = {mode: run(text, arguments.program) for mode, text in texts.items()}
-    places = {mode: report.places(mode) for mode in texts}
-    return check_verdicts(report.summary(), [crate_name(name)], answers, places), report.of_crate(name)
+    return (*check_crate(world, name, arguments.program), set(world.missing))
 
 
 # ---- words

@@ -25,8 +25,16 @@ from .text_form import Text, TextLine
 from .world import CORE_NAMES, World, crate_name
 
 ANY = Unknown("_")
-DEEPEST, MANY, ROUNDS = 12, 400, 12
+DEEPEST, ROUNDS = 12, 12
+# How many references of a trait, or of a pattern, are told apart.
+MANY = 400
+# How many references, and impls, are looked at.
+MOST = 20000
 SPECIAL_HEADS = {"Ref_": "&", "RefMut_": "&mut", "PtrConst_": "*const", "PtrMut_": "*mut"}
+
+
+class TooLarge(Lossy):
+    """What is asked leads to more than one text should hold."""
 
 
 @dataclass
@@ -107,6 +115,13 @@ class Cone(Reacher):
         return "word", None, name
 
     def parsed(self, text: str) -> TextLine:
+        """The line as terms. A name is the same in all texts of a world, so each line is read once."""
+        if text not in self.world.parsed:
+            self.world.parsed[text] = self.read(text)
+        found: TextLine = self.world.parsed[text]
+        return found
+
+    def read(self, text: str) -> TextLine:
         reader = Reader(text, self.lookup, unknowns=True)
         line = TextLine(0, text, "impl", "")
         reader.need("impl")
@@ -219,6 +234,8 @@ class Cone(Reacher):
             trait, arguments = todo.pop()
             arguments = tuple(cut_off(a, DEEPEST) for a in arguments)
             place = (trait, pattern_in(arguments))
+            if len(self.chosen.references) > MOST:
+                raise TooLarge("what it leads to is too large")
             if self.per_trait.get(place, 0) > MANY:
                 arguments = widest(arguments)
             if (trait, arguments) in self.chosen.references:
@@ -292,11 +309,12 @@ class Cone(Reacher):
         """What a pattern means of a value; of an unknown one what all that are written so far mean."""
         children: list[Reference_] = []
         subject = reference[1][0]
-        for name, pattern in list(self.translation.impl_writer.projector.patterns.items()):
-            if isinstance(subject, Named) and subject.key != name:
+        patterns = self.translation.impl_writer.projector.patterns
+        for name in [subject.key] if isinstance(subject, Named) else list(patterns):
+            if name not in patterns:
                 continue
             if name not in self.meanings:
-                self.meanings[name] = self.parsed(pattern.line)
+                self.meanings[name] = self.parsed(patterns[name].line)
             children += self.by_line(self.meanings[name], reference) or []
         return children
 
@@ -456,9 +474,14 @@ def references_of(cone: Cone, prove: str) -> list[Reference_]:
 
 
 # ---- of a crate's check
-def cone_of_crate(world: World, name: str) -> Translation:
+def cone_of_impls(world: World, name: str) -> Translation:
+    """A crate's impls alone, to see what became of them."""
+    return Translation(world, cone=Chosen({id(impl): impl for impl in world.crates[name].impls}))
+
+
+def cone_of_crate(world: World, name: str, with_patterns: bool = True) -> Translation:
     """What the check of one crate looks at: its impls, those that may meet one of them, and what their clauses lead to."""
-    scratch = Translation(world, cone=Chosen())
+    scratch = Translation(world, cone=Chosen(), with_patterns=with_patterns)
     scratch.begin()
     chosen = Chosen()
     lines = Lines(scratch)
@@ -477,7 +500,7 @@ def cone_of_crate(world: World, name: str) -> Translation:
         chosen = cone.chosen
         if not scratch.renderer.grew:
             break
-    found = Translation(world, cone=chosen)
+    found = Translation(world, cone=chosen, with_patterns=with_patterns)
     found.keep = {crate_name(name)}
     return found
 

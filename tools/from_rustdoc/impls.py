@@ -3,10 +3,10 @@ put for terms, and no more; in the lower one an impl with a loss is left out, or
 from __future__ import annotations
 
 from dataclasses import dataclass, field, replace
-from typing import Callable, Optional
+from typing import Any, Callable, Optional
 
 from .project import APPLY, WRAP, Determined, Goal, Projector, determined
-from .render import CLAUSE, HEADER, MAXIMAL_CLAUSES, MAXIMAL_PARAMS, NEVER, Renderer, Scope, bracketed, is_sizedness, mentions, names_of
+from .render import CLAUSE, HEADER, MAXIMAL_CLAUSES, MAXIMAL_PARAMS, NEVER, Need, Renderer, Scope, bracketed, is_sizedness, mentions, names_of
 from .standard import Standard
 from .terms import (Bound, BoundsOf, Declaration, Form, Impl, Lossy, Named, Parameter, Part, Pointer, Predicate, Projection, Reference, Type,
                     parameters_of, put, rebuilt, walk)
@@ -38,6 +38,16 @@ class Written:
         if not self.upper:
             return "out"
         return "loss" if self.losses else "whole"
+
+
+@dataclass
+class Kept:
+    """What was written of an impl, by the state of a text, with what the text had to have for it."""
+    impl: Impl
+    state: tuple[Any, ...]
+    written: Written
+    needs: list[Need]
+    patterns: list[str]
 
 
 @dataclass
@@ -164,13 +174,41 @@ class Clauses:
 
 
 class ImplWriter:
-    def __init__(self, renderer: Renderer, standard: Standard) -> None:
+    def __init__(self, renderer: Renderer, standard: Standard, with_patterns: bool = True) -> None:
         self.renderer = renderer
-        self.projector = Projector(renderer)
+        self.projector = Projector(renderer, with_patterns)
         self.world = renderer.world
         self.standard = standard
 
     def write(self, impl: Impl) -> Written:
+        """The impl's lines. What was written in an earlier text is taken as it is, where this one speaks of the same associated types."""
+        kept = self.world.written
+        key = (id(impl), self.projector.with_patterns, self.renderer.names_values)
+        if key in kept and kept[key].state == self.state(impl):
+            self.renderer.again(kept[key].needs)
+            self.projector.again(kept[key].patterns)
+            return kept[key].written
+        before, patterns = self.renderer.log, len(self.projector.log)
+        self.renderer.log = needs = []
+        written = self.written_anew(impl)
+        self.renderer.log = before
+        if before is not None:
+            before += needs
+        kept[key] = Kept(impl, self.state(impl), written, list(dict.fromkeys(needs)), self.projector.log[patterns:])
+        return written
+
+    def state(self, impl: Impl) -> tuple[Any, ...]:
+        """What an impl's lines depend on in a text: the associated types of its trait that are spoken of, and the `dyn`s that are not said."""
+        if impl.trait is None:
+            return ()
+        try:
+            trait = self.world.get(impl.trait.key, "trait", impl.trait.arguments)
+        except Lossy:
+            return ()
+        spoken = tuple(((trait.key, n) in self.renderer.companions, (trait.key, n) in self.renderer.thens) for n in sorted(trait.associated))
+        return spoken, trait.key in self.renderer.anys, frozenset(self.renderer.cyclic)
+
+    def written_anew(self, impl: Impl) -> Written:
         if impl.trait is None:
             return Written(impl, losses=[f"the header is not understood: {impl.error}"])
         try:

@@ -339,16 +339,12 @@ class KeptStandard(Standard):
             self.rows[(trait, number)] = unpacked(data)
         return self.rows[(trait, number)]
 
-    def auto_impls(self, key: str) -> list[tuple[Header, Impl]]:
-        kept = self.store.get("autos", key)
+    def read_auto_impls(self, key: str) -> list[tuple[str, str, Impl]]:
+        kept: Optional[list[tuple[str, str, Impl]]] = self.store.get("autos", key)
         if kept is None:
-            before = len(self.found)
-            kept = [(h.text, h.page, i) for h, i in super().auto_impls(key)]
-            del self.found[before:]
+            kept = super().read_auto_impls(key)
             self.store.put("autos", key, kept)
-        rows = [(Header(text, page), impl) for text, page, impl in kept]
-        self.found += [h for h, _ in rows]
-        return rows
+        return kept
 
     def associated_type(self, impl: Impl, name: str) -> Optional[Type]:
         if impl.source.startswith("std: ") and isinstance(impl.self_type, Named):

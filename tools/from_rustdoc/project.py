@@ -134,12 +134,14 @@ def determined(equations: list[tuple[Projection, Type]], names: set[str], known:
 
 
 class Projector:
-    """`patterns` are the structs that the text needs, by name."""
+    """`patterns` are the structs that the text needs, by name. Without them a clause on an associated type that has no name is lost."""
 
-    def __init__(self, renderer: Renderer) -> None:
+    def __init__(self, renderer: Renderer, with_patterns: bool = True) -> None:
         self.renderer = renderer
+        self.with_patterns = with_patterns
         self.world = renderer.world
         self.patterns: dict[str, Pattern] = {}
+        self.log: list[str] = []
 
     # ---- goals
     def goal(self, subject: Type, bound: Bound, scope: Scope) -> Goal:
@@ -183,7 +185,7 @@ class Projector:
 
     def any_clause(self, goal: Goal, scope: Scope) -> Optional[str]:
         """Of a clause `F: FnMut(I::Item)`, besides what becomes of it: that F is `FnMut` at all."""
-        declaration = next((d for d in self.renderer.traits.values() if self.world.name(d) == goal.trait), None)
+        declaration = self.renderer.traits.get(self.world.named.get(goal.trait, ""))
         is_plain = next(self.holes(goal.types[0], scope), None) is None
         if declaration is None or not self.renderer.is_fn_trait(declaration) or not is_plain or self.is_plain(goal, scope):
             return None
@@ -212,6 +214,8 @@ class Projector:
 
     def through(self, goal: Optional[Goal], place: Projection, form: Optional[Form], crate: str, scope: Scope) -> Goal:
         """The goal, in which the projection stands, as one on the projection's own subject."""
+        if not self.with_patterns:
+            raise Lossy("an associated type without a name")
         declaration, types, consts = self.owner(place)
         then = self.renderer.then(declaration, place.name)
         pattern: Optional[Type] = None
@@ -243,10 +247,17 @@ class Projector:
             known[(crate, meaning)] = Declaration("struct", f"pattern:{number}", crate, f"Pat{number}_", source="a pattern", params=params)
             self.world.add_special(known[(crate, meaning)])
         declaration = known[(crate, meaning)]
-        if declaration.name not in self.patterns:
-            self.patterns[declaration.name] = Pattern(declaration, meaning.replace("%s", declaration.name))
+        self.world.meanings[declaration.name] = meaning.replace("%s", declaration.name)
+        self.again([declaration.name])
         self.renderer.need(declaration.key)
         return declaration.key
+
+    def again(self, names: list[str]) -> None:
+        """Has patterns in this text."""
+        self.log += names
+        for name in names:
+            if name not in self.patterns:
+                self.patterns[name] = Pattern(self.world.get(self.world.named[name]), self.world.meanings[name])
 
     def lines(self, crate: str) -> Iterator[str]:
         """What the patterns of a crate mean."""

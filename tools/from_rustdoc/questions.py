@@ -453,7 +453,7 @@ class Asker:
         raise Lossy("what questions need kept growing; this is a fault of the translator")
 
     def checked(self, texts: dict[str, str]) -> None:
-        problems = check_texts(self.translation, texts["upper"], texts["lower"])
+        problems = check_texts(self.translation, texts)
         if problems:
             raise BadInput("the texts break the rules of docs/RUSTDOC.md, which is a mistake of the translator: " + problems[0])
 

@@ -23,6 +23,8 @@ ALWAYS = {"Ref_": "fundamental struct Ref_<T>(T, ())", "RefMut_": "fundamental s
           "PtrConst_": "struct PtrConst_<T>(T, ())", "PtrMut_": "struct PtrMut_<T>(T, ())", "f32": "struct f32", "f64": "struct f64"}
 MAXIMAL_PARAMS, MAXIMAL_ITEMS, MAXIMAL_CLAUSES = 16, 12, 64
 NEVER = "u8: Never_"
+# What a text needs: a kind ("need", "special", "companion", "then", "any"), the key of an item, and a name.
+Need = tuple[str, str, str]
 THEN = "__Then"
 
 
@@ -113,6 +115,7 @@ class Renderer:
         self.anys: dict[str, None] = {}
         self.further: dict[str, str] = {}
         self.names_values = False
+        self.log: Optional[list[Need]] = None
         self.lost_supers: dict[str, list[str]] = {}
         self.cyclic: set[str] = set()
         self.grew = True
@@ -123,12 +126,28 @@ class Renderer:
         kept = self.traits if declaration.is_trait else self.structs
         if declaration.is_trait and is_packed(declaration.params):
             raise Lossy(f"the trait `{declaration.name}` of more than 16 parameters")
+        if self.log is not None:
+            self.log.append(("need", declaration.key, ""))
         if declaration.key not in kept:
             kept[declaration.key] = declaration
             self.grew = True
         return declaration
 
+    def again(self, needs: list[Need]) -> None:
+        """Needs what was needed before, in another text."""
+        for kind, key, name in needs:
+            if kind == "need":
+                self.need(key)
+            elif kind == "special":
+                self.need_special(name)
+            elif kind == "any":
+                self.any(self.world.get(key))
+            else:
+                (self.companion if kind == "companion" else self.then)(self.world.get(key), name)
+
     def need_special(self, name: str) -> str:
+        if self.log is not None:
+            self.log.append(("special", "", name))
         if name not in self.special:
             self.special[name] = None
             self.grew = True
@@ -136,6 +155,8 @@ class Renderer:
 
     def companion(self, declaration: Declaration, name: str) -> str:
         """The companion trait for an associated type: `Iterator__Item<A>` says that `Item` is `A`."""
+        if self.log is not None:
+            self.log.append(("companion", declaration.key, name))
         if (declaration.key, name) not in self.companions:
             self.companions[(declaration.key, name)] = None
             self.further[self.companion_name(declaration, name)] = declaration.key
@@ -147,6 +168,8 @@ class Renderer:
 
     def then(self, declaration: Declaration, name: str) -> str:
         """The trait that asks a pattern of the value of an associated type: `Iterator__Item__Then<Wrap_<K>>` says that K has `Item`."""
+        if self.log is not None:
+            self.log.append(("then", declaration.key, name))
         if (declaration.key, name) not in self.thens:
             self.thens[(declaration.key, name)] = None
             self.further[self.then_name(declaration, name)] = declaration.key
@@ -157,6 +180,8 @@ class Renderer:
 
     def any(self, declaration: Declaration) -> str:
         """Of `Fn`, `FnMut` and `FnOnce` the trait that says that a type has it for some arguments: what has none is told by that."""
+        if self.log is not None:
+            self.log.append(("any", declaration.key, ""))
         if declaration.key not in self.anys:
             self.anys[declaration.key] = None
             self.further[self.any_name(declaration)] = declaration.key

@@ -48,6 +48,7 @@ class Standard:
         self.found: list[Header] = []
         self.values: dict[str, dict[str, dict[str, Type]]] = {}
         self.by_head: dict[str, list[tuple[str, Impl]]] = {}
+        self.autos: dict[str, list[tuple[str, str, Impl]]] = {}
 
     # ---- declarations
     def declaration(self, key: str) -> Declaration:
@@ -122,17 +123,22 @@ class Standard:
 
     def auto_impls(self, key: str) -> list[tuple[Header, Impl]]:
         """The impls of auto traits for a type of std, computed ones too, from its page."""
+        if key not in self.autos:
+            self.autos[key] = self.read_auto_impls(key)
+        rows = [(Header(text, page), impl) for text, page, impl in self.autos[key]]
+        self.found += [h for h, _ in rows]
+        return rows
+
+    def read_auto_impls(self, key: str) -> list[tuple[str, str, Impl]]:
         page, text = self.pages.page(self.pages.own_page(key))
-        impls: list[tuple[Header, Impl]] = []
+        impls: list[tuple[str, str, Impl]] = []
         written, _, computed = text.partition(COMPUTED)
         for fragment, is_computed in [(f, False) for f, _ in self.pages.impl_sections(written)] + [(f, True) for f, _ in self.pages.impl_sections(computed)]:
             impl = self.impl(fragment, page, "", rust_crate_of(key))
             if impl.trait is None or not is_std_key(impl.trait.key) or not self.declaration(impl.trait.key).is_auto:
                 continue
             impl.is_computed = is_computed
-            header = Header(Pages.plain(fragment), page)
-            self.found.append(header)
-            impls.append((header, impl))
+            impls.append((Pages.plain(fragment), page, impl))
         return impls
 
     def impls_with_head(self, key: str, head: Optional[str]) -> list[Impl]:

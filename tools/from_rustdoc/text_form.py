@@ -2,7 +2,7 @@
 from __future__ import annotations
 
 import re
-from dataclasses import dataclass, field
+from dataclasses import dataclass, field, replace
 from typing import Optional
 
 from .headers import Named_, NotUnderstood, Reader
@@ -53,6 +53,11 @@ class Text:
         return found
 
 
+# Impls that were read, each with what its names were then: None for a parameter.
+KNOWN: dict[str, tuple[TextLine, dict[str, Optional[str]]]] = {}
+MANY = 100000
+
+
 class TextReader:
     """Reads line after line, since a name is known from the line after its own."""
 
@@ -66,13 +71,17 @@ class TextReader:
         self.seen: set[str] = set()
         self.crate = ""
         self.counts: dict[str, int] = {}
+        self.asked: dict[str, Optional[str]] = {}
 
     def lookup(self, words: list[str]) -> Named_:
         name = words[-1]
-        kind = self.kinds.get(name)
-        if kind and name in self.homes and self.homes[name] not in self.seen:
+        kind = self.asked[name] = self.kinds.get(name)
+        if kind and not self.sees(name):
             raise NotUnderstood(f"`{name}` is not seen by crate {self.crate}")
         return (kind, name, name) if kind else ("word", None, name)
+
+    def sees(self, name: str) -> bool:
+        return name not in self.homes or self.homes[name] in self.seen
 
     def see(self, crate: str) -> None:
         """What the crate sees: its own names, and those of the crates that it uses, directly or through others."""
@@ -102,6 +111,15 @@ class TextReader:
         self.text.problems.append(f"line {number}: {what}" if number else what)
 
     def line(self, number: int, text: str) -> None:
+        known = KNOWN.get(text)
+        if known is not None and all(self.kinds.get(name) == kind and (kind is None or self.sees(name)) for name, kind in known[1].items()):
+            # The line stands in another text too, and each of its names is there what it is here.
+            line = replace(known[0], number=number, crate=self.crate)
+            self.counts[self.crate] = self.counts.get(self.crate, 0) + 1
+            self.auto_at_home(line)
+            self.text.lines.append(line)
+            return
+        self.asked = {}
         reader = Reader(text, self.lookup, unknowns=True)
         if reader.eat("crate"):
             self.crate = reader.word()
@@ -121,6 +139,10 @@ class TextReader:
         if not reader.at_end():
             raise NotUnderstood(f"`{reader.peek()[1]}` is too much")
         self.text.lines.append(line)
+        if line.kind == "impl":
+            if len(KNOWN) > MANY:
+                KNOWN.clear()
+            KNOWN[text] = line, self.asked
 
     def question(self, reader: Reader, line: TextLine) -> None:
         line.kind = "question"

@@ -4,7 +4,7 @@ from __future__ import annotations
 import os
 import re
 from collections import defaultdict
-from typing import Iterator, Optional, Union
+from typing import Any, Iterator, Optional, Union
 
 from . import doc_cfg
 from .cargo import Links
@@ -48,6 +48,9 @@ class World:
         self.taken: set[str] = set()
         self.by_trait: dict[str, dict[str, list[tuple[str, int]]]] = {}
         self.patterns: dict[tuple[str, str], Declaration] = {}
+        self.meanings: dict[str, str] = {}
+        self.written: dict[tuple[int, bool, bool], Any] = {}
+        self.parsed: dict[str, Any] = {}
         self.shapes: dict[tuple[str, tuple[Place, ...], tuple[str, ...]], Shape] = {}
         self.shape_of_key: dict[str, Shape] = {}
 

@@ -95,7 +95,7 @@ class RealCrates(unittest.TestCase):
             translation = Translation(self.world(crate.replace("-", "_")))
             translation.build()
             texts = {mode: "\n".join(translation.text(mode)[0]) + "\n" for mode in ("upper", "lower")}
-            self.assertEqual(check_texts(translation, texts["upper"], texts["lower"]), [], crate)
+            self.assertEqual(check_texts(translation, texts), [], crate)
             for mode, text in texts.items():
                 places = Report(translation).places(mode)
                 for name, verdict in run(text, PROGRAM).refusals().items():

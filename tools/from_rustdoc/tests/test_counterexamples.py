@@ -20,7 +20,7 @@ class Counterexamples(unittest.TestCase):
         """The text has the good line, and with the bad one in its place it is refused for that reason."""
         self.assertEqual(self.good[mode].count(old + "\n"), 1, old)
         bad = {**self.good, mode: self.good[mode].replace(old + "\n", new + "\n" if new else "")}
-        problems = check_texts(self.translation, bad["upper"], bad["lower"])
+        problems = check_texts(self.translation, bad)
         self.assertTrue(any(why in problem for problem in problems), problems)
 
     def test_c1_a_supertrait_is_dropped(self) -> None:

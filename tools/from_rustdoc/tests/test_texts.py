@@ -24,7 +24,7 @@ class Texts(unittest.TestCase):
     def test_the_texts_keep_the_rules(self) -> None:
         for name in ("shapes", "before", "after"):
             written = texts(translation(name))
-            self.assertEqual(check_texts(translation(name), written["upper"], written["lower"]), [])
+            self.assertEqual(check_texts(translation(name), written), [])
 
     def test_each_impl_is_whole_or_told_with_its_loss(self) -> None:
         found = translation("shapes")
