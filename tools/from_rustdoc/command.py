@@ -159,7 +159,8 @@ def write_all(base: str, report: Report, texts: dict[str, str], inputs: dict[str
 def kept(base: str) -> dict[str, Any]:
     try:
         with open(base + ".map", encoding="utf-8") as handle:
-            return json.load(handle)
+            found: dict[str, Any] = json.load(handle)
+            return found
     except (OSError, ValueError) as error:
         raise BadInput(f"{base}.map cannot be read; make it by `from-rustdoc read -o {base} CRATE.json ..`: {error}")
 

@@ -107,8 +107,11 @@ class Versions:
 
     # ---- what is equal in both
     def common_key(self, world: World, key: str) -> str:
-        """One key for both versions: that of the old one, where there is one."""
+        """One key for both versions: that of the old one, where there is one. What is declared in a body goes by its name."""
         own = world.key_of(key)
+        if own.startswith("hidden:"):
+            _, crate, _, name = own.split(":", 3)
+            return f"hidden:{crate}::{name}"
         return self.older.get(own, own) if world is self.new else own
 
     def common(self, world: World, term: Type) -> Type:

@@ -31,10 +31,13 @@ def missing() -> str:
 class Baseline(unittest.TestCase):
     room: str
     project: str
+    environment: dict[str, str]
 
     @classmethod
     def setUpClass(cls) -> None:
-        cls.room = cls.enterClassContext(tempfile.TemporaryDirectory())  # type: ignore[attr-defined]
+        room = tempfile.TemporaryDirectory()
+        cls.addClassCleanup(room.cleanup)
+        cls.room = room.name
         cls.project = os.path.join(cls.room, "work", "project")
         cls.environment = {**os.environ, "XDG_CACHE_HOME": os.path.join(cls.room, "cache"), "PATH": os.path.join(cls.room, "bin") + os.pathsep + os.environ["PATH"]}
         os.makedirs(os.path.join(cls.room, "bin"))
