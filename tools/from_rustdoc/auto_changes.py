@@ -127,7 +127,7 @@ class AutoChanges:
                                     at(item.place if item else None), at(impl.place, "", "old")))
 
     def impls(self, world: World) -> list[Impl]:
-        return [i for i in world.crates[self.versions.crate].impls if i.trait is not None and isinstance(i.self_type, Named) and is_auto(world, i)]
+        return [i for i in self.versions.impls(world) if i.trait is not None and isinstance(i.self_type, Named) and is_auto(world, i)]
 
     def added(self) -> None:
         """Impls of auto traits that are new: what types lose by them is told above."""

@@ -56,14 +56,14 @@ class Unchanged:
             before, after = versions.old.get(key), versions.new.get(versions.newer.get(key, key))
         except Lossy:
             return None
-        form, impls = self.form(versions.old, before), self.impls(versions.old, before, is_asked)
-        if form is None or impls is None or form != self.form(versions.new, after) or impls != self.impls(versions.new, after, is_asked):
+        form, impls = self.form(versions.old, before, is_asked), self.impls(versions.old, before, is_asked)
+        if form is None or impls is None or form != self.form(versions.new, after, is_asked) or impls != self.impls(versions.new, after, is_asked):
             return None
         return self.within(before.fields)
 
-    def form(self, world: World, declaration: Declaration) -> Optional[Form]:
+    def form(self, world: World, declaration: Declaration, is_asked: bool) -> Optional[Form]:
         """The parameters, fields and bounds of a type, in the form of both versions; None where more than these decides."""
-        if declaration.is_opaque or any(isinstance(part, (Projection, Unsayable)) for term in declaration.fields for part in walk(term)):
+        if declaration.is_opaque or any(decides_more(part, is_asked) for term in declaration.fields for part in walk(term)):
             return None
         values: dict[str, Type] = {p.name: Constant(f"P{n}") if p.kind == "const" else Parameter(f"P{n}") for n, p in enumerate(declaration.params)}
         bounds = [(self.versions.common(world, put(t, values)), self.versions.common_bound(world, put_bound(b, values))) for t, b in declaration.predicates]
@@ -99,3 +99,12 @@ class Unchanged:
             return is_std_key(key) or (key.startswith("other:") and self.versions.new.key_of(key) == key)
         other = self.versions.new.crates.get(home.name)
         return other is not None and (home.version, len(home.impls), len(home.items)) == (other.version, len(other.impls), len(other.items))
+
+
+def decides_more(term: Type, is_asked: bool) -> bool:
+    """Whether a type in a field stands for what impls say: an associated type, but for those of the parameters of a type that is asked itself."""
+    return isinstance(term, Unsayable) or isinstance(term, Projection) and not (is_asked and is_of_parameter(term))
+
+
+def is_of_parameter(term: Type) -> bool:
+    return isinstance(term, Parameter) or isinstance(term, Projection) and is_of_parameter(term.subject)
