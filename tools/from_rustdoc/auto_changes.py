@@ -40,6 +40,7 @@ class AutoChanges:
         self.troubled = troubled
         self.programs = programs
         self.keys = {name: versions.old.pages.key(page) or "" for name, page in AUTO_TRAITS.items()}
+        self.unchanged = Unchanged(versions, set(self.keys.values()))
         self.messages: list[Message] = []
 
     def run(self) -> None:
@@ -53,10 +54,9 @@ class AutoChanges:
 
     def types(self) -> Iterator[Item]:
         """The public types of both versions whose arguments are the same, and whose auto traits may be others."""
-        unchanged = Unchanged(self.versions, set(self.keys.values()))
         for old_key in self.versions.newer:
             item = self.versions.before.items.get(old_key)
-            if item is not None and item.is_type and old_key not in self.troubled and not unchanged.is_so(old_key):
+            if item is not None and item.is_type and old_key not in self.troubled and not self.unchanged.is_so(old_key):
                 yield item
 
     # ---- what is asked
@@ -109,7 +109,8 @@ class AutoChanges:
             assert impl.trait is not None and isinstance(impl.self_type, Named)
             if impl.is_negative or not impl.predicates or names_private(self.versions.old, self.versions.before, [impl.self_type.key]):
                 continue
-            if self.versions.old.key_of(impl.self_type.key) in self.troubled:
+            key = self.versions.old.key_of(impl.self_type.key)
+            if key in self.troubled or self.unchanged.is_so(key):
                 continue
             show = self.versions.show_old
             where = ", ".join(f"{show.type(t)}: {show.bound(b)}" for t, b in impl.predicates)
@@ -121,13 +122,12 @@ class AutoChanges:
                 new = self.newer(old)
             except Gone:
                 continue
-            key = self.versions.newer.get(self.versions.old.key_of(impl.self_type.key))
-            item = self.versions.after.items.get(key or "")
+            item = self.versions.after.items.get(self.versions.newer.get(key, ""))
             yield Claim(new, change("auto-trait-lost", f"{item.shown() if item else show.type(impl.self_type)} is not `{show.bound(impl.trait)}` as before",
                                     at(item.place if item else None), at(impl.place, "", "old")))
 
     def impls(self, world: World) -> list[Impl]:
-        return [i for i in world.crates[self.versions.crate].impls if i.trait is not None and isinstance(i.self_type, Named) and is_auto(world, i)]
+        return [i for i in self.versions.impls(world) if i.trait is not None and isinstance(i.self_type, Named) and is_auto(world, i)]
 
     def added(self) -> None:
         """Impls of auto traits that are new: what types lose by them is told above."""

@@ -146,7 +146,8 @@ def write_all(base: str, report: Report, texts: dict[str, str], inputs: dict[str
 def kept(base: str) -> dict[str, Any]:
     try:
         with open(base + ".map", encoding="utf-8") as handle:
-            return json.load(handle)
+            found: dict[str, Any] = json.load(handle)
+            return found
     except (OSError, ValueError) as error:
         raise BadInput(f"{base}.map cannot be read; make it by `from-rustdoc read -o {base} CRATE.json ..`: {error}")
 
@@ -333,17 +334,31 @@ def main(words: list[str]) -> int:
 def main_of_cargo(words: list[str]) -> int:
     """`cargo celtisdarts check|ask|later`, in the project that stands here or that `--manifest-path` names."""
     words, extra = divided(words[1:] if words[:1] == ["celtisdarts"] else words)
+    # (`--flag=value` as `--flag value`.)
+    words = [part for word in words for part in (word.split("=", 1) if word.startswith(("--manifest-path=", "--baseline=")) else [word])]
     folder = "."
     if "--manifest-path" in words[:-1]:
         at = words.index("--manifest-path")
         folder = os.path.dirname(words[at + 1]) or "."
         words = words[:at] + words[at + 2:]
-    of_cargo = {"check": ["project", folder, *words[1:]], "ask": ["ask", "--project", folder, *words[1:]],
-                "later": ["later", *words[1:]] + (["--baseline", latest_tag(folder)] if "--baseline" not in words else []) + [folder]}
-    if not words or words[0] not in of_cargo:
+    if not words or words[0] not in ("check", "ask", "later"):
         print(USAGE_OF_CARGO, file=sys.stderr if words[:1] != ["--help"] else sys.stdout)
         return 0 if words[:1] == ["--help"] else 2
-    return guarded("cargo celtisdarts", lambda: run_command(parser("cargo celtisdarts").parse_args(of_cargo[words[0]]), extra))
+    return guarded("cargo celtisdarts", lambda: run_command(parser("cargo celtisdarts").parse_args(words_of_cargo(words, folder)), extra))
+
+
+def words_of_cargo(words: list[str], folder: str) -> list[str]:
+    """The words of this command for those behind `cargo celtisdarts`."""
+    if words[0] == "check":
+        return ["project", folder, *words[1:]]
+    if words[0] == "ask":
+        return ["ask", "--project", folder, *words[1:]]
+    if "--baseline" in words:
+        return [*words, folder]
+    tag = latest_tag(folder)
+    if tag and "--quiet" not in words:
+        print(f"cargo celtisdarts: the older version is {tag}", file=sys.stderr)
+    return [*words, "--baseline", tag, folder]
 
 
 def guarded(name: str, run_it: Callable[[], int]) -> int:

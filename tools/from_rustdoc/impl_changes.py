@@ -63,7 +63,7 @@ class ImplChanges:
     def of(self, world: World) -> dict[Header, list[tuple[Impl, frozenset[Predicate]]]]:
         """The crate's impls by their headers, without those of auto traits, which are asked for."""
         found: dict[Header, list[tuple[Impl, frozenset[Predicate]]]] = {}
-        for impl in world.crates[self.versions.crate].impls:
+        for impl in self.versions.impls(world):
             if impl.trait is not None and not is_auto(world, impl):
                 header, clauses = self.versions.header(world, impl)
                 found.setdefault(header, []).append((impl, clauses))
@@ -238,16 +238,15 @@ class ImplChanges:
 
     def verdicts_together(self, impls: list[Impl]) -> list[str]:
         """The program's word on each header, empty where the text cannot say it. Clauses are not looked at, so none are written."""
-        questions = [Question("", i.self_type, i.trait, plain_params(i.params), [], crate=self.versions.crate) for i in impls if i.trait is not None]
+        questions = [Question("", i.self_type, i.trait, plain_params(i.params), [], crate=i.crate) for i in impls if i.trait is not None]
         translation = cone_of_questions(self.versions.new, questions)
-        translation.keep.add(crate_name(self.versions.crate))
+        translation.keep |= {crate_name(impl.crate) for impl in impls}
         translation.build()
         lines = [header_of(translation.impl_writer.write(without_clauses(impl))) for impl in impls]
         if translation.renderer.grew:
             translation.build()
-        asked = [line for line in lines if line]
-        sections = [text for line in asked for text in (f"later {crate_name(self.versions.crate)}", line)]
-        verdicts = iter(run("\n".join(translation.text("upper")[0] + sections) + "\n", self.programs.answers).releases if asked else [])
+        sections = [text for impl, line in zip(impls, lines) if line for text in (f"later {crate_name(impl.crate)}", line)]
+        verdicts = iter(run("\n".join(translation.text("upper")[0] + sections) + "\n", self.programs.answers).releases if sections else [])
         return [next(verdicts) if line else "" for line in lines]
 
     def reason(self, impl: Impl) -> str:

@@ -20,7 +20,7 @@ class Unchanged:
         self.versions = versions
         self.autos = autos
         self.written = {id(world): self.auto_impls(world) for world in (versions.old, versions.new)}
-        self.inside: dict[str, Optional[list[str]]] = {}
+        self.inside: dict[tuple[str, bool], Optional[list[str]]] = {}
 
     def auto_impls(self, world: World) -> dict[str, list[Impl]]:
         """The impls of auto traits, by the keys of their types."""
@@ -39,39 +39,41 @@ class Unchanged:
             if one in seen:
                 continue
             seen.add(one)
-            if one not in self.inside:
-                self.inside[one] = self.found(one)
-            inner = self.inside[one]
+            place = (one, one == key)
+            if place not in self.inside:
+                self.inside[place] = self.found(*place)
+            inner = self.inside[place]
             if inner is None:
                 return False
             todo += inner
         return True
 
-    def found(self, key: str) -> Optional[list[str]]:
-        """The types of this crate that stand in a type; None where it is not the same by itself."""
+    def found(self, key: str, is_asked: bool) -> Optional[list[str]]:
+        """The types of this crate that stand in a type; None where it is not the same by itself. Of one that is asked itself, with its own
+        parameters as arguments, clauses on these are the question's matter; of others they lead to impls that may have changed."""
         versions = self.versions
         try:
             before, after = versions.old.get(key), versions.new.get(versions.newer.get(key, key))
         except Lossy:
             return None
-        form, impls = self.form(versions.old, before), self.impls(versions.old, before)
-        if form is None or impls is None or form != self.form(versions.new, after) or impls != self.impls(versions.new, after):
+        form, impls = self.form(versions.old, before, is_asked), self.impls(versions.old, before, is_asked)
+        if form is None or impls is None or form != self.form(versions.new, after, is_asked) or impls != self.impls(versions.new, after, is_asked):
             return None
         return self.within(before.fields)
 
-    def form(self, world: World, declaration: Declaration) -> Optional[Form]:
+    def form(self, world: World, declaration: Declaration, is_asked: bool) -> Optional[Form]:
         """The parameters, fields and bounds of a type, in the form of both versions; None where more than these decides."""
-        if declaration.is_opaque or any(isinstance(part, (Projection, Unsayable)) for term in declaration.fields for part in walk(term)):
+        if declaration.is_opaque or any(decides_more(part, is_asked) for term in declaration.fields for part in walk(term)):
             return None
         values: dict[str, Type] = {p.name: Constant(f"P{n}") if p.kind == "const" else Parameter(f"P{n}") for n, p in enumerate(declaration.params)}
         bounds = [(self.versions.common(world, put(t, values)), self.versions.common_bound(world, put_bound(b, values))) for t, b in declaration.predicates]
         return [p.kind for p in declaration.params], [self.versions.common(world, put(t, values)) for t in declaration.fields], bounds
 
-    def impls(self, world: World, declaration: Declaration) -> Optional[set[object]]:
-        """What is written of the type's auto traits; None where a clause asks for another trait."""
+    def impls(self, world: World, declaration: Declaration, is_asked: bool) -> Optional[set[object]]:
+        """What is written of the type's auto traits; None where a clause asks for another trait, of more than a parameter of the type."""
         found: set[object] = set()
         for impl in self.written[id(world)].get(declaration.key, []):
-            if any(not is_sizedness(b) and world.key_of(b.key) not in self.autos for _, b in impl.predicates):
+            if any(not is_sizedness(b) and world.key_of(b.key) not in self.autos and not (is_asked and isinstance(t, Parameter)) for t, b in impl.predicates):
                 return None
             found.add(self.versions.header(world, impl))
         return found
@@ -97,3 +99,12 @@ class Unchanged:
             return is_std_key(key) or (key.startswith("other:") and self.versions.new.key_of(key) == key)
         other = self.versions.new.crates.get(home.name)
         return other is not None and (home.version, len(home.impls), len(home.items)) == (other.version, len(other.impls), len(other.items))
+
+
+def decides_more(term: Type, is_asked: bool) -> bool:
+    """Whether a type in a field stands for what impls say: an associated type, but for those of the parameters of a type that is asked itself."""
+    return isinstance(term, Unsayable) or isinstance(term, Projection) and not (is_asked and is_of_parameter(term))
+
+
+def is_of_parameter(term: Type) -> bool:
+    return isinstance(term, Parameter) or isinstance(term, Projection) and is_of_parameter(term.subject)

@@ -70,6 +70,13 @@ class Versions:
                     self.newer.setdefault(key, later)
                     self.older.setdefault(later, key)
 
+    def impls(self, world: World) -> list[Impl]:
+        """The impls of the crate, and of crates that only one version has and exports items of: what was moved there is still this crate's."""
+        other, surface = (self.new, self.before) if world is self.old else (self.old, self.after)
+        homes = {world.homes[key].name for key in surface.kinds if key in world.homes}
+        names = [self.crate, *(name for name in world.crates if name in homes and name not in other.crates and name != self.crate)]
+        return [impl for name in names for impl in world.crates[name].impls]
+
     # ---- from the old version to the new one
     def new_key(self, key: str) -> str:
         own = self.old.key_of(key)
@@ -107,8 +114,11 @@ class Versions:
 
     # ---- what is equal in both
     def common_key(self, world: World, key: str) -> str:
-        """One key for both versions: that of the old one, where there is one."""
+        """One key for both versions: that of the old one, where there is one. What is declared in a body goes by its name."""
         own = world.key_of(key)
+        if own.startswith("hidden:"):
+            _, crate, _, name = own.split(":", 3)
+            return f"hidden:{crate}::{name}"
         return self.older.get(own, own) if world is self.new else own
 
     def common(self, world: World, term: Type) -> Type:

@@ -130,12 +130,34 @@ def users_impls(world: World, impl: Impl) -> Iterator[str]:
             pass
 
 
+def for_the_clauses(world: World, impl: Impl) -> str:
+    """Impls by which the user's own type has what the added impl asks of its parameters, without their methods: rustc looks for overlaps
+    all the same."""
+    show, found = Show(world, exact=True), []
+    values: dict[str, Type] = {p.name: Parameter("Mine") for p in impl.params if p.kind == "type"}
+    for subject, bound in impl.predicates:
+        if isinstance(subject, Parameter) and not is_sizedness(bound):
+            try:
+                written = show.bound(Bound(bound.key, put_bound(bound, values).arguments))
+                declaration = world.get(bound.key)
+            except Lossy:
+                continue
+            if "'" not in written and not declaration.is_auto and not declaration.name.startswith("Fn"):
+                found.append(f"impl {written} for Mine {{}} ")
+    return "".join(dict.fromkeys(found))
+
+
 def header(show: Show, impl: Impl) -> str:
     """As Rust writes it, lifetimes elided."""
     written = show.header(impl).replace("&'static ", "&")
     if "'" in written:
         raise Lossy("a lifetime")
     return written + " {}"
+
+
+def header_for_rustc(shown: str) -> str:
+    """A header as it is told, with the types of its constants, which are not told."""
+    return re.sub(r"const (\w+)(?=[,>])", r"const \1: usize", shown)
 
 
 @unittest.skipIf(missing(), missing())
@@ -203,8 +225,11 @@ class RealReleases(unittest.TestCase):
         if word not in ("breaking", "compatible"):
             return
         assert impl.place is not None
-        users = [f"pub struct Mine; {found} {{}}" for child in messages[0].children for found in re.findall(r"another crate may have `(.*)`", child.text)] \
-            if word == "breaking" else list(users_impls(new, impl))
+        users = list(users_impls(new, impl))
+        if word == "breaking":
+            with_clauses = for_the_clauses(new, impl)
+            users = [f"pub struct Mine; {with_clauses}{header_for_rustc(found)} {{}}" for child in messages[0].children
+                     for found in re.findall(r"another crate may have `(.*)`", child.text)]
         for user in users:
             old = copy.errors(user)
             copy.restore(impl.place, before)

@@ -31,10 +31,13 @@ def missing() -> str:
 class Baseline(unittest.TestCase):
     room: str
     project: str
+    environment: dict[str, str]
 
     @classmethod
     def setUpClass(cls) -> None:
-        cls.room = cls.enterClassContext(tempfile.TemporaryDirectory())  # type: ignore[attr-defined]
+        room = tempfile.TemporaryDirectory()
+        cls.addClassCleanup(room.cleanup)
+        cls.room = room.name
         cls.project = os.path.join(cls.room, "work", "project")
         cls.environment = {**os.environ, "XDG_CACHE_HOME": os.path.join(cls.room, "cache"), "PATH": os.path.join(cls.room, "bin") + os.pathsep + os.environ["PATH"]}
         os.makedirs(os.path.join(cls.room, "bin"))
@@ -47,10 +50,10 @@ class Baseline(unittest.TestCase):
         cls.write(cls.project, NEW)
 
     @staticmethod
-    def write(folder: str, source: str) -> None:
+    def write(folder: str, source: str, name: str = "to-draw") -> None:
         os.makedirs(os.path.join(folder, "src"), exist_ok=True)
         with open(os.path.join(folder, "Cargo.toml"), "w", encoding="utf-8") as handle:
-            handle.write('[package]\nname = "to-draw"\nversion = "1.0.0"\nedition = "2021"\n')
+            handle.write(f'[package]\nname = "{name}"\nversion = "1.0.0"\nedition = "2021"\n')
         with open(os.path.join(folder, "src", "lib.rs"), "w", encoding="utf-8") as handle:
             handle.write(source)
 
@@ -84,6 +87,21 @@ class Baseline(unittest.TestCase):
         self.write(there, NEW)
         status, out, err = self.later("--baseline", there, ".", "-p", "to-draw")
         self.assertEqual((status, out), (0, "to_draw 1.0.0 to 1.0.0: compatible (nothing that is looked at has changed)\n"), err)
+
+    def test_what_has_moved_into_a_crate_of_its_own_is_the_same(self) -> None:
+        older, newer = os.path.join(self.room, "whole"), os.path.join(self.room, "split")
+        inside = "#[derive(Clone)] pub struct S<T>(pub T);\npub trait Draw {}\nimpl<T: Copy> Draw for S<T> {}\n"
+        self.write(older, f"pub mod shapes {{\n{inside}}}\npub use shapes::S;\n")
+        self.write(newer, "pub mod shapes { pub use core_of_it::*; }\npub use shapes::S;\n")
+        with open(os.path.join(newer, "Cargo.toml"), "a", encoding="utf-8") as handle:
+            handle.write('[dependencies]\ncore_of_it = { path = "core" }\n[workspace]\n')
+        self.write(os.path.join(newer, "core"), inside.replace("Copy", "Clone"), "core_of_it")
+        status, out, err = self.later("--baseline", older, newer)
+        self.assertEqual((status, out.splitlines()[-1]), (0, "to_draw 1.0.0 to 1.0.0: compatible (1 compatible)"), err)
+        self.write(os.path.join(newer, "core"), inside + "impl<T> Draw for &T {}\n", "core_of_it")
+        status, out, err = self.later("--baseline", older, newer)
+        self.assertEqual(status, 1, err)
+        self.assertIn("another crate may have `impl core_of_it::Draw for &Mine`", out)
 
     def test_what_is_no_version_is_told(self) -> None:
         for words, why in [(["--baseline", "v9"], "v9 is no folder with a Cargo.toml, and no revision of"), (["--baseline", self.room], "has no Cargo.toml"),

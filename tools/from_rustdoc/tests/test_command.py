@@ -25,8 +25,12 @@ class Ended(unittest.TestCase):
     """Runs the command in this process, with the kept documents of std and a place of its own for what it keeps."""
 
     def setUp(self) -> None:
-        self.room = self.enterContext(tempfile.TemporaryDirectory())  # type: ignore[attr-defined]
-        self.enterContext(mock.patch.dict(os.environ, {"XDG_CACHE_HOME": self.room}))  # type: ignore[attr-defined]
+        room = tempfile.TemporaryDirectory()
+        self.addCleanup(room.cleanup)
+        self.room = room.name
+        cache = mock.patch.dict(os.environ, {"XDG_CACHE_HOME": self.room})
+        cache.start()
+        self.addCleanup(cache.stop)
 
     def run_words(self, *words: str) -> tuple[int, str, str]:
         out, err = io.StringIO(), io.StringIO()
@@ -154,7 +158,9 @@ class Errors(Ended):
 
 class Rendered(unittest.TestCase):
     def setUp(self) -> None:
-        self.room = self.enterContext(tempfile.TemporaryDirectory())  # type: ignore[attr-defined]
+        room = tempfile.TemporaryDirectory()
+        self.addCleanup(room.cleanup)
+        self.room = room.name
         with open(os.path.join(self.room, "lib.rs"), "w", encoding="utf-8") as handle:
             handle.write("// ümlaut\npub struct S<T>(T);\nimpl<T> Clone for S<T> {\n}\n")
         self.sources = Sources({"": [self.room]})
@@ -175,7 +181,8 @@ class Rendered(unittest.TestCase):
         self.assertEqual((found["file_name"], found["text"], found["byte_start"], found["label"]), ("gone.rs", [], 0, "the old version"))
 
     def test_no_answer_is_worse_than_a_bad_one(self) -> None:
-        self.assertEqual([worst(s) for s in ([], [0, 4], [4, 1, 0], [1, 3, 4])], [0, 4, 1, 3])
+        statuses: list[list[int]] = [[], [0, 4], [4, 1, 0], [1, 3, 4]]
+        self.assertEqual([worst(s) for s in statuses], [0, 4, 1, 3])
 
     def test_what_is_fine_has_one_line(self) -> None:
         stream = io.StringIO()

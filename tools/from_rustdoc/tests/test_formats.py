@@ -45,7 +45,8 @@ def shown(crate: JsonCrate) -> list[str]:
             value.item = {}
         return without_numbers(repr(value))
 
-    return sorted(map(of, [*crate.declarations.values(), *crate.aliases.values(), *crate.impls]))
+    items: list[Declaration | Impl] = [*crate.declarations.values(), *crate.aliases.values(), *crate.impls]
+    return sorted(map(of, items))
 
 
 def surface(name: str) -> list[str]:
@@ -60,13 +61,13 @@ def inner(data: dict[str, Any], kind: str, name: str = "") -> dict[str, Any]:
 
 
 class Formats(unittest.TestCase):
-    def changed(self, change: Callable[[dict[str, Any]], None], number: int = 60) -> JsonCrate:
+    def changed(self, change: Callable[[dict[str, Any]], object], number: int = 60) -> JsonCrate:
         data = data_of("formats")
         data["format_version"] = number
         change(data)
         return read(data)
 
-    def refused(self, what: str, change: Callable[[dict[str, Any]], None]) -> None:
+    def refused(self, what: str, change: Callable[[dict[str, Any]], object]) -> None:
         with self.assertRaisesRegex(BadInput, what):
             self.changed(change)
 

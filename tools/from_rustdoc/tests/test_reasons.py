@@ -8,6 +8,7 @@ from ..answer import Answerer
 from ..program import proved_program
 from ..questions import QuestionReader
 from ..reasons import why
+from ..world import World
 from .common import PROGRAM, world
 
 NO_PROGRAM = "" if proved_program("celtisdarts_explain") else "there is no proved program that explains"
@@ -15,6 +16,8 @@ NO_PROGRAM = "" if proved_program("celtisdarts_explain") else "there is no prove
 
 @unittest.skipIf(NO_PROGRAM, NO_PROGRAM)
 class Reasons(unittest.TestCase):
+    world: World
+
     @classmethod
     def setUpClass(cls) -> None:
         cls.world = world("reasons")
