@@ -7,9 +7,8 @@ import os
 import resource
 import subprocess
 import sys
-import tempfile
 from pathlib import Path
-from typing import Callable, Mapping, NamedTuple, Optional, Sequence, Union
+from typing import BinaryIO, Callable, Mapping, NamedTuple, Optional, Sequence, Union
 
 TOP = Path(__file__).resolve().parents[2]
 Word = Union[str, Path]
@@ -87,10 +86,15 @@ class Ended(NamedTuple):
         return self.output.decode("latin-1").rstrip("\n").rpartition("\n")[2]
 
 
+def unnamed_file() -> BinaryIO:
+    """A file in memory."""
+    return open(os.memfd_create("checks"), "w+b")
+
+
 def run(words: Sequence[Word], text: bytes = b"", limits: Limits = Limits(),
         cwd: Optional[Path] = None, env: Optional[Mapping[str, str]] = None) -> Ended:
     """Runs a command on the text."""
-    with tempfile.TemporaryFile() as source, tempfile.TemporaryFile() as output, tempfile.TemporaryFile() as said:
+    with unnamed_file() as source, unnamed_file() as output, unnamed_file() as said:
         source.write(text)
         source.seek(0)
         child = subprocess.Popen(words, stdin=source, stdout=output, stderr=said, cwd=cwd, env=env)
@@ -142,10 +146,10 @@ def is_released(name: str) -> bool:
 
 
 class Example(NamedTuple):
-    """A folder of examples/: a text, with what it is asked at and ends with."""
+    """A folder of examples/: a text, the depths that it is asked at, and the status that each run ends with."""
 
     folder: Path
-    depth: str
+    depths: Sequence[str]
     status: int
 
     @property
@@ -167,8 +171,8 @@ class Example(NamedTuple):
 
 def example(name: str) -> Example:
     folder = TOP / "examples" / name
-    first = {it: (folder / it).read_text().split()[0] for it in ("depth", "status") if (folder / it).is_file()}
-    return Example(folder, first.get("depth", "8"), int(first.get("status", "0")))
+    depths, status = ((folder / it).read_text().split() if (folder / it).is_file() else [] for it in ("depth", "status"))
+    return Example(folder, depths or ["8"], int([*status, "0"][0]))
 
 
 def examples() -> list[Example]:

@@ -23,7 +23,7 @@ from typing import Iterator, NamedTuple
 
 from .common import Ended, Limits, Tally, Wrong, examples, program, run
 from .explained_json import read_lines, text_of
-from .texts import KINDS, Lines, by_lot, joined, wide_texts
+from .makers import KINDS, Lines, by_lot, joined, wide_texts
 
 LIMITS = Limits(seconds=10, memory=512 * 1024 * 1024)
 COLUMNS = 100
@@ -125,7 +125,7 @@ def made(seed: str, number: int) -> tuple[str, bytes, int]:
 
 def texts(given: argparse.Namespace) -> Iterator[Text]:
     for example in examples():
-        yield Text(f"example {example.name}", example.text, example.depth, True)
+        yield Text(f"example {example.name}", example.text, example.depths[0], True)
     for number in range(1, given.texts + 1):
         kind, text, depth = made(given.seed, number)
         yield Text(f"text {number} ({kind})", text, str(depth))

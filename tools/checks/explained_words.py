@@ -35,7 +35,7 @@ from .answers import first_word
 from .common import Limits, Tally, examples, program, run
 from .explained_json import read_lines
 from .terms import Reader, Term, Unread, Values, owned, reference_of, unify
-from .texts import PlainText
+from .makers import PlainText
 
 LIMITS = Limits(seconds=60)
 QUOTED = re.compile(r"`([^`]*)`")
@@ -342,7 +342,7 @@ def texts(given: argparse.Namespace) -> Iterator[tuple[str, bytes, str]]:
     for file in given.files:
         yield str(file), file.read_bytes(), "8"
     for example in examples() if not given.files else []:
-        yield example.name, example.text, example.depth
+        yield example.name, example.text, example.depths[0]
     for number in range(given.texts if not given.files else 0):
         yield f"text {number}", made(given, number), "8"
 

@@ -36,7 +36,7 @@ from typing import NamedTuple, Optional, Sequence
 
 from .answers import FAULT, FAULTS, Answer, first_word, read_answer, statements
 from .common import Ended, Limits, Tally, Wrong, program, run
-from .texts import KINDS, by_lot, count_wide, joined, wide_text
+from .makers import KINDS, by_lot, count_wide, joined, wide_text
 
 LIMITS = Limits(seconds=10, memory=256 * 1024 * 1024)
 SMALL = 1024
