@@ -63,10 +63,10 @@ class Checks:
         self.explaining = given.explaining or program("celtisdarts_explain")
         self.slowest = (0.0, 0.0, "")
 
-    def run(self, program: str, it: Text, *words: str) -> Ended:
-        ended = run([program, it.depth, *words], it.text, LIMITS)
+    def run(self, path: str, it: Text, *words: str) -> Ended:
+        ended = run([path, it.depth, *words], it.text, LIMITS)
         if ended.status < 0:
-            raise Wrong(f"{program.rpartition('/')[2]} {' '.join([it.depth, *words])} died by signal {-ended.status}")
+            raise Wrong(f"{path.rpartition('/')[2]} {' '.join([it.depth, *words])} died by signal {-ended.status}")
         return ended
 
     def check(self, it: Text) -> None:

@@ -203,9 +203,9 @@ def is_open(*said: str, words: Sequence[str] = ("maybe", "open")) -> bool:
 class Trial:
     """What is tried of one text."""
 
-    def __init__(self, counts: Counts, answering: str, made: Made) -> None:
+    def __init__(self, counts: Counts, answering: str, text: Made) -> None:
         self.counts, self.answering = counts, answering
-        self.kind, self.rng, self.text, self.depth = made
+        self.kind, self.rng, self.text, self.depth = text
 
     def ask(self, text: bytes, depth: int = 0) -> Ended:
         """The answer, or that a fault is named."""

@@ -6,6 +6,7 @@ from functools import partial
 from typing import Callable, Iterator, NamedTuple
 
 from .common import Tally, program, run
+from .makers import many, repeated
 
 BASE = "crate base\ntrait Show\n"
 ACCEPTED, REFUSED = "crate base: accepted", "line 3: fault 16"
@@ -42,15 +43,11 @@ class Case(NamedTuple):
 
 def numbered(form: str, count: int) -> str:
     """A line for each number from 1, where the form has #."""
-    return "".join(form.replace("#", str(k)) + "\n" for k in range(1, count + 1))
+    return "".join(f"{it}\n" for it in many(form, range(1, count + 1)))
 
 
 def listed(prefix: str, count: int, first: int = 1) -> str:
-    return ", ".join(f"{prefix}{k}" for k in range(first, count + 1))
-
-
-def repeated(part: str, count: int, between: str = ", ") -> str:
-    return between.join([part] * count)
+    return ", ".join(many(f"{prefix}#", range(first, count + 1)))
 
 
 def all_sorts(form: str, count: int) -> str:

@@ -345,6 +345,10 @@ def cyclic_text(rng: random.Random) -> Lines:
     return Crates(rng, cyclic=True).make(10, 5) if rng.random() < 0.6 else clique(rng)
 
 
+def question(rng: random.Random) -> str:
+    return rng.choice(["prove", "refute"]) + " in c0"
+
+
 def growing_text(rng: random.Random) -> Lines:
     """Structs and impls that ask about types with more levels than their own, in several ways at once."""
     lines = ["crate c0", "auto trait Safe", "trait Show", "struct V<T>", "struct W<T>"]
@@ -352,31 +356,27 @@ def growing_text(rng: random.Random) -> Lines:
     wrapped = [rng.choice(["V", "W", "G"]) + f"<{it}>" for it in grown]
     lines.append("struct G<T>(" + ", ".join(it if it.startswith("G") else f"G<{it}>" for it in wrapped) + ")")
     for name in ("V", "W"):
-        clauses = ", ".join(f"{it}: Show" for it in wrapped if it[0] != "G" and rng.random() < 0.7)
-        lines.append(f"impl<T> Show for {name}<T>" + (f" where {clauses}" if clauses else ""))
+        lines.append(f"impl<T> Show for {name}<T>" + where([f"{it}: Show" for it in wrapped if it[0] != "G" and rng.random() < 0.7]))
     if rng.random() < 0.3:
         lines += ["trait Sub: Show", "impl<T> Sub for V<T>", "impl Sub for W<u8>", "supers in c0"]
     for _ in range(rng.randrange(1, 4)):
         subject = rng.choice(["V<u8>", "W<bool>", "V<?x>", "V<W<V<u8>>>", "G<u8>"])
-        lines.append(f"{rng.choice(['prove', 'refute'])} in c0 {subject}: {'Safe' if subject[0] == 'G' else 'Show'}")
+        lines.append(f"{question(rng)} {subject}: {'Safe' if subject[0] == 'G' else 'Show'}")
     return lines
 
 
 def clique(rng: random.Random) -> Lines:
     """Impls that need each other: each trait's impl asks some of the other traits of the same type."""
     count = rng.choice([2, 3, 4, 5, 6, 7, 8, 12, 16, 24])
-    lines = ["crate c0", "struct V<T>"]
-    lines += [f"trait R{k}" for k in range(count)]
     subject = rng.choice(["u8", "V<T>", "T"])
+    params = "<T>" if "T" in subject else ""
+    lines = ["crate c0", "struct V<T>", *(f"trait R{k}" for k in range(count))]
     for k in range(count):
-        asked = [it for it in range(count) if rng.random() < 0.6]
-        clauses = ", ".join(f"{subject}: R{it}" for it in asked)
-        params = "<T>" if "T" in subject else ""
-        lines.append(f"impl{params} R{k} for {subject}" + (f" where {clauses}" if clauses else ""))
+        lines.append(f"impl{params} R{k} for {subject}" + where([f"{subject}: R{it}" for it in range(count) if rng.random() < 0.6]))
     if rng.random() < 0.3:
         lines += [f"trait Sub: R{rng.randrange(count)} + R{rng.randrange(count)}", f"impl{params} Sub for {subject}", "supers in c0"]
     for _ in range(rng.randrange(1, 4)):
-        lines.append(f"{rng.choice(['prove', 'refute'])} in c0 {rng.choice(['u8', 'V<u8>', 'V<V<u8>>'])}: R{rng.randrange(count)}")
+        lines.append(f"{question(rng)} {rng.choice(['u8', 'V<u8>', 'V<V<u8>>'])}: R{rng.randrange(count)}")
     return lines
 
 
@@ -393,146 +393,164 @@ def deep_type(rng: random.Random, depth: int, leaf: str) -> str:
     return written
 
 
+def deep_item(rng: random.Random, number: int) -> str:
+    depth = rng.choice([2, 5, 8, 9, 30, 60, 63, 64, 64, 65] if rng.random() < 0.4 else [3, 7, 20, 40, 60])
+    around = rng.choice(WRAPS).replace("#", "T")
+    items = [
+        f"impl<T> Show for {around} where T: Show",
+        f"impl<T> Show for {deep_type(rng, depth, 'T')} where T: Show",
+        f"impl<T> Q<{deep_type(rng, depth, 'T')}> for V<T>",
+        f"impl Show for {deep_type(rng, depth, 'u8')}",
+        f"struct D{number}<T>({deep_type(rng, depth, 'T')})",
+    ]
+    return rng.choice(items)
+
+
+def deep_section(rng: random.Random) -> Lines:
+    lines = ["fundamental struct F<A, B>", "trait Sub: Show", f"impl<T> Sub for {deep_type(rng, rng.choice([2, 7, 30, 60]), 'T')}"]
+    lines += ["supers in c0", "later c0"]
+    for _ in range(rng.randrange(1, 4)):
+        leaf = rng.choice(["T", "F<u8, T>", "V<T>", "F<V<T>, F<u8, &V<T>>>"])
+        lines.append(f"impl<T> {rng.choice(['Show', 'Q<u8>'])} for {deep_type(rng, rng.choice([2, 7, 30, 60, 64]), leaf)}")
+    return lines
+
+
+def deep_question(rng: random.Random) -> str:
+    depth = rng.choice([2, 8, 9, 20, 40, 60, 63])
+    leaf = rng.choice(["u8", "bool", "?x", "str", "V<?x>"])
+    bound = rng.choice(["Show", "Safe", "Clone", "Copy", "Sized", "Q<?y>", f"Q<{deep_type(rng, depth, '?z')}>", "Unsize<?y>"])
+    return f"{rng.choice(['prove', 'prove', 'refute'])} in c0 {deep_type(rng, depth, leaf)}: {bound}"
+
+
 def deep_text(rng: random.Random) -> Lines:
     lines = ["crate c0", "struct V<T>", "trait Q<U>", "trait Show", "auto trait Safe"]
     for _ in range(rng.randrange(1, 6)):
-        depth = rng.choice([2, 5, 8, 9, 30, 60, 63, 64, 64, 65] if rng.random() < 0.4 else [3, 7, 20, 40, 60])
-        wrap = rng.choice(WRAPS)
-        lines.append(
-            rng.choice(
-                [
-                    f"impl<T> Show for {wrap.replace('#', 'T')} where T: Show",
-                    f"impl<T> Show for {deep_type(rng, depth, 'T')} where T: Show",
-                    f"impl<T> Q<{deep_type(rng, depth, 'T')}> for V<T>",
-                    f"impl Show for {deep_type(rng, depth, 'u8')}",
-                    f"struct D{len(lines)}<T>({deep_type(rng, depth, 'T')})",
-                ]
-            )
-        )
+        lines.append(deep_item(rng, len(lines)))
     if rng.random() < 0.3:
-        lines += ["fundamental struct F<A, B>", "trait Sub: Show", f"impl<T> Sub for {deep_type(rng, rng.choice([2, 7, 30, 60]), 'T')}"]
-        lines += ["supers in c0", "later c0"]
-        for _ in range(rng.randrange(1, 4)):
-            leaf = rng.choice(["T", "F<u8, T>", "V<T>", "F<V<T>, F<u8, &V<T>>>"])
-            lines.append(f"impl<T> {rng.choice(['Show', 'Q<u8>'])} for {deep_type(rng, rng.choice([2, 7, 30, 60, 64]), leaf)}")
-    for _ in range(rng.randrange(1, 6)):
-        depth = rng.choice([2, 8, 9, 20, 40, 60, 63])
-        leaf = rng.choice(["u8", "bool", "?x", "str", "V<?x>"])
-        bound = rng.choice(["Show", "Safe", "Clone", "Copy", "Sized", "Q<?y>", f"Q<{deep_type(rng, depth, '?z')}>", "Unsize<?y>"])
-        lines.append(f"{rng.choice(['prove', 'prove', 'refute'])} in c0 {deep_type(rng, depth, leaf)}: {bound}")
+        lines += deep_section(rng)
+    return lines + [deep_question(rng) for _ in range(rng.randrange(1, 6))]
+
+
+def doubled_by_fields(rng: random.Random, count: int) -> Lines:
+    fields = [rng.choice([f"D{k}, D{k}", f"P<D{k}, D{k}>", f"&D{k}, V<D{k}>"]) for k in range(count)]
+    lines = ["struct D0", *(f"struct D{k + 1}({it})" for k, it in enumerate(fields))]
+    return lines + [f"prove in c0 D{count}: Safe", f"prove in c0 D{count}: Sized", f"refute in c0 D{count}: {rng.choice(['Safe', 'Copy'])}"]
+
+
+def doubled_by_clauses(rng: random.Random, count: int) -> Lines:
+    lines = ["trait R0", rng.choice(["impl R0 for u8", "impl<T> R0 for T", "impl<T> R0 for V<T>"])]
+    for k in range(count):
+        pair = rng.choice(["P<T, T>", "(T, T)", "P<V<T>, T>", "(&T, &T)"])
+        subject = rng.choice(["T", "V<T>", "&T"])
+        alone = f", T: R{k}" if rng.random() < 0.4 else ""
+        lines += [f"trait R{k + 1}", f"impl<T> R{k + 1} for {subject} where {pair}: R{k}{alone}"]
+    for _ in range(3):
+        subject = rng.choice(["u8", "V<u8>", "&V<bool>", "?x", "V<?x>"])
+        lines.append(f"{question(rng)} {subject}: R{rng.randrange(count + 1)}")
     return lines
+
+
+def doubled_by_headers(rng: random.Random, _: int) -> Lines:
+    lines = ["impl<A, B> Show for P<A, B> where A: Show, B: Show", rng.choice(["impl Show for u8", "impl<T> Show for V<T> where T: Show"])]
+    written = rng.choice(["u8", "bool", "?x", "V<u8>"])
+    for _ in range(rng.choice([2, 4, 6])):
+        written = f"P<{written}, {written}>"
+    return lines + [f"prove in c0 {written}: Show", f"refute in c0 {written}: Show"]
+
+
+def doubled_by_supertraits(rng: random.Random, count: int) -> Lines:
+    last = min(count, 10) - 1
+    lines = [f"trait R{k}" + (": " + " + ".join(f"R{rng.randrange(k)}" for _ in range(3)) if k else "") for k in range(last + 1)]
+    lines += [f"impl R{last} for u8", "supers in c0", f"prove in c0 <T> T: R0 where T: R{last}"]
+    return lines + [f"refute in c0 u8: R{last}", f"prove in c0 dyn R{last}: R0"]
+
+
+def doubled_by_arguments(rng: random.Random, count: int) -> Lines:
+    lines, last = ["trait R0<A, B>"], min(count, 12)
+    for k in range(last):
+        lines.append(f"trait R{k + 1}<A, B>")
+        lines.append(f"impl<A, B> R{k + 1}<A, B> for u8 where u8: R{k}<P<A, B>, P<B, A>>, u8: R{k}<P<B, A>, P<A, B>>")
+    lines.append(f"prove in c0 u8: R{last}<{rng.choice(['u8', '?x'])}, {rng.choice(['bool', '?x', '?y'])}>")
+    return lines + [f"refute in c0 u8: R{last}<?x, ?y>"]
+
+
+DOUBLED = [doubled_by_fields, doubled_by_clauses, doubled_by_headers, doubled_by_supertraits, doubled_by_arguments]
 
 
 def doubling_text(rng: random.Random) -> Lines:
-    """Types whose trees double at each level, by headers, by fields, by arguments and by clauses of earlier traits."""
+    """Types whose trees double at each level."""
     count = rng.choice([2, 4, 8, 12, 20, 30])
     lines = ["crate c0", "struct V<T>", "struct P<A, B>", "auto trait Safe", "trait Show", "trait Q<U>"]
-    shape = rng.randrange(5)
-    if shape == 0:
-        lines.append("struct D0")
-        for k in range(count):
-            lines.append(f"struct D{k + 1}({rng.choice([f'D{k}, D{k}', f'P<D{k}, D{k}>', f'&D{k}, V<D{k}>'])})")
-        lines.append(f"prove in c0 D{count}: Safe")
-        lines.append(f"prove in c0 D{count}: Sized")
-        lines.append(f"refute in c0 D{count}: {rng.choice(['Safe', 'Copy'])}")
-    elif shape == 1:
-        lines.append("trait R0")
-        lines.append(rng.choice(["impl R0 for u8", "impl<T> R0 for T", "impl<T> R0 for V<T>"]))
-        for k in range(count):
-            pair = rng.choice(["P<T, T>", "(T, T)", "P<V<T>, T>", "(&T, &T)"])
-            subject = rng.choice(["T", "V<T>", "&T"])
-            alone = f", T: R{k}" if rng.random() < 0.4 else ""
-            lines.append(f"trait R{k + 1}")
-            lines.append(f"impl<T> R{k + 1} for {subject} where {pair}: R{k}{alone}")
-        for _ in range(3):
-            subject = rng.choice(["u8", "V<u8>", "&V<bool>", "?x", "V<?x>"])
-            lines.append(f"{rng.choice(['prove', 'refute'])} in c0 {subject}: R{rng.randrange(count + 1)}")
-    elif shape == 2:
-        lines.append("impl<A, B> Show for P<A, B> where A: Show, B: Show")
-        lines.append(rng.choice(["impl Show for u8", "impl<T> Show for V<T> where T: Show"]))
-        written = rng.choice(["u8", "bool", "?x", "V<u8>"])
-        for _ in range(rng.choice([2, 4, 6])):
-            written = f"P<{written}, {written}>"
-        lines.append(f"prove in c0 {written}: Show")
-        lines.append(f"refute in c0 {written}: Show")
-    elif shape == 3:
-        for k in range(min(count, 10)):
-            lines.append(f"trait R{k}" + (": " + " + ".join([f"R{rng.randrange(k)}" for _ in range(3)]) if k else ""))
-        lines.append(f"impl R{min(count, 10) - 1} for u8")
-        lines.append("supers in c0")
-        lines.append(f"prove in c0 <T> T: R0 where T: R{min(count, 10) - 1}")
-        lines.append(f"refute in c0 u8: R{min(count, 10) - 1}")
-        lines.append(f"prove in c0 dyn R{min(count, 10) - 1}: R0")
-    else:
-        lines.append("trait R0<A, B>")
-        for k in range(min(count, 12)):
-            lines.append(f"trait R{k + 1}<A, B>")
-            lines.append(f"impl<A, B> R{k + 1}<A, B> for u8 where u8: R{k}<P<A, B>, P<B, A>>, u8: R{k}<P<B, A>, P<A, B>>")
-        lines.append(f"prove in c0 u8: R{min(count, 12)}<{rng.choice(['u8', '?x'])}, {rng.choice(['bool', '?x', '?y'])}>")
-        lines.append(f"refute in c0 u8: R{min(count, 12)}<?x, ?y>")
-    return lines
+    return lines + DOUBLED[rng.randrange(5)](rng, count)
+
+
+ALIKE = [
+    ["a", "A", "aa", "_", "a_", "_a", "__", "aA", "Aa"],
+    ["n" * 63 + end for end in "abcdefghi"],
+    ["Show", "show", "SHOW", "Shows", "Sho", "Show_", "_Show", "Show1", "Show01"],
+    ["core", "Box", "Clone", "Sized", "Core", "box", "clone", "Boxes", "Tuples"],
+    ["crates", "fnn", "u88", "u9", "dynn", "static", "self", "Self", "forr"],
+    ["T", "U", "T1", "T_1", "T0", "T00", "T01", "TT", "U1"],
+]
+
+
+class Colliding:
+    """Makes a text with few names, alike or the same, for all that has a name: crates, structs, traits, parameters, binders, variables."""
+
+    def __init__(self, rng: random.Random) -> None:
+        self.rng = rng
+        self.names = rng.choice(ALIKE)
+        self.free = list(self.names)
+        self.crates: Lines = []
+        self.structs: Lines = []
+        self.traits: Lines = []
+        rng.shuffle(self.free)
+
+    def pick(self, declared: Lines) -> str:
+        return self.rng.choice(declared) if declared and self.rng.random() < 0.97 else self.rng.choice(self.names)
+
+    def declare(self, declared: Lines) -> str:
+        declared.append(self.free.pop() if self.free and self.rng.random() < 0.97 else self.rng.choice(self.names))
+        return declared[-1]
+
+    def impl_or_question(self) -> str:
+        # a lifetime and a variable may go by the name of anything, a parameter by that of nothing else
+        pick, crates, structs, traits = self.pick, self.crates, self.structs, self.traits
+        own, other, trait = self.rng.choice(self.free or self.names), self.rng.choice(self.names), pick(traits)
+        lines = [
+            f"impl {trait} for {pick(structs)}",
+            f"impl<'{other}, {own}> {trait} for &'{other} {own} where {own}: {pick(traits)}",
+            f"impl {trait} for for<'{other}> fn(&'{other} {pick(structs)})",
+            f"impl {trait} for dyn {pick(traits)}",
+            f"prove in {pick(crates)} <'{other}, {own}> &'{other} {own}: {trait} where {own}: {pick(traits)}",
+            f"prove in {pick(crates)} {pick(structs)}: {trait}",
+            f"prove in {pick(crates)} (?{own}, ?{other}): {trait}",
+            f"refute in {pick(crates)} &?{other}: {trait}",
+            f"supers in {pick(crates)}",
+            f"later {pick(crates)}",
+            f"refute in {pick(crates)} {pick(structs)}: {trait}",
+        ]
+        return self.rng.choice(lines)
+
+    def line(self) -> str:
+        roll = self.rng.randrange(12)
+        if roll == 0 and len(self.free) > 3:
+            return f"crate {self.declare(self.crates)} uses {self.pick(self.crates[:-1])}, {self.pick(self.crates[:-1])}"
+        if roll < 3 and len(self.free) > 1:
+            return f"struct {self.declare(self.structs)}" + self.rng.choice(["", f"(&'static {self.rng.choice(self.structs)})"])
+        if roll < 5 and len(self.free) > 1:
+            bounds = f": {self.pick(self.traits)} + {self.pick(self.traits)}" if self.traits and self.rng.random() < 0.4 else ""
+            return f"trait {self.declare(self.traits)}{bounds}"
+        return self.impl_or_question() if self.traits else ""
+
+    def make(self) -> Lines:
+        lines = ["crate " + self.declare(self.crates)]
+        lines += [self.line() for _ in range(self.rng.randrange(3, 14))]
+        return [it for it in lines if it]
 
 
 def colliding_text(rng: random.Random) -> Lines:
-    """Few names, alike or the same, for all that has a name: crates, structs, traits, parameters, binders and variables."""
-    names = rng.choice(
-        [
-            ["a", "A", "aa", "_", "a_", "_a", "__", "aA", "Aa"],
-            ["n" * 63 + end for end in "abcdefghi"],
-            ["Show", "show", "SHOW", "Shows", "Sho", "Show_", "_Show", "Show1", "Show01"],
-            ["core", "Box", "Clone", "Sized", "Core", "box", "clone", "Boxes", "Tuples"],
-            ["crates", "fnn", "u88", "u9", "dynn", "static", "self", "Self", "forr"],
-            ["T", "U", "T1", "T_1", "T0", "T00", "T01", "TT", "U1"],
-        ]
-    )
-    crates: Lines = []
-    structs: Lines = []
-    traits: Lines = []
-    free = list(names)
-    rng.shuffle(free)
-
-    def pick(declared: Lines) -> str:
-        return rng.choice(declared) if declared and rng.random() < 0.97 else rng.choice(names)
-
-    def new() -> str:
-        return free.pop() if free and rng.random() < 0.97 else rng.choice(names)
-
-    def declare(declared: Lines) -> str:
-        name = new()
-        declared.append(name)
-        return name
-
-    lines = ["crate " + declare(crates)]
-    for _ in range(rng.randrange(3, 14)):
-        roll = rng.randrange(12)
-        if roll == 0 and len(free) > 3:
-            lines.append(f"crate {declare(crates)} uses {pick(crates[:-1])}, {pick(crates[:-1])}")
-        elif roll < 3 and len(free) > 1:
-            lines.append(f"struct {declare(structs)}" + rng.choice(["", f"(&'static {rng.choice(structs)})"]))
-        elif roll < 5 and len(free) > 1:
-            bounds = f": {pick(traits)} + {pick(traits)}" if traits and rng.random() < 0.4 else ""
-            lines.append(f"trait {declare(traits)}{bounds}")
-        elif traits:
-            # a lifetime and a variable may go by the name of anything, a parameter by that of nothing else
-            own, other, trait = rng.choice(free or names), rng.choice(names), pick(traits)
-            lines.append(
-                rng.choice(
-                    [
-                        f"impl {trait} for {pick(structs)}",
-                        f"impl<'{other}, {own}> {trait} for &'{other} {own} where {own}: {pick(traits)}",
-                        f"impl {trait} for for<'{other}> fn(&'{other} {pick(structs)})",
-                        f"impl {trait} for dyn {pick(traits)}",
-                        f"prove in {pick(crates)} <'{other}, {own}> &'{other} {own}: {trait} where {own}: {pick(traits)}",
-                        f"prove in {pick(crates)} {pick(structs)}: {trait}",
-                        f"prove in {pick(crates)} (?{own}, ?{other}): {trait}",
-                        f"refute in {pick(crates)} &?{other}: {trait}",
-                        f"supers in {pick(crates)}",
-                        f"later {pick(crates)}",
-                        f"refute in {pick(crates)} {pick(structs)}: {trait}",
-                    ]
-                )
-            )
-    return lines
+    return Colliding(rng).make()
 
 
 def bytes_text(rng: random.Random) -> bytes:

@@ -148,7 +148,7 @@ def named(texts: Iterable[str], imports: Imports, own: str = "") -> set[Name]:
     found: set[Optional[Name]] = set()
     for word in (it for text in texts for it in WORD.findall(text)):
         head, _, rest = word.partition(".")
-        for part in {word, word.rstrip("."), head}:
+        for part in (word, word.rstrip("."), head):
             if module and part in module.items:
                 found.add(Name(own, part))
             elif part in imports.names:

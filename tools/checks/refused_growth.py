@@ -67,17 +67,18 @@ class Refusing:
 def program_on(tally: Tally, refusing: Refusing, name: str) -> None:
     """The built program on an example."""
     it = example(name)
-    wanted = it.expected()
+    wanted, refused = it.expected(), 0
     for number, ended, was_refused in refusing.turns([program("celtisdarts"), "8"], it.text):
+        refused += was_refused
         is_whole = (ended.status, ended.output) == (0, wanted)
         if was_refused:
             is_prefix = ended.status == 3 and wanted.startswith(ended.output)
             fault = f"status {ended.status}, 3 is wanted, and what was written a prefix of the output"
             tally.expect(f"{name}, request {number} refused", is_whole or is_prefix, fault)
         else:
-            tally.expect(f"{name}, none refused", is_whole and number > 1, f"the run has status {ended.status}, after {number - 1} refusals")
-            print(f"{name}: {number - 1} requests refused in turn, then the whole output")
-    if was_refused:
+            tally.expect(f"{name}, none refused", is_whole and refused > 0, f"the run has status {ended.status}, after {refused} refusals")
+            print(f"{name}: {refused} requests refused in turn, then the whole output")
+    if refused == MOST:
         tally.tell(name, f"each of {MOST} requests was refused, and none was left that was not")
 
 
@@ -91,10 +92,11 @@ def fault_of_explained(turn: Turn, wanted: bytes) -> Optional[str]:
 
 def explained_on(tally: Tally, refusing: Refusing, name: str) -> None:
     """The program that explains, on an example."""
-    it = example(name)
+    it, last = example(name), 0
     for turn in refusing.turns([program("celtisdarts_explain"), "8"], it.text, 400, 17):
         tally.tell(f"{name}, explained, request {turn.number} refused", fault_of_explained(turn, it.expected()))
-    print(f"{name}, explained: requests refused in turn, up to the {turn.number}th")
+        last = turn.number
+    print(f"{name}, explained: requests refused in turn, up to the {last}th")
 
 
 def tests_of(tally: Tally, refusing: Refusing, crate: str) -> None:

@@ -176,8 +176,8 @@ class Script(Cases):
 
     def called(self) -> list[str]:
         """The calls of rt since that was asked last."""
-        found = self.calls.read_text().splitlines()
-        self.calls.write_text("")
+        found = self.calls.read_text(encoding="utf-8").splitlines()
+        self.calls.write_text("", encoding="utf-8")
         return found
 
     def answers(self, name: str, calls: int, word: str = "") -> None:
@@ -195,9 +195,9 @@ class Script(Cases):
 
     def change_source(self) -> Callable[[], object]:
         """Changes a source; what it gives changes that back."""
-        text = self.source.read_text()
-        self.source.write_text(text + "// changed\n")
-        return lambda: self.source.write_text(text)
+        text = self.source.read_text(encoding="utf-8")
+        self.source.write_text(text + "// changed\n", encoding="utf-8")
+        return lambda: self.source.write_text(text, encoding="utf-8")
 
 
 def try_messages(script: Script) -> None:
@@ -226,7 +226,7 @@ def try_messages(script: Script) -> None:
     script.expect("no message before the input has ended", not Path(f"{said}.before").read_bytes())
     script.run("8", text=TOO_LONG)
     script.gave("a text without end", 1, b"line 1: fault 16\n")
-    script.expect("no more of it kept than decides", int(Path(f"{script.calls}.bytes").read_text()) == 1048577)
+    script.expect("no more of it kept than decides", int(Path(f"{script.calls}.bytes").read_text(encoding="utf-8")) == 1048577)
 
 
 def try_files(script: Script, what: str, calls: int) -> None:
@@ -290,10 +290,10 @@ def try_sources(script: Script) -> None:
     change_back()
     script.is_kept("a source that changed and changed back")
     crates = script.at / "crates.txt"
-    listed = crates.read_text()
-    crates.write_text(re.sub(r"(?m)^coherence:.*", r"\g<0> indexmap", listed))
+    listed = crates.read_text(encoding="utf-8")
+    crates.write_text(re.sub(r"(?m)^coherence:.*", r"\g<0> indexmap", listed), encoding="utf-8")
     script.is_not_kept("a library more in crates.txt")
-    crates.write_text(listed)
+    crates.write_text(listed, encoding="utf-8")
     script.is_kept("the libraries as they were")
     script.keep_program()
     script.is_kept("a program without a note")
@@ -311,12 +311,12 @@ def try_build(script: Script, env: dict[str, str]) -> None:
     try_first_build(script, env)
     try_sources(script)
     script.drop_programs()
-    env["EDITS"], text = "coherence lib", script.source.read_text()
+    env["EDITS"], text = "coherence lib", script.source.read_text(encoding="utf-8")
     script.run("--build")
     env["EDITS"] = ""
     script.gave("a source that changes while it is built", 3)
     script.is_not_kept("no program of that change")
-    script.source.write_text(text)
+    script.source.write_text(text, encoding="utf-8")
     script.is_not_kept("no program of that either")
     env["FAILS"] = "celtisdarts try"
     script.drop_programs()
@@ -346,7 +346,7 @@ class Release:
         """Puts a program in its place, as if it had been proved."""
         self.path.write_bytes(program)
         self.path.chmod(0o755)
-        self.note.write_text(re.sub(r"(?m)^program .*", f"program {hashlib.sha256(program).hexdigest()}", self.note.read_text()))
+        self.note.write_text(re.sub(r"(?m)^program .*", f"program {hashlib.sha256(program).hexdigest()}", self.note.read_text(encoding="utf-8")), encoding="utf-8")
 
 
 def try_made(script: Script, release: Release, env: dict[str, str]) -> None:
@@ -389,7 +389,7 @@ def try_forged(script: Script, release: Release, env: dict[str, str]) -> None:
     forged = Path(f"{script.calls}.forged")
     release.forge(FORGED.encode())
     script.is_kept("of other bytes")
-    script.expect("of other bytes, which was run", forged.is_file() and "8" in forged.read_text())
+    script.expect("of other bytes, which was run", forged.is_file() and "8" in forged.read_text(encoding="utf-8"))
     script.run("--build")
     forged.unlink()
     script.is_kept("of other bytes, beside the built program")
@@ -467,7 +467,7 @@ def try_ended(script: Script, env: dict[str, str]) -> None:
     nowhere = subprocess.DEVNULL
     with subprocess.Popen([*script.command, "8", *FILES], env=words, stdin=nowhere, stdout=nowhere, stderr=nowhere) as child:
         for _ in range(100):
-            if "celtisdarts try" in script.calls.read_text():
+            if "celtisdarts try" in script.calls.read_text(encoding="utf-8"):
                 break
             time.sleep(0.1)
         script.expect("a call that waits, its files", any(folder.iterdir()))
