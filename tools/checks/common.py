@@ -7,6 +7,7 @@ import os
 import resource
 import subprocess
 import sys
+import traceback
 from pathlib import Path
 from typing import BinaryIO, Callable, Mapping, NamedTuple, Optional, Sequence, Union
 
@@ -20,6 +21,17 @@ class Wrong(Exception):
 
 class Missing(Exception):
     """What a check needs and is not there."""
+
+
+def fault_in(case: Callable[[], object]) -> Optional[str]:
+    """What the call finds wrong."""
+    try:
+        case()
+    except Wrong as wrong:
+        return str(wrong)
+    except (ValueError, LookupError, OSError):
+        return f"what was written cannot be read\n{traceback.format_exc()}"
+    return None
 
 
 class Tally:
@@ -44,14 +56,13 @@ class Tally:
 
     def hold(self, name: str, case: Callable[[], object]) -> bool:
         """Counts a case that passes where the call finds nothing wrong."""
-        fault = None
-        try:
-            case()
-        except Wrong as wrong:
-            fault = str(wrong)
-        except (ValueError, LookupError) as error:
-            fault = f"what was written cannot be read: {error!r}"
-        return self.tell(name, fault)
+        return self.tell(name, fault_in(case))
+
+    def go_through(self, part: Callable[[], object]) -> None:
+        """Runs a part of a check, which counts cases of its own. Where it cannot go on, that is one that fails."""
+        fault = fault_in(part)
+        if fault:
+            self.tell("the rest of a part", fault)
 
     def line(self) -> str:
         return f"{self.passed} passed, {self.failed} failed"

@@ -16,6 +16,7 @@ import subprocess
 import tempfile
 import time
 from concurrent.futures import ThreadPoolExecutor
+from functools import partial
 from pathlib import Path
 from typing import Callable, Optional
 
@@ -271,7 +272,7 @@ def try_first_build(script: Script, env: dict[str, str]) -> None:
     script.gave("all crates proved", 0)
     calls = script.called()
     script.said("a call for each crate that it counts", f"celtisdarts: crate 1 of {len(calls)}: type_terms; minutes so far: 0$")
-    script.expect("a program as the last crate", calls[-1] == "celtisdarts_explain run")
+    script.expect("a program as the last crate", calls[-1:] == ["celtisdarts_explain run"])
     script.expect("and one before it", "celtisdarts run" in calls)
     script.is_kept("the program kept")
     script.run()
@@ -391,7 +392,7 @@ def try_forged(script: Script, release: Release, env: dict[str, str]) -> None:
     script.is_kept("of other bytes")
     script.expect("of other bytes, which was run", forged.is_file() and "8" in forged.read_text(encoding="utf-8"))
     script.run("--build")
-    forged.unlink()
+    forged.unlink(missing_ok=True)
     script.is_kept("of other bytes, beside the built program")
     script.expect("of other bytes, which was not run", not forged.exists())
     release.checked("of other bytes, compared", "1 passed, 1 failed")
@@ -432,8 +433,9 @@ def try_release(script: Script, env: dict[str, str]) -> None:
     try_without_rt(script, env)
 
 
-def try_two(script: Script, lanes: ThreadPoolExecutor, env: dict[str, str]) -> None:
+def try_at_once(script: Script, lanes: ThreadPoolExecutor, env: dict[str, str]) -> None:
     """Two calls, two builds, and a call beside a build."""
+    script.what = "at once"
     script.drop_programs()
     call = [*script.command, "8"]
     first = lanes.submit(run, call, TEXT.text, env=env)
@@ -477,14 +479,13 @@ def try_ended(script: Script, env: dict[str, str]) -> None:
     wait.unlink()
 
 
-def try_script(script: Script, is_compiled: bool) -> None:
-    if is_compiled:
-        script.run("8", *FILES)
-        script.gave("two texts", 1, answers_of(*FILES))
-    env = script.stand_in()
+def try_built(script: Script) -> None:
     script.keep_program()
     try_statuses(script.about("the script, built"))
     try_files(script, "files, built", 0)
+
+
+def try_unbuilt(script: Script) -> None:
     script.drop_programs()
     try_statuses(script.about("the script, unbuilt"))
     try_files(script, "files, unbuilt", 1)
@@ -493,13 +494,18 @@ def try_script(script: Script, is_compiled: bool) -> None:
     file = f"{OVERLAPS[0].folder}/input.txt"
     explaining.run("8", file)
     explaining.gave("what the program writes of the file", 0, run([program("celtisdarts_explain"), "8", file]).output)
-    try_messages(script)
-    try_build(script, env)
-    try_release(script, env)
-    script.what = "at once"
+
+
+def try_script(script: Script, is_compiled: bool) -> None:
+    if is_compiled:
+        script.run("8", *FILES)
+        script.gave("two texts", 1, answers_of(*FILES))
+    env = script.stand_in()
     with ThreadPoolExecutor() as lanes:
-        try_two(script, lanes, env)
-    try_ended(script, env)
+        parts: list[Callable[[Script], None]] = [try_built, try_unbuilt, try_messages]
+        parts += [partial(it, env=env) for it in (try_build, try_release, partial(try_at_once, lanes=lanes), try_ended)]
+        for part in parts:
+            script.tally.go_through(partial(part, script))
 
 
 def add_words(reader: argparse.ArgumentParser) -> None:
