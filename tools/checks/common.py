@@ -125,6 +125,23 @@ def difference(found: bytes, wanted: bytes) -> Optional[str]:
     return "\n".join(["the output is not as wanted:", *difflib.unified_diff(before, after, "wanted", "found", lineterm="", n=0)])
 
 
+# ---- the crates
+
+
+def crates() -> dict[str, list[str]]:
+    """The crates of crates.txt in its order, each with all libraries that it lists."""
+    lines = [it.partition("#")[0].partition(":") for it in (TOP / "crates.txt").read_text(encoding="utf-8").split("\n")]
+    return {head.split()[0]: uses.split() for head, _, uses in lines if head.strip()}
+
+
+def below(listed: Mapping[str, list[str]], name: str) -> list[str]:
+    """The crate, and those of the repository that it stands on."""
+    found = [name]
+    for it in found:
+        found += [other for other in listed[it] if other in listed and other not in found]
+    return found
+
+
 # ---- the programs
 
 

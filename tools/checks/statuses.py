@@ -185,8 +185,8 @@ class Script(Cases):
         """The script answers a text, with so many calls of rt that have the word in them: with none, by a program that is there."""
         self.called()
         self.run("8", text=TEXT.text)
-        is_answer = (self.last.status, self.last.output) == (0, TEXT.expected())
-        self.expect(name, is_answer and sum(word in it for it in self.called()) == calls)
+        made = sum(word in it for it in self.called())
+        self.expect(name, (self.last.status, self.last.output, made) == (0, TEXT.expected(), calls))
 
     def is_kept(self, name: str) -> None:
         self.answers(name, 0)
@@ -502,8 +502,10 @@ def try_script(script: Script, is_compiled: bool) -> None:
         script.gave("two texts", 1, answers_of(*FILES))
     env = script.stand_in()
     with ThreadPoolExecutor() as lanes:
-        parts: list[Callable[[Script], None]] = [try_built, try_unbuilt, try_messages]
-        parts += [partial(it, env=env) for it in (try_build, try_release, partial(try_at_once, lanes=lanes), try_ended)]
+        parts: list[Callable[[Script], None]] = [
+            try_built, try_unbuilt, try_messages, partial(try_build, env=env), partial(try_release, env=env),
+            partial(try_at_once, lanes=lanes, env=env), partial(try_ended, env=env),
+        ]
         for part in parts:
             script.tally.go_through(partial(part, script))
 
