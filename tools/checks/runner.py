@@ -23,8 +23,10 @@ from .common import Missing, Tally
 # By group, in the order of the gate: what needs no program, what tries the built programs, and what is run by hand.
 GROUPS = {
     "sources": ["promises"],
-    "programs": ["examples", "explained_words", "statuses", "limits", "prefixes", "orders", "hostile", "walks", "refused_growth", "rustdoc_cases"],
-    "by_hand": ["explained", "explained_json", "reading", "driven"],
+    "programs": [
+        "examples", "explained_words", "statuses", "limits", "prefixes", "orders", "hostile", "walks", "refused_growth", "rustdoc_cases", "driven",
+    ],
+    "by_hand": ["explained", "explained_json", "reading"],
 }
 GATE = [*GROUPS["sources"], *GROUPS["programs"]]
 ALL = [name for names in GROUPS.values() for name in names]
