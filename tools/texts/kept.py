@@ -2,43 +2,29 @@
 from __future__ import annotations
 
 import hashlib
-import importlib.machinery
-import importlib.util
-import os
 import random
-from types import ModuleType
-from typing import Any, Callable
+from functools import partial
+from typing import Callable, Union
+
+from checks import makers
 
 from . import by_lot
-from .runs import HERE, Limits, Run, run_program
+from .runs import Limits, Run, run_program
 
 LIMITS = Limits(10, 256 * 1024 * 1024)
 SOME_DEPTHS = [3, 4, 5, 6, 8, 12, 16, 24, 32, 48, 64, 96, 128, 172, 255]
-
-
-def read_hostile() -> ModuleType:
-    """The makers of tools/hostile, with made texts in place of the examples: those may be more some day."""
-    path = os.path.join(HERE, "tools", "hostile")
-    loader = importlib.machinery.SourceFileLoader("hostile", path)
-    spec = importlib.util.spec_from_loader("hostile", loader)
-    assert spec is not None
-    module = importlib.util.module_from_spec(spec)
-    loader.exec_module(module)
-    module.EXAMPLES[:] = [module.Crates(random.Random(f"in place of example {k}")).make(9, 6) for k in range(60)]
-    return module
-
-
-hostile: Any = read_hostile()
-Maker = Callable[[random.Random], Any]
+Maker = Callable[[random.Random], Union[bytes, list[str]]]
+# Made texts in place of the examples: those may be more some day.
+IN_PLACE = [makers.Crates(random.Random(f"in place of example {k}")).make(9, 6) for k in range(60)]
 # Of a thousand texts so many are of this kind.
 KINDS: list[tuple[str, int, Maker]] = [
-    ("crates", 230, hostile.crates_text),
-    ("mutated", 80, hostile.mutated_text),
-    ("deep", 80, hostile.deep_text),
-    ("doubling", 100, hostile.doubling_text),
-    ("colliding", 20, hostile.colliding_text),
-    ("cyclic", 170, hostile.cyclic_text),
-    ("growing", 110, hostile.growing_text),
+    ("crates", 230, makers.crates_text),
+    ("mutated", 80, partial(makers.mutated_text, others=IN_PLACE)),
+    ("deep", 80, makers.deep_text),
+    ("doubling", 100, makers.doubling_text),
+    ("colliding", 20, makers.colliding_text),
+    ("cyclic", 170, makers.cyclic_text),
+    ("growing", 110, makers.growing_text),
     ("growing_premises", 120, by_lot.growing_premises_text),
     ("asked", 30, by_lot.asked_clique_text),
     ("stepping", 25, by_lot.stepping_text),
@@ -53,7 +39,7 @@ def make_text(seed: str, number: int) -> tuple[str, bytes, int]:
     rng = random.Random(f"{seed}:{number}")
     name, maker = rng.choice(MAKERS)
     depth = rng.choice(SOME_DEPTHS) if rng.random() < 0.5 else rng.randint(3, 255)
-    return name, hostile.as_bytes(maker(rng)), depth
+    return name, makers.as_bytes(maker(rng)), depth
 
 
 def sum_of(text: bytes) -> str:

@@ -1,25 +1,25 @@
-#!/usr/bin/env python3
-"""Tries the words of ./celtisdarts: each option, each mistake, and what is said where something is refused.
+"""The words of ./celtisdarts: each option, each mistake, and what is said where something is refused.
 
 It needs a proved program of today's sources: one that was built here, or that of release/. What a call does where there is none is tried
-in a copy, with a stand-in for the toolchain. (Which program is run, and when, is tried by tools/statuses.) The last line is 'N passed,
-M failed', and the status says the same.
+in a copy, with a stand-in for the toolchain. (Which program is run, and when, is tried by the check `statuses`.)
 """
 from __future__ import annotations
 
+import argparse
 import json
 import os
 import pty
 import re
 import shutil
 import subprocess
-import sys
 import tempfile
 from dataclasses import dataclass
 from pathlib import Path
 from typing import Mapping, Optional, Sequence
 
-TOP = Path(__file__).resolve().parent.parent
+from . import common
+from .common import TOP
+
 SCRIPT = TOP / "celtisdarts"
 PROGRAMS = ("celtisdarts", "celtisdarts_explain")
 HELP_OFFERED = " (./celtisdarts --help lists the words)\n"
@@ -95,15 +95,12 @@ done
 
 @dataclass
 class Tally:
-    passed: int = 0
-    failed: int = 0
+    """Tells each case, with what was found in place of what is wanted."""
+
+    told: common.Tally
 
     def expect(self, name: str, is_so: bool, found: object) -> None:
-        if is_so:
-            self.passed += 1
-        else:
-            self.failed += 1
-            print(f"FAILED {name}: {found}", flush=True)
+        self.told.expect(name, is_so, f"found: {found}")
 
 
 @dataclass
@@ -561,7 +558,7 @@ def program_of(name: str) -> Path:
     told = run(["--version"]).output.split(f"\n{name}\n")[1]
     path = told.split("program: ")[1].split("\n")[0]
     if path.startswith("none"):
-        sys.exit(f"tools/options: no proved {name} of today's sources: ./celtisdarts --build")
+        raise common.Missing(f"no proved {name} of today's sources: ./celtisdarts --build")
     return TOP / path
 
 
@@ -609,8 +606,8 @@ def try_unbuilt(tally: Tally, room: Room, folder: Path) -> None:
     tally.expect("no such line in a file", ended.is_like(0, "crate a: accepted\n", compiling), ended)
 
 
-def main() -> int:
-    tally = Tally()
+def check(told: common.Tally, _: argparse.Namespace) -> None:
+    tally = Tally(told)
     for name in PROGRAMS:
         program_of(name)
     with tempfile.TemporaryDirectory() as first, tempfile.TemporaryDirectory() as second:
@@ -633,9 +630,3 @@ def main() -> int:
         try_refused_output(tally, room)
         try_without_python(tally, room, Path(second) / "commands")
         try_unbuilt(tally, room, Path(second))
-    print(f"{tally.passed} passed, {tally.failed} failed")
-    return 0 if tally.passed and not tally.failed else 1
-
-
-if __name__ == "__main__":
-    sys.exit(main())

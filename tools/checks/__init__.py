@@ -1,0 +1,1 @@
+"""The checks that `tools/check` runs, a module for each, over what they share: `common`, `makers`, `answers`, `terms`."""

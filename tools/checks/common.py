@@ -1,0 +1,207 @@
+"""What the checks share: where things are, the programs, runs of them, and counts."""
+from __future__ import annotations
+
+import difflib
+import functools
+import os
+import resource
+import subprocess
+import sys
+import traceback
+from pathlib import Path
+from typing import BinaryIO, Callable, Mapping, NamedTuple, Optional, Sequence, Union
+
+TOP = Path(__file__).resolve().parents[2]
+Word = Union[str, Path]
+
+
+class Wrong(Exception):
+    """What is wrong with a case."""
+
+
+class Missing(Exception):
+    """What a check needs and is not there."""
+
+
+def fault_in(case: Callable[[], object]) -> Optional[str]:
+    """What the call finds wrong."""
+    try:
+        case()
+    except Wrong as wrong:
+        return str(wrong)
+    except (ValueError, LookupError, OSError):
+        return f"what was written cannot be read\n{traceback.format_exc()}"
+    return None
+
+
+class Tally:
+    """How many cases passed and failed. Each that fails is named, with what is wrong; each that passes, where that is wanted."""
+
+    def __init__(self, is_verbose: bool = False) -> None:
+        self.passed, self.failed, self.is_verbose = 0, 0, is_verbose
+
+    def tell(self, name: str, fault: Optional[str]) -> bool:
+        """Counts a case, which passes where nothing is wrong with it; returns whether it does."""
+        if fault:
+            self.failed += 1
+            print(f"FAILED {name}: {fault}", flush=True)
+        else:
+            self.passed += 1
+            if self.is_verbose:
+                print(f"passed {name}", flush=True)
+        return not fault
+
+    def expect(self, name: str, is_so: bool, fault: str) -> bool:
+        return self.tell(name, None if is_so else fault)
+
+    def hold(self, name: str, case: Callable[[], object]) -> bool:
+        """Counts a case that passes where the call finds nothing wrong."""
+        return self.tell(name, fault_in(case))
+
+    def go_through(self, part: Callable[[], object]) -> None:
+        """Runs a part of a check, which counts cases of its own. Where it cannot go on, that is one that fails."""
+        fault = fault_in(part)
+        if fault:
+            self.tell("the rest of a part", fault)
+
+    def line(self) -> str:
+        return f"{self.passed} passed, {self.failed} failed"
+
+
+class Limits(NamedTuple):
+    """What a run may take: seconds of the processor, bytes of memory, bytes of stack. 0 is no limit."""
+
+    seconds: int = 600
+    memory: int = 0
+    stack: int = 0
+
+    def put_on(self, process: int) -> None:
+        kinds = (resource.RLIMIT_CPU, resource.RLIMIT_AS, resource.RLIMIT_STACK)
+        for kind, most in zip(kinds, self):
+            try:
+                if most:
+                    resource.prlimit(process, kind, (most, most))
+            except ProcessLookupError:
+                pass
+
+
+class Ended(NamedTuple):
+    """How a run ended: its status, or a signal as a number below 0; what it wrote; and its seconds of the processor."""
+
+    status: int
+    output: bytes
+    said: bytes
+    seconds: float
+
+    def last_line(self) -> str:
+        return self.output.decode("latin-1").rstrip("\n").rpartition("\n")[2]
+
+
+def unnamed_file() -> BinaryIO:
+    """A file in memory."""
+    return open(os.memfd_create("checks"), "w+b")
+
+
+def run(words: Sequence[Word], text: bytes = b"", limits: Limits = Limits(),
+        cwd: Optional[Path] = None, env: Optional[Mapping[str, str]] = None) -> Ended:
+    """Runs a command on the text."""
+    with unnamed_file() as source, unnamed_file() as output, unnamed_file() as said:
+        source.write(text)
+        source.seek(0)
+        child = subprocess.Popen(words, stdin=source, stdout=output, stderr=said, cwd=cwd, env=env)
+        limits.put_on(child.pid)
+        _, status, used = os.wait4(child.pid, 0)
+        child.returncode = os.waitstatus_to_exitcode(status)
+        output.seek(0)
+        said.seek(0)
+        return Ended(child.returncode, output.read(), said.read(), used.ru_utime + used.ru_stime)
+
+
+def difference(found: bytes, wanted: bytes) -> Optional[str]:
+    """The lines in which an output is not as wanted; none where it is."""
+    if found == wanted:
+        return None
+    before, after = (it.decode("latin-1").splitlines() for it in (wanted, found))
+    return "\n".join(["the output is not as wanted:", *difflib.unified_diff(before, after, "wanted", "found", lineterm="", n=0)])
+
+
+# ---- the crates
+
+
+def crates() -> dict[str, list[str]]:
+    """The crates of crates.txt in its order, each with all libraries that it lists."""
+    lines = [it.partition("#")[0].partition(":") for it in (TOP / "crates.txt").read_text(encoding="utf-8").split("\n")]
+    return {head.split()[0]: uses.split() for head, _, uses in lines if head.strip()}
+
+
+def below(listed: Mapping[str, list[str]], name: str) -> list[str]:
+    """The crate, and those of the repository that it stands on."""
+    found = [name]
+    for it in found:
+        found += [other for other in listed[it] if other in listed and other not in found]
+    return found
+
+
+# ---- the programs
+
+
+def built(crate: str, name: str = "") -> str:
+    """A program or the tests that were built in the crate."""
+    path = TOP / "crates" / crate / "out" / (name or crate)
+    if not os.access(path, os.X_OK):
+        raise Missing(f"{path.relative_to(TOP)} is not built: `rt ci` makes it")
+    return str(path)
+
+
+@functools.lru_cache(maxsize=None)
+def program(name: str) -> str:
+    """The program that was built here; where none was, that of release/, if it is of today's sources."""
+    try:
+        return built(name)
+    except Missing:
+        if not is_released(name):
+            raise Missing(f"no {name} is built here, and none of today's sources is released: ./celtisdarts --build") from None
+    print(f"tools/check: {name} is not built here: release/{name} is tried, which is of today's sources", file=sys.stderr)
+    return str(TOP / "release" / name)
+
+
+def is_released(name: str) -> bool:
+    script = '. "$here/tools/program.sh" && of_program "$1" && [ -x "$released" ] && is_noted "$released" && is_of_these_sources'
+    return run(["sh", "-c", script, "sh", name], env={**os.environ, "here": str(TOP)}).status == 0
+
+
+# ---- the examples
+
+
+class Example(NamedTuple):
+    """A folder of examples/: a text, the depths that it is asked at, and the status that each run ends with."""
+
+    folder: Path
+    depths: Sequence[str]
+    status: int
+
+    @property
+    def name(self) -> str:
+        return self.folder.name
+
+    @property
+    def text(self) -> bytes:
+        return (self.folder / "input.txt").read_bytes()
+
+    def file(self, name: str) -> Optional[bytes]:
+        """What stands in another file of the folder, if that is there."""
+        path = self.folder / name
+        return path.read_bytes() if path.is_file() else None
+
+    def expected(self) -> bytes:
+        return (self.folder / "expected.txt").read_bytes()
+
+
+def example(name: str) -> Example:
+    folder = TOP / "examples" / name
+    depths, status = ((folder / it).read_text().split() if (folder / it).is_file() else [] for it in ("depth", "status"))
+    return Example(folder, depths or ["8"], int([*status, "0"][0]))
+
+
+def examples() -> list[Example]:
+    return [example(it.name) for it in sorted((TOP / "examples").iterdir()) if it.is_dir()]

@@ -1,0 +1,100 @@
+"""What the program that explains printed as JSON, beside what it prints as text.
+
+    tools/check explained_json FILE < OUTPUT      OUTPUT is that of --json, FILE what an example has as `explained`
+
+Each line is an object: one with `$message_type` and `answer` alone, or one with the keys of `rustc --error-format=json` and `answer`,
+each of its kind, in spans and children too. The answers with what is `rendered` behind each are the file. (The checks `examples` and
+`explained` read each output so.)
+"""
+from __future__ import annotations
+
+import argparse
+import json
+import sys
+from pathlib import Path
+from typing import Any, Mapping, NamedTuple, Sequence, Union
+
+from .common import Tally, Wrong
+
+Kind = Union[type, tuple[type, ...]]
+NONE: type = type(None)
+ANSWER: Mapping[str, Kind] = {"$message_type": str, "answer": str}
+SPAN: Mapping[str, Kind] = {
+    "file_name": str, "byte_start": int, "byte_end": int, "line_start": int, "line_end": int, "column_start": int, "column_end": int,
+    "is_primary": bool, "text": list, "label": (str, NONE), "suggested_replacement": NONE, "suggestion_applicability": NONE, "expansion": NONE,
+}
+TEXT: Mapping[str, Kind] = {"text": str, "highlight_start": int, "highlight_end": int}
+CODE: Mapping[str, Kind] = {"code": str, "explanation": NONE}
+MESSAGE: Mapping[str, Kind] = {"message": str, "code": (dict, NONE), "level": str, "spans": list, "children": list, "rendered": (str, NONE)}
+LEVELS = ("error", "warning", "note", "help")
+
+
+def need(is_so: bool, what: str, value: object) -> None:
+    if not is_so:
+        raise Wrong(f"{what}: {json.dumps(value)[:300]}")
+
+
+def has_keys(value: Any, keys: Mapping[str, Kind], what: str) -> None:
+    need(isinstance(value, dict) and set(value) == set(keys), f"other keys in {what}", value)
+    for key, kind in keys.items():
+        is_so = isinstance(value[key], kind) and not (kind is int and isinstance(value[key], bool))
+        need(is_so, f"another kind of `{key}` in {what}", value)
+
+
+def read_span(span: Any) -> None:
+    has_keys(span, SPAN, "a span")
+    is_span = span["byte_start"] <= span["byte_end"] and 1 <= span["column_start"] <= span["column_end"] and len(span["text"]) == 1
+    need(is_span, "a span that is none", span)
+    text = span["text"][0]
+    has_keys(text, TEXT, "a line of a span")
+    need(1 <= text["highlight_start"] <= text["highlight_end"] <= len(text["text"]) + 1, "marks outside their line", span)
+
+
+def read_message(message: Any, extra: Mapping[str, Kind]) -> None:
+    has_keys(message, {**MESSAGE, **extra}, "a message")
+    need(message["level"] in LEVELS, "another level", message)
+    if message["code"] is not None:
+        has_keys(message["code"], CODE, "a code")
+    for span in message["spans"]:
+        read_span(span)
+    for child in message["children"]:
+        read_message(child, {})
+
+
+class Told(NamedTuple):
+    """A line of the answer, and what is said of it."""
+
+    answer: str
+    rendered: str
+    message: Any
+
+
+def read_line(line: str) -> Told:
+    value = json.loads(line)
+    if isinstance(value, dict) and value.get("$message_type") == "answer":
+        has_keys(value, ANSWER, "an answer")
+        return Told(value["answer"], "", None)
+    read_message(value, ANSWER)
+    need(value["$message_type"] == "diagnostic" and value["rendered"] is not None, "another type of message", value)
+    return Told(value["answer"], value["rendered"], value)
+
+
+def read_lines(output: bytes) -> list[Told]:
+    return list(map(read_line, output.decode("ascii").splitlines()))
+
+
+def text_of(told: Sequence[Told]) -> str:
+    return "".join(f"{it.answer}\n{it.rendered}" for it in told)
+
+
+def add_words(reader: argparse.ArgumentParser) -> None:
+    reader.add_argument("file", type=Path)
+
+
+def compare(file: Path) -> None:
+    if text_of(read_lines(sys.stdin.buffer.read())) != file.read_text(encoding="ascii"):
+        raise Wrong("what is told as JSON is not what is told as text")
+
+
+def check(tally: Tally, given: argparse.Namespace) -> None:
+    tally.hold(str(given.file), lambda: compare(given.file))

@@ -1,0 +1,156 @@
+"""Each limit of a text: one at the limit is taken, one past it is fault 16 in its line."""
+from __future__ import annotations
+
+import argparse
+from functools import partial
+from typing import Callable, Iterator, NamedTuple
+
+from .common import Tally, program, run
+from .makers import many, repeated
+
+BASE = "crate base\ntrait Show\n"
+ACCEPTED, REFUSED = "crate base: accepted", "line 3: fault 16"
+# Where a name is declared, and that of a variable: @ stands for it. In the middle is what is answered last where it is not too long.
+NAMED = """
+a crate's name|crate @: accepted|crate @ uses base
+a trait's name|crate base: accepted|trait @
+a struct's type parameter|crate base: accepted|struct Q<@>
+a struct's lifetime|crate base: accepted|struct Q<'@>(&'@ u8)
+a struct's const parameter|crate base: accepted|struct Q<const @>([u8; @])
+a trait's type parameter|crate base: accepted|trait Many<@>
+a trait's lifetime|crate base: accepted|trait Many<'@>
+a trait's const parameter|crate base: accepted|trait Many<const @>
+an impl's type parameter|crate base: accepted|impl<@> Show for (@,)
+an impl's lifetime|crate base: accepted|impl<'@> Show for &'@ u8
+an impl's const parameter|crate base: accepted|impl<const @> Show for [u8; @]
+a question's type parameter|prove 1: unproved|prove in base <@> @: Show
+a question's lifetime|prove 1: unproved|prove in base <'@> &'@ u8: Show
+a question's const parameter|prove 1: unproved|prove in base <const @> [u8; @]: Show
+a binder's lifetime|crate base: accepted|impl Show for for<'@> fn(&'@ u8)
+a binder's lifetime in a dyn|crate base: accepted|impl Show for dyn for<'@> Show
+a type variable|prove 1: unproved|prove in base (?@,): Show
+a const variable|refute 1: open|refute in base [u8; ?@]: Sized
+"""
+
+
+class Case(NamedTuple):
+    """A text, and the last line of its answer."""
+
+    name: str
+    text: str
+    last: str
+
+
+def numbered(form: str, count: int) -> str:
+    """A line for each number from 1, where the form has #."""
+    return "".join(f"{it}\n" for it in many(form, range(1, count + 1)))
+
+
+def listed(prefix: str, count: int, first: int = 1) -> str:
+    return ", ".join(many(f"{prefix}#", range(first, count + 1)))
+
+
+def all_sorts(form: str, count: int) -> str:
+    """So many parameters where the form has @: five lifetimes, six types, and constants for the rest."""
+    return form.replace("@", ", ".join([listed("'a", 5), listed("T", 6), listed("const N", count - 11)]))
+
+
+def named(form: str, count: int) -> str:
+    """A name of so many bytes where the form has @."""
+    return form.replace("@", "n" * count)
+
+
+def pair(name: str, most: int, text: Callable[[int], str], taken: str = ACCEPTED, refused: str = REFUSED) -> Iterator[Case]:
+    """A text at a limit and one past it; in the name # is the number."""
+    for count, last in ((most, taken), (most + 1, refused)):
+        yield Case(name.replace("#", f"{count:,}"), text(count), last)
+
+
+def line_pair(name: str, most: int, line: Callable[[int], str], taken: str = ACCEPTED, refused: str = REFUSED, before: str = BASE) -> Iterator[Case]:
+    """The same, of a line behind others."""
+    return pair(name, most, lambda count: before + line(count) + "\n", taken, refused)
+
+
+def text_cases() -> Iterator[Case]:
+    yield from pair("# line ends", 1048576, lambda count: "\n" * count, "", "line 1048577: fault 16")
+    yield Case("a line without end", "a" * 1100000, "line 1: fault 16")
+    yield Case("a byte too many behind two line ends", " " * 1048574 + "\n\nx", "line 3: fault 16")
+    yield from pair("# crates", 255, lambda count: numbered("crate c#", count), "crate c255: accepted", "line 256: fault 16")
+    yield from pair("# questions", 65536, lambda count: "crate b\ntrait S\n" + "prove in b!:S\n" * count, "prove 65536: unproved", "line 65539: fault 16")
+
+
+def item_cases() -> Iterator[Case]:
+    structs = numbered("struct s#", 4096)
+    yield from pair("# structs", 4096, lambda count: "crate base\n" + numbered("struct s#", count), refused="line 4098: fault 16")
+    mixed = numbered("struct s#", 2048) + numbered("trait t#", 2047) + "impl t1 for s1\nimpl t1 for s2\n"
+    yield Case("structs, traits and impls count together", "crate base\n" + mixed, "line 4098: fault 16")
+    other = structs.replace("struct s", "struct r")
+    yield Case("4,096 structs in each of two crates", f"crate base\n{structs}crate other\n{other}", "crate other: accepted")
+
+
+def section_cases() -> Iterator[Case]:
+    """A section has its own count of impls, and there is none of sections."""
+    head, arrays = "crate base\ntrait t\n", "impl t for [u8; #]"
+    yield from pair("# impls in a section", 4096, lambda count: f"{head}later base\n{numbered(arrays, count)}", "later base: compatible", "line 4100: fault 16")
+    full, section = head + numbered(arrays, 4095), "later base\n" + numbered(arrays, 4096)
+    yield Case("4,096 impls in each of two sections of a crate of 4,096", full + section * 2, "later base: compatible")
+    behind = "later base\ncrate other\nsupers in other\ncrate third\n" + numbered("struct s#", 4097)
+    yield Case("4,097 structs behind a section", full + behind, f"line {4 + 4095 + 2 + 4097}: fault 16")
+    yield Case("30,000 sections", "crate base\n" + "later base\n" * 30000, "later base: compatible")
+    yield Case("30,000 lines supers", "crate base\n" + "supers in base\n" * 30000, "supers base: held")
+
+
+def name_cases() -> Iterator[Case]:
+    yield from pair("a name of # bytes", 64, lambda count: f"crate base\nstruct {'n' * count}\n", refused="line 2: fault 16")
+    for row in NAMED.strip().split("\n"):
+        place, answer, line = row.split("|")
+        yield from line_pair(f"{place} of # bytes", 64, partial(named, line), named(answer, 64))
+
+
+def parameter_cases() -> Iterator[Case]:
+    """Parameters of each kind of line, of one sort and of all three."""
+    yield from line_pair("# parameters", 16, lambda count: f"struct Q<{listed('T', count)}>")
+    yield from line_pair("# parameters of a trait", 16, lambda count: f"trait Many<{listed('T', count)}>")
+    both = "impl<{}> Show for (({}), fn({}))"
+    yield from line_pair("# parameters of an impl", 16, lambda count: both.format(listed("T", count), listed("T", 12), listed("T", count, 13)))
+    for kind in ("struct", "trait"):
+        yield from line_pair(f"# parameters of all sorts of a {kind}", 16, partial(all_sorts, f"{kind} Q<@>"))
+    lifetimes = "impl<{}, T> Show for &'a1 T"
+    yield from line_pair("# lifetimes and a type of an impl", 15, lambda count: lifetimes.format(listed("'a", count)))
+    asked = "prove in base <{}> T1: Show"
+    yield from line_pair("# parameters of a question", 16, lambda count: asked.format(listed("T", count)), "prove 1: unproved")
+    yield from line_pair("# parameters of all sorts of a question", 16, partial(all_sorts, asked.format("@")), "prove 1: unproved")
+    variables = f"trait Many<{listed('T', 12)}>"
+    question = "prove in base ({}): Many<{}>"
+    yield from line_pair("# variables", 16, lambda count: question.format(listed("?x", count - 12), listed("?y", 12)), "prove 1: unproved", before=f"crate base\n{variables}\n")
+
+
+def type_cases() -> Iterator[Case]:
+    yield from line_pair("a type that is # deep", 64, lambda count: f"impl Show for {'&' * (count - 1)}u8")
+    added = f"{BASE}later base\n"
+    yield from line_pair("an added type that is # deep", 64, lambda count: f"impl<T> Show for {'&' * (count - 1)}T",
+                         "later base: breaking impl 1", "line 4: fault 16", added)
+    yield Case("a type that is 200,001 deep", f"{BASE}impl Show for {'&' * 200000}u8\n", REFUSED)
+    yield from line_pair("# items of a tuple", 12, lambda count: f"impl Show for ({repeated('u8', count)})")
+    yield from line_pair("# inputs of a fn", 12, lambda count: f"impl Show for fn({repeated('u8', count)}) -> u8")
+    yield from line_pair("# fields", 64, lambda count: f"struct Q({repeated('u8', count)})")
+    safe = f"{BASE}auto trait Safe\n"
+    yield from line_pair("# bounds of a dyn", 64, lambda count: f"impl Show for dyn {repeated('Safe', count, ' + ')}", refused="line 4: fault 16", before=safe)
+    yield Case("the greatest number", f"{BASE}impl Show for [u8; {2**64 - 1}]\n", ACCEPTED)
+    yield Case("a number past it", f"{BASE}impl Show for [u8; {2**64}]\n", REFUSED)
+
+
+def clause_cases() -> Iterator[Case]:
+    yield from line_pair("# where-clauses", 64, lambda count: f"impl<T> Show for T where {repeated('T: Show', count)}")
+    yield from line_pair("# where-clauses of a question", 64, lambda count: f"prove in base <T> T: Show where {repeated('T: Show', count)}", "prove 1: yes")
+    yield from line_pair("# bounds of a trait", 64, lambda count: f"trait Bounded: {repeated('Show', count, ' + ')}")
+
+
+def check(tally: Tally, _: argparse.Namespace) -> None:
+    answering = program("celtisdarts")
+    for cases in (text_cases, item_cases, section_cases, name_cases, parameter_cases, type_cases, clause_cases):
+        for case in cases():
+            ended = run([answering, "8"], case.text.encode())
+            wanted = (1 if "fault" in case.last else 0, case.last)
+            found = (ended.status, ended.last_line())
+            tally.expect(case.name, found == wanted, f"status {found[0]} and '{found[1]}', {wanted[0]} and '{wanted[1]}' are wanted")

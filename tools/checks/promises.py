@@ -1,0 +1,378 @@
+"""What the documents point at stands where they say.
+
+docs/PROMISES.md and the pages of docs/promises, in the sections of crates ('## `NAME`'):
+
+    At `FILE.rt`: `function` (`clause`, ..), ..    the file in crates/NAME/src; the function there, or the method as `Type::method`
+                                                   or `Trait::method`, with these clauses of its `ensures`, or, as
+                                                   `requires NAME`, of what it asks; or the type or trait, with these
+                                                   ghost items. A function that is named alone has a clause without a
+                                                   name, or the contract of the trait that it implements
+    Words: `FILE.antt`: `definition`, ..           the file in crates/NAME/specs, and public definitions there. The last column of
+                                                   a table is read in the same way
+
+A path with a slash begins with a crate's name. Each promise has its 'At', and each row of a table a file. A page has sections of
+crates alone, but for docs/PROMISES.md. The items of its numbered list begin with a file, in which all that stands in backticks
+behind it is written.
+
+README.md has at most 140 lines, and docs/PROMISES.md at most 300. A link in any document leads to a file or a folder of the
+repository, and to a heading of the document where it names one. A path in backticks that begins with `crates/` or the name of
+another folder of the repository is there, unless a part of it is in capitals, as NAME. A check that is named there, as `tools/check
+NAME`, is one.
+
+It proves nothing and takes a second. A case is a mention, by its document and line. What is named behind a file or a function that is
+not there is not looked up, and counts as nothing.
+"""
+from __future__ import annotations
+
+import argparse
+import os
+import re
+from functools import lru_cache
+from typing import Callable, Iterable, Iterator, NamedTuple, Optional, Sequence
+from urllib.parse import unquote
+
+from .common import TOP, Tally
+from .runner import ALL, GROUPS
+
+PROMISES = "docs/PROMISES.md"
+MOST_LINES = {"README.md": 140, PROMISES: 300}
+FOLDERS = "benches|crates|docs|examples|tools"
+NO_SOURCE = ("out", "target")
+
+SECTION = re.compile(r"## (?:`(\w+)`)?")
+AT = re.compile(r"\sAt\s+(?=`)")
+WORDS = re.compile(r"\sWords:\s+(?=`)")
+STEP = re.compile(r"^\d+\. +`([^`]+)`((?:.|\n   )*)", re.M)
+TOKEN = re.compile(r"`([^`]+)`|([()])")
+
+OWNER = re.compile(r"(?:pub )?(?:impl|trait)\b")
+FUNCTION = re.compile(r"( *)(?:pub(?:\(crate\))? )?(?:final )?(?:const )?fn (\w+)")
+CLAUSE = re.compile(r" *(?:ensures (?:(\w+) )?|(requires \w+) )\{")
+
+FENCED = re.compile(r"^```.*?^```", re.M | re.S)
+CODE = re.compile(r"^```.*?^```|`[^`\n]+`", re.M | re.S)
+LINK = re.compile(r"\]\(\s*<?([^)\s>]+)[^)]*\)|^ {0,3}\[[^\]]+\]:\s+(\S+)", re.M)
+HEADING = re.compile(r"#+ +(.*)")
+ELSEWHERE = re.compile(r"[a-z][a-z0-9+.-]*:")
+PATH = re.compile(rf"`((?:{FOLDERS})/[\w./-]+)`")
+CHECK = re.compile(r"`tools/check (\w+)")
+
+
+class Token(NamedTuple):
+    """What stands in a line of that number."""
+
+    line: int
+    text: str
+
+
+class Function(NamedTuple):
+    """A function by the words of its `impl` or `trait`, its name, and its clauses, '' for one without a name."""
+
+    owners: Sequence[str]
+    name: str
+    clauses: Sequence[str]
+
+
+@lru_cache(maxsize=None)
+def text_of(path: str) -> str:
+    return (TOP / path).read_text(encoding="utf-8")
+
+
+def is_there(path: str) -> bool:
+    return (TOP / path).exists()
+
+
+def unless(is_so: object, fault: str) -> Optional[str]:
+    return None if is_so else fault
+
+
+# ---- what stands in the code
+
+
+def owners_of(lines: Sequence[str], at: int) -> Sequence[str]:
+    """The words of the `impl` or `trait` that begins there: its trait and its type, without their parameters."""
+    head, _, body = "\n".join(lines[at : at + 20]).partition("{")
+    if body.startswith("}"):
+        return ()
+    count = 1
+    while count:
+        head, count = re.subn(r"<[^<>]*>", "", head.replace("->", ""))
+    return re.findall(r"\w+", re.sub(r"(?s):.*|\bwhere\b.*", "", head))
+
+
+def ends_contract(line: str, indent: int) -> bool:
+    """Whether the function's body begins in this line, or the function has none and ends in it."""
+    code = line.partition("//")[0].rstrip()
+    depth = len(line) - len(line.lstrip())
+    # clauses stand four columns behind the function, and what a long one goes on with stands behind them
+    return (depth <= indent and code.endswith(("{", "}"))) or (depth <= indent + 4 and code.endswith(";"))
+
+
+def clauses_of(lines: Sequence[str], at: int, indent: int) -> Iterator[str]:
+    """The names of the clauses of the function that begins there: '' for an `ensures` that has none, and of `requires` those that have one."""
+    for line in lines[at:]:
+        clause = CLAUSE.match(line)
+        if clause:
+            yield clause[1] or clause[2] or ""
+        if ends_contract(line, indent):
+            return
+
+
+@lru_cache(maxsize=None)
+def functions_in(path: str) -> list[Function]:
+    lines = text_of(path).split("\n")
+    found: list[Function] = []
+    owners: Sequence[str] = ()
+    for at, line in enumerate(lines):
+        if OWNER.match(line):
+            owners = owners_of(lines, at)
+        elif line.startswith("}"):
+            owners = ()
+        function = FUNCTION.match(line)
+        if function:
+            found.append(Function(owners, function[2], list(clauses_of(lines, at, len(function[1])))))
+    return found
+
+
+def functions_named(path: str, name: str) -> list[Function]:
+    owner, _, function = name.rpartition("::")
+    return [it for it in functions_in(path) if it.name == function and (owner in it.owners if owner else not it.owners)]
+
+
+def ghosts_of(path: str, name: str) -> Optional[list[str]]:
+    """The names of the ghost items of a type or trait; None where there is none of that name."""
+    text = text_of(path)
+    head = re.search(rf"^pub (?:struct|enum|trait) {re.escape(name)}\b[^{{;]*", text, re.M)
+    if not head:
+        return None
+    body = text[head.end() :].partition("\n}")[0] if text[head.end() :].startswith("{\n") else ""
+    return re.findall(r"^    (?:pub )?ghost (\w+)", body, re.M)
+
+
+def has_definition(path: str, name: str) -> bool:
+    form = rf"^ *(?:(?:abbrev|unfoldable) )?pub (?:(?:record|data) )?{re.escape(name)}(?!\S)"
+    return re.search(form, text_of(path), re.M) is not None
+
+
+def fault_of_function(path: str, name: str, is_alone: bool) -> Optional[str]:
+    functions = functions_named(path, name)
+    if not functions:
+        return unless(ghosts_of(path, name) is not None, f"{path} has no function or type `{name}`")
+    is_right = not is_alone or any("" in it.clauses or "for" in it.owners for it in functions)
+    return unless(is_right, f"each clause of `{name}` has a name: {', '.join(functions[0].clauses) or 'there is none'}")
+
+
+def fault_of_clause(path: str, name: str, clause: str) -> Optional[str]:
+    functions = functions_named(path, name)
+    there = [it for function in functions for it in function.clauses] if functions else ghosts_of(path, name) or []
+    return unless(clause in there, f"`{name}` in {path} has no clause `{clause}`: {', '.join(filter(None, there)) or 'none has a name'}")
+
+
+# ---- what the pages name
+
+
+def sections(text: str) -> list[tuple[Token, list[Token]]]:
+    """The sections: the line of the heading, with the crate or '', and the lines below."""
+    found: list[tuple[Token, list[Token]]] = []
+    for number, line in enumerate(text.split("\n"), 1):
+        section = SECTION.match(line)
+        if section:
+            found.append((Token(number, section[1] or ""), []))
+        elif found:
+            found[-1][1].append(Token(number, line))
+    return found
+
+
+def promises_in(lines: Iterable[Token]) -> list[Token]:
+    """The items of the lists: the first line of each, and its whole text."""
+    found: list[Token] = []
+    is_open = False
+    for number, line in lines:
+        if line.startswith("- "):
+            found.append(Token(number, line))
+        elif is_open and line.startswith("  "):
+            found[-1] = Token(found[-1].line, f"{found[-1].text}\n{line}")
+        is_open = line.startswith("- ") or (is_open and line.startswith("  "))
+    return found
+
+
+def rows_in(lines: Iterable[Token]) -> Iterator[Token]:
+    """The rows of the tables, without the two lines of each head."""
+    height = 0
+    for it in lines:
+        height = height + 1 if it.text.startswith("|") else 0
+        if height > 2:
+            yield it
+
+
+def tokens_in(text: str, first: int, start: int = 0, end: Optional[int] = None) -> list[Token]:
+    """The words in backticks and the parentheses of a part of the text, whose first line has that number."""
+    found = TOKEN.finditer(text, start, len(text) if end is None else end)
+    return [Token(first + text.count("\n", 0, it.start()), it[1] or it[2]) for it in found]
+
+
+def with_clauses(tokens: Iterable[Token]) -> list[tuple[Token, list[Token]]]:
+    """The functions, each with the clauses in parentheses behind it."""
+    found: list[tuple[Token, list[Token]]] = []
+    is_inside = False
+    for token in tokens:
+        if token.text in "()":
+            is_inside = token.text == "("
+        elif is_inside and found:
+            found[-1][1].append(token)
+        else:
+            found.append((token, []))
+    return found
+
+
+Tell = Callable[[int, Optional[str]], bool]
+
+
+class Section:
+    """A crate's section of a page, and what is told of its lines."""
+
+    def __init__(self, tell: Tell, crate: str) -> None:
+        self.tell, self.crate = tell, crate
+
+    def by_file(self, part: str, ending: str, tokens: Iterable[Token]) -> list[tuple[str, list[Token]]]:
+        """Tells which files are there, and gives those with the tokens behind each."""
+        path = ""
+        found: list[tuple[str, list[Token]]] = []
+        for line, token in tokens:
+            if token.endswith(ending):
+                path = f"crates/{token}" if "/" in token else f"crates/{self.crate}/{part}/{token}"
+                if self.tell(line, unless(is_there(path), f"there is no file {path}")):
+                    found.append((path, []))
+            elif not path:
+                self.tell(line, f"no file stands before `{token}`")
+            elif is_there(path):
+                found[-1][1].append(Token(line, token))
+        return found
+
+    def check_code(self, tokens: Iterable[Token]) -> None:
+        for path, named in self.by_file("src", ".rt", tokens):
+            for (line, name), clauses in with_clauses(named):
+                if self.tell(line, fault_of_function(path, name, not clauses)):
+                    for clause in clauses:
+                        self.tell(clause.line, fault_of_clause(path, name, clause.text))
+
+    def check_words(self, tokens: Iterable[Token]) -> None:
+        words = [it for it in tokens if it.text not in "()"]
+        for path, names in self.by_file("specs", ".antt", words):
+            for line, name in names:
+                self.tell(line, unless(has_definition(path, name), f"{path} has no public definition `{name}`"))
+
+    def check_promise(self, promise: Token) -> None:
+        first, text = promise
+        at = AT.search(text)
+        if not at:
+            self.tell(first, "a promise without 'At'")
+            return
+        words = WORDS.search(text, at.end() - 1)
+        self.check_code(tokens_in(text, first, at.end(), words.start() if words else None))
+        if words:
+            self.check_words(tokens_in(text, first, words.end()))
+
+    def check_row(self, row: Token) -> None:
+        tokens = tokens_in(row.text.strip().strip("|").split(" | ")[-1], row.line)
+        self.check_words(tokens)
+        if not tokens:
+            self.tell(row.line, "a row without a file in its last column")
+
+    def check(self, lines: Sequence[Token]) -> None:
+        for promise in promises_in(lines):
+            self.check_promise(promise)
+        for row in rows_in(lines):
+            self.check_row(row)
+
+
+def check_page(tell: Tell, page: str) -> None:
+    found = sections(text_of(page))
+    if not any(head.text for head, _ in found):
+        tell(1, "no section of a crate")
+    for (number, crate), lines in found:
+        if crate:
+            if tell(number, unless(is_there(f"crates/{crate}"), f"there is no crate {crate}")):
+                Section(tell, crate).check(lines)
+        elif page != PROMISES:
+            tell(number, "a section of no crate")
+
+
+def check_steps(tell: Tell) -> None:
+    text = text_of(PROMISES)
+    found = list(STEP.finditer(text))
+    if not found:
+        tell(1, "no numbered list")
+    for step in found:
+        path, line = step[1], 1 + text.count("\n", 0, step.start())
+        if tell(line, unless(is_there(path), f"there is no file {path}")):
+            for at, word in tokens_in(text, 1, *step.span(2)):
+                if word not in "()":
+                    tell(at, unless(word in text_of(path), f"{path} does not say `{word}`"))
+
+
+# ---- the documents
+
+
+def documents() -> list[str]:
+    """The paths of all documents of the repository, from its top."""
+    found = []
+    for at, folders, files in os.walk(TOP):
+        folders[:] = sorted(it for it in folders if it not in NO_SOURCE and not it.startswith("."))
+        found += [os.path.relpath(f"{at}/{it}", TOP) for it in sorted(files) if it.endswith(".md")]
+    return found
+
+
+def blanked(form: re.Pattern[str], text: str) -> str:
+    """The text with each character of what has the form, but line ends, made a space."""
+    return form.sub(lambda it: re.sub(r"[^\n]", " ", it[0]), text)
+
+
+def anchors_in(document: str) -> set[str]:
+    """What a link may name in the document: its headings in small letters, with - for each space and without marks."""
+    lines = FENCED.sub("", text_of(document)).split("\n")
+    headings = [it[1].strip().lower() for it in map(HEADING.match, lines) if it]
+    return {re.sub(r"[^\w\- ]", "", it).replace(" ", "-") for it in headings}
+
+
+def fault_of_link(document: str, target: str) -> Optional[str]:
+    file, _, anchor = unquote(target).partition("#")
+    path = os.path.normpath(os.path.join(os.path.dirname(document), file)) if file else document
+    if os.path.isabs(path) or path.split("/")[0] == "..":
+        return f"the link {target} leads out of the repository"
+    if not is_there(path):
+        return f"the link {target} leads to no file"
+    is_heading = not anchor or path.endswith(".md") and anchor in anchors_in(path)
+    return unless(is_heading, f"the link {target} names no heading of {path}")
+
+
+def check_document(tell: Tell, document: str) -> None:
+    text, no_code = blanked(FENCED, text_of(document)), blanked(CODE, text_of(document))
+
+    def tell_at(found: re.Match[str], fault: Optional[str]) -> None:
+        tell(1 + text.count("\n", 0, found.start()), fault)
+
+    for link in LINK.finditer(no_code):
+        target = link[1] or link[2]
+        if not ELSEWHERE.match(target):
+            tell_at(link, fault_of_link(document, target))
+    for path in PATH.finditer(text):
+        if not any(it.isupper() for it in path[1].split("/")):
+            tell_at(path, unless(is_there(path[1]), f"there is no {path[1]}"))
+    for name in CHECK.finditer(text):
+        if not name[1].isupper():
+            tell_at(name, unless(name[1] in [*ALL, *GROUPS], f"there is no check {name[1]}"))
+    lines, most = len(text.splitlines()), MOST_LINES.get(document)
+    if most:
+        tell(lines, unless(lines <= most, f"{lines} lines, {most} at most are allowed"))
+
+
+def check(tally: Tally, _: argparse.Namespace) -> None:
+    def teller(page: str) -> Tell:
+        return lambda line, fault: tally.tell(f"{page}:{line}", fault)
+
+    for page in [PROMISES, *(it for it in documents() if it.startswith("docs/promises/"))]:
+        check_page(teller(page), page)
+    check_steps(teller(PROMISES))
+    for document in documents():
+        check_document(teller(document), document)

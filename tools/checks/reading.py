@@ -1,0 +1,322 @@
+"""How much a reader follows to believe a function: the lines of definitions behind its contract.
+
+    tools/check reading                       the calls that the program makes, and counts of contracts
+    tools/check reading CRATE FUNCTION ..     these functions, by their names
+
+From the names in a function's clauses it follows each definition of specs/ to those that it names, and counts their lines, without
+comments and blank lines. Names of the toolchain's library and types of the code are not followed. A definition of which a law on a
+contract says exactly what it means is read by that law, and its own lines are not counted (LAWS below).
+
+The figures of those calls, and of what is to become less, stand in tools/checks/reading.txt: a case is a figure that is as it stands there.
+"""
+from __future__ import annotations
+
+import argparse
+import os
+import re
+from collections import defaultdict
+from functools import lru_cache
+from pathlib import Path
+from typing import Iterable, Iterator, NamedTuple, Optional, Sequence
+
+from .common import TOP, Missing, Tally
+
+FIGURES = Path(__file__).with_suffix(".txt")
+CALLS = [
+    ("sessions", "Session::prove"), ("sessions", "Session::refute"), ("sessions", "Session::check_crate"), ("sessions", "Session::check_later"),
+    ("sessions", "Session::check_supertraits"), ("coherence", "run"),
+]
+
+
+class Name(NamedTuple):
+    """A definition, by its module and its name there."""
+
+    module: str
+    name: str
+
+
+# What is read by a law in its place: two trees, and two labels as trees of one node, pass `same` exactly if they are equal. The rules of an
+# impl are those of the arguments that fit and make its header the reference.
+EQUALITY = Name("Rattle.type_terms.specs.Laws", "SameIsEqual")
+LAWS = {
+    Name("Rattle.type_terms.specs.Codes", "same"): EQUALITY,
+    Name("Rattle.type_terms.specs.Codes", "same_label"): EQUALITY,
+    Name("Rattle.type_terms.specs.Rules", "impl_rules"): Name("Rattle.overlap_check.specs.ImplRules", "ImplRulesAreInstances"),
+}
+HEAD = re.compile(r"^( *)(?:(?:unfoldable|abbrev|pub) )*(?:(record|data) )?(?:(?:abbrev|pub) )*([^\s:(){}]+)(?=[\s:(){]|$)")
+DECLARED = re.compile(r"^ +(?:abbrev|unfoldable|pub (?:abbrev|record|data)) ")
+RECORD = re.compile(r"\b(record|data)\b")
+NO_ITEM = re.compile(r"pub mod | *module ")
+MUTUAL = re.compile(r"(?:abbrev )?mutual$")
+WORD = re.compile(r"[^\s(){}\[\],;]+")
+USE = re.compile(r"^ *(?:(?:unfoldable|abbrev|pub|ghost) )*use (Rattle\.[\w.]+?)(?:\.\{([^}]*)\})?(?: as (\w+))?;?\s*$")
+CLAUSE = re.compile(r" *(requires|ensures)\b *(\w*)")
+BODY = re.compile(r" *(\{|\}|\{ *\})$")
+BEHIND_CLAUSES = re.compile(r" *(pub |fn |//|#)")
+COSTS = ("frames", "full")
+WIDE = 160
+
+
+# ---- modules of specs/
+
+
+class Imports:
+    """What a file imports: names of modules, and modules by another name."""
+
+    def __init__(self) -> None:
+        self.names: dict[str, Name] = {}
+        self.aliases: dict[str, str] = {}
+
+    def take(self, line: str) -> bool:
+        """Whether the line is an import, which is then taken."""
+        found = USE.match(line)
+        if not found:
+            return False
+        module, names, alias = found[1], found[2] or "", found[3]
+        if alias and not names:
+            self.aliases[alias] = module
+        for it in names.split(",") if names else []:
+            own, _, other = it.strip().partition(" as ")
+            if own:
+                self.names[other.strip() or own.strip()] = Name(module, own.strip())
+        return True
+
+
+class Module:
+    """One file of specs/: its items by name, with their lines, and what it imports."""
+
+    def __init__(self, path: Path) -> None:
+        self.items: dict[str, list[str]] = {}
+        self.columns: dict[str, int] = {}
+        self.imports, self.is_mutual, self.item = Imports(), False, ""
+        for line in path.read_text(encoding="utf-8").split("\n"):
+            text = "" if line.lstrip().startswith("--") else line.split(" -- ")[0]
+            if text.strip() and not self.imports.take(text):
+                self.take(text)
+
+    def take(self, text: str) -> None:
+        """Takes a line, which begins an item or belongs to the last one."""
+        if NO_ITEM.match(text):
+            self.item = ""
+            return
+        if MUTUAL.match(text):
+            self.is_mutual, self.item = True, ""
+            return
+        self.is_mutual = self.is_mutual and text.startswith(" ")
+        head = HEAD.match(text)
+        if head and self.begins(text, len(head[1]), head[3]):
+            self.item = head[3]
+            self.columns.setdefault(self.item, len(head[1]))
+        if self.item:
+            self.items.setdefault(self.item, []).append(text)
+
+    def begins(self, text: str, column: int, name: str) -> bool:
+        """Whether the line begins an item or a clause of one, and is not a field or a later line of the last."""
+        if not column or self.is_mutual and text.startswith("  pub ") or DECLARED.match(text):
+            return True
+        is_in_record = self.item in self.items and RECORD.search(self.items[self.item][0])
+        return self.columns.get(name) == column and not is_in_record
+
+
+@lru_cache(maxsize=None)
+def module_of(name: str) -> Optional[Module]:
+    """The module of that name if it is a file of specs/ of this repository."""
+    parts = name.split(".")
+    if len(parts) < 4 or parts[2] != "specs" or parts[3] == "declared":
+        return None
+    path = TOP.joinpath("crates", parts[1], "specs", *parts[3:]).with_suffix(".antt")
+    return Module(path) if path.is_file() else None
+
+
+def find(it: Name) -> Optional[Name]:
+    """Where the name that a module gives is defined, if that is in specs/."""
+    seen: set[Name] = set()
+    while it not in seen:
+        module = module_of(it.module)
+        if module and it.name in module.items:
+            return it
+        if not module or it.name not in module.imports.names:
+            return None
+        seen.add(it)
+        it = module.imports.names[it.name]
+    return None
+
+
+def named(texts: Iterable[str], imports: Imports, own: str = "") -> set[Name]:
+    """The definitions that the texts name: those of the module that they stand in, and those that it imports."""
+    module = module_of(own)
+    found: set[Optional[Name]] = set()
+    for word in (it for text in texts for it in WORD.findall(text)):
+        head, _, rest = word.partition(".")
+        for part in (word, word.rstrip("."), head):
+            if module and part in module.items:
+                found.add(Name(own, part))
+            elif part in imports.names:
+                found.add(find(imports.names[part]))
+        if head in imports.aliases and rest:
+            found.add(find(Name(imports.aliases[head], rest)))
+    return {it for it in found if it}
+
+
+def lines_of(it: Name) -> list[str]:
+    module = module_of(it.module)
+    return module.items[it.name] if module else []
+
+
+def behind(start: Iterable[Name]) -> set[Name]:
+    """All definitions that these lead to."""
+    reached: set[Name] = set()
+    todo = list(start)
+    while todo:
+        it = todo.pop()
+        it = LAWS.get(it, it)
+        module = module_of(it.module)
+        if module and it not in reached:
+            reached.add(it)
+            todo.extend(named(module.items[it.name], module.imports, it.module))
+    return reached
+
+
+# ---- contracts
+
+
+class Contract(NamedTuple):
+    """The clause lines of a function, with the imports of its file."""
+
+    clauses: list[str]
+    imports: Imports
+
+    def definitions(self) -> set[Name]:
+        return behind(named(self.clauses, self.imports))
+
+    def without_costs(self) -> Contract:
+        """It without the clauses `frames` and `full`."""
+        kept, is_kept = list[str](), True
+        for line in self.clauses:
+            begins = CLAUSE.match(line)
+            is_kept = begins[2] not in COSTS if begins else is_kept
+            kept += [line] if is_kept else []
+        return Contract(kept, self.imports)
+
+
+def contract_in(lines: Sequence[str], number: int) -> Contract:
+    """The contract of the function that begins in that line."""
+    clauses = []
+    for line in lines[number + 1 :]:
+        if re.match(r" *\{ *(\}|$)", line):
+            break
+        if not line.lstrip().startswith("//"):
+            clauses.append(line)
+    imports = Imports()
+    for line in lines:
+        imports.take(line)
+    return Contract(clauses, imports)
+
+
+def contract_of(crate: str, function: str) -> Contract:
+    head = re.compile(rf" *pub fn {re.escape(function.rpartition('::')[2])}\b")
+    for at, _, files in os.walk(TOP / "crates" / crate / "src"):
+        for file in sorted(files):
+            lines = Path(at, file).read_text(encoding="utf-8").split("\n")
+            for number, line in enumerate(lines):
+                if head.match(line):
+                    return contract_in(lines, number)
+    raise Missing(f"no function {function} in crates/{crate}/src")
+
+
+class Count(NamedTuple):
+    """What stands behind a contract: lines of definitions, definitions, files; and lines without what it costs and when it is full."""
+
+    lines: int
+    definitions: int
+    files: int
+    without_costs: int
+
+    def __str__(self) -> str:
+        beside = f"; {self.without_costs} without what it costs and when it is full" if self.without_costs != self.lines else ""
+        return f"{self.lines} lines of {self.definitions} definitions in {self.files} files{beside}"
+
+
+def count_of(crate: str, function: str) -> Count:
+    contract = contract_of(crate, function)
+    reached, said = contract.definitions(), contract.without_costs().definitions()
+    lines, without = (sum(len(lines_of(it)) for it in some) for some in (reached, said))
+    return Count(lines, len(reached), len({it.module for it in reached}), without)
+
+
+def counts_of_calls() -> dict[str, Count]:
+    """The counts of each promised call."""
+    return {function: count_of(crate, function) for crate, function in CALLS}
+
+
+# ---- all contracts, and all definitions
+
+
+def files_of(ending: str) -> Iterator[Path]:
+    for at, folders, files in os.walk(TOP / "crates"):
+        folders[:] = sorted(it for it in folders if it != "out")
+        yield from (Path(at, it) for it in files if it.endswith(ending))
+
+
+def clause_lines(path: Path) -> Iterator[str]:
+    is_inside = False
+    for line in path.read_text(encoding="utf-8").split("\n"):
+        goes_on = is_inside and line.strip() and not BODY.match(line) and not BEHIND_CLAUSES.match(line)
+        is_inside = bool(CLAUSE.match(line) or goes_on)
+        if is_inside:
+            yield line
+
+
+def names_of_specs() -> dict[str, set[Path]]:
+    """The names of specs/, with the files that they stand in."""
+    places: dict[str, set[Path]] = defaultdict(set)
+    for path in files_of(".antt"):
+        module = module_of(f"Rattle.{path.parts[-3]}.specs.{path.stem}") if path.parts[-2] == "specs" and path.name != "Lib.antt" else None
+        for name in module.items if module else ():
+            places[name].add(path)
+    return places
+
+
+def counts_of_contracts() -> dict[str, int]:
+    """Prints what is said again and again and how long the lines are; gives what is to become less."""
+    files = list(files_of(".rt"))
+    clauses = [line for file in files for line in clause_lines(file)]
+    wide, over = (sum(len(it) > most for it in clauses) for most in (WIDE, 200))
+    print(f"contract lines: {len(clauses)} in {len(files)} files; over {WIDE} characters {wide}, over 200 {over}")
+    words = [found[2] for it in clauses if (found := CLAUSE.match(it)) and found[1] == "ensures"]
+    print("clauses named " + ", ".join(f"{it} {words.count(it)}" for it in ("keeps", "limit", "full", "grew")))
+    names = names_of_specs()
+    several = sum(len(it) > 1 for it in names.values())
+    print(f"names of specs/: {len(names)}, of which {several} stand in several files")
+    return {"wide_contract_lines": wide, "names_in_several_files": several}
+
+
+def figures() -> dict[str, tuple[int, ...]]:
+    """The figures by name, each as its numbers."""
+    found: dict[str, tuple[int, ...]] = {}
+    for function, count in counts_of_calls().items():
+        print(f"{function}: {count}")
+        found[function] = count
+    return {**found, **{name: (number,) for name, number in counts_of_contracts().items()}}
+
+
+def kept_figures() -> dict[str, tuple[int, ...]]:
+    rows = [line.split() for line in FIGURES.read_text(encoding="utf-8").split("\n") if line and not line.startswith("#")]
+    return {name: tuple(map(int, numbers)) for name, *numbers in rows}
+
+
+def add_words(reader: argparse.ArgumentParser) -> None:
+    reader.add_argument("crate", nargs="?")
+    reader.add_argument("functions", nargs="*")
+
+
+def check(tally: Tally, given: argparse.Namespace) -> None:
+    if given.crate:
+        for function in given.functions:
+            print(f"{function}: {count_of(given.crate, function)}")
+            tally.passed += 1
+        return
+    found, kept = figures(), kept_figures()
+    for name in {**kept, **found}:
+        now, then = (" ".join(map(str, it.get(name, ()))) or "none" for it in (found, kept))
+        tally.expect(name, now == then, f"{now}, and {then} in {FIGURES.relative_to(TOP)}")

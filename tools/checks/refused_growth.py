@@ -1,0 +1,127 @@
+"""Each request for memory refused in turn: the 1st, the 2nd, the 3rd .., until a run asks fewer times.
+
+Each run of the built program but the last has to end with status 3 after a prefix of the output, the last one with the whole output. (So
+may one in which the library, refused a list with room to spare, asks for one without and gets it.) Of the program that explains the lines
+of the answer have to stand in the output, with others between them, as far as it came. A test of the layers below has to end with the
+fault `Memory` (also inside an equation's error, or as the allocator's own error, where the test itself asked), or to pass where it asks the
+refused call again; the last run has to pass. An explanation asks for memory thousands of times and a search that is given up tens of
+thousands: of these each of the first 400 and 4,000 requests is refused, and then each 17th and 97th.
+
+It needs a C compiler under the name cc, and the tests that `rt ci` built.
+"""
+from __future__ import annotations
+
+import argparse
+import os
+import re
+import tempfile
+from pathlib import Path
+from typing import Iterator, NamedTuple, Optional, Sequence
+
+from .common import TOP, Ended, Missing, Tally, built, example, program, run
+
+ANSWERED = """two_crates_accepted orphan_impl an_uncovered_parameter a_local_type_is_not_num a_later_version_may_add_num
+    where_clauses_are_proved refuted_and_open values_of_a_type_and_a_const values_with_variables later_versions_are_judged_apart
+    a_supertrait_that_is_missing a_supertrait_that_is_there""".split()
+EXPLAINED = "a_later_version_may_add_num orphan_impl values_with_variables".split()
+TESTED = ("term_tests", "layer_tests")
+# Tests that walk through long lists of goals ask for memory too often.
+LONG = ("rules::", "walks::", "worked::")
+MOST = 100000
+OF_MEMORY = re.compile(rb"^[Ee]rror: (Fault\()*(Memory|Alloc)", re.M)
+
+
+class Turn(NamedTuple):
+    """A run with the request of that number refused, if it came so far."""
+
+    number: int
+    ended: Ended
+    was_refused: bool
+
+
+class Refusing:
+    """What refuses a request for memory of the program that it is preloaded into."""
+
+    def __init__(self, room: Path) -> None:
+        self.object, self.report = room / "refuse_nth.so", room / "report"
+        source = TOP / "tools" / "refuse_nth.c"
+        try:
+            made = run(["cc", "-O2", "-shared", "-fPIC", "-Wall", "-Werror", "-o", self.object, source])
+        except FileNotFoundError:
+            raise Missing("tools/refuse_nth.c needs a C compiler under the name cc") from None
+        if made.status:
+            raise Missing(f"tools/refuse_nth.c does not compile: {made.said.decode()}")
+
+    def turns(self, words: Sequence[str], text: bytes = b"", dense: int = MOST, step: int = 1) -> Iterator[Turn]:
+        """Runs the command with each request refused in turn, from the number `dense` on each one so many further."""
+        number, was_refused = 1, True
+        while was_refused and number <= MOST:
+            self.report.unlink(missing_ok=True)
+            env = {**os.environ, "REFUSE_NTH": str(number), "REFUSE_REPORT": str(self.report), "LD_PRELOAD": str(self.object)}
+            ended = run(words, text, env=env)
+            was_refused = self.report.is_file()
+            yield Turn(number, ended, was_refused)
+            number += 1 if number < dense else step
+
+
+def program_on(tally: Tally, refusing: Refusing, name: str) -> None:
+    """The built program on an example."""
+    it = example(name)
+    wanted, refused = it.expected(), 0
+    for number, ended, was_refused in refusing.turns([program("celtisdarts"), "8"], it.text):
+        refused += was_refused
+        is_whole = (ended.status, ended.output) == (0, wanted)
+        if was_refused:
+            is_prefix = ended.status == 3 and wanted.startswith(ended.output)
+            fault = f"status {ended.status}, 3 is wanted, and what was written a prefix of the output"
+            tally.expect(f"{name}, request {number} refused", is_whole or is_prefix, fault)
+        else:
+            tally.expect(f"{name}, none refused", is_whole and refused > 0, f"the run has status {ended.status}, after {refused} refusals")
+            print(f"{name}: {refused} requests refused in turn, then the whole output")
+    if refused == MOST:
+        tally.tell(name, f"each of {MOST} requests was refused, and none was left that was not")
+
+
+def fault_of_explained(turn: Turn, wanted: bytes) -> Optional[str]:
+    lines = wanted.splitlines()
+    found = b"".join(line + b"\n" for line in turn.ended.output.splitlines() if line in lines)
+    if turn.ended.status == 0 and found == wanted or turn.ended.status == 3 and turn.was_refused and wanted.startswith(found):
+        return None
+    return f"status {turn.ended.status}, or lines of the answer are missing"
+
+
+def explained_on(tally: Tally, refusing: Refusing, name: str) -> None:
+    """The program that explains, on an example."""
+    it, last = example(name), 0
+    for turn in refusing.turns([program("celtisdarts_explain"), "8"], it.text, 400, 17):
+        tally.tell(f"{name}, explained, request {turn.number} refused", fault_of_explained(turn, it.expected()))
+        last = turn.number
+    print(f"{name}, explained: requests refused in turn, up to the {last}th")
+
+
+def tests_of(tally: Tally, refusing: Refusing, crate: str) -> None:
+    """The built tests of a crate, each in a run of its own."""
+    tests = built(crate, f"{crate}_tests")
+    names = re.findall(r"^(.*): test$", run([tests, "--list"]).output.decode(), re.M)
+    requests = 0
+    for name in names:
+        if name.startswith(LONG):
+            continue
+        for number, ended, was_refused in refusing.turns([tests, name], b"", 4000, 97):
+            is_so = ended.status == 0 or was_refused and OF_MEMORY.search(ended.said) is not None
+            tally.expect(f"{crate} {name}, request {number} refused", is_so, f"the test ends with status {ended.status} and no fault of memory")
+            requests += was_refused
+    print(f"the tests of {crate}: {requests} requests refused in turn")
+    if not requests:
+        tally.tell(f"the tests of {crate}", "no request was refused at all")
+
+
+def check(tally: Tally, _: argparse.Namespace) -> None:
+    with tempfile.TemporaryDirectory() as room:
+        refusing = Refusing(Path(room))
+        for name in ANSWERED:
+            program_on(tally, refusing, name)
+        for name in EXPLAINED:
+            explained_on(tally, refusing, name)
+        for crate in TESTED:
+            tests_of(tally, refusing, crate)

@@ -1,0 +1,40 @@
+"""from-rustdoc on kept crates; with --real also on crates of Debian, against rustc, where these and cargo are installed."""
+from __future__ import annotations
+
+import argparse
+import sys
+import unittest
+from functools import partial
+from typing import Any
+
+from .common import TOP, Tally
+
+TOOLS = TOP / "tools"
+
+
+class Result(unittest.TextTestResult):
+    """Tells each test of the tally."""
+
+    def __init__(self, tally: Tally, *words: Any, **more: Any) -> None:
+        super().__init__(*words, **more)
+        self.tally = tally
+
+    def addSuccess(self, test: unittest.TestCase) -> None:
+        super().addSuccess(test)
+        self.tally.tell(test.id(), None)
+
+
+def check(tally: Tally, given: argparse.Namespace) -> None:
+    # (types of real crates are deep)
+    sys.setrecursionlimit(20000)
+    pattern = "*_crates.py" if given.real else "test_*.py"
+    suite = unittest.defaultTestLoader.discover(str(TOOLS / "from_rustdoc" / "tests"), pattern, str(TOOLS))
+    result = unittest.TextTestRunner(stream=sys.stderr, verbosity=0, resultclass=partial(Result, tally)).run(suite)
+    for case, why in result.skipped:
+        print(f"skipped {case.id().rpartition('.')[2]}: {why}")
+    for case, why in [*result.failures, *result.errors]:
+        tally.tell(case.id(), why)
+
+
+def add_words(reader: argparse.ArgumentParser) -> None:
+    reader.add_argument("--real", action="store_true")
