@@ -22,9 +22,9 @@ from .common import Missing, Tally
 
 # By group, in the order of the gate: what needs no program, what tries the built programs, and what is run by hand.
 GROUPS = {
-    "sources": ["promises"],
+    "sources": ["promises", "documents"],
     "programs": [
-        "examples", "explained_words", "statuses", "options", "limits", "prefixes", "orders", "hostile", "walks", "refused_growth",
+        "examples", "explained_words", "statuses", "options", "transcripts", "limits", "prefixes", "orders", "hostile", "walks", "refused_growth",
         "rustdoc_cases", "driven",
     ],
     "by_hand": ["explained", "explained_json", "reading"],

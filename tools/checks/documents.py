@@ -1,0 +1,120 @@
+"""Documents are as short as they may be, and so are their sentences.
+
+Each document has at most as many words as SIZES says, as `wc -w` counts them, or OTHER where it is not named there. README.md has no
+sentence of more than 45 words, and all documents together have at most MOST_LONG. A sentence ends with a full stop, an item of a list or a
+cell of a table. What stands in a block of code is none.
+
+A block with a line that begins with '$ ' shows a run: it is marked as `console`, and the check `transcripts` runs it. The index at the end
+of docs/TUTORIAL.md names each folder of examples/ once.
+
+It proves nothing and takes a moment. --list prints words and long sentences of each document, --long the sentences.
+"""
+from __future__ import annotations
+
+import argparse
+import re
+from typing import Iterator
+
+from .common import TOP, Tally, examples
+
+SIZES = {
+    "README.md": 1000,
+    "CONTRIBUTING.md": 4206,
+    "benches/FIGURES.md": 3789,
+    "docs/ARCHITECTURE.md": 3070,
+    "docs/CODE.md": 5055,
+    "docs/DECISIONS.md": 14271,
+    "docs/DIFFERENCES.md": 3077,
+    "docs/FORMAT.md": 6336,
+    "docs/GLOSSARY.md": 1200,
+    "docs/LIBRARY.md": 1500,
+    "docs/PROMISES.md": 4785,
+    "docs/PROVING.md": 5526,
+    "docs/RELEASES.md": 1136,
+    "docs/RUSTDOC.md": 5566,
+    "docs/TUTORIAL.md": 2000,
+    "docs/promises/CANDIDATES.md": 4759,
+    "docs/promises/COHERENCE.md": 4852,
+    "docs/promises/DEFINITIONS.md": 1742,
+    "docs/promises/SEARCH.md": 4417,
+    "docs/promises/TERMS.md": 2244,
+    "docs/promises/TEXTS.md": 4716,
+}
+OTHER = 1500
+LONG = 45
+MOST_LONG = 190
+NO_LONG = ["README.md"]
+FOLDERS = ["", "docs", "docs/promises", "benches"]
+
+TUTORIAL = "docs/TUTORIAL.md"
+INDEX = "\n## The examples, by subject\n"
+
+FENCED = re.compile(r"^```.*?^```", re.M | re.S)
+BLOCK = re.compile(r"^```(.*)\n((?:.|\n)*?)^```", re.M)
+ITEM = re.compile(r"(?:[-*]|\d+\.) +")
+RULE = re.compile(r"[|:\- ]+")
+CELLS = re.compile(r"(?<!\\)\|")
+END = re.compile(r"(?<=[.!?])[)\"'*`]*\s+(?=[A-Z`*(\[\"'&<0-9$-])")
+
+
+def documents() -> list[str]:
+    return [str(path.relative_to(TOP)) for folder in FOLDERS for path in sorted((TOP / folder).glob("*.md"))]
+
+
+def text_of(document: str) -> str:
+    return (TOP / document).read_text(encoding="utf-8")
+
+
+def pieces_of(text: str) -> Iterator[str]:
+    """Paragraphs, items of lists and cells of tables, each in one line."""
+    open_lines: list[str] = []
+    for line in [*FENCED.sub("\n\n", text).split("\n"), ""]:
+        stripped = line.strip()
+        item = ITEM.match(stripped)
+        if open_lines and (not stripped or item or stripped[0] in "|#"):
+            yield " ".join(open_lines)
+            open_lines.clear()
+        if stripped.startswith("|"):
+            yield from () if RULE.fullmatch(stripped) else CELLS.split(stripped.strip("|"))
+        elif stripped and not stripped.startswith("#"):
+            open_lines.append(stripped[item.end():] if item else stripped)
+
+
+def long_sentences(text: str) -> list[str]:
+    return [sentence for piece in pieces_of(text) for sentence in END.split(piece.strip()) if len(sentence.split()) > LONG]
+
+
+def check_blocks(tally: Tally, document: str, text: str) -> None:
+    for block in BLOCK.finditer(text):
+        if any(line.startswith("$ ") for line in block[2].split("\n")):
+            line = 1 + text.count("\n", 0, block.start())
+            tally.expect(f"{document}:{line}", block[1].startswith("console"), "a block that shows a run is not marked as `console`")
+
+
+def check_index(tally: Tally) -> None:
+    named = re.findall(r"`(\w+)`", text_of(TUTORIAL).partition(INDEX)[2])
+    for example in examples():
+        count = named.count(example.name)
+        tally.expect(f"examples/{example.name}", count == 1, f"it is named {count} times in the index of {TUTORIAL}, and not once")
+
+
+def check(tally: Tally, given: argparse.Namespace) -> None:
+    all_long = 0
+    for document in documents():
+        text = text_of(document)
+        words, most, long = len(text.split()), SIZES.get(document, OTHER), long_sentences(text)
+        if given.list:
+            print(f"{words:6} words, {len(long):3} long sentences  {document}")
+        for sentence in long if given.long else ():
+            print(f"{document}: {len(sentence.split())} words: {sentence}")
+        tally.expect(document, words <= most, f"{words} words, {most} at most are allowed")
+        tally.expect(f"{document}, sentences", document not in NO_LONG or not long, f"more than {LONG} words: {long}")
+        check_blocks(tally, document, text)
+        all_long += len(long)
+    check_index(tally)
+    tally.expect("sentences", all_long <= MOST_LONG, f"{all_long} have more than {LONG} words, {MOST_LONG} at most are allowed: --long prints them")
+
+
+def add_words(reader: argparse.ArgumentParser) -> None:
+    reader.add_argument("--list", action="store_true")
+    reader.add_argument("--long", action="store_true")
