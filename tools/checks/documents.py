@@ -28,23 +28,17 @@ SIZES = {
     "docs/FORMAT.md": 6336,
     "docs/GLOSSARY.md": 1200,
     "docs/LIBRARY.md": 1500,
-    "docs/PROMISES.md": 4785,
+    "docs/PROMISES.md": 4000,
     "docs/PROVING.md": 5526,
     "docs/RELEASES.md": 1136,
     "docs/RUSTDOC.md": 5566,
     "docs/TUTORIAL.md": 2000,
-    "docs/promises/CANDIDATES.md": 4759,
-    "docs/promises/COHERENCE.md": 4852,
-    "docs/promises/DEFINITIONS.md": 1742,
-    "docs/promises/SEARCH.md": 4417,
-    "docs/promises/TERMS.md": 2244,
-    "docs/promises/TEXTS.md": 4716,
 }
 OTHER = 1500
 LONG = 45
-MOST_LONG = 190
+MOST_LONG = 101
 NO_LONG = ["README.md"]
-FOLDERS = ["", "docs", "docs/promises", "benches"]
+FOLDERS = ["", "docs", "benches"]
 
 TUTORIAL = "docs/TUTORIAL.md"
 INDEX = "\n## The examples, by subject\n"

@@ -1,6 +1,6 @@
-"""What the documents point at stands where they say.
+"""What the documents point at stands where they say, and each contract is told.
 
-docs/PROMISES.md and the pages of docs/promises, in the sections of crates ('## `NAME`'):
+docs/PROMISES.md, in the sections of crates ('## `NAME`'):
 
     At `FILE.rt`: `function` (`clause`, ..), ..    the file in crates/NAME/src; the function there, or the method as `Type::method`
                                                    or `Trait::method`, with these clauses of its `ensures`, or, as
@@ -10,16 +10,19 @@ docs/PROMISES.md and the pages of docs/promises, in the sections of crates ('## 
     Words: `FILE.antt`: `definition`, ..           the file in crates/NAME/specs, and public definitions there. The last column of
                                                    a table is read in the same way
 
-A path with a slash begins with a crate's name. Each promise has its 'At', and each row of a table a file. A page has sections of
-crates alone, but for docs/PROMISES.md. The items of its numbered list begin with a file, in which all that stands in backticks
+A path with a slash begins with a crate's name. Each promise has its 'At', and each row of a table a file. The items of its numbered list begin with a file, in which all that stands in backticks
 behind it is written.
+
+Each function with a contract that other crates may call, and each public type or trait with ghost items, has a comment above it, or its
+trait has one. `--write` makes a page for each crate of these comments, with the names of clauses and definitions: docs/layers/NAME.md. Since
+they are made of the sources they are not committed.
 
 README.md has at most 140 lines, and docs/PROMISES.md at most 300. A link in any document leads to a file or a folder of the
 repository, and to a heading of the document where it names one. A path in backticks that begins with `crates/` or the name of
 another folder of the repository is there, unless a part of it is in capitals, as NAME. A check that is named there, as `tools/check
 NAME`, is one.
 
-It proves nothing and takes a second. A case is a mention, by its document and line. What is named behind a file or a function that is
+It proves nothing and takes two seconds. A case is a mention, by its document and line, or a contract, by its file and line. What is named behind a file or a function that is
 not there is not looked up, and counts as nothing.
 """
 from __future__ import annotations
@@ -31,11 +34,14 @@ from functools import lru_cache
 from typing import Callable, Iterable, Iterator, NamedTuple, Optional, Sequence
 from urllib.parse import unquote
 
-from .common import TOP, Tally
+from . import layers
+from .common import TOP, Tally, crates
+from .layers import ends_contract, owners_of
 from .runner import ALL, GROUPS
 
 PROMISES = "docs/PROMISES.md"
 MOST_LINES = {"README.md": 140, PROMISES: 300}
+LAYERS = "docs/layers"
 FOLDERS = "benches|crates|docs|examples|tools"
 NO_SOURCE = ("out", "target")
 
@@ -87,25 +93,6 @@ def unless(is_so: object, fault: str) -> Optional[str]:
 
 
 # ---- what stands in the code
-
-
-def owners_of(lines: Sequence[str], at: int) -> Sequence[str]:
-    """The words of the `impl` or `trait` that begins there: its trait and its type, without their parameters."""
-    head, _, body = "\n".join(lines[at : at + 20]).partition("{")
-    if body.startswith("}"):
-        return ()
-    count = 1
-    while count:
-        head, count = re.subn(r"<[^<>]*>", "", head.replace("->", ""))
-    return re.findall(r"\w+", re.sub(r"(?s):.*|\bwhere\b.*", "", head))
-
-
-def ends_contract(line: str, indent: int) -> bool:
-    """Whether the function's body begins in this line, or the function has none and ends in it."""
-    code = line.partition("//")[0].rstrip()
-    depth = len(line) - len(line.lstrip())
-    # clauses stand four columns behind the function, and what a long one goes on with stands behind them
-    return (depth <= indent and code.endswith(("{", "}"))) or (depth <= indent + 4 and code.endswith(";"))
 
 
 def clauses_of(lines: Sequence[str], at: int, indent: int) -> Iterator[str]:
@@ -294,8 +281,6 @@ def check_page(tell: Tell, page: str) -> None:
         if crate:
             if tell(number, unless(is_there(f"crates/{crate}"), f"there is no crate {crate}")):
                 Section(tell, crate).check(lines)
-        elif page != PROMISES:
-            tell(number, "a section of no crate")
 
 
 def check_steps(tell: Tell) -> None:
@@ -318,7 +303,7 @@ def documents() -> list[str]:
     """The paths of all documents of the repository, from its top."""
     found = []
     for at, folders, files in os.walk(TOP):
-        folders[:] = sorted(it for it in folders if it not in NO_SOURCE and not it.startswith("."))
+        folders[:] = sorted(it for it in folders if it not in NO_SOURCE and not it.startswith(".") and os.path.relpath(f"{at}/{it}", TOP) != LAYERS)
         found += [os.path.relpath(f"{at}/{it}", TOP) for it in sorted(files) if it.endswith(".md")]
     return found
 
@@ -357,7 +342,7 @@ def check_document(tell: Tell, document: str) -> None:
         if not ELSEWHERE.match(target):
             tell_at(link, fault_of_link(document, target))
     for path in PATH.finditer(text):
-        if not any(it.isupper() for it in path[1].split("/")):
+        if not path[1].startswith(LAYERS) and not any(it.isupper() for it in path[1].split("/")):
             tell_at(path, unless(is_there(path[1]), f"there is no {path[1]}"))
     for name in CHECK.finditer(text):
         if not name[1].isupper():
@@ -367,12 +352,34 @@ def check_document(tell: Tell, document: str) -> None:
         tell(lines, unless(lines <= most, f"{lines} lines, {most} at most are allowed"))
 
 
-def check(tally: Tally, _: argparse.Namespace) -> None:
+def check_comments(tally: Tally, crate: str) -> None:
+    for path in layers.files_of(crate):
+        for item in layers.items_in(path):
+            if item.is_public:
+                tally.tell(f"{path.relative_to(TOP)}:{item.line}", unless(item.comment, f"`{item.name}` has a contract and no comment"))
+
+
+def write_pages() -> None:
+    (TOP / LAYERS).mkdir(exist_ok=True)
+    for crate in crates():
+        page = layers.page_of(crate)
+        if page:
+            (TOP / LAYERS / f"{crate}.md").write_text(page, encoding="utf-8")
+
+
+def check(tally: Tally, given: argparse.Namespace) -> None:
     def teller(page: str) -> Tell:
         return lambda line, fault: tally.tell(f"{page}:{line}", fault)
 
-    for page in [PROMISES, *(it for it in documents() if it.startswith("docs/promises/"))]:
-        check_page(teller(page), page)
+    check_page(teller(PROMISES), PROMISES)
     check_steps(teller(PROMISES))
     for document in documents():
         check_document(teller(document), document)
+    for crate in crates():
+        check_comments(tally, crate)
+    if given.write:
+        write_pages()
+
+
+def add_words(reader: argparse.ArgumentParser) -> None:
+    reader.add_argument("--write", action="store_true")
