@@ -21,7 +21,7 @@ SIZES = {
     "README.md": 1000,
     "CONTRIBUTING.md": 4206,
     "benches/FIGURES.md": 3789,
-    "docs/ARCHITECTURE.md": 3070,
+    "docs/ARCHITECTURE.md": 1800,
     "docs/CODE.md": 5055,
     "docs/DECISIONS.md": 14271,
     "docs/DIFFERENCES.md": 3077,
