@@ -19,8 +19,8 @@ from .common import TOP, Tally, examples
 
 SIZES = {
     "README.md": 1000,
-    "CONTRIBUTING.md": 4206,
-    "benches/FIGURES.md": 3789,
+    "CONTRIBUTING.md": 1800,
+    "benches/FIGURES.md": 1500,
     "docs/ARCHITECTURE.md": 1800,
     "docs/CODE.md": 5055,
     "docs/DECISIONS.md": 14271,
