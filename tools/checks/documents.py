@@ -23,19 +23,19 @@ SIZES = {
     "benches/FIGURES.md": 1500,
     "docs/ARCHITECTURE.md": 1800,
     "docs/DECISIONS.md": 4000,
-    "docs/DIFFERENCES.md": 3077,
-    "docs/FORMAT.md": 6336,
+    "docs/DIFFERENCES.md": 2100,
+    "docs/FORMAT.md": 5000,
     "docs/GLOSSARY.md": 1200,
     "docs/LIBRARY.md": 1500,
     "docs/PROMISES.md": 4000,
     "docs/PROVING.md": 3000,
-    "docs/RELEASES.md": 1136,
+    "docs/RELEASES.md": 1050,
     "docs/RUSTDOC.md": 5566,
     "docs/TUTORIAL.md": 2000,
 }
 OTHER = 1500
 LONG = 45
-MOST_LONG = 101
+MOST_LONG = 9
 NO_LONG = ["README.md"]
 FOLDERS = ["", "docs", "benches"]
 
