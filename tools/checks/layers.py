@@ -142,9 +142,11 @@ def items_in(path: Path) -> Iterator[Item]:
         elif line.startswith("}"):
             owners, of_trait = (), None
         function = FUNCTION.match(line)
-        clauses = contract_of(lines, at, len(function[1])) if function else []
-        is_public = bool(function) and (function[2] == "pub " or of_trait is not None)
-        if function and clauses and (function[2] or is_public or "for" in owners):
+        if not function:
+            continue
+        clauses = contract_of(lines, at, len(function[1]))
+        is_public = function[2] == "pub " or of_trait is not None
+        if clauses and (function[2] or is_public or "for" in owners):
             name = f"{owners[-1]}::{function[3]}" if owners else function[3]
             yield Item(at + 1, name, is_public, comment or of_trait or [], clauses, words_of(text, clauses))
 

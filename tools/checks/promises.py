@@ -36,7 +36,7 @@ from urllib.parse import unquote
 
 from . import layers
 from .common import TOP, Tally, crates
-from .layers import ends_contract, owners_of
+from .layers import FUNCTION, OWNER, contract_of, owners_of
 from .runner import ALL, GROUPS
 
 PROMISES = "docs/PROMISES.md"
@@ -50,10 +50,6 @@ AT = re.compile(r"\sAt\s+(?=`)")
 WORDS = re.compile(r"\sWords:\s+(?=`)")
 STEP = re.compile(r"^\d+\. +`([^`]+)`((?:.|\n   )*)", re.M)
 TOKEN = re.compile(r"`([^`]+)`|([()])")
-
-OWNER = re.compile(r"(?:pub )?(?:impl|trait)\b")
-FUNCTION = re.compile(r"( *)(?:pub(?:\(crate\))? )?(?:final )?(?:const )?fn (\w+)")
-CLAUSE = re.compile(r" *(?:ensures (?:(\w+) )?|(requires \w+) )\{")
 
 FENCED = re.compile(r"^```.*?^```", re.M | re.S)
 CODE = re.compile(r"^```.*?^```|`[^`\n]+`", re.M | re.S)
@@ -97,12 +93,11 @@ def unless(is_so: object, fault: str) -> Optional[str]:
 
 def clauses_of(lines: Sequence[str], at: int, indent: int) -> Iterator[str]:
     """The names of the clauses of the function that begins there: '' for an `ensures` that has none, and of `requires` those that have one."""
-    for line in lines[at:]:
-        clause = CLAUSE.match(line)
-        if clause:
-            yield clause[1] or clause[2] or ""
-        if ends_contract(line, indent):
-            return
+    for it in contract_of(lines, at, indent):
+        if not it.is_required:
+            yield it.name
+        elif it.name:
+            yield f"requires {it.name}"
 
 
 @lru_cache(maxsize=None)
@@ -117,7 +112,7 @@ def functions_in(path: str) -> list[Function]:
             owners = ()
         function = FUNCTION.match(line)
         if function:
-            found.append(Function(owners, function[2], list(clauses_of(lines, at, len(function[1])))))
+            found.append(Function(owners, function[3], list(clauses_of(lines, at, len(function[1])))))
     return found
 
 
