@@ -5,7 +5,8 @@ sentence of more than 45 words, and all documents together have at most MOST_LON
 cell of a table. What stands in a block of code is none.
 
 A block with a line that begins with '$ ' shows a run: it is marked as `console`, and the check `transcripts` runs it. The index at the end
-of docs/TUTORIAL.md names each folder of examples/ once.
+of docs/TUTORIAL.md names each folder of examples/ once. The lines of definitions behind a run, as README.md tells them, are those of
+tools/checks/reading.txt, rounded up to hundreds.
 
 It proves nothing and takes a moment. --list prints words and long sentences of each document, --long the sentences.
 """
@@ -91,6 +92,14 @@ def check_index(tally: Tally) -> None:
         tally.expect(f"examples/{example.name}", count == 1, f"it is named {count} times in the index of {TUTORIAL}, and not once")
 
 
+def check_figure(tally: Tally) -> None:
+    told = re.search(r"([\d,]+) lines behind a\s+run", text_of("README.md"))
+    counted = re.search(r"^run (\d+) ", text_of("tools/checks/reading.txt"), re.M)
+    figures = [int(it[1].replace(",", "")) if it else 0 for it in (told, counted)]
+    is_right = figures[1] > 0 and figures[0] == -(-figures[1] // 100) * 100
+    tally.expect("README.md, lines behind a run", is_right, f"{figures[0]} there, {figures[1]} in tools/checks/reading.txt")
+
+
 def check(tally: Tally, given: argparse.Namespace) -> None:
     all_long = 0
     for document in documents():
@@ -105,6 +114,7 @@ def check(tally: Tally, given: argparse.Namespace) -> None:
         check_blocks(tally, document, text)
         all_long += len(long)
     check_index(tally)
+    check_figure(tally)
     tally.expect("sentences", all_long <= MOST_LONG, f"{all_long} have more than {LONG} words, {MOST_LONG} at most are allowed: --long prints them")
 
 
