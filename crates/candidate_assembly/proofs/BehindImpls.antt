@@ -1,4 +1,4 @@
--- Where an impl was considered last, the goal is decided, and impls and bounds alone are left.
+-- Where an impl or a where-clause was considered last, the goal is decided; behind an impl impls and bounds alone are left.
 use Rattle.std.proofs.Common.{◌≡◌, Bool, true, false, cond, not, ◌&&◌, ◌||◌, if◌then◌else◌, List, [], ◌∷◌, length, map, refl, sym, ◌∙◌, ap, subst, Option, Some, None}
 use Rattle.std.specs.Prelude.{filter, IfSome, is_some}
 use Rattle.std.specs.List.{slice_get}
@@ -28,7 +28,9 @@ use Rattle.assembly_laws.specs.Lifetimes.{form_gives_lifetimes}
 use Rattle.assembly_laws.specs.Solver.{SolverPast, from, is_clause, is_impl, is_settled, says_nothing, holds_from, solver_handled}
 use Rattle.type_terms.proofs.Members.{not-both}
 use Rattle.built_in_candidates.specs.Goals.{asked_of}
-use Rattle.candidate_assembly.specs.Counted.{ends_by_impl}
+use Rattle.candidate_assembly.specs.Counted.{ends_by, is_of}
+use Rattle.candidate_assembly.specs.declared.assembly.Section.TheVariants.{Impls}
+use Rattle.evaluation.specs.declared.candidate.CandidateSource.{CandidateSource}
 use Rattle.candidate_assembly.specs.Fitting.{fits_declared, solving_of}
 use Rattle.candidate_assembly.specs.Nexts.{handled_in, ForEachHistory, late_in, next_decided}
 use Rattle.candidate_assembly.specs.Ready.{AreReadyDeclarations, IsWellPosedGoal, Decides}
@@ -103,12 +105,13 @@ module _ (m : ViewMeaning) (mode : TypingMode) (f : CanonicalForm) (c : Consider
       ∙ ap (λ x. or_end (next_candidate m mode x seen) (end_of mode x (kinds_known f.kinds) seen)) is)
       ∙ h.0)
 
-  -- no impl is considered for a goal that is not decided
-  pub impls-decide : IsHistory (workings frame_tables) next (c ∷ seen) → is_impl c.spec.source ≡ true → (a : GoalOverKinds) × (decided m (goal_over_kinds m.view f) ≡ Some a)
-  impls-decide h t = by (decided m (goal_over_kinds m.view f)) refl
+  -- none but the unsure candidate is considered for a goal that is not decided
+  pub others-decide : (p : CandidateSource → Bool) → p unsure.source ≡ false → IsHistory (workings frame_tables) next (c ∷ seen) → p c.spec.source ≡ true
+      → (a : GoalOverKinds) × (decided m (goal_over_kinds m.view f) ≡ Some a)
+  others-decide p other h t = by (decided m (goal_over_kinds m.view f)) refl
     where
       not-alone : (b : Bool) → (if b then Some unsure else None) ≡ Some c.spec → ⊥
-      not-alone true g = not-both (is_impl c.spec.source) t (sym (ap (λ (x : Candidate). is_impl x.source) (some-is unsure c.spec g)))
+      not-alone true g = not-both (p c.spec.source) t (ap (λ (x : Candidate). p x.source) (sym (some-is unsure c.spec g)) ∙ other)
       not-alone false g = none-is c.spec g
 
       by : (o : Option GoalOverKinds) → decided m (goal_over_kinds m.view f) ≡ o → (a : GoalOverKinds) × (decided m (goal_over_kinds m.view f) ≡ Some a)
@@ -128,11 +131,14 @@ is-sound n (Some x) a e = by n.is_sound e
     by true q = refl
     by false q = absurd cc
 
-module _ (es : List Entry) (d : Items) (g : CanonicalInput) (done : List InCode.Considered) (e : ends_by_impl false done ≡ true) where
+module _ (es : List Entry) (d : Items) (g : CanonicalInput) (done : List InCode.Considered) (e : ends_by (is_of false Impls) false done ≡ true) where
   pub behind-impl : IsWellPosedGoal es d g → ForEachHistory es d g done (λ seen. late_in es d g seen ≡ next_decided es d g seen)
-  behind-impl h [] s t = absurd (false-true (sym (ends-is es done [] s) ∙ e))
-  behind-impl h (c ∷ seen) s t = sym (late-behind (meaning_for (solving_of es d) (form_of es g)) g.mode (form_of es g) c seen (asked_of es g) h.is h.fits.tells t (sym (ends-is es done (c ∷ seen) s) ∙ e))
+  behind-impl h [] s t = absurd (false-true (sym (ends-is (is_of false Impls) es done [] s) ∙ e))
+  behind-impl h (c ∷ seen) s t =
+      sym (late-behind (meaning_for (solving_of es d) (form_of es g)) g.mode (form_of es g) c seen (asked_of es g) h.is h.fits.tells t (sym (ends-is (is_of false Impls) es done (c ∷ seen) s) ∙ e))
 
+module _ (es : List Entry) (d : Items) (g : CanonicalInput) (done : List InCode.Considered) (p : CandidateSource → Bool) (other : p unsure.source ≡ false)
+    (e : ends_by p false done ≡ true) where
   abbrev own : GoalOverKinds
   own = asked_of es g
 
@@ -158,7 +164,7 @@ module _ (es : List Entry) (d : Items) (g : CanonicalInput) (done : List InCode.
           record { is = is ∙ ap (λ x. Some x) same; fits = λ _. decided-fits es d g (was ∙ ap (λ x. Some x) same) fits }
 
       by : (seen : SolverPast) → Shows (map (shown_by es) done) seen → IsHistory (workings frame_tables) (handled_in es d g).next seen → Decides es d g true
-      by [] s t = absurd (false-true (sym (ends-is es done [] s) ∙ e))
+      by [] s t = absurd (false-true (sym (ends-is p es done [] s) ∙ e))
       by (c ∷ seen) s t =
-          let p = impls-decide m g.mode (form_of es g) c seen t (sym (ends-is es done (c ∷ seen) s) ∙ e) in
-          by-asked p.0 p.1
+          let found = others-decide m g.mode (form_of es g) c seen p other t (sym (ends-is p es done (c ∷ seen) s) ∙ e) in
+          by-asked found.0 found.1

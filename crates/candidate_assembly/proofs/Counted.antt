@@ -10,8 +10,8 @@ use Rattle.evaluation.specs.Candidate.{Considered}
 use Rattle.evaluation.specs.Table.{workings}
 use Rattle.evaluation.specs.Tables.{frame_tables}
 use Rattle.evaluation.specs.StepReadings.{ShownCandidate, shown, shown_by}
-use Rattle.assembly_laws.specs.Solver.{SolverPast, from, is_impl}
-use Rattle.candidate_assembly.specs.Counted.{count_from, last_from, ends_by_impl, ForEachPast}
+use Rattle.assembly_laws.specs.Solver.{SolverPast, from}
+use Rattle.candidate_assembly.specs.Counted.{count_from, last_from, ends_by, ForEachPast}
 use Rattle.candidate_assembly.specs.Sections.{considered_from, impl_or, last_impl}
 use Rattle.candidate_assembly.proofs.Along.{count-last}
 use Rattle.candidate_assembly.proofs.Taken.{count}
@@ -72,27 +72,28 @@ pub last-behind : (o : Option ImplId) (done : List InCode.Considered) (d : InCod
 last-behind o [] d = refl
 last-behind o (x ∷ done) d = last-behind (impl_or x.source o) done d
 
--- ---- whether an impl was last of all
-pub ends-behind : (b : Bool) (done : List InCode.Considered) (d : InCode.Considered) → ends_by_impl b (done ++ d ∷ []) ≡ is_impl d.source
-ends-behind b [] d = refl
-ends-behind b (x ∷ done) d = ends-behind (is_impl x.source) done d
+-- ---- whether one from there was last of all
+module _ (p : CandidateSource → Bool) where
+  pub ends-behind : (b : Bool) (done : List InCode.Considered) (d : InCode.Considered) → ends_by p b (done ++ d ∷ []) ≡ p d.source
+  ends-behind b [] d = refl
+  ends-behind b (x ∷ done) d = ends-behind (p x.source) done d
 
-abbrev ends-shown : Bool → List ShownCandidate → Bool
-ends-shown b [] = b
-ends-shown b (x ∷ xs) = ends-shown (is_impl x.source) xs
+  abbrev ends-shown : Bool → List ShownCandidate → Bool
+  ends-shown b [] = b
+  ends-shown b (x ∷ xs) = ends-shown (p x.source) xs
 
-ends-read : (es : List Entry) (b : Bool) (done : List InCode.Considered) → ends_by_impl b done ≡ ends-shown b (map (shown_by es) done)
-ends-read es b [] = refl
-ends-read es b (d ∷ done) = ends-read es (is_impl d.source) done
+  ends-read : (es : List Entry) (b : Bool) (done : List InCode.Considered) → ends_by p b done ≡ ends-shown b (map (shown_by es) done)
+  ends-read es b [] = refl
+  ends-read es b (d ∷ done) = ends-read es (p d.source) done
 
-ends-one : (b : Bool) (xs : List ShownCandidate) (x : ShownCandidate) → ends-shown b (xs ++ x ∷ []) ≡ is_impl x.source
-ends-one b [] x = refl
-ends-one b (y ∷ xs) x = ends-one (is_impl y.source) xs x
+  ends-one : (b : Bool) (xs : List ShownCandidate) (x : ShownCandidate) → ends-shown b (xs ++ x ∷ []) ≡ p x.source
+  ends-one b [] x = refl
+  ends-one b (y ∷ xs) x = ends-one (p y.source) xs x
 
-abbrev pub newest_by_impl : SolverPast → Bool
-newest_by_impl [] = false
-newest_by_impl (c ∷ seen) = is_impl c.spec.source
+  abbrev pub newest_by : SolverPast → Bool
+  newest_by [] = false
+  newest_by (c ∷ seen) = p c.spec.source
 
-pub ends-is : (es : List Entry) (done : List InCode.Considered) → ForEachPast es done (λ seen. ends_by_impl false done ≡ newest_by_impl seen)
-ends-is es done [] h = ends-read es false done ∙ ap (ends-shown false) h
-ends-is es done (c ∷ seen) h = ends-read es false done ∙ ap (ends-shown false) h ∙ ap (ends-shown false) (shown-next c seen) ∙ ends-one false (reverse (map shown seen)) (shown c)
+  pub ends-is : (es : List Entry) (done : List InCode.Considered) → ForEachPast es done (λ seen. ends_by p false done ≡ newest_by seen)
+  ends-is es done [] h = ends-read es false done ∙ ap (ends-shown false) h
+  ends-is es done (c ∷ seen) h = ends-read es false done ∙ ap (ends-shown false) h ∙ ap (ends-shown false) (shown-next c seen) ∙ ends-one false (reverse (map shown seen)) (shown c)

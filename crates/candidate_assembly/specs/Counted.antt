@@ -26,10 +26,10 @@ abbrev pub last_from : Option ImplId → List Considered → Option ImplId
 last_from last [] = last
 last_from last (d ∷ done) = last_from (impl_or d.source last) done
 
--- The candidate that was considered last of all is by an impl; if nothing was considered, what is given.
-abbrev pub ends_by_impl : Bool → List Considered → Bool
-ends_by_impl b [] = b
-ends_by_impl b (d ∷ done) = ends_by_impl (is_impl d.source) done
+-- The candidate that was considered last of all is from there; if nothing was considered, what is given.
+abbrev pub ends_by : (CandidateSource → Bool) → Bool → List Considered → Bool
+ends_by p b [] = b
+ends_by p b (d ∷ done) = ends_by p (p d.source) done
 
 -- What holds of each past that shows these candidates.
 abbrev pub ForEachPast : List Entry → List Considered → (SolverPast → Type 0) → Type 0

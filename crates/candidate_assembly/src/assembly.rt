@@ -17,7 +17,7 @@ ghost use Rattle.assembly_laws.specs.Asking.{clauses, self_of};
 ghost use Rattle.assembly_laws.specs.Candidates.{by_clauses, built_in, by_impls};
 ghost use Rattle.assembly_laws.specs.Solver.{is_clause};
 ghost use Rattle.built_in_candidates.specs.Constituents.{CanBeConsidered};
-ghost use Rattle.candidate_assembly.specs.Counted.{is_of, count_from, last_from, ends_by_impl, ForEachPast};
+ghost use Rattle.candidate_assembly.specs.Counted.{is_of, count_from, last_from, ends_by, ForEachPast};
 ghost use Rattle.built_in_candidates.specs.Goals.{asked_of, candidate_of};
 ghost use Rattle.candidate_assembly.specs.Headers.{HaveCandidates, impls_above};
 ghost use Rattle.built_in_candidates.specs.Objects.{ObjectIsApplied};
@@ -104,12 +104,12 @@ fn last_impl(done: &[Considered]) -> Option<ImplId>
     None
 }
 
-/// Whether the candidate that was considered last of all is by an impl. It looks at no other.
-pub(crate) fn ends_by_impl(done: &[Considered]) -> bool
-    ensures { result ≡ ends_by_impl false done.now }
+/// Whether the candidate that was considered last of all is of the section: of where-clauses or of impls. It looks at no other.
+pub(crate) fn ends_by(done: &[Considered], section: Section) -> bool
+    ensures { result ≡ ends_by (is_of false section) false done.now }
 {
     match done.split_last() {
-        Some((newest, _)) => Section::Impls.has(newest.source, false),
+        Some((newest, _)) => section.has(newest.source, false),
         None => false,
     }
 }

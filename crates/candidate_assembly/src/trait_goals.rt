@@ -22,7 +22,7 @@ ghost use Rattle.candidate_assembly.specs.Sections.{is_unknowable, is_bound, is_
 
 use crate::assembly::{
     Section, assemble_builtin_impl_candidates, assemble_impl_candidates,
-    assemble_param_env_candidates, considered_from, ends_by_impl, misc_is_bound,
+    assemble_param_env_candidates, considered_from, ends_by, misc_is_bound,
 };
 use crate::decided::is_decided;
 use crate::knowable::is_knowable;
@@ -288,7 +288,7 @@ fn decided_candidate(
     ensures is { IfOk result
         (IsNextBy (next_decided cx.old.entries declarations.now goal.now) cx.old.entries declarations.now goal.now done.now cx.new.entries) }
 {
-    if ends_by_impl(done) {
+    if ends_by(done, Section::Impls) {
         return late_candidate(alloc, cx, declarations, goal, done);
     }
     match goal.mode {
@@ -351,8 +351,8 @@ fn mode_at_end(mode: TypingMode, decided: bool) -> TypingMode
     if decided { mode } else { TypingMode::Coherence }
 }
 
-/// Whether the goal is decided, after these candidates were considered. A goal of which an impl was considered is: its terms are not
-/// walked again for each of its impls.
+/// Whether the goal is decided, after these candidates were considered. A goal of which an impl or a where-clause was considered is: its
+/// terms and its where-clauses are not walked again for each of these.
 fn stays_decided(
     cx: &Interner,
     declarations: &Declarations,
@@ -364,7 +364,10 @@ fn stays_decided(
     requires history { HasHistory cx.now.entries (handled_in cx.now.entries declarations.now goal.now) done.now }
     ensures { Decides cx.now.entries declarations.now goal.now result }
 {
-    if ends_by_impl(done) {
+    if ends_by(done, Section::Impls) {
+        return true;
+    }
+    if ends_by(done, Section::WhereClauses) {
         return true;
     }
     is_decided(cx, declarations, goal)

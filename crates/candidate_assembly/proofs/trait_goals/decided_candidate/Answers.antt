@@ -8,10 +8,10 @@ use Rattle.candidate_assembly.specs.Solving.{meaning_for}
 use Rattle.candidate_assembly.proofs.BehindImpls.{behind-impl}
 use Rattle.candidate_assembly.proofs.trait_goals.decided_candidate.Goals as goal
 
-pub returns-then-ends_by_impl-clause-is : goal.returns-then-ends_by_impl-clause-is
-returns-then-ends_by_impl-clause-is c =
+pub returns-then-ends_by-clause-is : goal.returns-then-ends_by-clause-is
+returns-then-ends_by-clause-is c =
     IfOk-weaker c.late_candidate.result _ _
-    (λ o p seen s t. p seen s t ∙ behind-impl c.args.cx.now.entries c.args.declarations.now c.args.goal.now c.args.done.now (sym c.ends_by_impl.ensures ∙ c.if-ends_by_impl.true) c.requires.decided seen s t)
+    (λ o p seen s t. p seen s t ∙ behind-impl c.args.cx.now.entries c.args.declarations.now c.args.goal.now c.args.done.now (sym c.ends_by.ensures ∙ c.if-ends_by.true) c.requires.decided seen s t)
     c.late_candidate.ensures.is
 
 pub returns-in-Coherence-clause-is : goal.returns-in-Coherence-clause-is
