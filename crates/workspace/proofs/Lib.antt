@@ -12,3 +12,4 @@ mod CellLists
 mod Refusals
 mod Counting
 mod CellCounts
+pub mod Unasked

@@ -9,3 +9,4 @@ pub mod CoreItems
 pub mod Stack
 pub mod Lowers
 pub mod TermCounts
+pub mod Unasked

@@ -1,5 +1,5 @@
 //! The tables that a text fills, line after line.
-ghost use Rattle.std.specs.Prelude.{◌≡◌, ◌<◌, ◌++◌, ◌∷◌, [], ℕ, None, true, false, All, length, map, filter, nat_le, slice_get, unwrap_or, OnOk, IfOk, IfSome};
+ghost use Rattle.std.specs.Prelude.{◌≡◌, ◌<◌, ◌++◌, ◌∷◌, [], ℕ, None, true, false, All, length, map, filter, nat_le, slice_get, unwrap_or, OnOk, OnErr, IfOk, IfSome};
 ghost use Rattle.std.specs.List.{list_any};
 ghost use Rattle.std.specs.Option.{option_map, option_and_then};
 ghost use Rattle.type_terms.specs.Worlds.{sees};
@@ -10,6 +10,7 @@ ghost use Rattle.text_definitions.specs.Lowering.{crate_number};
 ghost use Rattle.text_definitions.specs.Adding.{added};
 ghost use Rattle.workspace.specs.Numbered.{IsFew};
 ghost use Rattle.workspace.specs.Tables.{declared, with_crate, with_question, new_crate, will_see, item_of, item_named, core_alone, number_of_crate, IsConsistent, MarksSeen};
+ghost use Rattle.workspace.specs.Unasked.{without_last_question};
 ghost use Rattle.workspace.specs.Made.{AreMade, ReferenceMade, ReferencesMade, is_type};
 ghost use Rattle.workspace.specs.Parts.{AddsStruct, AddsStructLine, AddsTrait, AddsTraitLine, AddsImpl, AddsLaterImpl, AddsImplLine, AddsQuestionLine};
 ghost use Rattle.workspace.specs.Views.{known_of, sorts_of, cells_of, reference_of, question_of, asker_of, param_names, numbers_of, name_texts};
@@ -30,7 +31,7 @@ pub const ENTRY_LIMIT: usize = 1_048_640;
 /// What lines have declared and asked so far, in the order of the text, `core` first, and what makes it quick to search.
 ///
 /// An item's number is its place among all of its kind. A call that adds something can run out of memory; the tables are not used
-/// any more then.
+/// any more then, but for `add_question`, which leaves them as they were.
 pub struct Tables {
     pub(crate) alloc: Global,
     pub(crate) crates: Vec<CrateEntry>,
@@ -564,7 +565,7 @@ impl Tables {
         Ok(())
     }
 
-    /// Adds a question, as the next of both kinds together. The error is a refused request for memory, after which the tables are not used.
+    /// Adds a question, as the next of both kinds together. The error is a refused request for memory, after which the tables are as before.
     pub fn add_question(&mut self, entry: QuestionEntry) -> Result<(), AllocError>
         requires consistent { IsConsistent self.old }
         requires asked { ReferenceMade entry.asked }
@@ -573,9 +574,26 @@ impl Tables {
         ensures declared { OnOk result (declared self.new ≡ with_question (declared self.old) (question_of entry)) }
         ensures added { OnOk result (AddsQuestionLine (declared self.old) (declared self.new) (question_of entry)) }
         ensures consistent { OnOk result (IsConsistent self.new) }
+        ensures kept { OnErr result (declared self.new ≡ declared self.old) }
+        ensures still_consistent { OnErr result (IsConsistent self.new) }
     {
         self.asked.push(entry.asked_how)?;
-        self.questions.push(entry)?;
-        Ok(())
+        match self.questions.push(entry) {
+            Ok(()) => Ok(()),
+            Err(_refused) => {
+                let _taken = self.asked.pop();
+                Err(AllocError)
+            }
+        }
+    }
+
+    /// Takes the last question out again; where there is none, nothing changes.
+    pub fn remove_question(&mut self)
+        requires { IsConsistent self.old }
+        ensures removed { declared self.new ≡ without_last_question (declared self.old) }
+        ensures consistent { IsConsistent self.new }
+    {
+        let _ = self.asked.pop();
+        let _ = self.questions.pop();
     }
 }

@@ -1,12 +1,12 @@
 //! The declarations and questions of a text.
-ghost use Rattle.std.specs.Prelude.{◌≡◌, ◌<◌, Some, length, map, filter, take, suc, count_by, slice_get, ◌==◌, IfOk};
+ghost use Rattle.std.specs.Prelude.{◌≡◌, ◌<◌, ◌+◌, Some, length, map, filter, take, suc, count_by, slice_get, ◌==◌, IfOk, OnOk, OnErr};
 ghost use Rattle.std.specs.List.Sorted.{IsNonDecreasingBy};
 ghost use Rattle.std.specs.Option.{option_map};
 ghost use Rattle.type_terms.specs.Worlds.{sees, view_of};
 ghost use Rattle.text_definitions.specs.Declarations.{known, world_of};
 ghost use Rattle.workspace.specs.Numbered.{EachNumbered, IsNumbered, IsFew};
 ghost use Rattle.workspace.specs.Made.{AreMade, ReferenceMade, ReferencesMade, is_type};
-ghost use Rattle.workspace.specs.Views.{known_of, struct_of, trait_of, impl_of, question_of, numbers_of, asked_of, later_of, check_of};
+ghost use Rattle.workspace.specs.Views.{known_of, struct_of, trait_of, impl_of, question_of, numbers_of, asked_of, asker_of, later_of, check_of};
 
 use crate::declared::{
     Asked, Check, ImplEntry, Known, LaterEntry, QuestionEntry, StructEntry, TraitEntry,
@@ -51,7 +51,8 @@ impl Model for Workspace {
 }
 
 impl Workspace {
-    ghost use Rattle.workspace.specs.Tables.{declared, IsConsistent};
+    ghost use Rattle.workspace.specs.Tables.{declared, with_question, IsConsistent};
+    ghost use Rattle.workspace.specs.Unasked.{without_last_question};
 
     /// What the tables of a whole text hold.
     pub fn new(tables: Tables) -> Self
@@ -60,6 +61,34 @@ impl Workspace {
         ensures { result ≡ declared tables }
     {
         Workspace { tables }
+    }
+
+    /// The tables: what the next line of the text would be judged by.
+    pub fn tables(&self) -> &Tables
+        ensures declared { declared result.now ≡ self.now }
+        ensures consistent { IsConsistent result.now }
+        ensures few { IsFew self.now ENTRY_LIMIT }
+    {
+        &self.tables
+    }
+
+    /// Asks one more question, behind all others. The error is a refused request for memory, after which all is as before.
+    pub fn add_question(&mut self, entry: QuestionEntry) -> Result<(), AllocError>
+        requires asked { ReferenceMade entry.asked }
+        requires clauses { ReferencesMade entry.clauses.items }
+        requires asker { asker_of entry.asked_how < length self.old.crates }
+        requires room { length self.old.questions + 1 < ENTRY_LIMIT }
+        ensures added { OnOk result (self.new ≡ with_question self.old (question_of entry)) }
+        ensures kept { OnErr result (self.new ≡ self.old) }
+    {
+        self.tables.add_question(entry)
+    }
+
+    /// Takes the last question out again; where there is none, nothing changes.
+    pub fn remove_question(&mut self)
+        ensures { self.new ≡ without_last_question self.old }
+    {
+        self.tables.remove_question();
     }
 
     /// The crates in the order of the text, `core` first.
