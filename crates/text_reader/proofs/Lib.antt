@@ -21,3 +21,5 @@ pub mod Sighted
 pub mod Meaning
 pub mod Adding
 pub mod Parsed
+mod Queried
+mod Behind

@@ -14,3 +14,5 @@ pub mod Entries
 pub mod OwnItems
 pub mod Parsing
 pub mod Sights
+pub mod Queries
+pub mod Behind

@@ -2,6 +2,7 @@
 //! with the smallest number that applies.
 #![tactic(auto)]
 
+ghost use Rattle.text_reader.specs.Behind.{LinesBehindTexts, TextsAreFew};
 ghost use Rattle.text_reader.specs.Laws.{FaultlessParts, NumbersAreSmall};
 ghost use Rattle.text_reader.specs.Prefixes.{FirstBytesDecide};
 
@@ -20,6 +21,7 @@ mod own_items;
 mod params;
 mod parsing;
 mod parts;
+mod query_line;
 mod small;
 mod so_far;
 mod text;
@@ -30,10 +32,11 @@ pub use declaring::declare;
 pub use fault::{TextError, TextFault};
 pub use faults::judge_line;
 pub use form::{LineForm, line_form};
-pub use lines::{TEXT_LIMIT, long_line, split_line};
+pub use lines::{TEXT_LIMIT, is_one_line, long_line, split_line};
 pub use numbering::Numbering;
 pub use parsing::parse;
 pub use parts::{bound_cells, clause_cells, clauses_cells, field_cells};
+pub use query_line::{QueryLine, read_query};
 pub use text::read_text;
 use workspace::ENTRY_LIMIT;
 
@@ -50,4 +53,15 @@ pub fn small_numbers()
 /// A text gives what its first 1,048,577 bytes give: whoever reads it need not read on behind the first byte too many.
 pub fn first_bytes()
     ensures { FirstBytesDecide }
+{}
+
+/// A text with one more line behind it gives what the line gives over what the text gave, where both together are no longer than texts
+/// may be.
+pub fn lines_behind_texts()
+    ensures { LinesBehindTexts }
+{}
+
+/// A text declares fewer of each kind than tables may hold.
+pub fn texts_are_few()
+    ensures { TextsAreFew ENTRY_LIMIT }
 {}

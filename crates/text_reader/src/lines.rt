@@ -1,6 +1,7 @@
 //! The lines of a text.
-ghost use Rattle.std.specs.Prelude.{◌≡◌, ◌==◌, ◌∷◌, ◌<◌, ◌≤◌, count_by, length, take_while, not, IfSome};
+ghost use Rattle.std.specs.Prelude.{◌≡◌, ◌==◌, ◌∷◌, ◌<◌, ◌≤◌, count_by, length, take_while, not, true, false, IfSome};
 ghost use Rattle.text_definitions.specs.Text.{lines_of, long_line};
+ghost use Rattle.text_reader.specs.Behind.{IsOneLine};
 ghost use Rattle.text_reader.specs.Lines.{lines_behind, line_too_far};
 
 /// The greatest length of a text.
@@ -28,6 +29,15 @@ pub fn long_line(bytes: &[u8]) -> Option<u32>
     }
     let (front, _rest) = bytes.split_at(TEXT_LIMIT);
     Some(line_ends(front) as u32 + 1)
+}
+
+/// Whether the bytes are one line: none of them ends it.
+pub fn is_one_line(bytes: &[u8]) -> bool
+    ensures one { result ≡ true → IsOneLine bytes.now }
+    ensures several { result ≡ false → IsOneLine bytes.now → ⊥ }
+{
+    let (_line, behind) = split_line(bytes);
+    behind.is_none()
 }
 
 /// The first line of a text without its end, and what stands behind that end. A line that nothing ends is the last.

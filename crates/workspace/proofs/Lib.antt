@@ -12,4 +12,4 @@ mod CellLists
 mod Refusals
 mod Counting
 mod CellCounts
-pub mod Unasked
+mod Unasked

@@ -1,0 +1,80 @@
+-- What a line is that is asked behind the lines of a text.
+use Rattle.std.proofs.Common.{◌≡◌, ℕ, List, Bool, true, false, if◌then◌else◌, length, ◌-◌, ◌++◌, ◌∷◌, [], None, Some, Ok, Err, IfOk, Result, refl, sym, ap, subst}
+use Rattle.text_definitions.specs.Syntax.{Line, crate_line, struct_line, trait_line, impl_line, prove_line, refute_line, later_line, supers_line}
+use Rattle.text_definitions.specs.Declarations.{Declarations, NamedImpl, Question}
+use Rattle.text_definitions.specs.Adding.{added, with_impl, impl_of, item_meanings}
+use Rattle.text_definitions.specs.Text.{adds}
+use Rattle.line_reader.specs.Statement.{Statement, Param, prove_statement, refute_statement, line_statement}
+use Rattle.line_reader.specs.Views.{statement_of}
+use Rattle.line_reader.specs.declared.statement.LineRead.{LineRead}
+use Rattle.workspace.specs.Tables.{with_question}
+use Rattle.workspace.specs.Views.{question_of}
+use Rattle.workspace.specs.declared.declared.Asked.{Asked}
+use Rattle.workspace.specs.declared.declared.QuestionEntry.{QuestionEntry}
+use Rattle.workspace.specs.Parts.{IsWrittenQuestion}
+use Rattle.text_reader.specs.Declaring.{FindsFault, AddsLine, IsFaultless}
+use Rattle.text_reader.specs.Entries.{OfRead, IsAsking, IsQuestionEntry}
+use Rattle.text_reader.specs.Forms.{IsForm}
+use Rattle.text_reader.specs.Queries.{IsQueryLine, IsQueryRead}
+use Rattle.text_reader.specs.declared.form.LineForm.{LineForm}
+use Rattle.text_reader.specs.declared.form.LineForm.TheVariants as forms
+use Rattle.text_reader.specs.declared.query_line.QueryLine.{QueryLine}
+use Rattle.text_reader.specs.declared.query_line.QueryLine.TheVariants as lines
+use Rattle.text_reader.proofs.Adding.{question-adds}
+use Rattle.text_reader.proofs.Taking.{faulty_gives, added_gives}
+
+pub no-fault : (d : Declarations) (read : LineRead) → IsFaultless d read → FindsFault d read None
+no-fault d read h = λ l r. sym (h.1 l r)
+
+-- ---- a question
+question-added : (d : Declarations) (q : Question) (l : Line) → IsWrittenQuestion d q l → with_question d q ≡ added d l
+question-added d q (prove_line c ps a ks) h = ap (with_question d) h
+question-added d q (refute_line c ps a) h = ap (with_question d) h
+question-added d q _ h = absurd h
+
+pub asks-this : (d : Declarations) (read : LineRead) (how : Asked) (ps : List Param) (q : QuestionEntry)
+    → IsAsking d (statement_of read.statement) how ps → q.asked_how ≡ how → IsQuestionEntry d ps read q → AddsLine d read (with_question d (question_of q))
+asks-this d read how ps q asking same entry =
+    question-adds d (with_question d (question_of q)) read how ps q asking same entry (λ l h. question-added d (question_of q) l h)
+
+-- ---- no question
+abbrev pub IsNoQuestion : Statement → Type 0
+IsNoQuestion (prove_statement c ps k ks) = ⊥
+IsNoQuestion (refute_statement c ps k) = ⊥
+IsNoQuestion _ = Unit {0}
+
+impl-asks-nothing : (d : Declarations) (i : NamedImpl) → (with_impl d i).questions ≡ d.questions
+impl-asks-nothing d i = by d.in_section
+  where
+    by : (b : Bool)
+        → (if b then record d { later_impls = d.later_impls ++ record { section = length d.sections - 1; added = i } ∷ [] } else record d { impls = d.impls ++ i ∷ [] }).questions ≡ d.questions
+    by true = refl
+    by false = refl
+
+pub asks-nothing : (d : Declarations) (l : Line) → IsNoQuestion (line_statement l) → (added d l).questions ≡ d.questions
+asks-nothing d (crate_line n us) h = refl
+asks-nothing d (struct_line f n ps fs) h = refl
+asks-nothing d (trait_line f a n ps bs) h = refl
+asks-nothing d (impl_line ps h ks) _ = impl-asks-nothing d (impl_of d (item_meanings d (impl_line ps h ks) 0) ps h ks)
+asks-nothing d (prove_line c ps a ks) h = absurd h
+asks-nothing d (refute_line c ps a) h = absurd h
+asks-nothing d (later_line n) h = refl
+asks-nothing d (supers_line n) h = refl
+
+pub nothing-asked : (d : Declarations) (read : LineRead) → IsNoQuestion (statement_of read.statement) → OfRead read (λ l. (added d l).questions ≡ d.questions)
+nothing-asked d read h = λ l r. asks-nothing d l (subst IsNoQuestion r.0 h)
+
+-- ---- by the line's form
+pub query-given : (d : Declarations) (line : List ℕ) (form : LineForm) (read : LineRead) (q : QueryLine)
+    → IsForm line form → form ≡ forms.Read read → IsQueryRead d read q → IsQueryLine d line q
+query-given d line form read (lines.Query q) h is asks = (asks.1, added_gives d (with_question d (question_of q)) line form read None h is asks.0 refl asks.2)
+query-given d line form read (lines.Faulty k) h is finds = faulty_gives d line form read (Some k) k h is finds refl
+query-given d line form read lines.Other h is asks =
+    let said : IsForm line (forms.Read read) = subst (λ f. IsForm line f) is h in
+    let (l, w, r) = said.2 in
+    (added d l, adds l said.0 said.1 w (sym (asks.0 l r)), asks.1 l r)
+
+pub read-given : {X : Type 0} (d : Declarations) (line : List ℕ) (form : LineForm) (read : LineRead) (result : Result QueryLine X)
+    → IsForm line form → form ≡ forms.Read read → IfOk result (IsQueryRead d read) → IfOk result (IsQueryLine d line)
+read-given d line form read (Ok q) h is asks = query-given d line form read q h is asks
+read-given d line form read (Err x) h is asks = tt
