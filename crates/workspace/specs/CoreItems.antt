@@ -13,7 +13,7 @@ use Rattle.workspace.specs.Tables.{core_alone}
 use Rattle.workspace.specs.Parts.{new_trait, new_impl}
 use Rattle.workspace.specs.Views.{cell_of}
 
--- few enough of each for what `core` has to come
+-- There are few enough of each that all of `core` has room.
 pub record HasRoom (d : Declarations) : Type 0 where
   pub few_crates : length d.crates < 1000
   pub few_structs : length d.structs < 1000
@@ -23,7 +23,7 @@ pub record HasRoom (d : Declarations) : Type 0 where
   pub few_sections : length d.sections < 1000
   pub few_later : length d.later_impls < 1000
 
--- the last crate is `core`, and there is room for one half of its impls
+-- The last crate is `core`, and there is room for one half of its impls.
 pub record IsInCore (d : Declarations) : Type 0 where
   pub home : last_crate d ≡ core
   pub few_crates : length d.crates < 500
@@ -37,7 +37,7 @@ pub record IsInCore (d : Declarations) : Type 0 where
 abbrev pub core_kinds : Bool → List Sort
 core_kinds takes_type = if takes_type then of_type ∷ [] else []
 
--- a bound of Self and the parameter, if there is one
+-- A bound of Self and the parameter, if there is one.
 abbrev pub core_args : Bool → Trees
 core_args takes_type = if takes_type then tree (param of_type 0) none (type_param 1) else type_param 0
 
@@ -49,7 +49,7 @@ core_bounds takes_type (Some t) = record { trait = t.index; args = core_args tak
 abbrev pub core_trait : Declarations → List ℕ → Bool → Bool → Option TraitId → NamedTrait
 core_trait d n is_fundamental takes_type bound = new_trait d n is_fundamental false (core_kinds takes_type) (core_bounds takes_type bound)
 
--- more impls behind the others
+-- more impls after the others
 abbrev pub with_impls : Declarations → List NamedImpl → Declarations
 with_impls d is = record d { impls = d.impls ++ is }
 
@@ -57,19 +57,19 @@ with_impls d is = record d { impls = d.impls ++ is }
 abbrev pub scalar_impls : ℕ → ℕ → List NamedImpl
 scalar_impls n t = map bare_impl (impls_for n t scalars)
 
--- `core` with its struct
+-- `core` with its struct.
 abbrev pub core_structs : Declarations
 core_structs = record core_alone { structs = nothing_declared.structs }
 
--- and its first traits
+-- `core` with its struct and its first traits.
 abbrev pub core_traits_to : ℕ → Declarations
 core_traits_to n = record core_structs { traits = take n nothing_declared.traits }
 
--- and its impls of `Clone`, for `Box` apart
+-- The same with its impls of `Clone`, without that for `Box`.
 abbrev pub core_cloned : Declarations
 core_cloned = record (core_traits_to 9) { impls = copied 0 clone }
 
--- and for `Box`
+-- The same with that for `Box`.
 abbrev pub core_boxed : Declarations
 core_boxed = record core_cloned { impls = copied 0 clone ++ record { params = type_T ∷ []; item = box_impl } ∷ [] }
 

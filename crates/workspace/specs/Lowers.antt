@@ -1,4 +1,4 @@
--- What it is to lower a cell: the terms of the stack that stand inside it are taken off, and its term is made of them.
+-- How a cell is lowered: the terms on the stack that are its parts are taken off, and its term is made of them.
 use Rattle.std.specs.Prelude.{◌≡◌, List, ◌∷◌, map, Some, IsSome}
 use Rattle.type_terms.specs.Terms.{Entry, Keeps}
 use Rattle.type_terms.specs.declared.kinds.TyKind.{TyKind}
@@ -11,13 +11,13 @@ use Rattle.workspace.specs.Views.{cell_of}
 use Rattle.workspace.specs.declared.stack.Lowered.{Lowered}
 use Rattle.workspace.specs.Stack.{stack_of, parts_in, part_of, tree_of, trees_of_stack, LoweredHeld, StackHeld}
 
--- the cell finds on the stack what has to stand inside it, and the stack is the interner's
+-- The cell finds its parts on the stack, and the terms on the stack are the interner's.
 pub record CellIsReady (cell : TermCell) (es : List Entry) (stack : List Lowered) : Type 0 where
   pub made : IsSome (parts_behind cell (parts_in stack))
   pub held : StackHeld es (stack_of stack)
   pub range : CellHeld cell
 
--- from the stack S the term x was made, and R is left
+-- The term x was made from the stack S, and R is left.
 pub record Lowers (cell : TermCell) (old new : List Entry) (S : List Lowered) (x : Lowered) (R : List Lowered) : Type 0 where
   pub parts : parts_behind cell (map part_of S) ≡ Some (part_of x ∷ map part_of R)
   pub trees : behind_cell (cell_of cell) (trees_of_stack old S) ≡ tree_of new x ∷ trees_of_stack new R

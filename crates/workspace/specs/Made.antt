@@ -1,4 +1,4 @@
--- Which lists of cells are made as types are: each cell finds on the stack what has to stand inside it.
+-- Which lists of cells are made as types are: each cell finds its parts on the stack.
 use Rattle.std.specs.Prelude.{◌≡◌, ℕ, zero, suc, Bool, true, false, List, [], ◌∷◌, Option, Some, None, nat_lt, if◌then◌else◌}
 use Rattle.std.specs.Option.{option_map, option_and_then}
 use Rattle.std.specs.List.{list_all}
@@ -8,7 +8,7 @@ use Rattle.workspace.specs.declared.declared.ReferenceCells.{ReferenceCells}
 use Rattle.workspace.specs.declared.cell.TermCell.{TermCell}
 use Rattle.workspace.specs.declared.cell.TermCell.TheVariants as cells
 
--- what stands on the stack
+-- The kinds of terms on the stack.
 pub data StackPart : Type 0 where
   type_part const_part lifetime_part principal_part : StackPart
   auto_part : (trait : ℕ) → StackPart
@@ -36,7 +36,7 @@ is_arg const_part = true
 is_arg lifetime_part = true
 is_arg _ = false
 
--- the stack without the n topmost, if they are such
+-- The stack without the n topmost, if they are of this kind.
 abbrev pub off : (StackPart → Bool) → ℕ → List StackPart → Option (List StackPart)
 off p zero S = Some S
 off p (suc n) [] = None
@@ -46,7 +46,7 @@ abbrev pub is_below : ℕ → Option ℕ → Bool
 is_below t None = true
 is_below t (Some u) = nat_lt t u
 
--- the stack without n auto traits, which rise towards the top
+-- The stack without n auto traits, which rise towards the top.
 abbrev pub off_autos : ℕ → Option ℕ → List StackPart → Option (List StackPart)
 off_autos zero u S = Some S
 off_autos (suc n) u (auto_part t ∷ S) = if is_below t u then off_autos n (Some t) S else None
@@ -56,11 +56,11 @@ abbrev pub off_principal : Bool → List StackPart → Option (List StackPart)
 off_principal false S = Some S
 off_principal true S = off is_principal 1 S
 
--- put on what is left
+-- The stack with one more on top.
 abbrev pub putting : StackPart → Option (List StackPart) → Option (List StackPart)
 putting x o = option_map (λ S. x ∷ S) o
 
--- the stack behind a cell
+-- The stack after a cell.
 abbrev pub parts_behind : TermCell → List StackPart → Option (List StackPart)
 parts_behind (cells.Const k) S = Some (const_part ∷ S)
 parts_behind (cells.Lifetime r) S = Some (lifetime_part ∷ S)
@@ -77,12 +77,12 @@ parts_behind (cells.Auto t) S = Some (auto_part t.index ∷ S)
 parts_behind (cells.Dynamic p n) S = putting type_part (option_and_then (off_principal p) (option_and_then (off_autos n None) (off is_lifetime 1 S)))
 parts_behind _ S = Some (type_part ∷ S)
 
--- the stack behind all cells
+-- the stack after all cells
 abbrev pub parts_of : List TermCell → List StackPart → Option (List StackPart)
 parts_of [] S = Some S
 parts_of (c ∷ cs) S = option_and_then (parts_of cs) (parts_behind c S)
 
--- a bound lifetime's binder has a number below the greatest
+-- A bound lifetime's binder has a number below the greatest.
 abbrev pub CellHeld : TermCell → Type 0
 CellHeld (cells.Const k) = ConstHeld k
 CellHeld (cells.Lifetime r) = RegionHeld r.kind
@@ -98,7 +98,7 @@ pub record AreMade (p : StackPart → Bool) (cs : List TermCell) : Type 0 where
   pub held : CellsHeld cs
   pub parts : option_map (list_all p) (parts_of cs []) ≡ Some true
 
--- a reference of arguments, Self first
+-- a trait reference of arguments, Self first
 abbrev pub ReferenceMade : ReferenceCells → Type 0
 ReferenceMade r = AreMade is_arg r.args.items
 

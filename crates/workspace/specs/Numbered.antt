@@ -2,17 +2,17 @@
 use Rattle.std.specs.Prelude.{◌≡◌, ℕ, ◌<◌, true, List, length, Some, slice_get, All}
 use Rattle.text_definitions.specs.Declarations.{Declarations, Check, of_later, of_supers}
 
--- P holds of each element with its place
+-- P holds for each element with its index.
 abbrev pub EachNumbered : {A : Type 0} → (ℕ → A → Type 0) → List A → Type 0
 EachNumbered {A} P xs = (k : ℕ) (x : A) → slice_get xs k ≡ Some x → P k x
 
--- A check is of a crate that is there, or of a section and its crate.
+-- A check is of a crate that exists, or of a section and its crate.
 abbrev pub IsCheckIn : Declarations → Check → Type 0
 IsCheckIn d (of_later k c) = slice_get d.sections k ≡ Some c
 IsCheckIn d (of_supers c) = c < length d.crates
 
--- A number is a place among all of the kind, those of `core` included, and a crate uses earlier crates alone. Each item belongs to
--- a crate that is there, and each question asks in one. Each section is of a crate that is there, and its impls are of that crate.
+-- A number is an index among all of the kind, with those of `core`, and a crate uses earlier crates alone. Each item belongs to a crate
+-- that exists, and so does each query. Each section is of a crate that exists, and its impls are of that crate.
 pub record IsNumbered (d : Declarations) : Type 0 where
   pub has_core : 0 < length d.crates
   pub crates : EachNumbered (λ k c. (c.item.name ≡ k) × All (λ u. u < k) c.item.uses) d.crates

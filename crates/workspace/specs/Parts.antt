@@ -1,4 +1,4 @@
--- The parts of a line that declares, as they are handed to the tables, and the line that they are of.
+-- The parts of a line that declares something, as the tables are given them, and the line that they are of.
 use Rattle.std.specs.Prelude.{◌≡◌, ℕ, ◌-◌, Bool, true, false, List, [], map, length}
 use Rattle.type_terms.specs.Label.{Sort, of_type, param}
 use Rattle.type_terms.specs.Trees.{Trees, leaf}
@@ -15,25 +15,25 @@ use Rattle.workspace.specs.TermCells.{trees_of}
 use Rattle.workspace.specs.Views.{sorts_of, cells_of, reference_of, sorted_params}
 use Rattle.workspace.specs.Tables.{with_struct, with_trait, with_impl, with_later}
 
--- `fundamental struct n<..>(..)`: parameters of these kinds, and fields that are these types
+-- `fundamental struct n<...>(...)`: parameters of these kinds, and fields of these types.
 abbrev pub IsStructLine : Declarations → List ℕ → Bool → List Sort → List Trees → Line → Type 0
 IsStructLine d n f kinds fields (struct_line g m ps fs) =
     (n ≡ m) × (f ≡ g) × (kinds ≡ kinds_of ps) × (fields ≡ field_trees (item_meanings d (struct_line g m ps fs) 0) fs)
 IsStructLine d n f kinds fields _ = ⊥
 
--- `fundamental auto trait n<..>: ..`: parameters of these kinds, and bounds that are these references of Self
+-- `fundamental auto trait n<...>: ...`: parameters of these kinds, and bounds that are these trait references of Self.
 abbrev pub IsTraitLine : Declarations → List ℕ → Bool → Bool → List Sort → List Reference → Line → Type 0
 IsTraitLine d n f a kinds bounds (trait_line g b m ps bs) =
     (n ≡ m) × (f ≡ g) × (a ≡ b) × (kinds ≡ kinds_of ps) × (bounds ≡ map (with_self (item_meanings d (trait_line g b m ps bs) 1) (leaf (param of_type 0))) bs)
 IsTraitLine d n f a kinds bounds _ = ⊥
 
--- `impl<..> h where ..`
+-- `impl<...> h where ...`
 abbrev pub IsImplLine : Declarations → List (List ℕ × Sort) → Reference → List Reference → Line → Type 0
 IsImplLine d params header clauses (impl_line ps h ks) =
     (params ≡ sorted_names ps) × (header ≡ clause_reference (item_meanings d (impl_line ps h ks) 0) h) × (clauses ≡ map (clause_reference (item_meanings d (impl_line ps h ks) 0)) ks)
 IsImplLine d params header clauses _ = ⊥
 
--- `prove in C<..> a where ..`, `refute in C<..> a`
+-- `prove in C<...> a where ...`, `refute in C<...> a`
 abbrev pub IsWrittenQuestion : Declarations → Question → Line → Type 0
 IsWrittenQuestion d q (prove_line c ps a ks) = q ≡ question_of d (question_meanings d (prove_line c ps a ks)) false c ps a ks
 IsWrittenQuestion d q (refute_line c ps a) = q ≡ question_of d (question_meanings d (refute_line c ps a)) true c ps a []
@@ -55,11 +55,11 @@ new_later d params header clauses = record {
   added = record { params = params; item = record { name = last_later d; home = last_changed d; params = length params; header = header; clauses = clauses } };
 }
 
--- ---- what a call that is handed the parts adds, from the declarations d to e
+-- ---- what a call that is given the parts adds, from the declarations d to e
 abbrev pub AddsStruct : (d e : Declarations) → List ℕ → Bool → List ParamKind → List TermCell → Type 0
 AddsStruct d e n f params fields = e ≡ with_struct d (new_struct d n f (sorts_of params) (trees_of (cells_of fields)))
 
--- what the line adds, of which these are the parts
+-- What the line with these parts adds.
 abbrev pub AddsStructLine : (d e : Declarations) → List ℕ → Bool → List ParamKind → List TermCell → Type 0
 AddsStructLine d e n f params fields = (l : Line) → IsStructLine d n f (sorts_of params) (trees_of (cells_of fields)) l → e ≡ added d l
 

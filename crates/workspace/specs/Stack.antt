@@ -1,4 +1,4 @@
--- The stack of what has been made, of which the last item of the vector is on top, and what its items stand for.
+-- The stack of the terms made so far, and what they stand for. The last item of the vector is on top.
 use Rattle.std.specs.Prelude.{◌≡◌, Bool, true, false, List, [], ◌∷◌, map, Option, Some, None}
 use Rattle.type_terms.specs.Label.{principal, auto_trait}
 use Rattle.type_terms.specs.Trees.{Trees, none, tree, leaf}
@@ -43,7 +43,7 @@ lowered_type t = lowered.Type t
 abbrev pub lowered_auto : TraitId → Lowered
 lowered_auto t = lowered.Auto t
 
--- the principal on top is taken off, if there is to be one
+-- The principal trait on top is taken off, if there is to be one.
 abbrev pub PopsPrincipal : Bool → List Lowered → Option Principal → List Lowered → Type 0
 PopsPrincipal false S p R = (p ≡ None) × (S ≡ R)
 PopsPrincipal true S None R = ⊥
@@ -60,7 +60,7 @@ tree_of es (lowered.Auto t) = leaf (auto_trait t.index)
 abbrev pub trees_of_stack : List Entry → List Lowered → List Trees
 trees_of_stack es S = map (tree_of es) S
 
--- what it stands for is the interner's
+-- The term is the interner's.
 abbrev pub LoweredHeld : List Entry → Lowered → Type 0
 LoweredHeld es (lowered.Type t) = Has es types t.0
 LoweredHeld es (lowered.Const c) = Has es consts c.0
@@ -72,7 +72,7 @@ abbrev pub StackHeld : List Entry → List Lowered → Type 0
 StackHeld es [] = Unit {0}
 StackHeld es (x ∷ S) = LoweredHeld es x × StackHeld es S
 
--- all of them are such
+-- All of them are of this kind.
 abbrev pub AllParts : (StackPart → Bool) → List Lowered → Type 0
 AllParts p [] = Unit {0}
 AllParts p (x ∷ xs) = (p (part_of x) ≡ true) × AllParts p xs

@@ -31,7 +31,7 @@ declared t = record {
   in_section = t.in_section;
 }
 
--- ---- put behind what is there
+-- ---- added after what there is
 abbrev pub with_crate : Declarations → NamedCrate → Declarations
 with_crate d c = record d { crates = d.crates ++ c ∷ []; in_section = false }
 
@@ -83,8 +83,8 @@ abbrev pub number_of_crate : Known → Option ℕ
 number_of_crate (a_crate k) = Some k
 number_of_crate _ = None
 
--- ---- what is seen
--- the row marks each crate that crate c sees; behind its end nothing is marked
+-- ---- the view of a crate
+-- The list marks each crate that crate c sees. After its end nothing is marked.
 abbrev pub MarksSeen : World → ℕ → List Bool → Type 0
 MarksSeen W c row = (e : ℕ) → unwrap_or (slice_get row e) false ≡ sees W c e
 

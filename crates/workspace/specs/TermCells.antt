@@ -1,5 +1,5 @@
--- Types as they are kept: lists of cells by numbers alone, and the trees that these stand for. What stands inside a cell comes
--- before it, and the cell says how many trees that is.
+-- Types as they are stored: lists of cells by numbers alone, and the terms that these stand for. The parts of a cell come before it, and
+-- the cell says how many they are.
 use Rattle.std.specs.Prelude.{ℕ, zero, suc, Bool, List, [], ◌∷◌, reverse}
 use Rattle.type_terms.specs.Label.{Label, ref}
 use Rattle.type_terms.specs.Trees.{Trees, none, tree, leaf, ◌+++◌}
@@ -9,8 +9,8 @@ pub data TermCell : Type 0 where
   -- `&'a T`, over T
   reference_cell : (lifetime : Label) → (is_mut : Bool) → TermCell
 
--- ---- read from left to right with a stack of trees
--- the k topmost trees, the last of them on top, before others
+-- ---- read from left to right with a stack of terms
+-- The k topmost terms, the last of them on top, before others.
 abbrev pub gathered : ℕ → List Trees → Trees → Trees
 gathered zero S o = o
 gathered (suc k) [] o = o
@@ -21,13 +21,13 @@ below zero S = S
 below (suc k) [] = []
 below (suc k) (t ∷ S) = below k S
 
--- the stack behind one cell
+-- The stack after one cell.
 abbrev pub behind_cell : TermCell → List Trees → List Trees
 behind_cell (node_cell l k) S = tree l (gathered k S none) none ∷ below k S
 behind_cell (reference_cell r m) [] = []
 behind_cell (reference_cell r m) (t ∷ S) = tree (ref m) (leaf r +++ t) none ∷ S
 
--- the stack behind all cells
+-- the stack after all cells
 abbrev pub behind_cells : List TermCell → List Trees → List Trees
 behind_cells [] S = S
 behind_cells (c ∷ cs) S = behind_cells cs (behind_cell c S)

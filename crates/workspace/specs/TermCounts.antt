@@ -1,13 +1,13 @@
--- How many terms types are made at most.
+-- How many terms are made of types at most.
 use Rattle.std.specs.Prelude.{ℕ, suc, ◌+◌, ◌*◌}
 use Rattle.type_terms.specs.Trees.{Trees, none, tree}
 use Rattle.type_terms.specs.Worlds.{Reference}
 
--- of how many parts trees are: each is a term, and maybe has a list of what stands in it
+-- How many parts a term has. Each of them is a term, and may have a list of its parts.
 abbrev pub parts : Trees → ℕ
 parts none = 0
 parts (tree l c o) = suc (parts c + parts o)
 
--- of a reference the list of its arguments is one more
+-- For a trait reference, the list of its arguments is one more.
 abbrev pub reference_terms : Reference → ℕ
 reference_terms r = 2 * parts r.args + 1

@@ -1,11 +1,11 @@
-//! Types by numbers alone, as lists of cells.
+//! Types without names, as lists of cells. A type is one list in postfix order, so it is read by a loop with a stack and without recursion.
 
 use type_terms::kinds::{ConstKind, IntTy, Mutability, UintTy};
 use type_terms::number::TyVid;
 use type_terms::region::Region;
 use type_terms::{AdtId, TraitId};
 
-/// What a parameter stands for (`GenericParamDefKind`).
+/// The kind of a parameter. rustc: `GenericParamDefKind`.
 #[derive(Clone, Copy)]
 pub enum ParamKind {
     Lifetime,
@@ -13,8 +13,7 @@ pub enum ParamKind {
     Const,
 }
 
-/// A part of a type in postfix order: what stands inside it comes before it, and it says of how many parts that is. So a list of
-/// cells is read by a loop, with a stack.
+/// A part of a type in postfix order. Its own parts come before it, and it says how many they are.
 ///
 /// `&'static V<u8, 3>` has the cells `Uint(U8)`, `Const(Value(3))`, `Adt { V, args: 2 }`, `Ref { 'static, Not }`.
 #[derive(Clone, Copy)]
@@ -26,44 +25,44 @@ pub enum TermCell {
     Never,
     Int(IntTy),
     Uint(UintTy),
-    /// A type parameter of an item, by its place among the item's parameters.
+    /// A type parameter of an item, by its index among all parameters of the item.
     Param(u32),
-    /// A type parameter of a question: it stands for any.
+    /// A type parameter of a query, by its index among all its parameters. It stands for any type.
     Placeholder(u32),
-    /// A type variable of a question.
+    /// A type variable of a query.
     Infer(TyVid),
-    /// A const where an argument or a length stands.
+    /// A constant, as an argument or a length.
     Const(ConstKind),
-    /// A lifetime where an argument or the last part of a `dyn` stands.
+    /// A lifetime, as an argument or as the last part of a `dyn`.
     Lifetime(Region),
-    /// A struct behind its arguments.
+    /// A struct, after its arguments.
     Adt {
         id: AdtId,
         args: u32,
     },
-    /// `&'a T` or `&'a mut T` behind T.
+    /// `&'a T` or `&'a mut T`, after T.
     Ref {
         region: Region,
         mutability: Mutability,
     },
-    /// `*const T` or `*mut T` behind T.
+    /// `*const T` or `*mut T`, after T.
     RawPtr {
         mutability: Mutability,
     },
-    /// `[T]` behind T.
+    /// `[T]`, after T.
     Slice,
-    /// `[T; N]` behind T and N.
+    /// `[T; N]`, after T and N.
     Array,
-    /// A tuple behind its items.
+    /// A tuple, after its items.
     Tuple {
         items: u32,
     },
-    /// `for<..> fn(..) -> T` behind its inputs and its output.
+    /// `for<...> fn(...) -> T`, after its inputs and its output.
     FnPtr {
         bound_vars: u32,
         types: u32,
     },
-    /// The principal trait of a `dyn` behind its arguments.
+    /// The principal trait of a `dyn`, after its arguments.
     Principal {
         bound_vars: u32,
         def_id: TraitId,
@@ -71,7 +70,7 @@ pub enum TermCell {
     },
     /// An auto trait of a `dyn`.
     Auto(TraitId),
-    /// `dyn Tr + Auto + 'a` behind its principal trait, if it has one, its auto traits by rising number, and its lifetime.
+    /// `dyn Tr + Auto + 'a`, after its principal trait, if it has one, its auto traits by rising number, and its lifetime.
     Dynamic {
         has_principal: bool,
         autos: u32,

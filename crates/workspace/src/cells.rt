@@ -1,4 +1,4 @@
-//! Cells, made terms one after the other.
+//! Cells are made into terms, one after the other.
 ghost use Rattle.type_terms.specs.Growth.{GrewOrFull};
 ghost use Rattle.std.specs.Prelude.{◌≡◌, ◌+◌, ◌≤◌, length, IfOk};
 ghost use Rattle.workspace.specs.Stack.{stack_of};
@@ -193,7 +193,7 @@ fn lower_dynamic(
     Ok(Lowered::Type(ty))
 }
 
-/// The term of a cell, made of the terms on the stack that stand inside it.
+/// The term of a cell, made of the terms on the stack that are its parts.
 pub(crate) fn lower_cell(
     alloc: Global,
     cx: &mut Interner,

@@ -1,4 +1,4 @@
-//! The items of `core`, as its lines declare them.
+//! The items of `core`. They are added by calls and not read from lines, so a program begins without reading.
 ghost use Rattle.std.specs.Prelude.{◌≡◌, ◌∷◌, [], ◌++◌, None, false, map, length, OnOk, IfOk};
 ghost use Rattle.type_terms.specs.Worlds.{core};
 ghost use Rattle.text_definitions.specs.Declarations.{known, last_crate, nothing_declared, bare_impl, copied};
@@ -30,7 +30,7 @@ const FN_ONCE: TraitId = TraitId { index: 5 };
 
 const FN_MUT: TraitId = TraitId { index: 6 };
 
-/// The types that are copied by `core`'s impls without parameters.
+/// The types without parameters that are `Copy`.
 const SCALARS: [TermCell; 15] = [
     TermCell::Bool,
     TermCell::Char,
@@ -92,7 +92,7 @@ fn one_reference(alloc: Global, bound: ReferenceCells) -> Result<Vec<ReferenceCe
     Ok(vec![in alloc; bound]?)
 }
 
-/// The bounds of a trait of `core`, which has one at most, of the same parameters.
+/// The bounds of a trait of `core`: at most one, with the same parameters.
 fn core_bounds(
     alloc: Global,
     takes_type: bool,
@@ -317,7 +317,7 @@ impl Tables {
         Ok(())
     }
 
-    /// `core` with its items.
+    /// Tables with `core` and its items. Fails only if memory is refused.
     pub fn new(alloc: Global) -> Result<Self, AllocError>
         ensures declared { IfOk result (λ t. declared t ≡ nothing_declared) }
         ensures consistent { IfOk result (λ t. IsConsistent t) }

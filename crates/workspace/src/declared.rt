@@ -1,25 +1,26 @@
-//! What a text declares and asks, with names resolved to numbers.
+//! What a text declares and queries, with names resolved to numbers.
 
 use crate::cell::{ParamKind, TermCell};
 use type_terms::{AdtId, CrateId, ImplId, TraitId};
 
-/// A trait with Self and its further arguments, of which Self comes first.
+/// A trait with its arguments, Self first.
 #[derive(Drop)]
 pub struct ReferenceCells {
     pub trait_id: TraitId,
     pub args: Vec<TermCell>,
 }
 
+/// A crate with the crates that it uses and sees.
 pub(crate) struct CrateEntry {
     pub id: CrateId,
     pub name: Vec<u8>,
-    /// The crates that it uses as it says, not those that these use.
+    /// The crates that it names as used, without those that these use.
     pub uses: Vec<CrateId>,
-    /// For each crate up to itself, whether it sees it.
+    /// Whether it sees each crate, up to itself.
     pub sees: Vec<bool>,
 }
 
-// Written, so that what owns one drops it by one call at each way out, and not field by field.
+// Hand-written so that the prover sees one drop call: docs/PROVING.md#drop.
 impl Drop for CrateEntry {
     fn drop(self) {
         let CrateEntry {
@@ -31,7 +32,7 @@ impl Drop for CrateEntry {
     }
 }
 
-/// A struct with the kinds of its parameters and its fields.
+/// A struct with its fields and the kinds of its parameters.
 pub struct StructEntry {
     pub id: AdtId,
     pub name: Vec<u8>,
@@ -41,7 +42,7 @@ pub struct StructEntry {
     pub fields: Vec<TermCell>,
 }
 
-// Written, so that what owns one drops it by one call at each way out, and not field by field.
+// Hand-written so that the prover sees one drop call: docs/PROVING.md#drop.
 impl Drop for StructEntry {
     fn drop(self) {
         let StructEntry {
@@ -68,7 +69,7 @@ pub struct TraitEntry {
     pub bounds: Vec<ReferenceCells>,
 }
 
-// Written, so that what owns one drops it by one call at each way out, and not field by field.
+// Hand-written so that the prover sees one drop call: docs/PROVING.md#drop.
 impl Drop for TraitEntry {
     fn drop(self) {
         let TraitEntry {
@@ -83,7 +84,7 @@ impl Drop for TraitEntry {
     }
 }
 
-/// An impl: what its header says holds where its clauses hold.
+/// An impl: if its where-clauses hold, its header holds.
 pub struct ImplEntry {
     pub id: ImplId,
     pub owner: CrateId,
@@ -94,7 +95,7 @@ pub struct ImplEntry {
     pub clauses: Vec<ReferenceCells>,
 }
 
-// Written, so that what owns one drops it by one call at each way out, and not field by field.
+// Hand-written so that the prover sees one drop call: docs/PROVING.md#drop.
 impl Drop for ImplEntry {
     fn drop(self) {
         let ImplEntry {
@@ -112,11 +113,11 @@ impl Drop for ImplEntry {
 pub struct LaterEntry {
     /// The number of its section, from 0.
     pub section: u32,
-    /// Its crate is the one that is changed, and it is numbered in its section.
+    /// Its owner is the changed crate, and its number counts in its section.
     pub entry: ImplEntry,
 }
 
-// Written, so that what owns one drops it by one call at each way out, and not field by field.
+// Hand-written so that the prover sees one drop call: docs/PROVING.md#drop.
 impl Drop for LaterEntry {
     fn drop(self) {
         let LaterEntry {
@@ -126,23 +127,23 @@ impl Drop for LaterEntry {
     }
 }
 
-/// What a text has checked beside its crates.
+/// A check that a text asks for in addition to its crates.
 #[derive(Clone, Copy)]
 pub enum Check {
-    /// `later C`: whether the section of this number, from 0, makes a later version of the crate.
+    /// `later C`: whether a later version of the crate may add the impls of this section. Sections count from 0.
     Later(u32, CrateId),
-    /// `supers in C`: whether the crate's headers have their supertraits proved.
+    /// `supers in C`: whether each impl of the crate has the supertraits of its trait.
     Supers(CrateId),
 }
 
-/// A named parameter, or a variable of a question.
+/// A named parameter, or a variable of a query.
 #[derive(Drop)]
 pub struct Param {
     pub name: Vec<u8>,
     pub kind: ParamKind,
 }
 
-/// A question: `prove in C R where ..`, `refute in C R`.
+/// A query: `prove in C R where ...` or `refute in C R`.
 pub struct QuestionEntry {
     pub asked_how: Asked,
     pub params: Vec<Param>,
@@ -151,7 +152,7 @@ pub struct QuestionEntry {
     pub variables: Vec<Param>,
 }
 
-// Written, so that what owns one drops it by one call at each way out, and not field by field.
+// Hand-written so that the prover sees one drop call: docs/PROVING.md#drop.
 impl Drop for QuestionEntry {
     fn drop(self) {
         let QuestionEntry {
@@ -164,12 +165,12 @@ impl Drop for QuestionEntry {
     }
 }
 
-/// What a line asks, and in which crate.
+/// The kind of a query, and its crate.
 #[derive(Clone, Copy)]
 pub enum Asked {
-    /// Whether a reference is proved in the crate.
+    /// Whether a trait reference has a proof in the crate.
     Prove(CrateId),
-    /// Whether a reference has no proof wherever the crate is linked.
+    /// Whether a trait reference has no proof in any linked set with the crate.
     Refute(CrateId),
 }
 
@@ -181,7 +182,7 @@ pub(crate) enum Named {
     Trait(TraitId),
 }
 
-/// What a name stands for; of a struct and a trait also the crate that it belongs to, and what its parameters are.
+/// What a name stands for. For a struct or a trait also its crate and the kinds of its parameters.
 #[derive(Clone, Copy)]
 pub enum Known<'w> {
     Crate(CrateId),
@@ -190,7 +191,7 @@ pub enum Known<'w> {
         owner: CrateId,
         params: &'w [ParamKind],
     },
-    /// The parameters are those that are written: Self isn't among them.
+    /// The parameters as they are written, without Self.
     Trait {
         id: TraitId,
         owner: CrateId,

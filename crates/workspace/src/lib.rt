@@ -1,7 +1,7 @@
-//! What a text of the whole language declares and asks, in tables, and its types made terms of an interner.
+//! What a text declares and queries, in tables, and its types as terms of an interner.
 //!
-//! Names and what they stand for, what each crate sees, and types as lists of cells by numbers; `core` with its items. The terms that
-//! cells stand for are made by a loop with a stack, parts before what they stand in.
+//! The tables hold names and what they stand for, what each crate sees, and types as lists of cells by numbers. `core` and its items come
+//! first.
 #![tactic(auto)]
 
 mod cell;

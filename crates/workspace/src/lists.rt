@@ -1,4 +1,4 @@
-//! Lists of cells: the fields of a struct, the arguments of a reference.
+//! Lists of cells: the fields of a struct, the arguments of a trait reference.
 ghost use Rattle.type_terms.specs.Growth.{GrewOrFull};
 ghost use Rattle.std.specs.Prelude.{◌≡◌, ◌+◌, ◌*◌, ◌≤◌, [], length, map, sum_by, Some, IsSome, IfOk};
 ghost use Rattle.type_terms.specs.Terms.{Is, args_lists, trees_at};
@@ -65,15 +65,16 @@ fn args_in(alloc: Global, stack: &[Lowered]) -> Result<Vec<GenericArgKind>, Allo
     Ok(args)
 }
 
-/// The types that cells stand for, as the fields of a struct, in order. The error is `Memory`, or `Full` where a table of the
-/// interner is full; the interner may then hold more terms than before.
+/// The types that cells stand for, as the fields of a struct, in order. Each handle keeps its term, after an error too.
+///
+/// Fails with `Memory`, or with `Full` if a table of the interner is full. The interner may then hold more terms than before.
 pub fn lower_types(alloc: Global, cx: &mut Interner, cells: &[TermCell]) -> Result<Vec<Ty>, Fault>
     requires { AreMade is_type cells.now }
     ensures is { IfOk result (λ tys. map (λ t. trees_at cx.new.entries t.0) tys.items ≡ trees_of (cells_of cells.now)) }
     ensures held { IfOk result (λ tys. TysHeld cx.new.entries tys.items) }
     ensures terms { GrewOrFull cx.old cx.new result }
 
-    // A part is made one term, and maybe the list of what stands in it.
+    // A part is made into one term, and maybe into a list of its parts.
     ensures few { length cx.new.entries ≤ length cx.old.entries + 2 * sum_by parts (trees_of (cells_of cells.now)) }
 {
     let stack = lower_cells(alloc, cx, cells)?;
@@ -81,7 +82,7 @@ pub fn lower_types(alloc: Global, cx: &mut Interner, cells: &[TermCell]) -> Resu
     Ok(tys)
 }
 
-/// The list of arguments that cells stand for, as of a reference: Self first. Errors are those of `lower_types`.
+/// The list of arguments that cells stand for, as of a trait reference, Self first. The errors are those of `lower_types`.
 pub fn lower_args(
     alloc: Global,
     cx: &mut Interner,

@@ -1,4 +1,4 @@
-//! The stack of what has been made.
+//! The stack of the terms made so far.
 ghost use Rattle.std.specs.Prelude.{◌≡◌, ◌∷◌, [], None, map, length, IsSome, MatchOption, IfOk, OnOk};
 ghost use Rattle.workspace.specs.Made.{off, off_autos, off_principal, is_type, is_const, is_lifetime, is_arg};
 ghost use Rattle.std.specs.List.Sorted.{IsStrictlyIncreasing};
@@ -9,7 +9,7 @@ use type_terms::TraitId;
 use type_terms::kinds::{Const, GenericArgKind, Principal, Ty};
 use type_terms::region::Region;
 
-/// What stands for a tree of the stack.
+/// A term on the stack.
 #[derive(Clone, Copy)]
 pub(crate) enum Lowered {
     Type(Ty),
@@ -19,6 +19,7 @@ pub(crate) enum Lowered {
     Auto(TraitId),
 }
 
+/// The stack with one more term on top.
 pub(crate) fn push(stack: &mut Vec<Lowered>, term: Lowered) -> Result<(), AllocError>
     ensures { OnOk result (stack_of stack.new.items ≡ term ∷ stack_of stack.old.items) }
 {
@@ -32,6 +33,7 @@ fn pop(stack: &mut Vec<Lowered>) -> Option<Lowered>
     stack.pop()
 }
 
+/// The type on top.
 pub(crate) fn pop_type(stack: &mut Vec<Lowered>) -> Ty
     requires { IsSome (off is_type 1 (parts_in stack.old.items)) }
     ensures { stack_of stack.old.items ≡ Lowered.Type result ∷ stack_of stack.new.items }
@@ -45,6 +47,7 @@ pub(crate) fn pop_type(stack: &mut Vec<Lowered>) -> Ty
     }
 }
 
+/// The constant on top.
 pub(crate) fn pop_const(stack: &mut Vec<Lowered>) -> Const
     requires { IsSome (off is_const 1 (parts_in stack.old.items)) }
     ensures { stack_of stack.old.items ≡ Lowered.Const result ∷ stack_of stack.new.items }
@@ -58,6 +61,7 @@ pub(crate) fn pop_const(stack: &mut Vec<Lowered>) -> Const
     }
 }
 
+/// The lifetime on top.
 pub(crate) fn pop_lifetime(stack: &mut Vec<Lowered>) -> Region
     requires { IsSome (off is_lifetime 1 (parts_in stack.old.items)) }
     ensures { stack_of stack.old.items ≡ Lowered.Lifetime result ∷ stack_of stack.new.items }

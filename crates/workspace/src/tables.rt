@@ -1,4 +1,4 @@
-//! The tables that a text fills, line after line.
+//! The tables that a text fills, line by line. They know no grammar: they are given the parts of a line, not the line.
 ghost use Rattle.std.specs.Prelude.{◌≡◌, ◌<◌, ◌++◌, ◌∷◌, [], ℕ, None, true, false, All, length, map, filter, nat_le, slice_get, unwrap_or, OnOk, OnErr, IfOk, IfSome};
 ghost use Rattle.std.specs.List.{list_any};
 ghost use Rattle.std.specs.Option.{option_map, option_and_then};
@@ -25,7 +25,7 @@ use std::alloc::{AllocError, Global};
 use std::collections::HashMap;
 use type_terms::{AdtId, CrateId, ImplId, TraitId};
 
-/// No list of a text's declarations is as long: a text has a line more than bytes at most, and `core` is there before.
+/// No list of a text's declarations is as long. A text has at most one line more than bytes, and `core` comes first.
 pub const ENTRY_LIMIT: usize = 1_048_640;
 
 /// What lines have declared and asked so far, in the order of the text, `core` first, and what makes it quick to search.
@@ -41,11 +41,11 @@ pub struct Tables {
     pub(crate) impls: Vec<ImplEntry>,
     pub(crate) questions: Vec<QuestionEntry>,
     pub(crate) asked: Vec<Asked>,
-    /// The crates of which a later version has a section.
+    /// The crate of each section.
     sections: Vec<CrateId>,
     pub(crate) later_impls: Vec<LaterEntry>,
     pub(crate) checks: Vec<Check>,
-    /// Whether the last line of a crate or a section is one of a section.
+    /// Whether the last line that began a crate or a section began a section.
     in_section: bool,
     /// What each name stands for.
     names: HashMap<Vec<u8>, Named>,
@@ -57,7 +57,7 @@ pub struct Tables {
     last_later: u32,
 }
 
-// Written, so that what owns one drops it by one call at each way out, and not field by field.
+// Hand-written so that the prover sees one drop call: docs/PROVING.md#drop.
 impl Drop for Tables {
     fn drop(self) {
         let Tables {
@@ -81,7 +81,7 @@ impl Drop for Tables {
     }
 }
 
-/// Whether a row is marked at a place; behind its end it isn't.
+/// Whether an index is marked in a list. It is not if it is after the end.
 fn is_marked(row: &[bool], place: u32) -> bool
     ensures { result ≡ unwrap_or (slice_get row.now place) false }
 {
@@ -131,7 +131,7 @@ impl Tables {
         self.names.get(name).copied()
     }
 
-    /// What a name stands for.
+    /// What a name stands for: a crate, a struct or a trait. `None` if it was not declared.
     pub fn known(&self, name: &[u8]) -> Option<Known<'_>>
         requires { IsConsistent self.now }
         ensures { option_map known_of result ≡ known (declared self.now) name.now }
@@ -184,7 +184,7 @@ impl Tables {
         Ok(seen)
     }
 
-    /// The crate of the last line of a crate.
+    /// The last crate that a line declared.
     pub fn last_crate(&self) -> CrateId
         requires { IsConsistent self.now }
         ensures { result.index ≡ last_crate (declared self.now) }
@@ -192,35 +192,35 @@ impl Tables {
         self.ids[self.ids.len() - 1]
     }
 
-    /// Whether only `core` is there.
+    /// Whether `core` is the only crate.
     pub fn has_no_crate(&self) -> bool
         ensures { result ≡ nat_le (length (declared self.now).crates) 1 }
     {
         self.crates.len() <= 1
     }
 
-    /// How many crates there are, `core` among them.
+    /// How many crates there are, with `core`.
     pub fn crate_count(&self) -> usize
         ensures { result ≡ length (declared self.now).crates }
     {
         self.crates.len()
     }
 
-    /// How many structs there are, those of `core` among them.
+    /// How many structs there are, with those of `core`.
     pub fn struct_count(&self) -> usize
         ensures { result ≡ length (declared self.now).structs }
     {
         self.structs.len()
     }
 
-    /// How many traits there are, those of `core` among them.
+    /// How many traits there are, with those of `core`.
     pub fn trait_count(&self) -> usize
         ensures { result ≡ length (declared self.now).traits }
     {
         self.traits.len()
     }
 
-    /// How many questions there are.
+    /// How many queries there are, of both kinds.
     pub fn question_count(&self) -> usize
         ensures { result ≡ length (declared self.now).questions }
     {
@@ -235,7 +235,7 @@ impl Tables {
         self.last_items
     }
 
-    /// Whether the last line of a crate or a section is one of a section, so that an impl belongs to that.
+    /// Whether a section is open, so that an impl of the next line belongs to it. A query ends no section.
     pub fn is_in_section(&self) -> bool
         ensures { result ≡ (declared self.now).in_section }
     {
@@ -271,7 +271,7 @@ impl Tables {
         self.last_crate()
     }
 
-    /// The crate that a name stands for, if it stands for one.
+    /// The crate with this name, if there is one.
     pub fn crate_named(&self, name: &[u8]) -> Option<CrateId>
         requires { IsConsistent self.now }
         ensures number { option_map (λ c. c.index) result ≡ option_and_then number_of_crate (known (declared self.now) name.now) }
@@ -294,7 +294,7 @@ impl Tables {
         }
     }
 
-    /// The crates that a line names, as it names them.
+    /// The crates that a line names, in its order.
     fn crate_ids(&self, used: &[&[u8]]) -> Result<Vec<CrateId>, AllocError>
         requires { IsConsistent self.now }
         ensures numbers { IfOk result (λ ids. numbers_of ids.items ≡ map (λ u. crate_number (known (declared self.now) u)) (name_texts used.now)) }
@@ -324,7 +324,7 @@ impl Tables {
         seen.index == 0 || self.any_sees(uses, seen)
     }
 
-    /// For each crate so far, whether a new one that uses these sees it, and that it sees itself.
+    /// For each crate so far, whether a new one that uses these sees it. The last entry says that it sees itself.
     fn seen_by(&self, uses: &[CrateId]) -> Result<Vec<bool>, AllocError>
         requires consistent { IsConsistent self.now }
         requires there { All (λ u. u.index < length self.now.crates.items) uses.now }
@@ -370,7 +370,7 @@ impl Tables {
         Ok(())
     }
 
-    /// Adds a crate that uses these, by their names, which stand for earlier crates.
+    /// Adds a crate that uses the crates with these names, which are earlier ones. Fails only if memory is refused.
     pub fn add_crate(&mut self, name: &[u8], used: &[&[u8]]) -> Result<(), AllocError>
         requires consistent { IsConsistent self.old }
         requires new { known (declared self.old) name.now ≡ None }
@@ -383,7 +383,7 @@ impl Tables {
         self.push_crate(name, uses, row)
     }
 
-    /// Adds a struct of the last crate, with the kinds of its parameters and its fields.
+    /// Adds a struct of the last crate, with its fields and the kinds of its parameters. Fails only if memory is refused.
     pub fn add_struct(
         &mut self,
         name: &[u8],
@@ -417,7 +417,7 @@ impl Tables {
         Ok(())
     }
 
-    /// Adds a trait of the last crate, with the kinds of its parameters but for Self, and its bounds.
+    /// Adds a trait of the last crate, with its bounds and the kinds of its parameters without Self. Fails only if memory is refused.
     pub fn add_trait(
         &mut self,
         name: &[u8],
@@ -518,7 +518,8 @@ impl Tables {
         Ok(())
     }
 
-    /// Adds an impl: of the last section, or where none is open of the last crate.
+    /// Adds an impl: to the open section, or to the last crate if none is open. An impl of a section is in no view. Fails only if memory is
+    /// refused.
     pub fn add_impl(
         &mut self,
         params: Vec<Param>,
@@ -538,7 +539,8 @@ impl Tables {
         self.add_own_impl(params, header, clauses)
     }
 
-    /// Begins the section of a later version of a crate, by its name. The impls that follow are added to it.
+    /// Begins the section of a later version of the crate with this name. The impls that follow belong to it. Fails only if memory is
+    /// refused.
     pub fn add_section(&mut self, name: &[u8]) -> Result<(), AllocError>
         requires consistent { IsConsistent self.old }
         requires few { IsFew (declared self.old) ENTRY_LIMIT }
@@ -554,7 +556,7 @@ impl Tables {
         Ok(())
     }
 
-    /// Adds that a crate, by its name, has the supertraits of its headers checked.
+    /// Adds the check `supers` of the crate with this name. Fails only if memory is refused.
     pub fn add_supers(&mut self, name: &[u8]) -> Result<(), AllocError>
         requires consistent { IsConsistent self.old }
         ensures added { OnOk result (declared self.new ≡ added (declared self.old) (supers_line name.now)) }

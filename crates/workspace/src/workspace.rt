@@ -1,4 +1,4 @@
-//! The declarations and questions of a text.
+//! The declarations, checks and queries of a whole text.
 ghost use Rattle.std.specs.Prelude.{◌≡◌, ◌<◌, ◌+◌, Some, length, map, filter, take, suc, count_by, slice_get, ◌==◌, IfOk, OnOk, OnErr};
 ghost use Rattle.std.specs.List.Sorted.{IsNonDecreasingBy};
 ghost use Rattle.std.specs.Option.{option_map};
@@ -16,7 +16,7 @@ use std::alloc::AllocError;
 use std::marker::Model;
 use type_terms::{CrateId, ImplId};
 
-/// Those of a section, of added impls whose sections rise. They stand together.
+/// The impls of a section. Those of one section are next to each other, because sections are added in order.
 fn impls_of_section(entries: &[LaterEntry], section: u32) -> &[LaterEntry]
     requires { IsNonDecreasingBy (λ i. i.section) entries.now }
     ensures { result.now ≡ filter (λ i. i.section == section) entries.now }
@@ -27,9 +27,9 @@ fn impls_of_section(entries: &[LaterEntry], section: u32) -> &[LaterEntry]
     &rest[..count]
 }
 
-/// What a text declares and asks, in its order. The crate `core` and its items stand first.
+/// What a text declares and queries, in its order. The crate `core` and its items come first.
 ///
-/// Crates, structs, traits and impls go by numbers: an item's number is its place among all of its kind.
+/// Crates, structs, traits and impls go by numbers. An item's number is its index among all of its kind.
 #[derive(Drop)]
 pub struct Workspace {
     tables: Tables,
@@ -100,14 +100,14 @@ impl Workspace {
         &self.tables.ids
     }
 
-    /// What each question asks, and in which crate.
+    /// The kind of each query, and its crate.
     pub fn questions(&self) -> &[Asked]
         ensures { map asked_of result.now ≡ map (λ q. (q.is_refute, q.asker)) self.now.questions }
     {
         &self.tables.asked
     }
 
-    /// The name of a crate as the text has it; `core` of number 0.
+    /// The name of a crate as the text writes it. The crate with number 0 is `core`.
     pub fn crate_name(&self, id: CrateId) -> &[u8]
         requires { id.index < length self.now.crates }
         ensures { option_map (λ c. c.text) (slice_get self.now.crates id.index) ≡ Some result.now }
@@ -115,7 +115,7 @@ impl Workspace {
         &self.tables.crates[id.index as usize].name
     }
 
-    /// What a name stands for.
+    /// What a name stands for: a crate, a struct or a trait. `None` if it was not declared.
     pub fn known(&self, name: &[u8]) -> Option<Known<'_>>
         ensures { option_map known_of result ≡ known self.now name.now }
     {
@@ -130,8 +130,8 @@ impl Workspace {
         self.tables.sees(seeing, seen)
     }
 
-    /// What a crate sees: itself and all that it uses, directly or through others, `core` first and the crate last, in the order
-    /// of the text.
+    /// The view of a crate: itself and all that it uses, directly or through others, in the order of the text. `core` is first and the
+    /// crate itself last.
     pub fn view(&self, crate_id: CrateId) -> Result<Vec<CrateId>, AllocError>
         requires { crate_id.index < length self.now.crates }
         ensures { IfOk result (λ seen. numbers_of seen.items ≡ map (λ c. c.name) (view_of (world_of self.now) crate_id.index).crates) }
@@ -175,14 +175,14 @@ impl Workspace {
         &self.tables.impls
     }
 
-    /// What the text has checked beside its crates, in its order.
+    /// The checks in the order of the text.
     pub fn checks(&self) -> &[Check]
         ensures { map check_of result.now ≡ self.now.checks }
     {
         &self.tables.checks
     }
 
-    /// The impls of a section, by its number from 0, in the order of the text. A section of a higher number than the text has holds none.
+    /// The impls of a section, in the order of the text. Sections count from 0. If the text has no such section, the list is empty.
     pub fn later_impls_of(&self, section: u32) -> &[LaterEntry]
         ensures items { map later_of result.now ≡ filter (λ i. i.section == section) self.now.later_impls }
         ensures headers { EachNumbered (λ k i. ReferenceMade i.entry.header) result.now }
@@ -191,7 +191,7 @@ impl Workspace {
         impls_of_section(&self.tables.later_impls, section)
     }
 
-    /// The questions in the order of the text.
+    /// The queries in the order of the text.
     pub fn question_entries(&self) -> &[QuestionEntry]
         ensures items { map question_of result.now ≡ self.now.questions }
         ensures asked { EachNumbered (λ k q. ReferenceMade q.asked) result.now }
