@@ -1,4 +1,4 @@
--- The line of a statement with all that names stand for, and without its types: what a name stands for depends on nothing else.
+-- The line of a statement with all that names stand for, and without its types. What a name stands for depends on nothing else.
 use Rattle.std.specs.Prelude.{ℕ, List, [], ◌∷◌}
 use Rattle.std.specs.List.{flat_map}
 use Rattle.type_terms.specs.Label.{Sort, of_type, of_const, of_lifetime}
@@ -11,7 +11,7 @@ sort_of_param (lifetime_param n) = of_lifetime
 sort_of_param (type_param n) = of_type
 sort_of_param (const_param n) = of_const
 
--- a parameter's name and what it stands for
+-- A parameter's name and its kind.
 abbrev pub sorted_param : Param → List ℕ × Sort
 sorted_param p = (param_name p, sort_of_param p)
 
@@ -21,7 +21,7 @@ name_of_sort of_type (type_param n) = n ∷ []
 name_of_sort of_const (const_param n) = n ∷ []
 name_of_sort _ _ = []
 
--- the names of those of this sort
+-- The names of the parameters of this kind.
 abbrev pub names_of_sort : Sort → List Param → List (List ℕ)
 names_of_sort p ps = flat_map (name_of_sort p) ps
 

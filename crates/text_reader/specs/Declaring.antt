@@ -1,5 +1,4 @@
--- A line that was read, after the declarations of the lines before it. Whoever has the declarations judges such a line, and adds it
--- where it has no fault.
+-- A line that was read, after the declarations of the lines before it. It is judged by the declarations, and added if it has no fault.
 use Rattle.std.specs.Prelude.{◌≡◌, None, Option}
 use Rattle.std.specs.Option.{option_map}
 use Rattle.text_definitions.specs.Syntax.{Line}
@@ -16,11 +15,11 @@ use Rattle.name_resolution.specs.declared.judge.JudgedLine.{JudgedLine}
 use Rattle.name_resolution.specs.declared.line.LineFound.{LineFound}
 use Rattle.text_reader.specs.Sights.{sight_at}
 
--- some line was read
+-- Some line was read.
 abbrev pub IsRead : LineRead → Type 0
 IsRead read = (l : Line) × ReadsLine l read
 
--- This fault was found, or none: whichever line was read, it has that fault.
+-- This fault was found, or none. Whichever line was read, it has that fault.
 abbrev pub FindsFault : Declarations → LineRead → Option FaultKind → Type 0
 FindsFault d read found = (l : Line) → ReadsLine l read → option_map fault_number found ≡ fault_of d l
 
@@ -28,7 +27,7 @@ FindsFault d read found = (l : Line) → ReadsLine l read → option_map fault_n
 abbrev pub IsFaultless : Declarations → LineRead → Type 0
 IsFaultless d read = IsRead read × ((l : Line) → ReadsLine l read → fault_of d l ≡ None)
 
--- The declarations are e then: whichever line was read, they are those with this line.
+-- The declarations are then e. Whichever line was read, e is the declarations with this line.
 abbrev pub AddsLine : Declarations → LineRead → Declarations → Type 0
 AddsLine d read e = (l : Line) → ReadsLine l read → e ≡ added d l
 
@@ -36,6 +35,6 @@ AddsLine d read e = (l : Line) → ReadsLine l read → e ≡ added d l
 abbrev pub IsFoundOf : Declarations → LineRead → LineFound → Type 0
 IsFoundOf d read found = FindsLine (sight_at d read) read found
 
--- Of a line without a fault this was found.
+-- If the line has no fault, this was found of it.
 abbrev pub HandsOnFound : Declarations → LineRead → JudgedLine → Type 0
 HandsOnFound d read judged = HandsOn (sight_at d read) read judged

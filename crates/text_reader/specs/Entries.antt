@@ -1,4 +1,4 @@
--- What the parts of a line stand for, as they are handed to the tables.
+-- What the parts of a line stand for, as the tables are given them.
 use Rattle.std.specs.Prelude.{◌≡◌, ℕ, Bool, true, false, List, [], map}
 use Rattle.type_terms.specs.Label.{Sort, of_type, param}
 use Rattle.type_terms.specs.Trees.{Trees, leaf}
@@ -17,32 +17,32 @@ use Rattle.workspace.specs.declared.declared.Asked.{Asked}
 use Rattle.workspace.specs.declared.declared.QuestionEntry.{QuestionEntry}
 use Rattle.text_reader.specs.BareLines.{sorted_param}
 
--- ---- the parts of a line; nothing is said of a line that has no such part
--- the fields of a struct
+-- ---- the parts of a line; nothing is said of a line without such a part
+-- The fields of a struct.
 abbrev pub AreFields : Declarations → Line → List Trees → Type 0
 AreFields d (struct_line f n ps fs) fields = fields ≡ field_trees (item_meanings d (struct_line f n ps fs) 0) fs
 AreFields d _ fields = Unit {0}
 
--- the bounds of a trait, of its Self
+-- The bounds of a trait, for its Self.
 abbrev pub AreBoundsOfLine : Declarations → Line → List Reference → Type 0
 AreBoundsOfLine d (trait_line f a n ps bs) bounds = bounds ≡ map (with_self (item_meanings d (trait_line f a n ps bs) 1) (leaf (param of_type 0))) bs
 AreBoundsOfLine d _ bounds = Unit {0}
 
--- the header of an impl, or what is asked
+-- The header of an impl, or the bound of a query.
 abbrev pub IsMain : Declarations → Line → Reference → Type 0
 IsMain d (impl_line ps h ks) r = r ≡ clause_reference (item_meanings d (impl_line ps h ks) 0) h
 IsMain d (prove_line c ps a ks) r = r ≡ clause_reference (question_meanings d (prove_line c ps a ks)) a
 IsMain d (refute_line c ps a) r = r ≡ clause_reference (question_meanings d (refute_line c ps a)) a
 IsMain d _ r = Unit {0}
 
--- the clauses of an impl or of a question
+-- The where-clauses of an impl or of a query.
 abbrev pub AreClauses : Declarations → Line → List Reference → Type 0
 AreClauses d (impl_line ps h ks) rs = rs ≡ map (clause_reference (item_meanings d (impl_line ps h ks) 0)) ks
 AreClauses d (prove_line c ps a ks) rs = rs ≡ map (clause_reference (question_meanings d (prove_line c ps a ks))) ks
 AreClauses d (refute_line c ps a) rs = rs ≡ []
 AreClauses d _ rs = Unit {0}
 
--- the variables of a question, each once
+-- the variables of a query, each once
 abbrev pub AreVariables : Declarations → Line → List (List ℕ × Sort) → Type 0
 AreVariables d l vs = vs ≡ once (variables_in (asked_uses d l))
 
@@ -75,17 +75,17 @@ abbrev pub IsImpl : Statement → Type 0
 IsImpl (impl_statement ps h ks) = Unit {0}
 IsImpl _ = ⊥
 
--- it asks so, in this crate, with these parameters
+-- The statement is a query of this kind, of this crate, with these parameters.
 abbrev pub AsksQuestion : Statement → (is_refute : Bool) → (asker : List ℕ) → List Param → Type 0
 AsksQuestion (prove_statement c ps k ks) false a qs = (c ≡ a) × (ps ≡ qs)
 AsksQuestion (refute_statement c ps k) true a qs = (c ≡ a) × (ps ≡ qs)
 AsksQuestion _ _ a qs = ⊥
 
--- and the crate has this number
+-- And the crate has this number.
 abbrev pub IsAsking : Declarations → Statement → Asked → List Param → Type 0
 IsAsking d s how ps = (c : List ℕ) × AsksQuestion s (is_refute how) c ps × (asker_of how ≡ crate_number (known d c))
 
--- the entry of a question has what was read
+-- The entry of a query has what was read.
 pub record IsQuestionEntry (d : Declarations) (params : List Param) (read : LineRead) (q : QuestionEntry) : Type 0 where
   pub named : sorted_params q.params.items ≡ map sorted_param params
   pub asked : OfRead read (λ l. IsMain d l (reference_of q.asked))

@@ -6,7 +6,7 @@ use Rattle.line_reader.specs.Lines.{SaysLine}
 use Rattle.text_reader.specs.declared.form.LineForm.{LineForm}
 use Rattle.text_reader.specs.declared.form.LineForm.TheVariants as forms
 
--- one of four; the first that holds
+-- One of four forms, the first that applies.
 abbrev pub IsForm : List ℕ → LineForm → Type 0
 IsForm line forms.OtherByte = is_ascii line ≡ false
 IsForm line forms.Blank = (is_ascii line ≡ true) × (is_blank line ≡ true)

@@ -1,4 +1,4 @@
--- Which trees a list of kept cells stands for, and what it is to put cells behind others.
+-- The terms that a list of stored cells stands for, and how cells are appended to others.
 use Rattle.std.specs.Prelude.{◌≡◌, List, [], ◌∷◌, ◌++◌, map, Some}
 use Rattle.type_terms.specs.Trees.{Trees}
 use Rattle.text_definitions.specs.Lowering.{Meanings}
@@ -14,13 +14,13 @@ abbrev pub pushed : {A : Type 0} → List A → List A → List A
 pushed [] S = S
 pushed (x ∷ xs) S = pushed xs (x ∷ S)
 
--- the cells put these trees, which are such parts, on any stack
+-- The cells put these terms, of these kinds, on any stack.
 pub record PutsTrees (cs : List TermCell) (ts : List Trees) (xs : List StackPart) : Type 0 where
   pub held : CellsHeld cs
   pub trees : (S : List Trees) → behind_cells (cells_of cs) S ≡ pushed ts S
   pub parts : (S : List StackPart) → parts_of cs S ≡ Some (pushed xs S)
 
--- the cells that are kept for these were put behind others
+-- The cells that are stored for these were appended to others.
 pub record AddsCells (e : Meanings) (cs : List ResolvedCell) (old new : List TermCell) : Type 0 where
   pub added : List TermCell
   pub behind : new ≡ old ++ added

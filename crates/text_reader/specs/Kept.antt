@@ -1,4 +1,4 @@
--- What is kept of the types, bounds and clauses of a line.
+-- What is stored of the types, bounds and where-clauses of a line.
 use Rattle.std.specs.Prelude.{◌≡◌, ◌<◌, ◌≤◌, List, [], ◌∷◌, ◌++◌, length, map}
 use Rattle.std.specs.List.{flat_map}
 use Rattle.type_terms.specs.Label.{of_type, param}
@@ -32,12 +32,12 @@ use Rattle.text_reader.specs.Numbering.{meanings}
 use Rattle.text_reader.specs.declared.numbering.Numbering.{Numbering}
 use Rattle.text_reader.specs.declared.numbering.Numbering.TheVariants.{Item, Question}
 
--- the names are looked up in what this line knows
+-- The names are looked up in what this line knows.
 pub record IsSightOf (v : Sight) (l : Line) : Type 0 where
   pub items : items v ≡ with_own v.before l
   pub params : params v ≡ params_of l
 
--- A trait's own parameters are counted from 1, those of other items from 0; a question has few variables.
+-- A trait's own parameters count from 1, those of other items from 0. A query has few variables.
 abbrev pub NumberingFits : Numbering → Type 0
 NumberingFits (Item first) = first ≤ 1
 NumberingFits (Question vs) = length vs.now ≤ variable_limit
@@ -49,7 +49,7 @@ pub record HasSmallNumbers (v : Sight) (n : Numbering) : Type 0 where
   pub numbering : NumberingFits n
 
 -- ---- types and bounds that were read
--- It stands among the cells of a line, and the places of these have small numbers.
+-- It is among the cells of a line, and their indices are small.
 abbrev pub HasSmallPlaces : LinePart → Type 0
 HasSmallPlaces p = (cells : List Cell) × (at : places.LinePart) × (length cells < MAX_INDEX) × PartStands (cells_in cells) p at
 
@@ -57,7 +57,7 @@ HasSmallPlaces p = (cells : List Cell) × (at : places.LinePart) × (length cell
 abbrev pub IsReadAs : Sight → LinePart → ResolvedPart → Type 0
 IsReadAs v p r = Resolves v p r × HasSmallPlaces p
 
--- ---- what is handed to the tables
+-- ---- what is given to the tables
 abbrev pub MeansFields : Sight → Numbering → List ResolvedPart → List TermCell → Type 0
 MeansFields v n rs out =
     (l : Line) (fs : Types) → IsSightOf v l → EachOf (IsReadAs v) (map line.type_part (type_list fs)) rs → UsesFit v.before l (types_uses (with_own v.before l) [] fs)
@@ -68,20 +68,20 @@ MeansClause v n s b r =
     (l : Line) (k : Clause) → IsSightOf v l → IsReadAs v (line.type_part k.subject) s → IsReadAs v (line.bound_part k.bound) b → ClauseFits v.before l k
     → (reference_of r ≡ clause_reference (meanings v n) k) × ReferenceMade r
 
--- of each clause its subject, and then its bound
+-- For each where-clause its subject, and then its bound.
 abbrev pub MeansClauses : Sight → Numbering → List ResolvedPart → List ReferenceCells → Type 0
 MeansClauses v n rs out =
     (l : Line) (ks : List Clause) → IsSightOf v l → EachOf (IsReadAs v) (flat_map line.clause_parts ks) rs → AllOf (ClauseFits v.before l) ks
     → (map reference_of out ≡ map (clause_reference (meanings v n)) ks) × ReferencesMade out
 
--- the supertraits of a trait, of which Self is parameter 0
+-- The supertraits of a trait, whose Self is parameter 0.
 abbrev pub MeansBounds : Sight → List ResolvedPart → List ReferenceCells → Type 0
 MeansBounds v rs out =
     (l : Line) (bs : List Bound) → IsSightOf v l → EachOf (IsReadAs v) (map line.bound_part bs) rs → AllOf (BoundFits v.before l) bs
     → (map reference_of out ≡ map (with_self (meanings v (Item 1)) (leaf (param of_type 0))) bs) × ReferencesMade out
 
 -- ---- one type, and one bound
--- the line, and what its names stand for
+-- The line, and what its names stand for.
 pub record IsOfLine (v : Sight) (e : Meanings) (l : Line) : Type 0 where
   pub sight : IsSightOf v l
   pub items : e.items ≡ items v
@@ -89,13 +89,13 @@ pub record IsOfLine (v : Sight) (e : Meanings) (l : Line) : Type 0 where
   pub few : FewNames e
   pub numbers : NumbersFit e.items
 
--- the cells of the type were put behind others
+-- The cells of the type were appended to others.
 abbrev pub KeepsType : Sight → Meanings → ResolvedPart → (old new : List TermCell) → Type 0
 KeepsType v e r old new =
     (l : Line) (t : TypeTree) → IsOfLine v e l → IsReadAs v (line.type_part t) r → UsesFit v.before l (type_uses (with_own v.before l) [] of_type t)
     → (ts : List Trees) (xs : List StackPart) → PutsTrees old ts xs → PutsTrees new (ts ++ type_tree e [] of_type t ∷ []) (xs ++ type_part ∷ [])
 
--- the reference of a self type and the bound
+-- The trait reference of a self type and the bound.
 abbrev pub MeansBound : Sight → Meanings → ResolvedPart → (self : List TermCell) → ReferenceCells → Type 0
 MeansBound v e b self r =
     (l : Line) (bound : Bound) (t : Trees) → IsOfLine v e l → IsReadAs v (line.bound_part bound) b → BoundFits v.before l bound → PutsTrees self (t ∷ []) (type_part ∷ [])

@@ -13,14 +13,14 @@ abbrev pub AllOf : {T : Type 0} → (T → Type 0) → List T → Type 0
 AllOf P [] = Unit {0}
 AllOf P (t ∷ ts) = P t × AllOf P ts
 
--- what the line uses in the bound, and in the clause
+-- What the line uses in the bound, and in the where-clause.
 abbrev pub BoundFits : Declarations → Line → Bound → Type 0
 BoundFits d l b = UsesFit d l (bound_uses (with_own d l) b)
 
 abbrev pub ClauseFits : Declarations → Line → Clause → Type 0
 ClauseFits d l k = UsesFit d l (type_uses (with_own d l) [] of_type k.subject) × UsesFit d l (bound_uses (with_own d l) k.bound)
 
--- what the line uses fits, part by part
+-- What the line uses fits, part by part.
 abbrev pub LineFits : Declarations → Line → Type 0
 LineFits d (crate_line n us) = Unit {0}
 LineFits d (struct_line f n ps fs) = UsesFit d (struct_line f n ps fs) (types_uses (with_own d (struct_line f n ps fs)) [] fs)

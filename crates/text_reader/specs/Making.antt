@@ -1,4 +1,4 @@
--- Which resolved cells can be kept: each finds before it what has to stand inside it, and its numbers are small enough.
+-- Which resolved cells can be stored: each finds its parts before it, and its numbers are small enough.
 use Rattle.std.specs.Prelude.{◌≡◌, ℕ, suc, ◌+◌, ◌<◌, ◌^◌, Bool, true, false, List, [], ◌∷◌, map, filter, Some, None}
 use Rattle.std.specs.Option.{option_and_then}
 use Rattle.type_terms.specs.Label.{Label, Sort, of_type, of_const, of_lifetime, bool, char, str, never, array, slice, tuple, dynamic, int, uint, adt, fn_ptr, auto_trait, value, raw_pointer, principal}
@@ -18,11 +18,11 @@ RegionSmall e static_region = Unit {0}
 RegionSmall e (param_region i) = IsSmall (first_of_sort e of_lifetime + i)
 RegionSmall e (bound_region k i) = IsSmall k × IsSmall i
 
--- the number of a variable among those of its sort
+-- The number of a variable among those of its kind.
 abbrev pub variable_number : Meanings → Sort → List ℕ → ℕ
 variable_number e p n = place_among n (map (λ v. v.0) (filter (λ v. is_sort v.1 p) e.variables))
 
--- principals of a `dyn`
+-- How many principal traits a `dyn` has.
 abbrev pub how_many : Bool → ℕ
 how_many false = 0
 how_many true = 1
@@ -30,7 +30,7 @@ how_many true = 1
 abbrev pub LeafMakes : StackPart → ℕ → List StackPart → List StackPart → Type 0
 LeafMakes x k S M = (k ≡ 0) × (M ≡ x ∷ S)
 
--- A label over k parts puts this on the stack S; so many auto traits stand right before it.
+-- A label over k parts turns the stack S into this one. This many auto traits are directly before it.
 abbrev pub LabelMakes : (autos : ℕ) → Label → ℕ → List StackPart → List StackPart → Type 0
 LabelMakes a bool k S M = LeafMakes type_part k S M
 LabelMakes a char k S M = LeafMakes type_part k S M
@@ -56,7 +56,7 @@ ParamMakes of_type S M = M ≡ type_part ∷ S
 ParamMakes of_const S M = M ≡ const_part ∷ S
 ParamMakes of_lifetime S M = ⊥
 
--- a cell makes the stack M of S
+-- A cell turns the stack S into M.
 abbrev pub CellMakes : Meanings → (autos : ℕ) → ResolvedCell → List StackPart → List StackPart → Type 0
 CellMakes e a (node_cell l k) S M = LabelMakes a l k S M
 CellMakes e a (param_cell p i k) S M = IsSmall (first_of_sort e p + i) × (k ≡ 0) × ParamMakes p S M
@@ -64,7 +64,7 @@ CellMakes e a (variable_cell p n) S M = IsSmall (variable_number e p n) × Param
 CellMakes e a (lifetime_cell r) S M = RegionSmall e r × (M ≡ lifetime_part ∷ S)
 CellMakes e a (reference_cell r m) S M = RegionSmall e r × (putting type_part (off is_type 1 S) ≡ Some M)
 
--- how many auto traits stand right before what comes next, a lifetime aside
+-- How many auto traits are directly before the next cell. A lifetime does not count.
 abbrev pub label_autos : ℕ → Label → ℕ
 label_autos a (auto_trait t) = suc a
 label_autos a _ = 0
@@ -81,7 +81,7 @@ abbrev pub Makes : Meanings → (autos : ℕ) → List ResolvedCell → List Sta
 Makes e a [] S R = S ≡ R
 Makes e a (c ∷ cs) S R = (M : List StackPart) × CellMakes e a c S M × Makes e (next_autos a c) cs M R
 
--- ---- the cell that is kept for a resolved one
+-- ---- the cell that is stored for a resolved one
 abbrev pub term_of : Meanings → ResolvedCell → term.TermCell
 term_of e (node_cell l k) = term.node_cell l k
 term_of e (param_cell p i k) = term.node_cell (e.parameter p (first_of_sort e p + i)) k

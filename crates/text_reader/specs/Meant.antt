@@ -1,4 +1,4 @@
--- What the names of a line stand for, and when they can be kept as numbers.
+-- What the names of a line stand for, and when they can be stored as numbers.
 use Rattle.std.specs.Prelude.{◌≡◌, ℕ, ◌+◌, ◌<◌, ◌^◌, Bool, true, false, List, [], ◌∷◌, length, Option, Some}
 use Rattle.type_terms.specs.Label.{of_type}
 use Rattle.type_terms.specs.declared.TheConstants.{MAX_INDEX}
@@ -20,12 +20,12 @@ NumbersFit d = (n : List ℕ) → KnownFits (known d n)
 abbrev pub FewNames : Meanings → Type 0
 FewNames e = (e.first + (length e.params.lifetimes + (length e.params.types + length e.params.consts)) < MAX_INDEX) × (length e.variables < MAX_INDEX)
 
--- ---- what is used can be meant
+-- ---- what is used stands for something
 abbrev pub IsKnownStruct : Option Known → Type 0
 IsKnownStruct (Some (a_struct k h ks)) = Unit {0}
 IsKnownStruct _ = ⊥
 
--- a name with so many arguments where a type stands: a parameter has none, and else it is a struct's
+-- A name with this many arguments where a type is expected. A parameter has none, and otherwise it is a struct's.
 abbrev pub NameMeans : Bool → Option Known → ℕ → Type 0
 NameMeans true o k = k ≡ 0
 NameMeans false o k = IsKnownStruct o

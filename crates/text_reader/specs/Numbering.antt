@@ -1,4 +1,4 @@
--- What the parameters and variables of a line stand for, and when a cell is kept for another.
+-- What the parameters and variables of a line stand for, and when a cell is stored for another.
 use Rattle.std.specs.Prelude.{◌≡◌, ℕ, List, [], ◌∷◌, map, filter, Some}
 use Rattle.type_terms.specs.Label.{Label, Sort, of_type, of_const, of_lifetime, param, placeholder}
 use Rattle.type_terms.specs.Trees.{is_sort}
@@ -34,7 +34,7 @@ first_number (Question vs) = 0
 abbrev pub meanings : Sight → Numbering → Meanings
 meanings v n = record { items = items v; params = params v; first = first_number n; parameter = parameter_of n; variables = variables_of n }
 
--- the names of those of this sort
+-- the names of those of this kind
 abbrev pub names_of_sort : Sort → List (List ℕ × Sort) → List (List ℕ)
 names_of_sort p vs = map (λ v. v.0) (filter (λ v. is_sort v.1 p) vs)
 
@@ -47,7 +47,7 @@ pub record IsNumbersOf (n : Numbers) (e : Meanings) : Type 0 where
   pub variables : e.variables ≡ variables_of n.numbering
 
 -- ---- one cell
--- the cell of a parameter, which is such a part
+-- The cell of a parameter, which is a part of this kind.
 abbrev pub IsParamCell : Numbering → Sort → ℕ → StackPart → TermCell → Type 0
 IsParamCell n p i x c = (cell_of c ≡ node_cell (parameter_of n p i) 0) × CellHeld c × ((S : List StackPart) → parts_behind c S ≡ Some (x ∷ S))
 
@@ -55,13 +55,13 @@ IsParamCell n p i x c = (cell_of c ≡ node_cell (parameter_of n p i) 0) × Cell
 abbrev pub IsLeafCell : Label → TermCell → Type 0
 IsLeafCell l c = (cell_of c ≡ node_cell l 0) × CellHeld c × ((S : List StackPart) → parts_behind c S ≡ Some (type_part ∷ S))
 
--- the cell of a label over k parts, if it finds them
+-- The cell of a label over k parts, if it finds them.
 abbrev pub LabelStands : (autos : ℕ) → Label → ℕ → TermCell → Type 0
 LabelStands a l k x = (S M : List StackPart) → LabelMakes a l k S M → (parts_behind x S ≡ Some M) × (cell_of x ≡ node_cell l k)
 
 abbrev pub RegionStands : Meanings → Region → RegionKind → Type 0
 RegionStands e r x = RegionSmall e r → kinds.region_label x ≡ region_label e r
 
--- the cell that is kept for a resolved one, if this finds what stands inside it
+-- The cell that is stored for a resolved one, if this finds its parts.
 abbrev pub CellStands : Meanings → (autos : ℕ) → ResolvedCell → TermCell → Type 0
 CellStands e a c x = (S M : List StackPart) → CellMakes e a c S M → (parts_behind x S ≡ Some M) × (cell_of x ≡ term_of e c)

@@ -7,16 +7,16 @@ use Rattle.name_resolution.specs.declared.fault.FaultKind.{FaultKind}
 use Rattle.text_reader.specs.declared.fault.TextError.{TextError}
 use Rattle.text_reader.specs.declared.fault.TextError.TheVariants as errors
 
--- after the declarations d the line has the fault that was found, or none was found and the declarations are e then
+-- After the declarations d the line has the fault that was found. Or none was found, and the declarations are then e.
 abbrev pub TakesLine : Declarations → List ℕ → Option FaultKind → Declarations → Type 0
 TakesLine d line found e = MatchOption found (LineGives d line (Ok e)) (λ k. LineGives d line (Err (fault_number k)))
 
--- the lines, after these declarations, have this fault, or memory ran out
+-- The lines, after these declarations, have this fault, or memory was refused.
 abbrev pub AreRefused : Declarations → List (List ℕ) → TextError → Type 0
 AreRefused d ls (errors.Text f) = LinesGive d 1 ls (Err (f.line, fault_number f.kind))
 AreRefused d ls errors.Memory = Unit {0}
 
--- the text has this fault, or memory ran out
+-- The text has this fault, or memory was refused.
 abbrev pub IsTextError : List ℕ → TextError → Type 0
 IsTextError bytes (errors.Text f) = TextGives bytes (Err (f.line, fault_number f.kind))
 IsTextError bytes errors.Memory = Unit {0}

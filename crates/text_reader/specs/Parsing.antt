@@ -4,7 +4,7 @@ use Rattle.name_resolution.specs.FaultNumbers.{fault_number}
 use Rattle.text_reader.specs.declared.fault.TextError.{TextError}
 use Rattle.text_reader.specs.declared.fault.TextError.TheVariants as errors
 
--- the error names this line and this fault, or memory ran out
+-- The error has this line and this fault, or memory was refused.
 abbrev pub IsFaultAt : (line number : ℕ) → TextError → Type 0
 IsFaultAt k n (errors.Text f) = (f.line ≡ k) × (fault_number f.kind ≡ n)
 IsFaultAt k n errors.Memory = Unit {0}

@@ -1,9 +1,9 @@
--- What a text gives is known from its bytes up to the first one too many.
+-- What a text gives is determined by its bytes up to the first one too many.
 use Rattle.std.specs.Prelude.{ℕ, ◌+◌, List, take, Result}
 use Rattle.text_definitions.specs.Declarations.{Declarations}
 use Rattle.text_definitions.specs.Text.{TextGives, text_limit}
 
--- as many bytes as texts may have, and one more
+-- As many bytes as texts may have, and one more.
 abbrev pub first_bytes : List ℕ → List ℕ
 first_bytes bytes = take (text_limit + 1) bytes
 

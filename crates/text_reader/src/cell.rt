@@ -1,4 +1,4 @@
-//! Cells that are the same in every line.
+//! Cells whose form does not depend on the line.
 ghost use Rattle.std.specs.Prelude.{◌≡◌, ◌+◌, ◌<◌, ◌^◌};
 ghost use Rattle.type_terms.specs.Kinds.{is_mut};
 ghost use Rattle.line_reader.specs.TokenViews.{primitive_label};
@@ -14,6 +14,7 @@ use type_terms::AdtId;
 use type_terms::kinds::{ConstKind, IntTy, Mutability, UintTy};
 use workspace::TermCell;
 
+/// Whether a reference or pointer is `mut`.
 pub(crate) fn mutability(m: bool) -> Mutability
     ensures { is_mut result ≡ m }
 {
@@ -42,7 +43,7 @@ fn primitive_cell(primitive: Primitive) -> TermCell
     }
 }
 
-/// The cell of a type, a const or a part of a `dyn` over so many others; so many auto traits stand right before it.
+/// The cell of a type, a constant or a part of a `dyn` with this many parts. The last `autos` of these are auto traits.
 pub(crate) fn node_cell(label: NodeLabel<'_>, inside: usize, autos: usize) -> TermCell
     ensures held { CellHeld result }
     ensures stands { LabelStands autos (label_in label.entry) inside result }
@@ -82,7 +83,7 @@ pub(crate) fn node_cell(label: NodeLabel<'_>, inside: usize, autos: usize) -> Te
     }
 }
 
-/// How many auto traits stand right before what comes next, a lifetime aside.
+/// How many auto traits are directly before the next cell. A lifetime does not count.
 pub(crate) fn next_autos(autos: usize, cell: ResolvedCell<'_>) -> usize
     requires { autos + 1 < 2 ^ 64 }
     ensures { result ≡ next_autos autos (resolved_in cell.entry) }

@@ -1,4 +1,5 @@
-//! What a line declares or asks, put into the tables.
+//! What a line declares or queries is added to the tables. All parts of a line are made before the tables change, so a line's own item is
+//! never found while its parts are made.
 ghost use Rattle.std.specs.Prelude.{◌≡◌, ◌<◌, ◌≤◌, length, OnOk};
 ghost use Rattle.line_reader.specs.Views.{params_in, statement_of};
 ghost use Rattle.text_reader.specs.Declaring.{IsFaultless, IsFoundOf, AddsLine};
@@ -112,10 +113,10 @@ fn declare_question<'a>(
     tables.add_question(entry)
 }
 
-/// Declares a line without a fault, of which this was found, or asks what it asks: what the tables hold then is what they held, and this
-/// line. No name of its types is looked up again.
+/// Adds a line without a fault, of which this was found, to the tables. They then hold what they held, and what this line declares, checks
+/// or queries. No name is looked up again.
 ///
-/// The error says that a request for memory was refused; the tables aren't used any more then.
+/// Fails only if memory is refused, and then the tables must not be used any more.
 pub fn declare<'a>(
     tables: &mut Tables,
     alloc: Global,

@@ -1,4 +1,4 @@
-//! The types and references of a line, by numbers alone.
+//! The types and trait references of a line, by numbers alone.
 ghost use Rattle.std.specs.Prelude.{◌≡◌, ◌≤◌, length, map, IfOk};
 ghost use Rattle.line_reader.specs.Views.{params_in, statement_of};
 ghost use Rattle.text_reader.specs.Declaring.{IsRead, IsFaultless, IsFoundOf};
@@ -21,7 +21,7 @@ use name_resolution::{LineFound, each_once};
 use std::alloc::{AllocError, Global};
 use workspace::{Asked, ENTRY_LIMIT, QuestionEntry, ReferenceCells, Tables, TermCell};
 
-/// The header and the where-clauses of an impl's line, as the tables keep them.
+/// The header and the where-clauses of an impl's line, as the tables store them.
 #[derive(Drop)]
 pub(crate) struct ImplReferences {
     pub header: ReferenceCells,
@@ -67,7 +67,7 @@ pub(crate) fn struct_fields<'a>(
     )
 }
 
-/// The supertraits of a trait that a line declares, of its Self.
+/// The supertraits of a trait that a line declares, for its Self.
 pub(crate) fn trait_bounds<'a>(
     tables: &Tables,
     alloc: Global,
@@ -87,7 +87,8 @@ pub(crate) fn trait_bounds<'a>(
     bound_cells(&names, alloc, &found.others.parts)
 }
 
-/// The header and the clauses of an impl that a line declares. The bound of the header stands first in the line, and its subject next.
+/// The header and the where-clauses of an impl that a line declares. In the line the trait of the header comes first, and its self type
+/// next.
 pub(crate) fn impl_references<'a>(
     tables: &Tables,
     alloc: Global,
@@ -118,7 +119,7 @@ pub(crate) fn impl_references<'a>(
     })
 }
 
-/// What a line asks, with its variables each once, by their first places.
+/// The query of a line, with each of its variables once, in the order of first occurrence.
 pub(crate) fn question_entry<'a>(
     tables: &Tables,
     alloc: Global,

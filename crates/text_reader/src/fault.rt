@@ -3,7 +3,7 @@
 use name_resolution::FaultKind;
 use std::alloc::AllocError;
 
-/// The first faulty line, counted from 1, and of the faults in it the one with the smallest number.
+/// The first faulty line, counted from 1, with the fault of the smallest number in it.
 #[derive(Clone, Copy, Debug, PartialEq, Eq)]
 pub struct TextFault {
     pub line: u32,

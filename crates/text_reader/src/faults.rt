@@ -1,4 +1,4 @@
-//! The fault of a line after the lines before it.
+//! The fault of a line, after the lines before it.
 ghost use Rattle.std.specs.Prelude.{◌≡◌, IfOk};
 ghost use Rattle.std.specs.Option.{option_map};
 ghost use Rattle.text_definitions.specs.Syntax.{Line};
@@ -18,10 +18,10 @@ use name_resolution::JudgedLine;
 use std::alloc::{AllocError, Global};
 use workspace::{ENTRY_LIMIT, Tables};
 
-/// What is wrong with a line that was read, after the lines that the tables hold: of all faults that apply the one with the smallest
-/// number; of a line without a fault what was found of it, its types and bounds with all names looked up.
+/// The fault of a line that was read, after the lines that the tables hold: of all faults that apply, the one with the smallest number. For
+/// a line without a fault, what was found of it: its types and bounds with all names looked up.
 ///
-/// The error says that a request for memory was refused; nothing was changed.
+/// Fails only if memory is refused. Nothing is changed.
 pub fn judge_line<'a>(
     tables: &Tables,
     alloc: Global,

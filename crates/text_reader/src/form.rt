@@ -1,4 +1,4 @@
-//! What a line is by itself.
+//! What a line is by itself, before any name is looked up.
 ghost use Rattle.std.specs.Prelude.{IfOk};
 ghost use Rattle.text_reader.specs.Forms.{IsForm};
 
@@ -8,9 +8,9 @@ use std::alloc::{AllocError, Global};
 /// What a line of a text is, before any name is looked up.
 #[derive(Drop)]
 pub enum LineForm<'a> {
-    /// A byte of 128 or more stands in it.
+    /// It holds a byte of 128 or more.
     OtherByte,
-    /// Nothing is to be read: spaces, and behind them nothing or a comment.
+    /// It declares nothing: only spaces, or a comment after them.
     Blank,
     /// The grammar has no such line.
     Unwritten,
@@ -18,7 +18,7 @@ pub enum LineForm<'a> {
     Read(LineRead<'a>),
 }
 
-/// What a line is by itself. The error says that a request for memory was refused.
+/// What a line is by itself. Fails only if memory is refused.
 pub fn line_form(alloc: Global, line: &[u8]) -> Result<LineForm<'_>, AllocError>
     ensures { IfOk result (λ form. IsForm line.now form) }
 {

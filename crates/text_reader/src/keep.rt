@@ -1,4 +1,4 @@
-//! Cells one after the other.
+//! The cells that the tables store for a list of resolved cells.
 ghost use Rattle.std.specs.Prelude.{◌≡◌, map, OnOk};
 ghost use Rattle.text_definitions.specs.Lowering.{Meanings};
 ghost use Rattle.name_resolution.specs.Views.{resolved_in};
@@ -11,7 +11,7 @@ use name_resolution::ResolvedCell;
 use std::alloc::AllocError;
 use workspace::TermCell;
 
-/// Puts the cells that are kept for these behind others.
+/// Appends the cells that are stored for these.
 pub(crate) fn push_cells<'a>(
     numbers: &Numbers<'_, 'a>,
     cells: &[ResolvedCell<'a>],

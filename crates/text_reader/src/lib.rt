@@ -1,5 +1,5 @@
-//! Whole texts, line after line: what each line declares is added to the tables of a workspace, and the first faulty line is named
-//! with the smallest number that applies.
+//! Whole texts, line by line. What each line declares is added to the tables of a workspace. The first faulty line is reported, with the
+//! smallest number of a fault in it.
 #![tactic(auto)]
 
 ghost use Rattle.text_reader.specs.Behind.{LinesBehindTexts, TextsAreFew};
@@ -45,12 +45,12 @@ pub fn faultless_parts()
     ensures { FaultlessParts }
 {}
 
-/// Where declarations are numbered by their places and are few, the numbers of the structs and traits that a line knows are small.
+/// If declarations are numbered by their indices and are few, the numbers of the structs and traits that a line knows are small.
 pub fn small_numbers()
     ensures { NumbersAreSmall ENTRY_LIMIT }
 {}
 
-/// A text gives what its first 1,048,577 bytes give: whoever reads it need not read on behind the first byte too many.
+/// A text gives what its first 1,048,577 bytes give. So a reader can stop after the first byte too many.
 pub fn first_bytes()
     ensures { FirstBytesDecide }
 {}

@@ -20,7 +20,8 @@ use std::alloc::{AllocError, Global};
 use type_terms::CrateId;
 use workspace::{Known, ParamKind};
 
-/// What is declared before a line, and its statement: its own item and its parameters are known beside that.
+/// What is declared before a line, with the line's statement. The line's own item and its parameters are known too. Nothing is added to the
+/// tables for a line that may be faulty.
 #[derive(Drop)]
 pub(crate) struct LineTables<'w, 's, 'a> {
     before: SoFar<'w>,
@@ -32,7 +33,7 @@ pub(crate) struct LineTables<'w, 's, 'a> {
     ghost looking_there: { (c : CrateId) → looking ≡ Some c → c.index < length before.crates },
 }
 
-/// The crate of the line's items, of an impl of a section the one that is changed; of a question the one that asks.
+/// The crate of the line's items. For an impl of a section it is the changed crate, for a query the query's crate.
 fn looking_crate(before: &SoFar<'_>, statement: &Statement<'_>) -> Option<CrateId>
     ensures number { option_map (λ c. c.index) result ≡ looking_crate before.now (bare_line (statement_of statement.now)) }
     ensures there { IfSome result (λ c. c.index < length before.now.crates) }
@@ -48,7 +49,7 @@ fn looking_crate(before: &SoFar<'_>, statement: &Statement<'_>) -> Option<CrateI
 impl<'w, 's, 'a> LineTables<'w, 's, 'a> {
     ghost use Rattle.text_reader.specs.Sights.{sight_of};
 
-    /// What the names of this line stand for, after the lines before it. The error is a refused request for memory.
+    /// What the names of this line stand for, after the lines before it. Fails only if memory is refused.
     pub fn new(
         alloc: Global,
         before: SoFar<'w>,
@@ -68,7 +69,7 @@ impl<'w, 's, 'a> LineTables<'w, 's, 'a> {
         })
     }
 
-    /// The line's own struct, if the name is its.
+    /// The line's own struct, if it has this name.
     fn own_struct(&self, is_own: bool) -> Option<Known<'_>>
         ensures { option_map known_of result
             ≡ (if is_own then Some (a_struct (length self.now.before.structs) (last_crate self.now.before) (sorts_of self.now.kinds.items)) else None) }
@@ -83,7 +84,7 @@ impl<'w, 's, 'a> LineTables<'w, 's, 'a> {
         None
     }
 
-    /// The line's own trait, if the name is its.
+    /// The line's own trait, if it has this name.
     fn own_trait(&self, is_own: bool, is_auto: bool) -> Option<Known<'_>>
         ensures { option_map known_of result
             ≡ (if is_own then Some (a_trait (length self.now.before.traits) (last_crate self.now.before) is_auto (sorts_of self.now.kinds.items)) else None) }

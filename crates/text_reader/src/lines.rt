@@ -4,7 +4,7 @@ ghost use Rattle.text_definitions.specs.Text.{lines_of, long_line};
 ghost use Rattle.text_reader.specs.Behind.{IsOneLine};
 ghost use Rattle.text_reader.specs.Lines.{lines_behind, line_too_far};
 
-/// The greatest length of a text.
+/// The greatest length of a text, in bytes.
 pub const TEXT_LIMIT: usize = 1_048_576;
 
 fn line_end(bytes: &[u8]) -> usize
@@ -20,7 +20,7 @@ fn line_ends(bytes: &[u8]) -> usize
     bytes.iter().filter(|b| **b == b'\n').count()
 }
 
-/// The line that holds the first byte too many, counted from 1, if the text is longer than texts may be.
+/// The line that holds the first byte too many, counted from 1, if the text is longer than `TEXT_LIMIT`.
 pub fn long_line(bytes: &[u8]) -> Option<u32>
     ensures { result ≡ line_too_far bytes.now }
 {
@@ -40,11 +40,11 @@ pub fn is_one_line(bytes: &[u8]) -> bool
     behind.is_none()
 }
 
-/// The first line of a text without its end, and what stands behind that end. A line that nothing ends is the last.
+/// The first line of a text without its end, and all that comes after that end. A line without an end is the last one.
 pub fn split_line(bytes: &[u8]) -> (&[u8], Option<&[u8]>)
     ensures lines { lines_of bytes.now ≡ result.0.now ∷ lines_behind result.1 }
     ensures within { length result.0.now ≤ length bytes.now }
-    // What is left is shorter, so that the lines of a text end.
+    // The rest is shorter, so the loop over lines ends.
     ensures left { IfSome result.1 (λ rest. length rest.now < length bytes.now) }
 {
     let (line, after) = bytes.split_at(line_end(bytes));

@@ -23,10 +23,9 @@ use workspace::{ParamKind, TermCell};
 /// What the parameters and the variables of a line stand for.
 #[derive(Clone, Copy)]
 pub enum Numbering<'n, 'a> {
-    /// In an item's line: parameters are counted from this number on, which is 1 in a trait's own line, where 0 is Self. There are no
-    /// variables.
+    /// In an item's line, parameters count from this number on. It is 1 in a trait's own line, where 0 is Self. There are no variables.
     Item { first: u32 },
-    /// In a question: parameters stand for any, and these are the variables, each once. Those of one sort are counted from 0.
+    /// In a query, parameters stand for any type. These are the variables, each once. Those of one kind count from 0.
     Question { variables: &'n [Variable<'a>] },
 }
 
@@ -34,7 +33,7 @@ pub enum Numbering<'n, 'a> {
 #[derive(Clone, Copy)]
 pub(crate) struct Numbers<'n, 'a> {
     numbering: Numbering<'n, 'a>,
-    /// The number of the first lifetime, of the first type and of the first const.
+    /// The number of the first lifetime, of the first type and of the first constant.
     lifetimes: usize,
     types: usize,
     consts: usize,
@@ -50,7 +49,7 @@ fn is_same(first: ParamKind, second: ParamKind) -> bool
     }
 }
 
-/// The place of a name among variables of one sort, or their number where it is none of them.
+/// The index of a name among variables of one kind. If it is none of them, their number.
 fn place_among(variables: &[Variable<'_>], sort: ParamKind, name: &[u8]) -> usize
     ensures { result ≡ place_among name.now (names_of_sort (sort_of_kind sort) (map variable_in variables.now)) }
 {
@@ -78,7 +77,7 @@ impl<'n, 'a> Numbering<'n, 'a> {
         }
     }
 
-    /// The place of a variable among those of its sort.
+    /// The index of a variable among those of its kind.
     fn variable_place(&self, sort: ParamKind, name: &[u8]) -> usize
         ensures { result ≡ place_among name.now (names_of_sort (sort_of_kind sort) (variables_of self.now)) }
     {
@@ -118,7 +117,7 @@ impl<'n, 'a> Numbering<'n, 'a> {
 }
 
 impl<'n, 'a> Numbers<'n, 'a> {
-    /// Of a line in which names stand for these.
+    /// The numbers of a line in which names stand for these.
     pub fn of<N: Names>(names: &N, numbering: Numbering<'n, 'a>) -> Self
         requires { FewNames (meanings (N.sight names.now) numbering) }
         ensures { IsNumbersOf result (meanings (N.sight names.now) numbering.entry) }
@@ -155,7 +154,7 @@ impl<'n, 'a> Numbers<'n, 'a> {
         }
     }
 
-    /// A parameter over nothing, by its place among those of its sort.
+    /// The cell of a parameter, by its index among those of its kind.
     fn param(&self, sort: ParamKind, place: usize) -> TermCell
         ensures held { CellHeld result }
         ensures stands { (e : Meanings) (a k : ℕ) → IsNumbersOf self.now e → CellStands e a (param_cell (sort_of_kind sort) place k) result }
@@ -179,7 +178,7 @@ impl<'n, 'a> Numbers<'n, 'a> {
         }
     }
 
-    /// The cell that is kept for one whose names were looked up; so many auto traits stand right before it.
+    /// The cell that is stored for one whose names were looked up. This many auto traits are directly before it.
     pub fn cell(&self, cell: ResolvedCell<'a>, autos: usize) -> TermCell
         ensures held { CellHeld result }
         ensures stands { (e : Meanings) → IsNumbersOf self.now e → CellStands e autos (resolved_in cell.entry) result }

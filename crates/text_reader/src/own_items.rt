@@ -1,4 +1,4 @@
-//! What a name stands for where the line declares a struct or a trait itself.
+//! What a name stands for if the line itself declares a struct or a trait. A crate hides a struct of its name, and a struct hides a trait.
 ghost use Rattle.std.specs.Prelude.{◌≡◌};
 ghost use Rattle.std.specs.Option.{option_map};
 ghost use Rattle.workspace.specs.Views.{known_of};
@@ -6,7 +6,7 @@ ghost use Rattle.text_reader.specs.OwnItems.{known_with_struct, known_with_trait
 
 use workspace::Known;
 
-/// What was known before, or the line's own struct, which comes before traits.
+/// What was known before, or the line's own struct, which hides a trait.
 pub(crate) fn with_struct<'k>(
     before: Option<Known<'k>>,
     own: Option<Known<'k>>,
@@ -23,7 +23,7 @@ pub(crate) fn with_struct<'k>(
     }
 }
 
-/// What was known before, or the line's own trait.
+/// What was known before, or the line's own trait, which hides nothing.
 pub(crate) fn with_trait<'k>(before: Option<Known<'k>>, own: Option<Known<'k>>) -> Option<Known<'k>>
     ensures { option_map known_of result ≡ known_with_trait (option_map known_of before.entry) (option_map known_of own.entry) }
 {

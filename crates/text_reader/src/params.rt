@@ -1,4 +1,4 @@
-//! The parameters of a line by their sorts.
+//! The parameters of a line by their kinds.
 ghost use Rattle.std.specs.Prelude.{◌≡◌, ◌∷◌, [], length, map, IfOk, MatchOption};
 ghost use Rattle.line_reader.specs.Views.{param_of, params_in};
 ghost use Rattle.name_resolution.specs.LookUps.{place_in};
@@ -11,7 +11,7 @@ use name_resolution::Variable;
 use std::alloc::{AllocError, Global};
 use workspace::ParamKind;
 
-/// What a parameter stands for.
+/// The kind of a parameter.
 fn kind_of(param: &Param<'_>) -> ParamKind
     ensures { sort_of_kind result ≡ sort_of_param (param_of param.now) }
 {
@@ -93,7 +93,7 @@ fn name_of_sort<'a>(param: &Param<'a>, sort: ParamKind) -> Option<&'a [u8]>
     }
 }
 
-/// The place of a name among the parameters of a sort.
+/// The index of a name among the parameters of one kind.
 pub(crate) fn place_of(params: &[Param<'_>], sort: ParamKind, name: &[u8]) -> Option<usize>
     ensures { result ≡ place_in name.now (names_of_sort (sort_of_kind sort) (params_in params.now)) }
 {
@@ -111,7 +111,7 @@ pub(crate) fn place_of(params: &[Param<'_>], sort: ParamKind, name: &[u8]) -> Op
     None
 }
 
-/// How many parameters are of a sort.
+/// How many parameters are of one kind.
 pub(crate) fn count_of(params: &[Param<'_>], sort: ParamKind) -> usize
     ensures { result ≡ length (names_of_sort (sort_of_kind sort) (params_in params.now)) }
 {

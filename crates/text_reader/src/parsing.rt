@@ -1,4 +1,4 @@
-//! Whole texts, read.
+//! Whole texts, read into a workspace.
 ghost use Rattle.std.specs.Prelude.{◌≡◌, ℕ, Ok, Err, IfOk, IfErr, MatchResult};
 ghost use Rattle.text_definitions.specs.Declarations.{Declarations};
 ghost use Rattle.text_definitions.specs.Text.{TextGives};
@@ -11,15 +11,13 @@ use crate::text_tables::TextTables;
 use std::alloc::Global;
 use workspace::Workspace;
 
-/// Reads a text: what it declares and asks, after `core`, in its order.
+/// Reads a text: what it declares and queries, after `core`, in its order.
 ///
-/// The error is the first faulty line, counted from 1, with the smallest number of a fault in it; or that a request for memory was
-/// refused.
+/// Fails with the first faulty line, counted from 1, with the smallest number of a fault in it, or with `Memory` if memory is refused.
 pub fn parse(alloc: Global, bytes: &[u8]) -> Result<Workspace, TextError>
-    // What is declared is what the text gives.
     ensures taken { IfOk result (λ w. TextGives bytes.now (Ok w)) }
     ensures refused { IfErr result (λ e. IsTextError bytes.now e) }
-    // A text that gives declarations is taken, and a faulty one refused, unless memory runs out.
+    // A text that gives declarations is taken, and a faulty one refused, unless memory is refused.
     ensures gives { (d : Declarations) → TextGives bytes.now (Ok d) → MatchResult result (λ w. w ≡ d) (λ e. e ≡ TextError.Memory) }
     ensures faulty { (k n : ℕ) → TextGives bytes.now (Err (k, n)) → MatchResult result (λ w. ⊥) (λ e. IsFaultAt k n e) }
 {

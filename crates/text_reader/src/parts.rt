@@ -1,4 +1,4 @@
-//! The types, bounds and clauses of a line, whose names were looked up as it was judged.
+//! The types, bounds and where-clauses of a line, as cells. Their names were looked up when the line was judged.
 ghost use Rattle.std.specs.Prelude.{◌≡◌, ◌∷◌, [], IfOk, OnOk};
 ghost use Rattle.type_terms.specs.Label.{of_type, param};
 ghost use Rattle.type_terms.specs.Trees.{leaf};
@@ -25,7 +25,7 @@ fn self_cells(alloc: Global) -> Result<Vec<TermCell>, AllocError>
     Ok(cells)
 }
 
-/// Puts the cells of a type behind others.
+/// Appends the cells of a type.
 fn push_type<'a>(
     numbers: &Numbers<'_, 'a>,
     part: &ResolvedPart<'a>,
@@ -37,7 +37,7 @@ fn push_type<'a>(
     Ok(())
 }
 
-/// A bound of a self type, which these cells are.
+/// A bound of the self type that these cells are.
 fn with_self<'a>(
     numbers: &Numbers<'_, 'a>,
     bound: &ResolvedPart<'a>,
@@ -67,9 +67,9 @@ fn reference<'a>(
     Ok(made)
 }
 
-/// The fields of a struct, one type behind the other. The names have to be those of the line.
+/// The fields of a struct, one type after the other. The names must be those of the line.
 ///
-/// The error says that a request for memory was refused.
+/// Fails only if memory is refused.
 pub fn field_cells<'a, N: Names>(
     names: &N,
     alloc: Global,
@@ -87,9 +87,9 @@ pub fn field_cells<'a, N: Names>(
     Ok(kept)
 }
 
-/// A clause, the header of an impl, or what a question asks: the number of the trait, and its arguments behind Self (`TraitRef`).
+/// A where-clause, the header of an impl, or the bound of a query: the trait's number, with its arguments after Self. rustc: `TraitRef`.
 ///
-/// The error says that a request for memory was refused.
+/// Fails only if memory is refused.
 pub fn clause_cells<'a, N: Names>(
     names: &N,
     alloc: Global,
@@ -105,9 +105,9 @@ pub fn clause_cells<'a, N: Names>(
     Ok(made)
 }
 
-/// Clauses, one after the other, of each its subject and then its bound.
+/// Where-clauses, one after the other. The parts are the subject and then the bound of each.
 ///
-/// The error says that a request for memory was refused.
+/// Fails only if memory is refused.
 pub fn clauses_cells<'a, N: Names>(
     names: &N,
     alloc: Global,
@@ -128,9 +128,9 @@ pub fn clauses_cells<'a, N: Names>(
     Ok(references)
 }
 
-/// The supertraits of a trait, of its Self.
+/// The supertraits of a trait, for its Self.
 ///
-/// The error says that a request for memory was refused.
+/// Fails only if memory is refused.
 pub fn bound_cells<'a, N: Names>(
     names: &N,
     alloc: Global,

@@ -1,10 +1,10 @@
-//! Numbers of 32 and of 64 bits.
+//! Numbers of 32 and of 64 bits. What cannot come in a line without a fault becomes 0, and no clause says so.
 ghost use Rattle.std.specs.Prelude.{◌≡◌, ◌+◌, ◌-◌, ◌*◌, ◌^◌, ◌<◌, ◌≤◌, MatchOption};
 ghost use Rattle.text_definitions.specs.Tokens.{number_from};
 
 use type_terms::{MAX_INDEX, TraitId};
 
-/// A number, if it is below the greatest number of an item; or else 0.
+/// The number, if it is below the greatest number of an item, and otherwise 0.
 pub(crate) fn small(number: usize) -> u32
     ensures within { result < MAX_INDEX }
     ensures same { number < MAX_INDEX → result ≡ number }
@@ -16,7 +16,7 @@ pub(crate) fn small(number: usize) -> u32
     }
 }
 
-/// The trait with a number, if that is below the greatest.
+/// The trait with this number, if that is below the greatest.
 pub(crate) fn trait_id(number: usize) -> TraitId
     ensures { number < MAX_INDEX → result.index ≡ number }
 {
@@ -25,7 +25,7 @@ pub(crate) fn trait_id(number: usize) -> TraitId
     }
 }
 
-/// A sum, if it is below the greatest number of an item; or else 0.
+/// The sum, if it is below the greatest number of an item, and otherwise 0.
 pub(crate) fn small_sum(first: usize, place: usize) -> u32
     ensures within { result < MAX_INDEX }
     ensures same { first + place < MAX_INDEX → result ≡ first + place }
@@ -36,7 +36,7 @@ pub(crate) fn small_sum(first: usize, place: usize) -> u32
     }
 }
 
-/// A number with one more digit, where it stays below 2^64.
+/// The number with one more digit, if it stays below 2^64.
 fn with_digit(value: u64, digit: u8) -> Option<u64>
     ensures { MatchOption result (2 ^ 64 ≤ 10 * value + (digit - 48)) (λ n. n ≡ 10 * value + (digit - 48)) }
 {
@@ -46,7 +46,7 @@ fn with_digit(value: u64, digit: u8) -> Option<u64>
     }
 }
 
-/// A number by its digits, if it is below 2^64; or else 0.
+/// The number that these digits write, if it is below 2^64, and otherwise 0.
 pub(crate) fn number_of(digits: &[u8]) -> u64
     ensures { number_from 0 digits.now < 2 ^ 64 → result ≡ number_from 0 digits.now }
 {

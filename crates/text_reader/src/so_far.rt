@@ -12,7 +12,7 @@ use std::marker::Model;
 use type_terms::{AdtId, CrateId, TraitId};
 use workspace::{ENTRY_LIMIT, Known, Tables};
 
-/// The tables of the lines before a line, which agree with what they declare. Contracts see the declarations.
+/// The tables of the lines before a line, which agree with what they declare. Contracts speak of the declarations.
 #[derive(Drop)]
 pub(crate) struct SoFar<'w> {
     tables: &'w Tables,
@@ -36,7 +36,7 @@ impl<'w> Model for SoFar<'w> {
 impl<'w> SoFar<'w> {
     ghost use Rattle.workspace.specs.Tables.{declared, IsConsistent};
 
-    /// What tables that hold no more than a text may declare say so far.
+    /// The tables as what is declared so far. They hold no more than a text may declare.
     pub fn new(tables: &'w Tables) -> Self
         requires agrees { IsConsistent tables.now }
         requires few { IsFew (declared tables.now) ENTRY_LIMIT }
@@ -45,14 +45,14 @@ impl<'w> SoFar<'w> {
         SoFar { tables }
     }
 
-    /// What a name stands for so far: a crate, a struct or a trait; none where it was not declared.
+    /// What a name stands for so far: a crate, a struct or a trait. `None` if it was not declared.
     pub fn known(&self, name: &[u8]) -> Option<Known<'_>>
         ensures { option_map known_of result ≡ known self.now name.now }
     {
         self.tables.known(name)
     }
 
-    /// Whether a crate sees another: itself, `core`, and what it uses, itself or through crates that it uses.
+    /// Whether a crate sees another: itself, `core`, and what it uses, directly or through others.
     pub fn sees(&self, seeing: CrateId, seen: CrateId) -> bool
         requires { seeing.index < length self.now.crates }
         ensures { result ≡ sees (world_of self.now) seeing.index seen.index }
@@ -60,7 +60,7 @@ impl<'w> SoFar<'w> {
         self.tables.sees(seeing, seen)
     }
 
-    /// The crate of the last line of a crate.
+    /// The last crate that a line declared.
     pub fn last_crate(&self) -> CrateId
         ensures number { result.index ≡ last_crate self.now }
         ensures there { result.index < length self.now.crates }
@@ -68,7 +68,7 @@ impl<'w> SoFar<'w> {
         self.tables.last_crate()
     }
 
-    /// The crate of a name, where a crate of that name was declared.
+    /// The crate with this name, if one was declared.
     pub fn crate_named(&self, name: &[u8]) -> Option<CrateId>
         ensures number { option_map (λ c. c.index) result ≡ option_and_then number_of_crate (known self.now name.now) }
         ensures there { IfSome result (λ c. c.index < length self.now.crates) }
@@ -76,7 +76,7 @@ impl<'w> SoFar<'w> {
         self.tables.crate_named(name)
     }
 
-    /// The crate in which a question is asked, by its name.
+    /// The crate of a query, by its name.
     pub fn asking_crate(&self, name: &[u8]) -> CrateId
         ensures number { result.index ≡ crate_number (known self.now name.now) }
         ensures there { result.index < length self.now.crates }
@@ -87,7 +87,7 @@ impl<'w> SoFar<'w> {
         }
     }
 
-    /// The number that a struct of the next line gets: the count of structs so far, `core`'s among them.
+    /// The number of the next struct: the count of structs so far, with those of `core`.
     pub fn next_struct(&self) -> AdtId
         ensures { result.index ≡ length self.now.structs }
     {
@@ -96,7 +96,7 @@ impl<'w> SoFar<'w> {
         }
     }
 
-    /// The number that a trait of the next line gets: the count of traits so far, `core`'s among them.
+    /// The number of the next trait: the count of traits so far, with those of `core`.
     pub fn next_trait(&self) -> TraitId
         ensures { result.index ≡ length self.now.traits }
     {
@@ -105,21 +105,21 @@ impl<'w> SoFar<'w> {
         }
     }
 
-    /// How many crates there are so far, `core` among them.
+    /// How many crates there are so far, with `core`.
     pub fn crate_count(&self) -> usize
         ensures { result ≡ length self.now.crates }
     {
         self.tables.crate_count()
     }
 
-    /// How many questions there are so far, of both kinds.
+    /// How many queries there are so far, of both kinds.
     pub fn question_count(&self) -> usize
         ensures { result ≡ length self.now.questions }
     {
         self.tables.question_count()
     }
 
-    /// Whether the line stands in the section of a later version.
+    /// Whether the section of a later version is open.
     pub fn is_in_section(&self) -> bool
         ensures { result ≡ self.now.in_section }
     {
@@ -134,7 +134,7 @@ impl<'w> SoFar<'w> {
         self.tables.impl_owner()
     }
 
-    /// How many impls the last section of a later version adds so far.
+    /// How many impls the last section has so far.
     pub fn last_later(&self) -> u32
         ensures { result ≡ last_later self.now }
     {

@@ -1,4 +1,4 @@
-//! Whole texts.
+//! Whole texts: the loop over lines.
 ghost use Rattle.std.specs.Prelude.{◌≡◌, ◌≤◌, length, IfOk, IfErr, OnOk, Ok, None};
 ghost use Rattle.text_definitions.specs.Text.{LinesGive, lines_of, TextGives};
 ghost use Rattle.text_reader.specs.Declaring.{IsRead, FindsFault, AddsLine};
@@ -14,10 +14,10 @@ use name_resolution::{FaultKind, JudgedLine};
 use std::alloc::{AllocError, Global};
 use workspace::ENTRY_LIMIT;
 
-/// More than `core` has of anything.
+/// `core` has fewer of anything.
 const CORE_LIMIT: usize = 50;
 
-/// Takes a line that was read. The answer is its fault, or nothing where the line was taken.
+/// Takes a line that was read. Returns its fault, or `None` if the line was declared.
 fn take_read<D: Declares>(
     alloc: Global,
     tables: &mut D,
@@ -40,7 +40,7 @@ fn take_read<D: Declares>(
     }
 }
 
-/// Takes a line. The answer is its fault, or nothing where the line was taken.
+/// Takes a line. Returns its fault, or `None` if the line was declared or says nothing.
 fn take_line<D: Declares>(
     alloc: Global,
     tables: &mut D,
@@ -87,13 +87,14 @@ fn take_lines<D: Declares>(alloc: Global, tables: &mut D, bytes: &[u8]) -> Resul
     }
 }
 
-/// Reads a whole text: each of its lines is declared after the lines before it.
+/// Reads a whole text: each line is declared after the lines before it. A text that is too long is refused before anything else.
+///
+/// Fails with the first faulty line and the smallest number of a fault in it, or with `Memory` if memory is refused.
 pub fn read_text<D: Declares>(alloc: Global, bytes: &[u8]) -> Result<D, TextError>
-    // What is taken is what the text gives.
     ensures taken { IfOk result (λ t. TextGives bytes.now (Ok (D.so_far t))) }
     ensures agrees { IfOk result (λ t. D.agrees t) }
     ensures few { IfOk result (λ t. IsFew (D.so_far t) ENTRY_LIMIT) }
-    // A fault is the first faulty line, with the fault that has the smallest number.
+    // The fault is that of the first faulty line, with the smallest number.
     ensures refused { IfErr result (λ e. IsTextError bytes.now e) }
 {
     if let Some(line) = long_line(bytes) {

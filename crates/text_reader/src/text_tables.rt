@@ -1,4 +1,4 @@
-//! Tables as what a text is read into.
+//! The tables of a workspace, as what the lines of a text are declared in.
 ghost use Rattle.workspace.specs.Tables.{declared, IsConsistent};
 
 use crate::declares::Declares;
