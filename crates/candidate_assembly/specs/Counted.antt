@@ -1,4 +1,4 @@
--- What is read off the candidates that were considered, the oldest first.
+-- What the candidates that were considered determine, the oldest first.
 use Rattle.std.specs.Prelude.{ℕ, Bool, List, [], ◌∷◌, map, length, filter, Option}
 use Rattle.type_terms.specs.Terms.{Entry}
 use Rattle.type_terms.specs.declared.ImplId.{ImplId}
@@ -10,18 +10,18 @@ use Rattle.candidate_assembly.specs.declared.assembly.Section.{Section}
 use Rattle.candidate_assembly.specs.declared.assembly.Section.TheVariants.{WhereClauses, BuiltInRules, Impls, ObjectBounds}
 use Rattle.candidate_assembly.specs.Sections.{is_built_in, is_bound, impl_or}
 
--- A source of the section, for a goal for which a source that is no more than a built-in rule is a bound, or is not.
+-- Whether the source is of the section, for a goal for which a source that says no more than 'built-in' is a bound, or is not.
 abbrev pub is_of : Bool → Section → CandidateSource → Bool
 is_of b WhereClauses s = is_clause s
 is_of b BuiltInRules s = is_built_in b s
 is_of b Impls s = is_impl s
 is_of b ObjectBounds s = is_bound b s
 
--- So many are from there.
+-- How many of the candidates have such a source.
 abbrev pub count_from : (CandidateSource → Bool) → List Considered → ℕ
 count_from p done = length (filter (λ (d : Considered). p d.source) done)
 
--- The impl that was considered last; if none was, the one given.
+-- The impl that was considered last, or the given one if there is none.
 abbrev pub last_from : Option ImplId → List Considered → Option ImplId
 last_from last [] = last
 last_from last (d ∷ done) = last_from (impl_or d.source last) done
@@ -31,6 +31,6 @@ abbrev pub ends_by : (CandidateSource → Bool) → Bool → List Considered →
 ends_by p b [] = b
 ends_by p b (d ∷ done) = ends_by p (p d.source) done
 
--- What holds of each past that shows these candidates.
+-- P holds for each past that shows these candidates.
 abbrev pub ForEachPast : List Entry → List Considered → (SolverPast → Type 0) → Type 0
 ForEachPast es done P = (seen : SolverPast) → Shows (map (shown_by es) done) seen → P seen

@@ -1,4 +1,4 @@
--- Visitors that look for names that are not declared, and for what is open and no variable of a goal.
+-- Visitors that look for names that are not declared, and for parameters and variables that are no variables of a goal.
 use Rattle.std.specs.Prelude.{Bool, true, false, ◌||◌, not, List}
 use Rattle.type_terms.specs.Label.{Label, adt, dynamic, principal, auto_trait}
 use Rattle.type_terms.specs.Trees.{Trees, none, tree}
@@ -10,23 +10,23 @@ use Rattle.type_terms.specs.declared.visit.Seen.TheVariants.{Break, Enter}
 use Rattle.infer_table.specs.declared.canonical.CanonicalVarKind.{CanonicalVarKind}
 use Rattle.evaluation.specs.Variables.{is_variable_over}
 
--- A visitor breaks where this is so, and enters every other node.
+-- A visitor breaks if this is true, and enters every other node.
 abbrev pub BreaksAt : {B : Type 0} → Bool → Seen B → Type 0
 BreaksAt true (Break b) = Unit {0}
 BreaksAt false Enter = Unit {0}
 BreaksAt _ _ = ⊥
 
--- The label of the first tree passes the test.
+-- The label of the first term passes the test.
 abbrev pub at_root : (Label → Bool) → Trees → Bool
 at_root p none = false
 at_root p (tree l c o) = p l
 
--- The label of one of the trees does, what is below them left aside.
+-- The label of one of the terms passes the test. What is below them is not looked at.
 abbrev pub some_root : (Label → Bool) → Trees → Bool
 some_root p none = false
 some_root p (tree l c o) = p l || some_root p o
 
--- Open, and no variable of these kinds.
+-- A parameter, placeholder or variable that is no variable of these kinds.
 abbrev pub is_foreign : List CanonicalVarKind → Trees → Bool
 is_foreign kinds t = at_root (λ l. not (is_variable_over kinds l)) t
 
@@ -43,7 +43,7 @@ bounds-are-own B kinds (tree (auto_trait i) c o) h = tt
 bounds-are-own B kinds none h = tt
 bounds-are-own B kinds (tree l c o) h = absurd h
 
--- The bounds of a `dyn` are looked at where it stands.
+-- The bounds of a `dyn` are looked at together with it.
 pub bounds-are-seen : (B : Type 0) (V : World) (t : Trees) → IsBound t → BreaksAt {B = B} (names_undeclared V t) Enter
 bounds-are-seen B V (tree (principal m i) c o) h = tt
 bounds-are-seen B V (tree (auto_trait i) c o) h = tt

@@ -1,5 +1,5 @@
--- Which goals fit declarations: the arguments of the goal's trait, and of the structs and `dyn` types that it asks of, are as many, and of
--- the sorts, that are declared.
+-- Which goals fit declarations. The arguments of the goal's trait, and of the outermost structs and `dyn` types, are as many as declared,
+-- and of the declared kinds.
 use Rattle.std.specs.Prelude.{◌≡◌, ℕ, Bool, true, false, ◌&&◌, ◌||◌, ◌==◌, not, List, [], ◌∷◌, map}
 use Rattle.std.specs.Option.{option_map_or}
 use Rattle.std.specs.List.{list_any}
@@ -22,21 +22,21 @@ use Rattle.built_in_candidates.specs.Unsizing.{CanUnsize}
 use Rattle.candidate_assembly.specs.Sections.{sources_tell}
 use Rattle.candidate_assembly.specs.Solving.{Solving, DeclaredSorts}
 
--- Two lists of sorts are one.
+-- Two lists of kinds are equal.
 abbrev pub same_sorts : List Sort → List Sort → Bool
 same_sorts [] [] = true
 same_sorts (s ∷ ss) (t ∷ ts) = is_sort s t && same_sorts ss ts
 same_sorts _ _ = false
 
--- The sorts are those of the trait's parameters, Self first, if it is declared.
+-- The kinds are those of the trait's parameters, Self first, if it is declared.
 abbrev pub are_of_trait : Items → ℕ → List Sort → Bool
 are_of_trait d t sorts = option_map_or (λ def. same_sorts sorts (sorts_of_params def)) (trait_at t d.traits) true
 
--- The sorts are those of the struct's parameters, if it is declared.
+-- The kinds are those of the struct's parameters, if it is declared.
 abbrev pub are_of_struct : Items → ℕ → List Sort → Bool
 are_of_struct d s sorts = option_map_or (λ def. same_sorts sorts (map sort_of_param def.params.items)) (struct_at s d.structs) true
 
--- No binder number leads out of the trees.
+-- No binder number leads out of the term.
 abbrev pub is_shut : Trees → Bool
 is_shut t = outer_binder t == 0
 
@@ -44,21 +44,21 @@ is_shut t = outer_binder t == 0
 abbrev pub names_unsize : Trees → Bool
 names_unsize bounds = list_any (λ (r : Reference). r.trait == unsize) (autos_with none bounds)
 
--- The principal among the bounds of a `dyn`, if there is one, has an argument for each parameter of its trait but Self, and does not use
--- the lifetimes that it binds. `dyn for<'a> Conv<&'a u8>` does.
+-- The principal trait among the bounds of a `dyn`, if there is one, has an argument for each parameter but Self, and does not use the
+-- lifetimes that it binds, as that of `dyn for<'a> Conv<&'a u8>` does.
 abbrev pub principal_fits : Items → Trees → Bool
 principal_fits d (tree (principal n t) args others) = are_of_trait d t (of_type ∷ sorts_of args) && is_shut args
 principal_fits d bounds = true
 
--- If the first type is a struct, it has an argument for each parameter; if it is a `dyn`, its principal fits, and its auto traits are
--- others than `Unsize`.
+-- If the first type is a struct, it has an argument for each parameter. If it is a `dyn`, its principal trait fits, and `Unsize` is none of
+-- its auto traits.
 abbrev pub type_fits : Items → Trees → Bool
 type_fits d (tree (adt s) args others) = are_of_struct d s (sorts_of args)
 type_fits d (tree dynamic bounds others) = principal_fits d bounds && not (names_unsize bounds)
 type_fits d t = true
 
--- The reference has an argument for each parameter of its trait, no binder number leads out of it, and its self type fits; of `Unsize` the
--- target fits too.
+-- The trait reference has an argument for each parameter of its trait, no binder number leads out of it, and its self type fits. For
+-- `Unsize` the target fits too.
 abbrev pub reference_fits : Items → Reference → Bool
 reference_fits d r = are_of_trait d r.trait (sorts_of r.args) && (is_shut r.args && (type_fits d r.args && (not (r.trait == unsize) || type_fits d (next_of r.args))))
 
@@ -70,7 +70,7 @@ predicate_fits d t = false
 abbrev pub fits_declared : Items → CanonicalForm → Bool
 fits_declared d f = predicate_fits d f.goal.predicate
 
--- The sorts of the parameters of what is declared.
+-- The kinds of the parameters of each declared item.
 abbrev pub sorts_declared : Items → DeclaredSorts
 sorts_declared d = record {
   structs = map (λ x. map sort_of_param x.1.params.items) d.structs;
@@ -83,8 +83,8 @@ abbrev pub solving_of : List Entry → Items → Solving
 solving_of es d = record { view = written es d; crate = d.local; fits = fits_declared d; sorts = sorts_declared d }
 
 -- ---- what is known of a goal that fits
--- All that the candidates ask of a goal: its names are declared, it has its trait's arguments, its first argument is a type, and what
--- stands outermost there has its arguments; of `Unsize` so has the target. Sources tell the sections of its candidates apart.
+-- All that the candidates require of a goal. Its names are declared, it has its trait's arguments, its first argument is a type, and the
+-- outermost type there has its arguments. For `Unsize` the target has them too. Sources tell the sections of its candidates apart.
 pub record GoalFits (es : List Entry) (d : Items) (g : CanonicalInput) : Type 0 where
   pub written : written_in (written es d) (reference_in es g.goal.predicate.trait_ref) ≡ true
   pub applied : IsApplied es d g.goal.predicate.trait_ref

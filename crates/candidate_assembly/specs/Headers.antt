@@ -1,4 +1,4 @@
--- Impls whose parameters can be made unknowns of a candidate.
+-- Impls whose parameters can become variables of a candidate.
 use Rattle.std.specs.Prelude.{◌≡◌, ◌==◌, ◌&&◌, ℕ, List, length, map, filter, Option}
 use Rattle.type_terms.specs.Worlds.{ImplDecl}
 use Rattle.type_terms.specs.Terms.{Entry, trees_at}
@@ -18,32 +18,32 @@ use Rattle.assembly_laws.specs.Asking.{GoalOverKinds, with_plain_head}
 use Rattle.assembly_laws.specs.Candidates.{can_match, kinds_of_params}
 use Rattle.assembly_laws.specs.DeclaredWell.{IsDeclaredWell}
 
--- The kind of the unknown that stands for a parameter.
+-- The kind of the variable for a parameter.
 abbrev pub var_kind : GenericParamKind → CanonicalVarKind
 var_kind Lifetime = Region
 var_kind TypeParam = Ty
 var_kind Const = ConstVar
 
--- Each parameter that is a type or a constant stands in the header, so that the header tells its kind: `impl<T> Show for u8` is refused.
+-- Each parameter that is a type or a constant occurs in the header, so the header determines its kind. `impl<T> Show for u8` is refused.
 abbrev pub StandInHeader : List Entry → ImplDef → Type 0
 StandInHeader es def = map var_kind def.params.items ≡ kinds_of_params (trees_at es def.header.args.0) 0 (length def.params.items)
 
--- The header and the where-clauses speak of the impl's parameters.
+-- The header and the where-clauses hold the impl's own parameters alone.
 pub record SpeaksOfParameters (es : List Entry) (def : ImplDef) : Type 0 where
   pub header : SpeaksOf (map sort_of_param def.params.items) (trees_at es def.header.args.0)
   pub clauses : Each (λ (r : TraitRef). SpeaksOf (map sort_of_param def.params.items) (trees_at es r.args.0)) def.clauses.items
 
--- An impl that can be a candidate: its parameters can be made unknowns, and its self type binds no lifetimes outermost.
+-- An impl that can be a candidate: its parameters can become variables, and its self type binds no lifetimes outermost.
 pub record CanBeCandidate (es : List Entry) (def : ImplDef) : Type 0 where
   pub params : StandInHeader es def
   pub speaks : SpeaksOfParameters es def
   pub plain : with_plain_head (trees_at es def.header.args.0) ≡ trees_at es def.header.args.0
 
--- Each impl can be one.
+-- Each impl can be a candidate.
 abbrev pub HaveCandidates : List Entry → Items → Type 0
 HaveCandidates es d = Each (λ i. CanBeCandidate es i.def) d.impls
 
--- Declarations that are declared well have them, where each type and constant parameter of an impl stands in its header.
+-- Each impl of declarations that are declared well can be a candidate, if each of its type and constant parameters occurs in its header.
 abbrev pub WellDeclaredHaveCandidates : Type 0
 WellDeclaredHaveCandidates =
     (es : List Entry) (d : Items) → AreHeld es d → IsDeclaredWell (written es d) → Each (λ i. StandInHeader es i.def) d.impls → HaveCandidates es d

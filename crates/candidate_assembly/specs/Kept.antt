@@ -21,7 +21,7 @@ use Rattle.candidate_assembly.specs.Headers.{CanBeCandidate, HaveCandidates}
 use Rattle.candidate_assembly.specs.Ready.{AreReadyDeclarations}
 use Rattle.candidate_assembly.specs.Solving.{Solving}
 
--- what holds of each of two lists of facts
+-- What holds for each of two lists of facts.
 pub each-of-both : {A : Type 0} (P Q R : A → Type 0) → ((x : A) → P x → Q x → R x) → (xs : List A) → Each P xs → Each Q xs → Each R xs
 each-of-both P Q R f [] h g = tt
 each-of-both P Q R f (x ∷ xs) h g = (f x h.0 g.0, each-of-both P Q R f xs h.1 g.1)

@@ -1,4 +1,4 @@
--- What the answer of a trait goal merges of the candidates that were considered.
+-- Which candidates the response of a trait goal merges.
 use Rattle.std.specs.Prelude.{◌≡◌, Bool, true, ◌&&◌, ◌||◌, not, List, [], map, filter}
 use Rattle.type_terms.specs.Terms.{Entry}
 use Rattle.infer_table.specs.declared.canonical.CanonicalVarKind.{CanonicalVarKind}
@@ -28,28 +28,28 @@ is_among Clauses s = is_clause s
 is_among Bounds s = is_object s
 is_among (Remaining impls global_clauses) s = (impls || not (is_impl s)) && (global_clauses || not (is_global s))
 
--- the candidates from there
+-- The candidates with these sources.
 abbrev pub from_sources : Sources → List Considered → List Considered
 from_sources sources done = filter (λ (d : Considered). is_among sources d.source) done
 
 -- ---- the answer
--- how the plan of a goal of this mode, over variables of these kinds, ends once no candidate is left
+-- The end of the plan for a goal of this mode, over variables of these kinds, when no candidate is left.
 abbrev pub end_in : TypingMode → List CanonicalVarKind → SolverPast → Plan frame_tables
 end_in Coherence kinds seen = everything applies_always same_answer (begin kinds) seen
 end_in PostAnalysis kinds seen = preferred applies_always same_answer (begin kinds) seen
 
--- where a where-clause is preferred: the first that is a yes without values and constraints is taken
+-- If a where-clause is preferred, the first that is a yes without values and constraints is taken.
 abbrev pub clause_taken : List CanonicalVarKind → SolverPast → Plan frame_tables
 clause_taken kinds seen = first_taken frame_tables applies_always same_answer (begin kinds) (from is_clause) seen
 
--- the step is that end, for each past that shows these candidates
+-- The step is that end, for each past that shows these candidates.
 abbrev pub IsEnd : (SolverPast → Plan frame_tables) → List Entry → List Considered → List Entry → HandlerStep → Type 0
 IsEnd end old done new step = (seen : SolverPast) → Shows (map (shown_by old) done) seen → (coinductive : Bool) → next_read new coinductive step ≡ wanted frame_tables (end seen)
 
--- the merge of the responses from there, with no candidate ignored
+-- The merge of the responses with these sources, with no candidate ignored.
 abbrev pub MergesFrom : Sources → List CanonicalVarKind → List Entry → List Considered → List Entry → HandlerStep → Type 0
 MergesFrom sources kinds old done new step = (coinductive : Bool) → next_read new coinductive step ≡ answer (merge_of old kinds (responses_of (from_sources sources done))) []
 
--- the sources that remain, for each past that shows these candidates
+-- The sources that remain, for each past that shows these candidates.
 abbrev pub AreRemaining : Sources → List Entry → List Considered → Type 0
 AreRemaining sources es done = (seen : SolverPast) → Shows (map (shown_by es) done) seen → (s : CandidateSource) → is_among sources s ≡ remains seen s

@@ -1,4 +1,4 @@
--- What comes next for a goal in code, after each history that the candidates that were considered show.
+-- What comes next for a goal in code, after each history that the considered candidates show.
 use Rattle.std.specs.Prelude.{◌≡◌, Bool, if◌then◌else◌, List, map, Option, Some, None, option_map}
 use Rattle.type_terms.specs.Terms.{Entry}
 use Rattle.infer_table.specs.Inputs.{form_of}
@@ -26,11 +26,11 @@ use Rattle.candidate_assembly.specs.Solving.{meaning_for, solver_for}
 abbrev pub handled_in : List Entry → Items → CanonicalInput → Handled frame_tables
 handled_in es d g = handled_for solver_for (λ (items : Items) (entries : List Entry). solving_of entries items) d es g
 
--- What holds of each history of the goal that shows these candidates.
+-- P holds for each history of the goal that shows these candidates.
 abbrev pub ForEachHistory : List Entry → Items → CanonicalInput → List Considered → (SolverPast → Type 0) → Type 0
 ForEachHistory es d g done P = (seen : SolverPast) → Shows (map (shown_by es) done) seen → IsHistory (workings frame_tables) (handled_in es d g).next seen → P seen
 
--- The candidate is the one that is next in each of them; if there is none, none is.
+-- The candidate is the next one in each of them. If there is none, none is next.
 abbrev pub IsNextBy : (SolverPast → Option Candidate) → List Entry → Items → CanonicalInput → List Considered → List Entry → Option CandidateSpec → Type 0
 IsNextBy next old d g done new o = ForEachHistory old d g done (λ seen. option_map (candidate_of (written old d) g.goal.predicate.trait_ref.def_id.index new) o ≡ next seen)
 
@@ -41,7 +41,7 @@ early_in es d g seen = early (written es d) (asked_of es g) seen
 abbrev pub late_in : List Entry → Items → CanonicalInput → SolverPast → Option Candidate
 late_in es d g seen = late (written es d) (asked_of es g) seen
 
--- Where it stops none of these comes.
+-- If the assembly stops there, none of these comes.
 abbrev pub late_unless : Bool → List Entry → Items → CanonicalInput → SolverPast → Option Candidate
 late_unless stops es d g seen = if stops then None else late_in es d g seen
 
@@ -65,6 +65,6 @@ next_for es d g seen =
     let m = meaning_for (solving_of es d) (form_of es g) in
     next_candidate m g.mode (decided m (goal_over_kinds m.view (form_of es g))) seen
 
--- What is not decided is merged as in coherence.
+-- A goal that is not decided is merged as in coherence.
 abbrev pub mode_at_end : TypingMode → Bool → TypingMode
 mode_at_end mode b = if b then mode else Coherence

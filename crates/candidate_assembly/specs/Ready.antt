@@ -1,4 +1,4 @@
--- Declarations by which goals are decided, and goals of which it is known whether they are.
+-- Declarations by which goals are decided, and goals for which it is known whether they are.
 use Rattle.std.specs.Prelude.{◌≡◌, Bool, true, IsTrue, if◌then◌else◌, List, Some, None}
 use Rattle.type_terms.specs.Terms.{Entry}
 use Rattle.infer_table.specs.Inputs.{form_of}
@@ -16,8 +16,8 @@ use Rattle.candidate_assembly.specs.Headers.{HaveCandidates}
 use Rattle.candidate_assembly.specs.Sections.{decided}
 use Rattle.candidate_assembly.specs.Solving.{meaning_for}
 
--- The declarations' terms are the interner's, they are declared well, and all of them can be candidates: so it stays while the interner
--- grows.
+-- The declarations' terms are the interner's, they are declared well, and all of their impls can be candidates. They stay ready while the
+-- interner grows.
 pub record AreReadyDeclarations (es : List Entry) (d : Items) : Type 0 where
   pub held : AreHeld es d
   pub well : is_declared_well (written es d) ≡ true
@@ -25,12 +25,12 @@ pub record AreReadyDeclarations (es : List Entry) (d : Items) : Type 0 where
   pub fields : HaveFields es d
   pub bounds : HaveBounds es d
 
--- A goal that is decided if this is true, and then fits the declarations.
+-- The goal is decided if this is true, and then fits the declarations.
 pub record Decides (es : List Entry) (d : Items) (g : CanonicalInput) (b : Bool) : Type 0 where
   pub is : decided (meaning_for (solving_of es d) (form_of es g)) (goal_over_kinds (written es d) (form_of es g)) ≡ (if b then Some (asked_of es g) else None)
   pub fits : IsTrue b → GoalFits es d g
 
--- A goal that is decided by declarations that are ready.
+-- A goal that is decided by ready declarations.
 pub record IsWellPosedGoal (es : List Entry) (d : Items) (g : CanonicalInput) : Type 0 where
   pub ready : AreReadyDeclarations es d
   pub goal : GoalHeld es g.goal

@@ -1,5 +1,5 @@
--- Where the assembly of a goal stands. The candidates of a goal come in sections, one after the other, and what was considered tells
--- how many of each there were: so what is next is a function of the goal and of that.
+-- How far the assembly of a goal has come. The candidates of a goal come in sections, one after the other. What was considered determines
+-- how many of each there were, so what is next is a function of the goal and of that.
 use Rattle.std.specs.Prelude.{◌≡◌, ℕ, Bool, true, false, ◌&&◌, ◌||◌, ◌==◌, not, if◌then◌else◌, List, [], ◌∷◌, map, length, filter, Option, Some, None, IfSome}
 use Rattle.std.specs.List.{slice_get, list_any}
 use Rattle.type_terms.specs.Label.{dynamic}
@@ -33,13 +33,13 @@ use Rattle.candidate_assembly.specs.Headers.{impls_above}
 use Rattle.candidate_assembly.specs.Merging.{end_in}
 
 -- ---- sections
--- the self type is a `dyn`
+-- The self type is a `dyn`.
 abbrev pub begins_dyn : Trees → Bool
 begins_dyn (tree dynamic c o) = true
 begins_dyn t = false
 
--- A source that is no more than a built-in rule, for this goal, is a bound: of a `dyn` only `Unsize` has such rules, and the auto
--- traits that it is written with are such bounds.
+-- Whether, for this goal, a source that says no more than 'built-in' is a bound. For a `dyn` only `Unsize` has such built-in rules. The
+-- auto traits that it is written with are such bounds.
 abbrev pub misc_is_bound : GoalOverKinds → Bool
 misc_is_bound a = begins_dyn (self_of a) && not (a.reference.trait == unsize)
 
@@ -58,7 +58,7 @@ is_bound b (BuiltinImpl (Object i)) = true
 is_bound b (BuiltinImpl Misc) = b
 is_bound b s = false
 
--- the auto traits that a `dyn` is written with
+-- The auto traits that a `dyn` is written with.
 abbrev pub autos_of : Trees → List Reference
 autos_of (tree dynamic bounds o) = autos_with (tree dynamic bounds none) bounds
 autos_of t = []
@@ -67,16 +67,16 @@ autos_of t = []
 abbrev pub sources_tell : GoalOverKinds → Bool
 sources_tell a = not (a.reference.trait == unsize) || not (list_any (λ (r : Reference). r.trait == unsize) (autos_of (self_of a)))
 
--- so many of those from there were considered
+-- How many candidates with such a source were considered.
 abbrev pub considered_from : (CandidateSource → Bool) → SolverPast → ℕ
 considered_from p seen = length (filter (from p) seen)
 
 -- ---- what is next
--- of where-clauses and built-in rules
+-- Among where-clauses and built-in rules.
 abbrev pub early : World → GoalOverKinds → SolverPast → Option Candidate
 early V a seen = or_else (slice_get (by_clauses V a (clauses a)) (considered_from is_clause seen)) (slice_get (built_in V a) (considered_from (is_built_in (misc_is_bound a)) seen))
 
--- of impls and object bounds
+-- Among impls and object bounds.
 abbrev pub late : World → GoalOverKinds → SolverPast → Option Candidate
 late V a seen = or_else (slice_get (by_impls V a V.impls) (considered_from is_impl seen)) (slice_get (by_objects V a) (considered_from (is_bound (misc_is_bound a)) seen))
 
@@ -84,13 +84,13 @@ abbrev pub is_first : SolverPast → Bool
 is_first [] = true
 is_first (c ∷ seen) = false
 
--- in coherence first that other crates may have an impl, where the goal isn't knowable, and nothing else if that holds
+-- In coherence it is first that other crates may have an impl, if the goal is not knowable. If that holds, nothing else comes.
 abbrev pub next_inside : World → ℕ → GoalOverKinds → SolverPast → Option Candidate
 next_inside V crate a seen =
     if is_first seen && not (is_knowable V crate a.reference) then Some (unknowable V a)
     else if holds_from is_unknowable seen then None else or_else (early V a seen) (late V a seen)
 
--- outside it impls and object bounds only where no where-clause has settled the goal
+-- Outside coherence no impls and object bounds come if a where-clause has settled the goal.
 abbrev pub next_outside : World → GoalOverKinds → SolverPast → Option Candidate
 next_outside V a seen = or_else (early V a seen) (if is_settled seen then None else late V a seen)
 
@@ -98,27 +98,27 @@ abbrev pub next_in : ViewMeaning → TypingMode → GoalOverKinds → SolverPast
 next_in m Coherence a seen = next_inside m.view m.crate a seen
 next_in m PostAnalysis a seen = next_outside m.view a seen
 
--- the goal, if it is decided
+-- The goal, if it is decided.
 abbrev pub decided : ViewMeaning → Option GoalOverKinds → Option GoalOverKinds
 decided m None = None
 decided m (Some a) = if not m.is_sound || begins_unknown a.kinds (self_of a) then None else Some a
 
--- for a goal that is not decided there is one candidate, which is not sure
+-- A goal that is not decided has one candidate, which is ambiguous.
 abbrev pub next_candidate : ViewMeaning → TypingMode → Option GoalOverKinds → SolverPast → Option Candidate
 next_candidate m mode None seen = if is_first seen then Some unsure else None
 next_candidate m mode (Some a) seen = next_in m mode a seen
 
--- the answer once none is left: what is not decided is merged as in coherence
+-- The answer when no candidate is left. A goal that is not decided is merged as in coherence.
 abbrev pub end_of : TypingMode → Option GoalOverKinds → List CanonicalVarKind → SolverPast → Plan frame_tables
 end_of mode None kinds seen = end_in Coherence kinds seen
 end_of mode (Some a) kinds seen = end_in mode kinds seen
 
--- the candidate, or else the end
+-- The candidate, or the end if there is none.
 abbrev pub or_end : Option Candidate → Plan frame_tables → Next (workings frame_tables)
 or_end (Some s) end = consider s
 or_end None end = wanted frame_tables end
 
--- After each history of a goal the plan wants the candidate that is next there, or, where there is none, its end.
+-- After each history of a goal, the plan takes the candidate that is next there, or its end if there is none.
 abbrev pub HistoriesTell : Type 0
 HistoriesTell =
     (m : ViewMeaning) (mode : TypingMode) (f : CanonicalForm) → let o = decided m (goal_over_kinds m.view f) in IfSome o (λ a. sources_tell a ≡ true)
@@ -130,12 +130,12 @@ abbrev pub impl_or : CandidateSource → Option ImplId → Option ImplId
 impl_or (Impl i) other = Some i
 impl_or s other = other
 
--- the impl that was considered last
+-- The impl that was considered last.
 abbrev pub last_impl : SolverPast → Option ImplId
 last_impl [] = None
 last_impl (c ∷ seen) = impl_or c.spec.source (last_impl seen)
 
--- After each history of a goal that is decided the next candidate by an impl is the first by impls above the one considered last, where
+-- After each history of a goal that is decided, the next candidate by an impl is the first one after the impl considered last, if the
 -- numbers of impls rise.
 abbrev pub WalksGoOn : Type 0
 WalksGoOn =

@@ -1,4 +1,4 @@
--- The same of what is shown of candidates, the oldest first.
+-- The same for the shown candidates, the oldest first.
 use Rattle.std.specs.Prelude.{ℕ, ◌==◌, Bool, ◌&&◌, not, if◌then◌else◌, List, [], ◌∷◌, Option, Some, None}
 use Rattle.infer_table.specs.Responses.{AnswerTrees}
 use Rattle.evaluation.specs.Merge.{or_else}
@@ -6,7 +6,7 @@ use Rattle.goal_frames.specs.Handlers.{applies_always}
 use Rattle.evaluation.specs.StepReadings.{ShownCandidate}
 use Rattle.assembly_laws.specs.Solver.{is_clause, is_object, gives_none}
 
--- a yes without values and constraints, and the candidate's number
+-- A yes without values and constraints, and the candidate's number.
 abbrev pub yes_of : Option AnswerTrees → ℕ → Option (AnswerTrees × ℕ)
 yes_of None n = None
 yes_of (Some r) n = if applies_always r then Some (r, n) else None
@@ -14,17 +14,17 @@ yes_of (Some r) n = if applies_always r then Some (r, n) else None
 abbrev pub clause_yes : ShownCandidate → Option (AnswerTrees × ℕ)
 clause_yes x = if is_clause x.source then yes_of x.result x.number else None
 
--- the first of where-clauses
+-- The first such where-clause.
 abbrev pub first_yes : List ShownCandidate → Option (AnswerTrees × ℕ)
 first_yes [] = None
 first_yes (x ∷ xs) = or_else (clause_yes x) (first_yes xs)
 
--- the numbers of the where-clauses but this one
+-- The numbers of the where-clauses but this one.
 abbrev pub other_clauses : ℕ → List ShownCandidate → List ℕ
 other_clauses n [] = []
 other_clauses n (x ∷ xs) = if is_clause x.source && not (x.number == n) then x.number ∷ other_clauses n xs else other_clauses n xs
 
--- the first bound of a `dyn` that was not refused gives no types and consts
+-- The first bound of a `dyn` that was not refused gives no types and constants.
 abbrev pub first_bound_gives_none : Bool → List ShownCandidate → Bool
 first_bound_gives_none otherwise [] = otherwise
 first_bound_gives_none otherwise (x ∷ xs) = gives_none x.result (is_object x.source) (first_bound_gives_none otherwise xs)

@@ -1,4 +1,4 @@
--- What the solver means for goals keeps the laws of handlers: it is lawful for each goal, terms get no wider and questions no more from
+-- What the solver means for goals keeps the laws of handlers: it is lawful for each goal, terms get no wider and nested goals no more from
 -- goal to goal, and the solutions of nested goals are looked for where those of the goal are.
 use Rattle.std.proofs.Common.{◌≡◌, ◌≤◌, ℕ, ◌+◌, ◌*◌, max, arith, false, ◌&&◌, refl, sym, ◌∙◌, ap}
 use Rattle.std.proofs.lemmas.Nat.{mul-le}

@@ -1,4 +1,4 @@
--- What the solver means as a handler of goals: the goals of a view, and what it declares over an interner.
+-- What the solver means as a handler of goals: the goals of a view, and what its declarations are over an interner.
 use Rattle.goal_frames.specs.Meanings.{Goals, HandlerMeaning}
 use Rattle.assembly_laws.specs.Facts.{FollowsByView}
 use Rattle.candidate_assembly.specs.Fitting.{solving_of}

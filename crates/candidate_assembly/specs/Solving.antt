@@ -14,22 +14,22 @@ use Rattle.assembly_laws.specs.DeclaredWell.{is_declared_well}
 use Rattle.assembly_laws.specs.Lifetimes.{form_gives_lifetimes}
 use Rattle.assembly_laws.specs.Solver.{solver_handled}
 
--- The sorts of the parameters of each struct, trait and impl, in their order; of a trait Self first.
+-- The kinds of the parameters of each struct, trait and impl, in their order. For a trait Self is the first.
 pub record DeclaredSorts : Type 0 where
   pub structs : List (List Sort)
   pub traits : List (List Sort)
   pub impls : List (List Sort)
 
--- The declarations that a crate sees, the crate, and which goals fit them: the arguments of their traits and structs are as many, and of
--- the sorts, that are declared; and the sorts of all parameters. A view tells none of these.
+-- The declarations that a crate sees, the crate, which goals fit them, and the kinds of all parameters. A view determines neither of the
+-- last two.
 pub record Solving : Type 0 where
   pub view : World
   pub crate : ℕ
   pub fits : CanonicalForm → Bool
   pub sorts : DeclaredSorts
 
--- What is meant for a goal: of a view that is not declared well, or a goal that does not fit it, nothing is decided. A goal that fits gives
--- its structs lifetimes where their fields name them.
+-- The meaning of a goal. If the view is not declared well, or the goal does not fit it, nothing is decided. A goal that fits gives its
+-- structs lifetimes where their fields name them.
 abbrev pub meaning_for : Solving → CanonicalForm → ViewMeaning
 meaning_for s f = record { view = s.view; crate = s.crate; is_sound = is_declared_well s.view && (s.fits f && form_gives_lifetimes s.view f) }
 

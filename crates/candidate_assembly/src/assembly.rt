@@ -1,4 +1,5 @@
-//! How the candidates of a goal are assembled: one after the other, each told by those that were considered.
+//! How the candidates of a goal are assembled: one after the other, each found from those that were considered. rustc makes all candidates
+//! of a goal at once. Here each is made when it is wanted, so a handler needs no state of its own.
 
 ghost use Rattle.type_terms.specs.Growth.{GrewOrFull};
 ghost use Rattle.std.specs.Prelude.{◌≡◌, ◌==◌, ℕ, None, true, false, map, IfOk, IfSome, option_map};
@@ -47,7 +48,7 @@ pub(crate) enum Section {
 }
 
 impl Section {
-    /// Whether the source is one of the section. A source that is no more than a built-in rule is a bound for some goals.
+    /// Whether the source is of this section. For some goals a source that says no more than 'built-in' is a bound of a `dyn`.
     fn has(self, source: CandidateSource, misc_is_bound: bool) -> bool
         ensures { result ≡ is_of misc_is_bound self source }
     {
@@ -87,8 +88,7 @@ pub(crate) fn considered_from(done: &[Considered], section: Section, misc_is_bou
     count
 }
 
-/// The impl that was considered last, if one was. It is looked for from the newest candidate on, so it is found at once where it is
-/// the newest.
+/// The impl that was considered last, if there was one. The search begins with the newest candidate.
 fn last_impl(done: &[Considered]) -> Option<ImplId>
     ensures { result ≡ last_from None done.now }
 {
@@ -114,8 +114,9 @@ pub(crate) fn ends_by(done: &[Considered], section: Section) -> bool
     }
 }
 
-/// The candidate by the where-clause of the goal's trait that is next after these candidates were considered, if one is left
-/// (`assemble_param_env_candidates`).
+/// The next candidate by a where-clause of the goal's trait after these candidates were considered, if one is left.
+///
+/// Fails with `Memory`, or with `Full` if a table of the interner is full. rustc: `assemble_param_env_candidates`.
 pub fn assemble_param_env_candidates(
     alloc: Global,
     cx: &mut Interner,
@@ -133,7 +134,8 @@ pub fn assemble_param_env_candidates(
     consider_param_env_candidate(alloc, cx, goal, place)
 }
 
-/// Whether a source that is no more than a built-in rule is a bound for the goal: of a `dyn` only `Unsize` has such rules.
+/// Whether a source that says no more than 'built-in' is a bound of a `dyn` for this goal. The only other such rule for a `dyn` is one of
+/// `Unsize`.
 pub(crate) fn misc_is_bound(cx: &Interner, goal: &CanonicalInput) -> bool
     requires goal { GoalHeld cx.now.entries goal.now.goal }
     requires first { StartsWithType (trees_at cx.now.entries goal.now.goal.predicate.trait_ref.args.0) }
@@ -146,8 +148,9 @@ pub(crate) fn misc_is_bound(cx: &Interner, goal: &CanonicalInput) -> bool
     }
 }
 
-/// The candidate by a built-in rule that is next after these candidates were considered, if one is left
-/// (`assemble_builtin_impl_candidates`).
+/// The next candidate by a built-in rule after these candidates were considered, if one is left.
+///
+/// Fails with `Memory`, or with `Full` if a table of the interner is full. rustc: `assemble_builtin_impl_candidates`.
 pub fn assemble_builtin_impl_candidates(
     alloc: Global,
     cx: &mut Interner,
@@ -171,8 +174,10 @@ pub fn assemble_builtin_impl_candidates(
     consider_builtin_candidate(alloc, cx, declarations, goal, place)
 }
 
-/// The candidate by an impl that is next after these candidates were considered, if one is left: the walk over impls goes on behind
-/// the one that was considered last (`assemble_impl_candidates`).
+/// The next candidate by an impl after these candidates were considered, if one is left: the first one after the impl that was considered
+/// last.
+///
+/// Fails with `Memory`, or with `Full` if a table of the interner is full. rustc: `assemble_impl_candidates`.
 pub fn assemble_impl_candidates(
     alloc: Global,
     cx: &mut Interner,

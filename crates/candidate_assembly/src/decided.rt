@@ -1,4 +1,7 @@
-//! Which goals are decided: those that the declarations' names and parameters fit, and whose self type is known.
+//! Which goals the candidates decide: those that fit the declarations, and whose self type is no variable. Only the outermost types are
+//! looked at. What is inside them comes up in nested goals.
+//!
+//! With `struct V<T>`, a goal `V<u8>: Clone` fits, and `V<u8, u8>: Clone` and `?x: Clone` are not decided.
 ghost use Rattle.std.specs.Prelude.{◌≡◌, ◌&&◌, ◌||◌, ◌==◌, not, ◌∷◌, true, IsTrue, IfSome, map, Some, None, if◌then◌else◌};
 ghost use Rattle.std.specs.List.{list_any};
 ghost use Rattle.type_terms.specs.Label.{of_type};
@@ -55,7 +58,7 @@ fn is_for(arg: GenericArgKind, param: GenericParamKind) -> bool
     }
 }
 
-/// Whether there is an argument of its kind for each parameter, and no other.
+/// Whether there is one argument of its kind for each parameter, and no other.
 fn are_for(args: &[GenericArgKind], params: &[GenericParamKind]) -> bool
     ensures { result ≡ same_sorts (map sort_of_arg args.now) (map sort_of_param params.now) }
 {
@@ -77,7 +80,7 @@ fn are_for(args: &[GenericArgKind], params: &[GenericParamKind]) -> bool
     }
 }
 
-/// Whether the arguments are for the trait's parameters, Self first, if it is declared.
+/// Whether the trait is declared and the arguments are for its parameters, Self first.
 fn args_are_for_trait(
     cx: &Interner,
     declarations: &Declarations,
@@ -94,7 +97,7 @@ fn args_are_for_trait(
     }
 }
 
-/// Whether the arguments are for the struct's parameters, if it is declared.
+/// Whether the struct is declared and the arguments are for its parameters.
 fn args_are_for_struct(
     cx: &Interner,
     declarations: &Declarations,
@@ -111,7 +114,7 @@ fn args_are_for_struct(
     }
 }
 
-/// Whether the arguments, behind one for Self, are for the trait's parameters, if it is declared.
+/// Whether the trait is declared and the arguments, after one for Self, are for its parameters.
 fn args_are_for_principal(
     cx: &Interner,
     declarations: &Declarations,
@@ -140,7 +143,8 @@ fn names_unsize(ids: &[TraitId]) -> bool
     ids.iter().any(|id| id.index == UNSIZE)
 }
 
-/// Whether the principal of a `dyn` has an argument for each parameter of its trait but Self, and does not use the lifetimes that it binds.
+/// Whether the principal trait of a `dyn` has an argument for each parameter but Self, and uses none of the lifetimes that it binds.
+/// `dyn for<'a> Conv<&'a u8>` does not fit.
 fn principal_fits(cx: &Interner, declarations: &Declarations, principal: Principal) -> bool
     requires { Has cx.now.entries args_lists principal.args.0 }
     ensures { let args = trees_at cx.now.entries principal.args.0 in
@@ -150,7 +154,7 @@ fn principal_fits(cx: &Interner, declarations: &Declarations, principal: Princip
         && cx.outer_exclusive_binder(principal.args).index == 0
 }
 
-/// Whether the bounds of a `dyn` fit: its principal has its arguments, and `Unsize` is no auto trait of it.
+/// Whether the bounds of a `dyn` fit: its principal trait has its arguments, and `Unsize` is no auto trait of it.
 fn bounds_fit(cx: &Interner, declarations: &Declarations, bounds: Bounds) -> bool
     requires { Has cx.now.entries bounds_lists bounds.0 }
     ensures { (r : Region) → let bs = trees_at cx.now.entries bounds.0 +++ region_trees r in
@@ -165,7 +169,7 @@ fn bounds_fit(cx: &Interner, declarations: &Declarations, bounds: Bounds) -> boo
     }
 }
 
-/// Whether the type fits: a struct, or the principal of a `dyn`, has its arguments.
+/// Whether the type fits: a struct, or the principal trait of a `dyn`, has its arguments.
 fn type_fits(cx: &Interner, declarations: &Declarations, ty: Ty) -> bool
     requires { Has cx.now.entries types ty.0 }
     ensures { result ≡ type_fits declarations.now (trees_at cx.now.entries ty.0) }
@@ -253,7 +257,7 @@ fn argument_is_type(cx: &Interner, arg: Option<GenericArgKind>) -> bool
     }
 }
 
-/// Whether the argument is an unknown type of these kinds.
+/// Whether the argument is a type variable of these kinds.
 fn argument_is_unknown(
     cx: &Interner,
     kinds: &[CanonicalVarKind],
@@ -281,8 +285,7 @@ fn first_argument(cx: &Interner, args: GenericArgs) -> Option<GenericArgKind>
     cx.args(args).first().copied()
 }
 
-/// Whether the reference fits the declarations: its arguments are for its trait's parameters, and its self type, and of `Unsize` the
-/// target, have theirs.
+/// Whether the trait reference fits the declarations: its trait, its self type and, for `Unsize`, the target have their arguments.
 fn reference_fits(cx: &Interner, declarations: &Declarations, trait_ref: TraitRef) -> bool
     requires { ReferenceHeld cx.now.entries trait_ref }
     ensures { result ≡ reference_fits declarations.now (reference_in cx.now.entries trait_ref) }
@@ -295,7 +298,7 @@ fn reference_fits(cx: &Interner, declarations: &Declarations, trait_ref: TraitRe
             || argument_fits(cx, declarations, second_argument(cx, args)))
 }
 
-/// Whether the first argument, and of `Unsize` the second, is a type that is a variable or whose outermost constructor is known.
+/// Whether the first argument and, for `Unsize`, the second are types that are variables or have a known outermost constructor.
 fn begins_with_types(cx: &Interner, trait_ref: TraitRef) -> bool
     requires { ReferenceHeld cx.now.entries trait_ref }
     ensures { let args = trees_at cx.now.entries trait_ref.args.0 in
@@ -306,7 +309,7 @@ fn begins_with_types(cx: &Interner, trait_ref: TraitRef) -> bool
         && (trait_ref.def_id.index != UNSIZE || argument_is_type(cx, second_argument(cx, args)))
 }
 
-/// Whether all names in the reference are declared.
+/// Whether all names in the trait reference are declared.
 fn reference_is_declared(cx: &Interner, declarations: &Declarations, trait_ref: TraitRef) -> bool
     requires { ReferenceHeld cx.now.entries trait_ref }
     ensures { result ≡ written_in (written cx.now.entries declarations.now) (reference_in cx.now.entries trait_ref) }
@@ -315,7 +318,7 @@ fn reference_is_declared(cx: &Interner, declarations: &Declarations, trait_ref: 
         && args_are_declared(cx, declarations, trait_ref.args)
 }
 
-/// Whether the where-clause speaks of variables of these kinds alone.
+/// Whether the where-clause holds variables of these kinds alone.
 fn clause_is_over(cx: &Interner, kinds: &[CanonicalVarKind], clause: Clause) -> bool
     requires { ClauseHeld cx.now.entries clause }
     ensures { result ≡ is_made (is_variable_over kinds.now) terms (clause_terms cx.now.entries clause) }
@@ -347,8 +350,7 @@ fn clauses_are_over(cx: &Interner, kinds: &[CanonicalVarKind], clauses: &[Clause
     true
 }
 
-/// Whether the goal is one that the solver asks: its names are declared, its terms speak of its variables alone, and it begins with
-/// types.
+/// Whether the solver may evaluate the goal: its names are declared, its terms hold its own variables alone, and it begins with types.
 fn is_asked(cx: &Interner, declarations: &Declarations, goal: &CanonicalInput) -> bool
     requires { GoalHeld cx.now.entries goal.now.goal }
     ensures { let es = cx.now.entries in
@@ -367,11 +369,11 @@ fn is_asked(cx: &Interner, declarations: &Declarations, goal: &CanonicalInput) -
     clauses_are_over(cx, &goal.variables, &goal.goal.param_env)
 }
 
-/// Whether the goal is decided by its candidates: the declarations have its names, its terms speak of its own variables, its trait, its
-/// self type and the target of `Unsize` have their arguments, and its self type is no unknown. Of any other goal nothing is known.
+/// Whether the goal is decided by its candidates: its names are declared, its terms hold its own variables alone, it fits the declarations,
+/// and its self type is no variable. Nothing is known about any other goal.
 ///
-/// The declarations are declared well, and the fields of structs speak of their parameters: so structs that have their arguments are given
-/// the lifetimes that their fields name. What the candidates ask of a goal then holds.
+/// The declarations are declared well, and the fields of structs have the structs' own parameters alone. So structs with their arguments
+/// have the lifetimes that their fields name. The test takes no memory and cannot fail.
 pub fn is_decided(cx: &Interner, declarations: &Declarations, goal: &CanonicalInput) -> bool
     requires goal { GoalHeld cx.now.entries goal.now.goal }
     requires well { is_declared_well (written cx.now.entries declarations.now) ≡ true }

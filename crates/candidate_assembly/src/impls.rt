@@ -1,4 +1,5 @@
-//! Candidates by impls.
+//! Candidates by impls. For the goal `V<u8>: Show`, the candidate by `impl<T> Show for V<T> where T: Show` equates `V<?0>` with `V<u8>`,
+//! and `?0: Show` is its nested goal.
 ghost use Rattle.type_terms.specs.Growth.{GrewOrFull};
 ghost use Rattle.std.specs.Prelude.{◌≡◌, map, IfOk, IfSome, option_map};
 ghost use Rattle.std.specs.List.{slice_get};
@@ -29,7 +30,7 @@ use term_folds::predicate::TraitRef;
 use type_terms::interner::Interner;
 use type_terms::{Fault, ImplId};
 
-/// An impl with unknowns in the place of its parameters: their kinds, its header and its where-clauses.
+/// An impl with variables for its parameters: their kinds, its header and its where-clauses.
 #[derive(Drop)]
 struct Instance {
     variables: Vec<CanonicalVarKind>,
@@ -37,7 +38,7 @@ struct Instance {
     clauses: Vec<TraitRef>,
 }
 
-/// The impl with unknowns behind so many others in the place of its parameters.
+/// The impl with variables for its parameters, numbered after this many others.
 fn instance_behind(
     alloc: Global,
     cx: &mut Interner,
@@ -66,8 +67,10 @@ fn instance_behind(
     })
 }
 
-/// The candidate by an impl: its parameters are unknowns behind the goal's variables, the goal's arguments are its header's, and its
-/// where-clauses are asked (`consider_impl_candidate`).
+/// The candidate by an impl. Its parameters are variables after those of the goal, the goal's arguments are equated with those of the
+/// header, and the where-clauses are nested goals.
+///
+/// Fails with `Memory`, or with `Full` if a table of the interner is full. rustc: `consider_impl_candidate`.
 pub fn consider_impl_candidate(
     alloc: Global,
     cx: &mut Interner,
@@ -99,8 +102,10 @@ pub fn consider_impl_candidate(
     })
 }
 
-/// The impl of the lowest number above `last` that can match the goal: its self type is a parameter or has the head of the goal's, and
-/// its arguments and the goal's are not apart. No table is begun for the others, and a fixed goal looks at no fixed header but its own.
+/// The impl with the lowest number above `last` that can match the goal: its self type is a parameter or has the same head as the goal's,
+/// and its arguments and the goal's are not disjoint. rustc: `DeepRejectCtxt`.
+///
+/// A goal without variables finds an equal header by its handle, and looks at no other header without variables.
 fn next_matching_impl(
     cx: &Interner,
     declarations: &Declarations,
@@ -117,8 +122,10 @@ fn next_matching_impl(
     declarations.next_matching_impl(cx, goal.goal.predicate.trait_ref, last)
 }
 
-/// The candidate by the impl of the lowest number above `last` among those that can match the goal, if there is one. So
-/// after each candidate it is told where to go on, and no impl before that is looked at again (`assemble_impl_candidates`).
+/// The candidate by the impl with the lowest number above `last` that can match the goal, if there is one. So no impl before the last one
+/// is looked at again.
+///
+/// Fails with `Memory`, or with `Full` if a table of the interner is full. rustc: `assemble_impl_candidates`.
 pub fn next_impl_candidate(
     alloc: Global,
     cx: &mut Interner,

@@ -1,4 +1,4 @@
-//! The variables that stand for an impl's parameters, and its references with these in their places.
+//! The variables that stand for an impl's parameters, and its trait references with these put in.
 ghost use Rattle.type_terms.specs.Growth.{GrewOrFull};
 ghost use Rattle.std.specs.Prelude.{◌≡◌, map, IfOk, IfErr, None};
 ghost use Rattle.type_terms.specs.Trees.{outer_binder};
@@ -28,7 +28,7 @@ use type_terms::kinds::{GenericArgKind, GenericArgs};
 use type_terms::number::BoundVar;
 use type_terms::{Fault, MAX_INDEX};
 
-/// The kind of the unknown that stands for a parameter.
+/// The kind of the variable for a parameter.
 fn variable_kind(kind: GenericParamKind) -> CanonicalVarKind
     ensures { result ≡ var_kind kind }
 {
@@ -39,7 +39,7 @@ fn variable_kind(kind: GenericParamKind) -> CanonicalVarKind
     }
 }
 
-/// The kinds of the unknowns that stand for parameters. The error is `Memory`.
+/// The kinds of the variables for parameters. Fails only with `Memory`.
 pub(crate) fn variable_kinds(
     alloc: Global,
     params: &[GenericParamKind],
@@ -56,7 +56,7 @@ pub(crate) fn variable_kinds(
     Ok(found)
 }
 
-/// The canonical variables of these kinds, behind this many others. `Memory` comes also where there are no numbers for them.
+/// The canonical variables of these kinds, after this many others. Fails with `Memory` also if there are no numbers for them.
 pub(crate) fn variables_behind(
     alloc: Global,
     cx: &mut Interner,
@@ -81,7 +81,7 @@ pub(crate) fn variables_behind(
     Ok(values)
 }
 
-/// A reference with arguments in the place of its parameters.
+/// A trait reference with arguments put in for its parameters.
 pub(crate) fn with_arguments(
     alloc: Global,
     cx: &mut Interner,
@@ -105,7 +105,7 @@ pub(crate) fn with_arguments(
     }
 }
 
-/// References with arguments in the place of their parameters.
+/// Trait references with arguments put in for their parameters.
 pub(crate) fn all_with_arguments(
     alloc: Global,
     cx: &mut Interner,

@@ -1,4 +1,5 @@
-//! Which goals are known to the crate that asks.
+//! Which goals are knowable: no crate outside the view can have an impl for them. `Local: Foreign` is knowable. `Vec<u8>: Foreign` is not,
+//! because a later version of the trait's crate may add an impl.
 ghost use Rattle.std.specs.Prelude.{◌≡◌, ◌==◌, ◌&&◌, ◌||◌, true, is_ok, IfOk, IfErr};
 ghost use Rattle.type_terms.specs.Walks.{trait_is};
 ghost use Rattle.type_terms.specs.Answers.{is_closed, written_in};
@@ -19,8 +20,7 @@ use term_folds::predicate::TraitRef;
 use type_terms::Fault;
 use type_terms::interner::Interner;
 
-/// Whether the trait is of the crate that asks, or fundamental, and nothing is open in the reference: then no walk is needed to know that
-/// no other crate may write an impl.
+/// Whether the trait is local or fundamental, and the trait reference is concrete. Then it is knowable without a walk.
 fn is_own_and_closed(cx: &Interner, declarations: &Declarations, trait_ref: TraitRef) -> bool
     requires { ReferenceHeld cx.now.entries trait_ref }
     ensures { result ≡ (trait_is (λ x. (x.home == declarations.now.local) || x.is_fundamental) (written cx.now.entries declarations.now) trait_ref.def_id.index
@@ -30,15 +30,18 @@ fn is_own_and_closed(cx: &Interner, declarations: &Declarations, trait_ref: Trai
         && !has_open_places(cx, trait_ref.args)
 }
 
-/// Whether the walks' answer says that no other crate may write an impl: neither the trait's in a later version, nor one that uses this.
+/// Whether the walks found that no other crate may write an impl: neither the trait's crate in a later version, nor a crate that uses this
+/// one.
 fn is_known(answer: Result<(), Conflict>) -> bool
     ensures { result ≡ is_ok answer }
 {
     answer.is_ok()
 }
 
-/// Whether all impls that could apply to the reference are known to the crate that asks, whatever its variables stand for: no other crate
-/// may write one (`trait_ref_is_knowable`). The names in the reference are declared. The error is `Memory`.
+/// Whether the trait reference is knowable: all impls that could apply to it are in the view, whatever its variables stand for. The names
+/// in it must be declared.
+///
+/// The walk always ends, however deep the types are. Fails only if memory is refused. rustc: `trait_ref_is_knowable`.
 pub fn is_knowable(
     alloc: Global,
     cx: &Interner,

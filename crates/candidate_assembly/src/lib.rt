@@ -1,6 +1,6 @@
-//! The solver: the candidates of a goal in code, read off the declarations of the crates that are seen. They are by where-clauses,
-//! built-in rules, impls, the bounds of a `dyn`, and by what unseen crates may say; which one is next is told by those that were
-//! considered, and at the end they are merged.
+//! The solver: the candidates of a goal, computed from the declarations that a crate sees. They come from where-clauses, built-in rules,
+//! impls, the bounds of a `dyn`, and what crates outside the view may say. The candidates considered so far determine the next one. After
+//! the last one their responses are merged.
 #![tactic(auto)]
 
 pub mod assembly;

@@ -1,4 +1,12 @@
-//! How the candidates that were considered become the answer of a trait goal.
+//! How the responses of the candidates become the response of a goal. Outside coherence the cases are, in this order:
+//!
+//! - The trivial rule wins over everything, if it holds.
+//! - If a where-clause that is not global holds, only where-clauses count. The first that is a yes without values and constraints is taken,
+//!   and otherwise all are merged.
+//! - Otherwise the rest is merged. Impls are left out if a bound of a `dyn` holds that gives no types and constants. Global where-clauses
+//!   are left out if anything else holds.
+//!
+//! In coherence all responses are merged.
 
 ghost use Rattle.type_terms.specs.Growth.{GrewOrFull};
 ghost use Rattle.std.specs.Prelude.{◌≡◌, List, ◌&&◌, false, IfOk, IfSome, map, reverse, option_map, is_some};
@@ -38,12 +46,12 @@ enum Sources {
     Clauses,
     /// The bounds of a `dyn`.
     Bounds,
-    /// All but impls and global where-clauses, each of which may be among them too.
+    /// All but impls and global where-clauses. Each of these is included if its flag is set.
     Remaining { impls: bool, global_clauses: bool },
 }
 
 impl Sources {
-    /// Whether the source is among them.
+    /// Whether the source is in this set.
     fn has(self, source: CandidateSource) -> bool
         ensures { result ≡ is_among self source }
     {
@@ -73,7 +81,7 @@ impl Sources {
     }
 }
 
-/// Whether some candidate from there was not refused.
+/// Whether some candidate of these sources was not refused.
 fn holds_from(done: &[Considered], sources: Sources) -> bool
     ensures { result ≡ list_any (λ d. is_among sources d.source && is_some d.result) done.now }
 {
@@ -92,7 +100,7 @@ fn is_always_applicable(cx: &Interner, response: &CanonicalResponse) -> bool
     }
 }
 
-/// Whether the first bound of a `dyn` that was not refused gives no types and consts.
+/// Whether the first bound of a `dyn` that was not refused gives no types and constants.
 fn first_bound_gives_none(cx: &Interner, done: &[Considered]) -> bool
     requires held { ConsideredHeld cx.now.entries done.now }
     requires fits { ConsideredFits cx.now.entries done.now }
@@ -131,7 +139,7 @@ fn first_applicable_clause<'a>(
     None
 }
 
-/// The numbers of the where-clauses but this one, the newest first.
+/// The numbers of all where-clauses but this one, the newest first.
 fn other_clauses(
     alloc: Global,
     done: &[Considered],
@@ -149,7 +157,7 @@ fn other_clauses(
     Ok(numbers)
 }
 
-/// The responses of the candidates from there that were not refused, in order.
+/// The responses of the candidates of these sources that were not refused, in order.
 fn responses_from(
     alloc: Global,
     done: &[Considered],
@@ -168,7 +176,7 @@ fn responses_from(
     Ok(responses)
 }
 
-/// The merge of the responses from there, or what stands for them where there is none; no candidate is ignored.
+/// The merge of the responses of these sources, or the response for no candidates if there are none. No candidate is ignored.
 fn merge_from(
     alloc: Global,
     cx: &mut Interner,
@@ -190,8 +198,8 @@ fn merge_from(
     }
 }
 
-/// The first where-clause that is a yes without values and constraints is taken, and the others are ignored; without one all
-/// where-clauses are merged.
+/// Takes the first where-clause that is a yes without values and constraints, and ignores the others. If there is none, all where-clauses
+/// are merged.
 fn take_clause(
     alloc: Global,
     cx: &mut Interner,
@@ -215,8 +223,7 @@ fn take_clause(
     }
 }
 
-/// The candidates that are merged where no where-clause is preferred: no impl beside a bound of a `dyn` that gives no types and
-/// consts, and no global where-clause beside anything else that holds.
+/// The candidates that are merged if no where-clause is preferred.
 fn remaining(cx: &Interner, done: &[Considered]) -> Sources
     requires held { ConsideredHeld cx.now.entries done.now }
     requires fits { ConsideredFits cx.now.entries done.now }
@@ -233,7 +240,7 @@ fn remaining(cx: &Interner, done: &[Considered]) -> Sources
     }
 }
 
-/// The merge outside coherence: the trivial rule wins, then come where-clauses, if one is not global, then the rest.
+/// The merge outside coherence, by the cases above.
 fn merge_preferred(
     alloc: Global,
     cx: &mut Interner,
@@ -257,14 +264,11 @@ fn merge_preferred(
     merge_from(alloc, cx, variables, done, sources)
 }
 
-/// The answer to a goal asked in this mode, over variables of these kinds, once no candidate is left to consider. In coherence
-/// all responses are merged. Outside it the trivial rule wins; else, where a where-clause that is not global holds, the first
-/// where-clause that is a yes without values and constraints is taken and the others are ignored, or all where-clauses are
-/// merged; else all that remain are merged: no impl beside a bound of a `dyn` that gives no types and consts, and no global
-/// where-clause beside anything else that holds. (`EvalCtxt::merge_trait_candidates` of the original.)
+/// The response to a goal of this mode, over variables of these kinds, when no candidate is left to consider. The module's comment has the
+/// cases.
 ///
-/// `Full` comes where one of the interner's tables is full, `Memory` where memory is refused or there are more variables than numbers
-/// for them.
+/// Fails with `Full` if a table of the interner is full, and with `Memory` if memory is refused or there are more variables than numbers
+/// for them. rustc: `EvalCtxt::merge_trait_candidates`.
 pub fn merge_trait_candidates(
     alloc: Global,
     cx: &mut Interner,

@@ -22,8 +22,9 @@ use term_folds::predicate::{Clause, TraitRef};
 use type_terms::interner::Interner;
 use type_terms::{Fault, TraitId};
 
-/// Whether a where-clause is global: it holds no parameter, unknown, bound variable, or lifetime but `'static`. Its flags tell it.
-/// (`characterize_param_env_assumption` of the original, which looks for them by a visitor, `FindParamInClause`.)
+/// Whether a where-clause is global: it holds no parameter, variable or bound variable, and no lifetime but `'static`. Its flags say so.
+///
+/// rustc: `characterize_param_env_assumption`, which uses a visitor (`FindParamInClause`).
 fn clause_source(cx: &Interner, trait_ref: TraitRef) -> ParamEnvSource
     requires { ReferenceHeld cx.now.entries trait_ref }
     ensures { result ≡ clause_source (reference_in cx.now.entries trait_ref) }
@@ -51,7 +52,7 @@ fn reference_of(clause: &Clause, def_id: TraitId) -> Option<TraitRef>
     }
 }
 
-/// The reference at this place among those to the trait.
+/// The trait reference at this index among those of the trait.
 fn reference_at(clauses: &[Clause], def_id: TraitId, place: usize) -> Option<TraitRef>
     ensures { result ≡ slice_get (references_to def_id.index clauses.now) place }
 {
@@ -72,8 +73,9 @@ fn reference_at(clauses: &[Clause], def_id: TraitId, place: usize) -> Option<Tra
     None
 }
 
-/// The candidate by the where-clause at this place among those of the goal's trait, if there is one: it is certain where the arguments are
-/// equal (`consider_param_env_candidate`).
+/// The candidate by the where-clause at this index among those of the goal's trait, if there is one. It holds if the arguments are equal.
+///
+/// Fails with `Memory`, or with `Full` if a table of the interner is full. rustc: `consider_param_env_candidate`.
 pub fn consider_param_env_candidate(
     alloc: Global,
     cx: &mut Interner,

@@ -1,4 +1,4 @@
-//! The solver: what a crate declares, as a handler of goals.
+//! The solver: the declarations that a crate sees, as a handler of goals.
 ghost use Rattle.std.specs.Prelude.{◌≡◌, List};
 ghost use Rattle.type_terms.specs.Rules.{is_coinductive};
 ghost use Rattle.type_terms.specs.Terms.{Entry};
@@ -17,13 +17,13 @@ use std::alloc::Global;
 use type_terms::interner::Interner;
 use type_terms::{Fault, TraitId};
 
-/// The solver of trait goals: the rules of goals are those of the declarations that a crate sees.
+/// The solver of trait goals. The rules are those of the declarations that a crate sees.
 ///
-/// It is ready over an interner (`IsReady`) where the declarations' terms are the interner's, they are declared well, and impls,
-/// fields and supertraits speak of their parameters alone; it stays so while the interner grows. It means what the declarations
-/// mean as they are written (`solving_of`): goals that do not fit them are not decided.
+/// It is ready over an interner (`IsReady`) if the declarations' terms are the interner's, they are declared well, and impls, fields and
+/// supertraits have their own parameters alone. It stays ready while the interner grows. It means what the declarations mean as they are
+/// written (`solving_of`). Goals that do not fit them are not decided.
 ///
-/// `rustc_next_trait_solver::solve::SolverDelegate` with the declarations behind it.
+/// rustc: `rustc_next_trait_solver::solve::SolverDelegate`, with the declarations behind it.
 #[derive(Drop)]
 pub struct Solver {
     /// What is declared.
@@ -31,7 +31,7 @@ pub struct Solver {
 }
 
 impl Solver {
-    /// The solver of goals by these declarations. It takes no memory.
+    /// The solver for these declarations. It takes no memory.
     pub fn new(declarations: Declarations) -> Solver
         ensures { result.declarations ≡ declarations }
     {
@@ -39,14 +39,14 @@ impl Solver {
     }
 }
 
-/// Whether a goal of the trait holds if it needs nothing but itself: of `Sized` and of auto traits.
+/// Whether the trait is coinductive: a goal of it holds if it needs nothing but itself. These are `Sized` and the auto traits.
 fn is_coinductive(declarations: &Declarations, def_id: TraitId) -> bool
     ensures { (es : List Entry) → result ≡ is_coinductive (written es declarations.now) def_id.index }
 {
     is_auto(declarations, def_id) || def_id.index == SIZED
 }
 
-/// Candidates come one after the other as `compute_trait_goal` says, and the answer is the merge of their responses.
+/// The candidates come one after the other, as `compute_trait_goal` says. The answer is the merge of their responses.
 impl GoalHandler for Solver {
     ghost meaning = { solver_by_view };
 

@@ -1,4 +1,12 @@
-//! What comes next for a trait goal: a candidate, or the answer.
+//! What comes next for a trait goal: a candidate, or the answer. Candidates come in this order:
+//!
+//! - In coherence, if the goal is not knowable: that another crate may have an impl. If that holds, nothing else comes.
+//! - Where-clauses.
+//! - Built-in rules.
+//! - Impls. Outside coherence none comes if a where-clause has settled the goal.
+//! - The bounds of the `dyn` that is the self type, with the same exception.
+//!
+//! A goal that is not decided has one candidate, which is ambiguous.
 ghost use Rattle.type_terms.specs.Growth.{GrewOrFull};
 ghost use Rattle.std.specs.Prelude.{◌≡◌, ◌==◌, ◌&&◌, not, length, map, Some, Bool, List, IfErr, IfOk, IfSome, is_some, option_map};
 ghost use Rattle.std.specs.List.{list_any, slice_get};
@@ -48,7 +56,7 @@ fn has_no_constraints(response: &CanonicalResponse) -> bool
     response.region_constraints.is_empty()
 }
 
-/// Whether the response gives no types and consts, and says nothing of lifetimes.
+/// Whether the response gives no types and constants, and says nothing of lifetimes.
 fn says_nothing(cx: &Interner, response: &CanonicalResponse) -> bool
     requires held { ResponseHeld cx.now.entries response.now }
     requires fits { IsWellFormed (answer_trees cx.now.entries response.now) }
@@ -89,7 +97,7 @@ fn is_settled(cx: &Interner, done: &[Considered]) -> bool
     false
 }
 
-/// Whether it was found that a crate which is not seen may have an impl.
+/// Whether it was found that a crate outside the view may have an impl.
 fn unknowable_holds(done: &[Considered]) -> bool
     ensures { result ≡ list_any (λ d. is_unknowable d.source && is_some d.result) done.now }
 {
@@ -99,7 +107,7 @@ fn unknowable_holds(done: &[Considered]) -> bool
     })
 }
 
-/// Whether nothing was considered, and a crate which is not seen may have an impl. The error is `Memory`.
+/// Whether nothing was considered, and a crate outside the view may have an impl. Fails only with `Memory`.
 fn begins_unknowable(
     alloc: Global,
     cx: &Interner,
@@ -120,8 +128,8 @@ fn begins_unknowable(
     }
 }
 
-/// The candidate by a bound of the `dyn` that is the self type, that is next after these candidates were considered, if one is left
-/// (`assemble_object_bound_candidates`).
+/// The next candidate by a bound of the `dyn` that is the self type, after these candidates were considered, if one is left. rustc:
+/// `assemble_object_bound_candidates`.
 fn assemble_object_bound_candidates(
     alloc: Global,
     cx: &mut Interner,
@@ -160,7 +168,7 @@ fn early_candidate(
     }
 }
 
-/// The next candidate by an impl or a bound of the `dyn` that is the self type.
+/// The next candidate by an impl or by a bound of the `dyn` that is the self type.
 fn late_candidate(
     alloc: Global,
     cx: &mut Interner,
@@ -180,7 +188,7 @@ fn late_candidate(
     }
 }
 
-/// The next candidate by an impl or a bound, unless none of these comes.
+/// The next candidate by an impl or a bound, unless none of these may come.
 fn late_candidate_unless(
     alloc: Global,
     cx: &mut Interner,
@@ -203,7 +211,8 @@ fn late_candidate_unless(
     }
 }
 
-/// The next candidate by a where-clause or a built-in rule, or else, where it does not stop there, by an impl or a bound.
+/// The next candidate by a where-clause or a built-in rule. If there is none, and the assembly does not stop there, the next one by an impl
+/// or a bound.
 fn candidate_until(
     alloc: Global,
     cx: &mut Interner,
@@ -225,8 +234,7 @@ fn candidate_until(
     }
 }
 
-/// The next candidate in coherence: first that other crates may have an impl, where the goal isn't knowable, and nothing else if that
-/// holds.
+/// The next candidate in coherence.
 fn candidate_in_coherence(
     alloc: Global,
     cx: &mut Interner,
@@ -251,7 +259,7 @@ fn candidate_in_coherence(
     candidate_until(alloc, cx, declarations, goal, done, false)
 }
 
-/// The next candidate outside coherence: by impls and bounds only where no where-clause has settled the goal.
+/// The next candidate outside coherence.
 fn candidate_outside_coherence(
     alloc: Global,
     cx: &mut Interner,
@@ -271,8 +279,8 @@ fn candidate_outside_coherence(
     candidate_until(alloc, cx, declarations, goal, done, settled)
 }
 
-/// The next candidate of a goal that is decided, in the goal's mode. Where an impl was considered last, no where-clause and no built-in
-/// rule is left, and nothing has settled the goal: so what was considered before that impl is not looked at again.
+/// The next candidate of a goal that is decided, in the goal's mode. If the newest candidate is by an impl, then no where-clause and no
+/// built-in rule is left, and nothing has settled the goal. So nothing before that impl is looked at again.
 fn decided_candidate(
     alloc: Global,
     cx: &mut Interner,
@@ -299,7 +307,7 @@ fn decided_candidate(
     }
 }
 
-/// The one candidate of a goal that is not decided, if nothing was considered: it is not sure.
+/// The one candidate of a goal that is not decided, if nothing was considered. It is ambiguous.
 fn undecided_candidate(alloc: Global, done: &[Considered]) -> Option<CandidateSpec>
     ensures is { (es new : List Entry) (kind : Bool) → ForEachPast es done.now (λ seen. option_map (spec_read new kind) result ≡ next_undecided seen) }
     ensures held { (es : List Entry) → IfSome result (SpecHeld es) }
@@ -311,15 +319,11 @@ fn undecided_candidate(alloc: Global, done: &[Considered]) -> Option<CandidateSp
     }
 }
 
-/// The candidate that is next for a goal after these were considered, the oldest first, if one is left; whether the goal is decided is
-/// told. (`EvalCtxt::assemble_and_evaluate_candidates` of the original, which evaluates them too.)
+/// The next candidate of a goal after these were considered, the oldest first, if one is left. The caller says whether the goal is decided.
+/// The module's comment has the order.
 ///
-/// In coherence the first is that other crates may have an impl, where the goal isn't knowable, and nothing else comes if that holds.
-/// Then come where-clauses, built-in rules, impls, and bounds of the `dyn` that is the self type. Outside coherence no impl or bound
-/// comes where a where-clause has settled the goal. A goal that is not decided has one candidate, which is not sure.
-///
-/// `Full` comes where one of the interner's tables is full; `Memory` where memory is refused, or the impl that is next has more
-/// parameters than there are numbers for behind the goal's variables.
+/// Fails with `Full` if a table of the interner is full. Fails with `Memory` if memory is refused, or if the next impl has more parameters
+/// than there are numbers after the goal's variables. rustc: `EvalCtxt::assemble_and_evaluate_candidates`, which evaluates them too.
 pub fn assemble_and_evaluate_candidates(
     alloc: Global,
     cx: &mut Interner,
@@ -344,7 +348,7 @@ pub fn assemble_and_evaluate_candidates(
     }
 }
 
-/// The mode in which the candidates of a goal are merged that was asked in this one, and is decided or not.
+/// The mode in which the candidates of a goal are merged. A goal that is not decided is merged as in coherence.
 fn mode_at_end(mode: TypingMode, decided: bool) -> TypingMode
     ensures { result ≡ mode_at_end mode decided }
 {
@@ -373,11 +377,11 @@ fn stays_decided(
     is_decided(cx, declarations, goal)
 }
 
-/// What the frame of a trait goal is to do next, after these candidates were considered, the oldest first: to consider the next one,
-/// or to answer with the merge of their responses (`EvalCtxt::compute_trait_goal`).
+/// What the frame of a trait goal does next, after these candidates were considered, the oldest first: it considers the next one, or
+/// answers with the merge of their responses.
 ///
-/// `Full` comes where one of the interner's tables is full; `Memory` where memory is refused, or there are no numbers for the variables
-/// of what is next.
+/// Fails with `Full` if a table of the interner is full. Fails with `Memory` if memory is refused, or if there are no numbers for the
+/// variables of what is next. rustc: `EvalCtxt::compute_trait_goal`.
 pub fn compute_trait_goal(
     alloc: Global,
     cx: &mut Interner,

@@ -1,4 +1,4 @@
-//! The candidate for what crates that are not seen may say.
+//! The candidate for what crates outside the view may say.
 ghost use Rattle.type_terms.specs.Growth.{GrewOrFull};
 ghost use Rattle.std.specs.Prelude.{◌≡◌, IfOk};
 ghost use Rattle.infer_table.specs.Goals.{GoalHeld};
@@ -17,8 +17,10 @@ use std::alloc::Global;
 use type_terms::Fault;
 use type_terms::interner::Interner;
 
-/// The candidate that a crate which is not seen may have an impl of the goal: it is ambiguous, and such an impl has the goal's
-/// supertraits, so where one of these fails there is none (`consider_coherence_unknowable_candidate`).
+/// The candidate that a crate outside the view may have an impl for the goal. It is ambiguous. Such an impl also has the goal's
+/// supertraits, so these are its nested goals. If one of them fails, there is no such impl.
+///
+/// Fails with `Memory`, or with `Full` if a table of the interner is full. rustc: `consider_coherence_unknowable_candidate`.
 pub fn consider_coherence_unknowable_candidate(
     alloc: Global,
     cx: &mut Interner,

@@ -1,4 +1,5 @@
-//! What stands in the terms of a goal: variables that are not the goal's, and names that are not declared.
+//! Visitors of a goal's terms. They look for variables that are not the goal's, and for names that are not declared. Each type is entered
+//! once, however often it occurs.
 ghost use Rattle.std.specs.Prelude.{◌≡◌, true, not, List};
 ghost use Rattle.type_terms.specs.Label.{of_type, of_const, of_lifetime};
 ghost use Rattle.type_terms.specs.Trees.{some_node};
@@ -28,10 +29,11 @@ use type_terms::region::{Region, RegionKind};
 use type_terms::visit::{Seen, TypeVisitor, visit_args, visit_ty};
 use type_terms::{AdtId, TraitId};
 
-/// The flags of open places: of parameters, unknowns, placeholders and bound variables, canonical ones among them.
+/// The flags of parameters, variables, placeholders and bound variables, with canonical ones.
 const OPEN_PLACES: u32 = CLAUSE_FLAGS | BOUND_FLAGS;
 
-/// Whether a parameter, an unknown, a placeholder or a bound variable stands in the term: one look at its flags, however large it is.
+/// Whether a parameter, a variable, a placeholder or a bound variable occurs in the term. It is one look at the term's flags, however large
+/// the term is.
 pub(crate) fn has_open_places<H: Handle>(cx: &Interner, handle: H) -> bool
     requires { Has cx.now.entries H.handle_kind (H.handle_number handle) }
     ensures { result ≡ some_node is_open (trees_at cx.now.entries (H.handle_number handle)) }
@@ -84,7 +86,7 @@ fn is_region(kinds: &[CanonicalVarKind], variable: BoundVar) -> bool
     }
 }
 
-/// Breaks at what is open and is no canonical variable of these kinds.
+/// Breaks at a parameter, placeholder or variable that is no canonical variable of these kinds.
 #[derive(Clone, Copy)]
 struct FindsForeign<'a> {
     kinds: &'a [CanonicalVarKind],
@@ -157,8 +159,7 @@ pub(crate) fn region_is_over(kinds: &[CanonicalVarKind], region: Region) -> bool
     }
 }
 
-/// Whether the arguments speak of variables of these kinds alone. A term without open places is one look, and in any other a type
-/// that stands in many places is entered once.
+/// Whether the arguments hold variables of these kinds alone.
 pub(crate) fn args_are_over(cx: &Interner, kinds: &[CanonicalVarKind], args: GenericArgs) -> bool
     requires { Has cx.now.entries args_lists args.0 }
     ensures { result ≡ is_made (is_variable_over kinds.now) terms (trees_at cx.now.entries args.0) }
@@ -174,7 +175,7 @@ pub(crate) fn args_are_over(cx: &Interner, kinds: &[CanonicalVarKind], args: Gen
     }
 }
 
-/// Whether the type speaks of variables of these kinds alone, found as for arguments.
+/// Whether the type holds variables of these kinds alone.
 pub(crate) fn ty_is_over(cx: &Interner, kinds: &[CanonicalVarKind], ty: Ty) -> bool
     requires { Has cx.now.entries types ty.0 }
     ensures { result ≡ is_made (is_variable_over kinds.now) terms (trees_at cx.now.entries ty.0) }
@@ -199,7 +200,7 @@ fn struct_is_declared(declarations: &Declarations, id: AdtId) -> bool
     }
 }
 
-/// Whether the crate sees a trait of this number: of another one no goal is decided.
+/// Whether the crate sees the trait with this number. No goal of another trait is decided.
 pub(crate) fn trait_is_declared(declarations: &Declarations, id: TraitId) -> bool
     ensures { (es : List Entry) → result ≡ trait_is (λ _. true) (written es declarations.now) id.index }
 {
@@ -222,7 +223,7 @@ fn traits_are_declared(declarations: &Declarations, ids: &[TraitId]) -> bool
     true
 }
 
-/// Whether the principal among the bounds of a `dyn`, if there is one, and its auto traits are declared.
+/// Whether the principal trait of a `dyn`, if there is one, and its auto traits are declared.
 fn bounds_are_declared(cx: &Interner, declarations: &Declarations, bounds: Bounds) -> bool
     requires { Has cx.now.entries bounds_lists bounds.0 }
     ensures { result ≡ not (some_root (is_undeclared (written cx.now.entries declarations.now)) (trees_at cx.now.entries bounds.0)) }
@@ -292,7 +293,7 @@ impl TypeVisitor for FindsUndeclared<'_> {
     }
 }
 
-/// Whether all structs and traits that the arguments name are declared. A type that stands in many places is entered once.
+/// Whether all structs and traits in the arguments are declared.
 pub(crate) fn args_are_declared(
     cx: &Interner,
     declarations: &Declarations,
