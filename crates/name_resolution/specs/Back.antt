@@ -1,4 +1,4 @@
--- The cells of a type from the last to the first: a cell comes before what stands inside it.
+-- The cells of a type from the last to the first. A cell comes before its parts.
 use Rattle.std.specs.Prelude.{ℕ, suc, ◌-◌, ◌==◌, not, List, [], ◌∷◌, length, drop, min, nat_le, nat_lt, if◌then◌else◌}
 use Rattle.text_definitions.specs.Syntax.{TypeTree, of_primitive, never_type, variable_type, named, reference_to, pointer_to, slice_of, array_of, tuple_of, fn_of, fn_to, dyn_of, Types, no_types, and_type, Args, no_args, and_arg, Arg, lifetime_arg, number_arg, type_arg, Item, bound_item, lifetime_item, Items, no_items, and_item}
 use Rattle.text_definitions.specs.Uses.{ItemShape, bound_shape, lifetime_shape}
@@ -8,7 +8,7 @@ abbrev pub binder_back : List (List ℕ) → List Cell → List Cell
 binder_back [] r = r
 binder_back (n ∷ ns) r = binder_back ns (binder_cell n ∷ r)
 
--- `type_onto`, turned round; r are the cells before the type, the last of them first
+-- `type_onto`, reversed. r are the cells before the type, the last of them first.
 abbrev mutual
   pub type_back : TypeTree → List Cell → List Cell
   type_back (of_primitive p) r = primitive_cell p ∷ r
@@ -45,7 +45,7 @@ abbrev mutual
   items_back no_items r = r
   items_back (and_item i is) r = items_back is (item_back i r)
 
--- ---- where the first of these cells, with what stands inside it, begins
+-- ---- where the first of these cells, with what is inside it, begins
 abbrev pub begins : List Cell → ℕ
 begins [] = 0
 begins (named_cell n start ∷ r) = min start (length r)
@@ -60,7 +60,7 @@ begins (slice_cell ∷ r) = begins r
 begins (array_cell n ∷ r) = begins r
 begins (_ ∷ r) = length r
 
--- The cells of which what stands between `start` and `end` is made, without what stands inside these; those of `later` behind them.
+-- The cells of the parts between `start` and `end`, without what is inside these, and then those of `later`.
 abbrev pub parts : (start end : ℕ) → List Cell → List Cell → List Cell
 parts start end [] later = later
 parts start end (c ∷ r) later =
@@ -82,11 +82,11 @@ names_before start inner (c ∷ r) later = if nat_lt (length r) start then later
 abbrev pub names_between : (start inner : ℕ) → List Cell → List (List ℕ)
 names_between start inner r = names_before start inner r []
 
--- the cells before this place
+-- The cells before this index.
 abbrev pub down_to : ℕ → List Cell → List Cell
 down_to start r = drop (length r - start) r
 
--- an item of a `dyn`; it has a binder where its arguments don't begin where it does
+-- An item of a `dyn`. It has a binder if its arguments do not begin where it begins.
 abbrev pub shape_of : Cell → ItemShape
 shape_of (bound_cell n start inner) = bound_shape (not (start == inner)) n
 shape_of _ = lifetime_shape

@@ -1,4 +1,4 @@
--- The numbers by which an answer names faults.
+-- The numbers of faults, as answers print them.
 use Rattle.std.specs.Prelude.{ℕ, Bool, List, [], ◌∷◌}
 use Rattle.name_resolution.specs.declared.fault.FaultKind.{FaultKind}
 use Rattle.name_resolution.specs.declared.fault.FaultKind.TheVariants as kinds

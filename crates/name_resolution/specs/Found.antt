@@ -15,14 +15,14 @@ use Rattle.name_resolution.specs.Views.{resolved_in, variable_in}
 use Rattle.name_resolution.specs.declared.parts.PartsFound.{PartsFound}
 use Rattle.name_resolution.specs.declared.parts.ResolvedPart.{ResolvedPart}
 
--- what these use
+-- The uses of these types and bounds.
 abbrev pub uses_of : Sight → List LinePart → List Use
 uses_of v ps = flat_map (part_uses (items v)) ps
 
 abbrev pub depth_of : Sight → List LinePart → ℕ
 depth_of v ps = greatest (map (part_depth (items v)) ps)
 
--- The type resolves to these cells; the bound to its trait's number and the cells of its arguments.
+-- The type resolves to these cells, and the bound to its trait's number and the cells of its arguments.
 abbrev pub Resolves : Sight → LinePart → ResolvedPart → Type 0
 Resolves v (type_part t) r = map resolved_in r.cells.items ≡ (type_found v t).cells
 Resolves v (bound_part b) r = (map resolved_in r.cells.items ≡ (bound_found v b).cells) × (r.trait_number ≡ trait_number (known (items v) b.trait))
@@ -34,10 +34,10 @@ pub record IsFound (v : Sight) (ps : List LinePart) (found : PartsFound) : Type 
   pub is_deep : found.is_deep ≡ nat_lt depth_limit (depth_of v ps)
   pub parts : EachOf (Resolves v) ps found.parts.items
 
--- Whichever types and bounds stand there, this was found of them.
+-- Whichever types and bounds these are, this was found of them.
 abbrev pub FindsParts : Sight → List Cell → List places.LinePart → PartsFound → Type 0
 FindsParts v cells at found = (ps : List LinePart) → EachOf (PartStands cells) ps at → IsFound v ps found
 
--- Where this was found of some, what is found with one more behind them.
+-- If the first was found of some, the second is found with one more after them.
 abbrev pub AddsPart : Sight → List Cell → places.LinePart → PartsFound → PartsFound → Type 0
 AddsPart v cells at old new = (ps : List LinePart) (p : LinePart) → PartStands cells p at → IsFound v ps old → IsFound v (ps ++ p ∷ []) new

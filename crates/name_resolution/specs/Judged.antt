@@ -1,4 +1,4 @@
--- What a judged line is handed on with.
+-- What a judged line has.
 use Rattle.std.specs.Prelude.{Option, Some, None}
 use Rattle.line_reader.specs.declared.statement.LineRead.{LineRead}
 use Rattle.name_resolution.specs.LineFound.{FindsLine}
@@ -11,7 +11,7 @@ abbrev pub fault_in : JudgedLine → Option FaultKind
 fault_in (lines.Faulty k) = Some k
 fault_in (lines.Faultless found) = None
 
--- Of a line without a fault this was found.
+-- If the line has no fault, this was found of it.
 abbrev pub HandsOn : Sight → LineRead → JudgedLine → Type 0
 HandsOn v read (lines.Faulty k) = Unit {0}
 HandsOn v read (lines.Faultless found) = FindsLine v read found

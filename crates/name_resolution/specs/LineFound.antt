@@ -11,13 +11,13 @@ use Rattle.name_resolution.specs.Machine.{Sight, findings}
 use Rattle.name_resolution.specs.Found.{IsFound}
 use Rattle.name_resolution.specs.declared.line.LineFound.{LineFound}
 
--- the types and bounds but those of what a question asks
+-- The types and bounds without those of the bound of a query.
 abbrev pub other_parts : Line → List LinePart
 other_parts (prove_line c ps k ks) = flat_map clause_parts ks
 other_parts (refute_line c ps k) = []
 other_parts l = line_parts l
 
--- how many of its types and bounds, which stand first, are of what a question asks
+-- How many of its types and bounds, which come first, belong to the bound of a query.
 abbrev pub asked_count : Statement → ℕ
 asked_count (prove_statement c ps k ks) = 2
 asked_count (refute_statement c ps k) = 2

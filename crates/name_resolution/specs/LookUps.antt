@@ -1,4 +1,4 @@
--- Looking up names.
+-- How names are looked up.
 use Rattle.std.specs.Prelude.{ℕ, suc, Bool, false, not, List, [], ◌∷◌, Option, Some, None}
 use Rattle.std.specs.List.{position_from}
 use Rattle.std.specs.Option.{option_map_or}
@@ -11,14 +11,14 @@ use Rattle.text_definitions.specs.Uses.{declared_name}
 use Rattle.text_definitions.specs.Faults.{looking_crate}
 use Rattle.name_resolution.specs.Machine.{Sight}
 
--- the crate that has to see what the line uses doesn't see this one
+-- The crate of the line does not see this crate.
 abbrev pub is_hidden_home : Sight → ℕ → Bool
 is_hidden_home v h = option_map_or (λ c. not (sees (world_of v.before) c h)) (looking_crate v.before v.line) false
 
 abbrev pub is_own_name : Sight → List ℕ → Bool
 is_own_name v n = option_map_or (λ m. bytes_eq n m) (declared_name v.line) false
 
--- the place of the name among these, if it is there
+-- The index of the name among these, if it is there.
 abbrev pub place_in : List ℕ → List (List ℕ) → Option ℕ
 place_in n ms = position_from (λ m. bytes_eq m n) 0 ms
 
@@ -27,7 +27,7 @@ params_of_sort p of_type = p.types
 params_of_sort p of_const = p.consts
 params_of_sort p of_lifetime = p.lifetimes
 
--- how many binders further out than k others the name is bound, and its place there
+-- How many binders further out than k others the name is bound, and its index there.
 abbrev pub scope_place : ℕ → List (List (List ℕ)) → List ℕ → Option (ℕ × ℕ)
 scope_place k [] n = None
 scope_place k (b ∷ s) n = option_map_or (λ i. Some (k, i)) (place_in n b) (scope_place (suc k) s n)

@@ -1,4 +1,4 @@
--- Going over the cells of a type from the last to the first: what is found, with a stack of what is open.
+-- The machine that visits the cells of a type from the last to the first: what is found, with a stack of what is open.
 use Rattle.std.specs.Prelude.{◌≡◌, ℕ, zero, suc, ◌-◌, ◌==◌, Bool, true, false, not, ◌||◌, ◌&&◌, List, [], ◌∷◌, ◌++◌, length, map, drop, Option, None, if◌then◌else◌, nat_lt}
 use Rattle.std.specs.List.{list_any}
 use Rattle.std.specs.Option.{option_map, option_map_or}
@@ -15,7 +15,7 @@ use Rattle.name_resolution.specs.declared.findings.Findings.{Findings}
 use Rattle.name_resolution.specs.Resolved.{ResolvedCell, Region, static_region, region_of, optional_region, const_cell, length_cell, dyn_before}
 use Rattle.name_resolution.specs.Back.{parts_above, count_above, names_between, down_to, shape_of}
 
--- what the line's names are looked up in: what is declared before it, and the line itself
+-- What the line's names are looked up in: what is declared before it, and the line itself.
 pub record Sight : Type 0 where
   pub before : Declarations
   pub line : Line
@@ -26,7 +26,7 @@ items v = with_own v.before v.line
 abbrev pub params : Sight → Params
 params v = params_of v.line
 
--- ---- what is wrong with what is used, one flag for each test over the uses
+-- ---- what is wrong with what is used, one flag for each test of the uses
 abbrev pub findings : Sight → List Use → Findings
 findings v us = record {
   takes_names = list_any (is_taken_binder v.line) us;
@@ -59,22 +59,22 @@ pub record Found : Type 0 where
 abbrev pub noting : Findings → Found → Found
 noting f a = record a { faults = either f a.faults }
 
--- with these uses before
+-- With these uses before.
 abbrev pub using : Sight → List Use → Found → Found
 using v us a = record a { faults = either (findings v us) a.faults; variables = variables_in us ++ a.variables }
 
--- with these cells before, unless they are dropped
+-- With these cells before, unless they are not wanted.
 abbrev pub keeping : Bool → (List ResolvedCell → List ResolvedCell) → Found → Found
 keeping b f a = record a { cells = if b then f a.cells else a.cells }
 
--- there may be so many more types around each other, or any number
+-- This many more types may be nested, or any number.
 abbrev pub has_room : Option ℕ → Bool
 has_room r = option_map_or (λ n. not (n == 0)) r true
 
 abbrev pub deepening : Option ℕ → Found → Found
 deepening r a = record a { is_deep = a.is_deep || not (has_room r) }
 
--- there is no room for types that are so deep
+-- There is no room for types that are this deep.
 abbrev pub deep_in : Option ℕ → ℕ → Bool
 deep_in r k = option_map_or (λ n. nat_lt n k) r false
 
@@ -84,7 +84,7 @@ sinking r k a = record a { is_deep = a.is_deep || deep_in r k }
 abbrev pub deeper : Option ℕ → Option ℕ
 deeper r = option_map (λ n. n - 1) r
 
--- ---- where an argument or a type stands
+-- ---- the position of an argument or a type
 pub record Place : Type 0 where
   pub kind : Sort
   pub room : Option ℕ
@@ -93,7 +93,7 @@ pub record Place : Type 0 where
 abbrev pub type_place : Option ℕ → Bool → Place
 type_place r b = record { kind = of_type; room = r; is_kept = b }
 
--- consts and lifetimes aren't counted
+-- Constants and lifetimes do not count.
 abbrev pub room_at : Sort → Option ℕ → Option ℕ
 room_at of_type r = r
 room_at _ r = None
@@ -101,10 +101,10 @@ room_at _ r = None
 abbrev pub arg_place : Sort → Option ℕ → Bool → Place
 arg_place p r b = record { kind = p; room = room_at p r; is_kept = b }
 
--- ---- what is open: what stands inside it begins at `inner`, it begins itself at `start`
+-- ---- what is open: it begins at `start`, and what is inside it begins at `inner`
 pub data Inside : Type 0 where
   types_inside items_inside : Inside
-  -- so many arguments are left
+  -- this many arguments are left
   args_inside : List Sort → ℕ → Inside
 
 pub record WalkFrame : Type 0 where
@@ -116,13 +116,13 @@ pub record WalkFrame : Type 0 where
   pub is_kept : Bool
 
 pub data WalkState : Type 0 where
-  -- a type or an argument is to come
+  -- a type or an argument comes next
   visiting : Place → List WalkFrame → List (List (List ℕ)) → List Cell → Found → WalkState
   going : List WalkFrame → List (List (List ℕ)) → List Cell → Found → WalkState
   finished : List Cell → Found → WalkState
 
 -- ---- the uses of a cell itself
--- a type that isn't a name alone or a variable
+-- A type that is no name alone and no variable.
 abbrev pub sort_misfits : Sort → List Use
 sort_misfits of_type = []
 sort_misfits _ = misfit_use ∷ []
@@ -131,7 +131,7 @@ abbrev pub name_misfits : Sort → List Use
 name_misfits of_lifetime = misfit_use ∷ []
 name_misfits _ = []
 
--- a lifetime where an argument of this sort has to stand
+-- A lifetime where an argument of this kind is expected.
 abbrev pub lifetime_misfits : Sort → List Use
 lifetime_misfits of_lifetime = []
 lifetime_misfits _ = misfit_use ∷ []
@@ -140,7 +140,7 @@ abbrev pub is_const_place : Sort → Bool
 is_const_place of_const = true
 is_const_place _ = false
 
--- a name where a type or a const stands
+-- A name where a type or a constant is expected.
 abbrev pub name_cells : Sight → Sort → List ℕ → ℕ → List ResolvedCell → List ResolvedCell
 name_cells v of_const n k cs = const_cell (params v) n ∷ cs
 name_cells v p n k cs = resolved.named_cell (items v) (params v) n k ∷ cs
@@ -159,7 +159,7 @@ named_step v pl fs s n start r a =
     (record { start = start; inner = start; binds = false; holds = args_inside (kinds_of_struct (known (items v) n)) k; room = deeper pl.room; is_kept = pl.is_kept && not (is_const_place pl.kind) } ∷ fs)
     s r (using v (name_misfits pl.kind ++ name_use pl.kind n k ∷ []) (deepening pl.room (keeping pl.is_kept (name_cells v pl.kind n k) a)))
 
--- a type of one type: the cells are its own
+-- A type with one type inside. The cells are its own.
 abbrev pub wrapped_step : Sight → Place → List WalkFrame → List (List (List ℕ)) → List Use → (List ResolvedCell → List ResolvedCell) → List Cell → Found → WalkState
 wrapped_step v pl fs s us f r a =
     visiting (type_place (deeper pl.room) pl.is_kept) fs s r (using v (sort_misfits pl.kind ++ us) (deepening pl.room (keeping pl.is_kept f a)))
@@ -177,7 +177,7 @@ tuple_step v pl fs s start r a =
     (record { start = start; inner = start; binds = false; holds = types_inside; room = deeper pl.room; is_kept = pl.is_kept } ∷ fs)
     s r (using v (sort_misfits pl.kind ++ items_use k ∷ []) (deepening pl.room (keeping pl.is_kept (λ cs. resolved.node_cell tuple k ∷ cs) a)))
 
--- a fn with so many inputs
+-- A fn with this many inputs.
 abbrev pub fn_frame : Place → ℕ → ℕ → WalkFrame
 fn_frame pl start inner = record { start = start; inner = inner; binds = true; holds = types_inside; room = deeper pl.room; is_kept = pl.is_kept }
 
@@ -208,7 +208,7 @@ shape_principals d [] = 0
 shape_principals d (bound_shape b n ∷ is) = if is_auto_name d n then shape_principals d is else suc (shape_principals d is)
 shape_principals d (lifetime_shape ∷ is) = shape_principals d is
 
--- the lifetime that stands last
+-- The lifetime that is the last item.
 abbrev pub last_item_region : Params → List (List (List ℕ)) → List Cell → Region
 last_item_region ps s [] = static_region
 last_item_region ps s (lifetime_cell n ∷ r) = region_of ps s n
@@ -284,6 +284,6 @@ abbrev pub run : Sight → ℕ → WalkState → WalkState
 run v zero x = x
 run v (suc n) x = run v n (step v x)
 
--- in some number of steps
+-- It is reached in some number of steps.
 abbrev pub WalkReaches : Sight → WalkState → WalkState → Type 0
 WalkReaches v x y = (n : ℕ) × (run v n x ≡ y)

@@ -1,4 +1,4 @@
--- A type whose names are looked up, as a list of cells: what stands inside a cell comes before it, and the cell says how many trees that is.
+-- A type whose names are looked up, as a list of cells. The parts of a cell come before it, and the cell says how many they are.
 use Rattle.std.specs.Prelude.{ℕ, suc, ◌+◌, Bool, List, [], ◌∷◌, length, Option, Some, None, if◌then◌else◌}
 use Rattle.std.specs.Str.{bytes_eq}
 use Rattle.type_terms.specs.Label.{Label, Sort, of_type, of_const, never, array, slice, tuple, dynamic, fn_ptr, auto_trait, value, raw_pointer, principal}
@@ -8,13 +8,14 @@ use Rattle.text_definitions.specs.Uses.{next_kind, other_kinds, kinds_of_struct,
 use Rattle.text_definitions.specs.Faults.{is_among, is_auto_name, static_name}
 use Rattle.text_definitions.specs.Lowering.{place_among, trait_number, struct_label, with_auto, autos}
 
--- a lifetime: of a parameter by its place among the line's lifetimes, of a binder by how many binders further out it is and its place there
+-- A lifetime: a parameter by its index among the line's lifetimes, or one of a binder by how many binders further out it is and its index
+-- there.
 pub data Region : Type 0 where
   static_region : Region
   param_region : (place : ℕ) → Region
   bound_region : (binder place : ℕ) → Region
 
--- A parameter goes by its place among those of its sort, a variable by its name: what number it has is said by the whole line.
+-- A parameter goes by its index among those of its kind, and a variable by its name. Its number depends on the whole line.
 pub data ResolvedCell : Type 0 where
   node_cell : Label → (inside : ℕ) → ResolvedCell
   param_cell : Sort → (place inside : ℕ) → ResolvedCell
@@ -24,7 +25,7 @@ pub data ResolvedCell : Type 0 where
   reference_cell : Region → (is_mut : Bool) → ResolvedCell
 
 -- ---- lifetimes
--- a lifetime under binders, of which the first is k further out
+-- A lifetime under binders, of which the first is k further out.
 abbrev pub region_under : Params → ℕ → List (List (List ℕ)) → List ℕ → Region
 region_under ps k [] n = param_region (place_among n ps.lifetimes)
 region_under ps k (b ∷ s) n = if is_among n b then bound_region k (place_among n b) else region_under ps (suc k) s n
@@ -38,11 +39,11 @@ optional_region ps s None = static_region
 optional_region ps s (Some n) = region_of ps s n
 
 -- ---- names
--- a name where a type stands, over so many arguments
+-- A name where a type is expected, with this many arguments.
 abbrev pub named_cell : Declarations → Params → List ℕ → ℕ → ResolvedCell
 named_cell d ps n k = if is_among n ps.types then param_cell of_type (place_among n ps.types) k else node_cell (struct_label (known d n)) k
 
--- a name where a const stands
+-- A name where a constant is expected.
 abbrev pub const_cell : Params → List ℕ → ResolvedCell
 const_cell ps n = param_cell of_const (place_among n ps.consts) 0
 
@@ -72,13 +73,13 @@ abbrev pub last_region : Params → List (List (List ℕ)) → Item → Items �
 last_region ps s i no_items = item_region ps s i
 last_region ps s i (and_item j is) = last_region ps s j is
 
--- what stands inside a `dyn`, its principal aside, and itself
+-- The cells of a `dyn` after its principal trait, with its own.
 abbrev pub dyn_before : Region → List ℕ → ℕ → List ResolvedCell → List ResolvedCell
 dyn_before r ns k cs = autos_before ns (lifetime_cell r ∷ node_cell dynamic (k + (length ns + 1)) ∷ cs)
 
--- ---- the cells of a type, and then those behind it; d is what is known on the line, ps are its parameters, s the binders around
+-- ---- the cells of a type, and then those after it; d is what the line knows, ps are its parameters, s the binders around
 abbrev mutual
-  -- at a place of kind p
+  -- in a position of kind p
   pub type_before : Declarations → Params → List (List (List ℕ)) → Sort → TypeTree → List ResolvedCell → List ResolvedCell
   type_before d ps s p (of_primitive l) cs = node_cell l 0 ∷ cs
   type_before d ps s p never_type cs = node_cell never 0 ∷ cs
@@ -109,7 +110,7 @@ abbrev mutual
   arg_before d ps s p (number_arg n) cs = node_cell (value n) 0 ∷ cs
   arg_before d ps s p (type_arg t) cs = type_before d ps s p t cs
 
-  -- the principal, if the item is it
+  -- the principal trait, if the item is it
   pub item_before : Declarations → Params → List (List (List ℕ)) → Item → List ResolvedCell → List ResolvedCell
   item_before d ps s (bound_item b n args) cs =
       if is_auto_name d n then cs else args_before d ps (b ∷ s) (kinds_of_trait (known d n)) args (node_cell (principal (length b) (trait_number (known d n))) (args_count args) ∷ cs)

@@ -30,7 +30,7 @@ type_found v t = record {
   cells = type_before (items v) (params v) [] of_type t [];
 }
 
--- and of a bound; the cells are those of its arguments
+-- What the definitions say of a bound. The cells are those of its arguments.
 abbrev pub bound_found : Sight → Bound → Found
 bound_found v b = record {
   faults = findings v (bound_uses (items v) b);
@@ -42,11 +42,11 @@ bound_found v b = record {
 abbrev pub found_in : Resolved → Found
 found_in r = record { faults = r.faults; variables = map variable_in r.variables.items; is_deep = r.is_deep; cells = map resolved_in r.cells.items }
 
--- Whichever type stands last among the cells, this was found of it.
+-- Whichever type is the last among the cells, this was found of it.
 abbrev pub ResolvesType : Sight → List Cell → Resolved → Type 0
 ResolvesType v cells r = (t : TypeTree) (before : List Cell) → cells ≡ type_onto t before → found_in r ≡ type_found v t
 
--- Whichever bound stands last among the cells, as the type of its name and arguments, this was found of it.
+-- Whichever bound is the last among the cells, as the type of its name and arguments, this was found of it.
 abbrev pub ResolvesBound : Sight → List Cell → ResolvedBound → Type 0
 ResolvesBound v cells r =
     (b : Bound) (before : List Cell) → cells ≡ type_onto (named b.trait b.args) before → (found_in r.resolved ≡ bound_found v b) × (r.trait_number ≡ trait_number (known (items v) b.trait))

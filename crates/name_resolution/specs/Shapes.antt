@@ -1,4 +1,4 @@
--- The items of a `dyn`, summed up from the last on.
+-- A summary of the items of a `dyn`, made from the last one on.
 use Rattle.std.specs.Prelude.{ℕ, suc, Bool, true, false, ◌==◌, not, ◌||◌, List, [], ◌∷◌, if◌then◌else◌}
 use Rattle.text_definitions.specs.Declarations.{Declarations, known}
 use Rattle.text_definitions.specs.Faults.{is_auto_name}
@@ -12,7 +12,7 @@ pub record Summary : Type 0 where
   pub bounds : ℕ
   -- those that aren't auto traits
   pub principals : ℕ
-  -- one of them isn't an auto trait; one behind the first isn't
+  -- one of them is no auto trait; one after the first is none
   pub has_principal : Bool
   pub has_late : Bool
   pub binds_auto : Bool
@@ -27,7 +27,7 @@ no_items = record { is_empty = true; bounds = 0; principals = 0; has_principal =
 abbrev pub with_lifetime : Summary → Summary
 with_lifetime x = record x { is_empty = false; has_late = x.has_principal; has_early_lifetime = not x.is_empty }
 
--- with an auto trait of this number before them, which may have a binder
+-- With an auto trait of this number before them, which may have a binder.
 abbrev pub with_auto_trait : Bool → ℕ → Summary → Summary
 with_auto_trait b n x = record x { is_empty = false; bounds = suc x.bounds; has_late = x.has_principal; binds_auto = b || x.binds_auto; autos = inserted n x.autos }
 
@@ -43,10 +43,10 @@ abbrev pub summary : Declarations → List ItemShape → Summary
 summary d [] = no_items
 summary d (i ∷ is) = with_shape d i (summary d is)
 
--- they don't fit one another
+-- They do not fit one another.
 abbrev pub is_bad : Summary → Bool
 is_bad x = (x.bounds == 0) || (x.has_late || (x.binds_auto || x.has_early_lifetime))
 
--- the lifetime and the auto traits of a `dyn` over so many types, consts and lifetimes
+-- The lifetime and the auto traits of a `dyn` with this many types, constants and lifetimes.
 abbrev pub dyn_cells : Region → List ℕ → ℕ → List ResolvedCell → List ResolvedCell
 dyn_cells r ns k cs = autos_before ns (lifetime_cell r ∷ node_cell dynamic k ∷ cs)

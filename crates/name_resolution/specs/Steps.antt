@@ -1,4 +1,4 @@
--- What the methods did.
+-- What the methods do.
 use Rattle.std.specs.Prelude.{◌≡◌, ℕ, List, [], ◌∷◌, Option, Some, None}
 use Rattle.std.specs.Borrow.{Bor}
 use Rattle.line_reader.specs.Cells as cell
@@ -6,12 +6,12 @@ use Rattle.line_reader.specs.TypeViews.{cell_of}
 use Rattle.line_reader.specs.declared.cell.Cell.{Cell}
 use Rattle.name_resolution.specs.Back.{begins, down_to}
 
--- the last cell was taken with what stands inside it
+-- The last cell was taken, with what is inside it.
 abbrev pub TakesPart : Option Cell → List cell.Cell → List cell.Cell → Type 0
 TakesPart None old new = old ≡ []
 TakesPart (Some c) old new = (body : List cell.Cell) × (old ≡ cell_of c ∷ body) × (new ≡ down_to (begins old) body)
 
--- a name was taken, or none stands last
+-- A name was taken, or the last cell is none.
 abbrev pub TakesNamed : Option (Bor (List ℕ) × ℕ) → List cell.Cell → List cell.Cell → Type 0
 TakesNamed None old new = (n : List ℕ) (start : ℕ) (body : List cell.Cell) → old ≡ cell.named_cell n start ∷ body → ⊥
 TakesNamed (Some (n, start)) old new = old ≡ cell.named_cell n.now start ∷ new

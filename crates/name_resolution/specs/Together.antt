@@ -11,6 +11,6 @@ FindingsTogether = (v : Sight) (us ws : List Use) → findings v (us ++ ws) ≡ 
 abbrev pub VariablesTogether : Type 0
 VariablesTogether = (us ws : List Use) → variables_in (us ++ ws) ≡ variables_in us ++ variables_in ws
 
--- nothing is wrong where nothing is used
+-- Nothing is wrong if nothing is used.
 abbrev pub NothingFound : Type 0
 NothingFound = (v : Sight) → findings v [] ≡ nothing_found.faults

@@ -1,4 +1,4 @@
--- The names that stand in types where a type or a const has to stand.
+-- The names that occur in types where a type or a constant is expected.
 use Rattle.std.specs.Prelude.{◌≡◌, ℕ, ◌||◌, List, [], ◌∷◌, ◌++◌, length, drop}
 use Rattle.std.specs.Borrow.{Bor}
 use Rattle.std.specs.List.{list_any}
@@ -17,7 +17,7 @@ name_of (named_cell n start) = n ∷ []
 name_of (array_cell (name_length n)) = n ∷ []
 name_of _ = []
 
--- with those in these cells
+-- The names with those in these cells.
 abbrev pub names_with : List Cell → List (List ℕ) → List (List ℕ)
 names_with [] ns = ns
 names_with (c ∷ cs) ns = names_with cs (name_of c ++ ns)
@@ -26,7 +26,7 @@ names_with (c ∷ cs) ns = names_with cs (name_of c ++ ns)
 abbrev pub Holds : NameSet → List (List ℕ) → Type 0
 Holds u ns = (n : Bor (List ℕ)) → contains (λ a b. bytes_eq a.now b.now) u.names n ≡ is_among n.now ns
 
--- The names in the cells of a type are those that it uses where a type or a const has to stand.
+-- The names in the cells of a type are those that it uses where a type or a constant is expected.
 abbrev pub TypesUseNames : Type 0
 TypesUseNames =
     (d : Declarations) (s : List (List (List ℕ))) (p : Sort) (t : TypeTree) (o : List Cell) (n : List ℕ) (ns : List (List ℕ))

@@ -47,7 +47,7 @@ resolved_in (cells.Reference r m) = resolved.reference_cell (region_in r) m
 abbrev pub variable_in : Variable → List ℕ × label.Sort
 variable_in v = (v.name.now, sort_of_kind v.sort)
 
--- what was put down last comes first
+-- What was stored last comes first.
 abbrev pub resolved_onto : List ResolvedCell → List resolved.ResolvedCell → List resolved.ResolvedCell
 resolved_onto [] cs = cs
 resolved_onto (x ∷ xs) cs = resolved_onto xs (resolved_in x ∷ cs)
@@ -56,7 +56,7 @@ abbrev pub variables_onto : List Variable → List (List ℕ × label.Sort) → 
 variables_onto [] vs = vs
 variables_onto (x ∷ xs) vs = variables_onto xs (variable_in x ∷ vs)
 
--- the cells before this place, the last of them first
+-- The cells before this index, the last of them first.
 abbrev pub cells_before : List Cell → ℕ → List cell.Cell
 cells_before cs at = reverse (take at (cells_in cs))
 

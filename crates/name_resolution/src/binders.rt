@@ -1,4 +1,4 @@
-//! The binders around a place.
+//! The binders around a position.
 ghost use Rattle.std.specs.Prelude.{◌≡◌, [], ◌∷◌, map, true, OnOk};
 ghost use Rattle.line_reader.specs.TokenViews.{text_of};
 ghost use Rattle.name_resolution.specs.LookUps.{place_in};
@@ -6,7 +6,7 @@ ghost use Rattle.name_resolution.specs.LookUps.{place_in};
 use std::alloc::{AllocError, Global};
 use std::marker::Model;
 
-/// The place of a name among others.
+/// The index of a name in a list.
 pub(crate) fn place_in(names: &[&[u8]], name: &[u8]) -> Option<usize>
     ensures { result ≡ place_in name.now (map text_of names.now) }
 {
@@ -18,7 +18,7 @@ pub(crate) fn place_in(names: &[&[u8]], name: &[u8]) -> Option<usize>
     None
 }
 
-/// The binders around a place, each with the names of its lifetimes. Contracts see the innermost first.
+/// The binders around a position, each with the names of its lifetimes. In contracts the innermost comes first.
 #[derive(Drop)]
 pub(crate) struct Binders<'a> {
     binders: Vec<Vec<&'a [u8]>>,
@@ -37,7 +37,7 @@ impl<'a> Binders<'a> {
     ghost use Rattle.name_resolution.specs.Machine.{outer_scope};
     ghost use Rattle.name_resolution.specs.LookUps.{scope_place};
 
-    /// At the outside of a line: no `for<..>` is around.
+    /// The outermost position of a line: no `for<...>` is around it.
     pub fn new(alloc: Global) -> Self
         ensures { result ≡ [] }
     {
@@ -46,7 +46,7 @@ impl<'a> Binders<'a> {
         }
     }
 
-    /// Goes into a binder of these names.
+    /// Enters a binder with these names.
     pub fn enter(&mut self, names: Vec<&'a [u8]>) -> Result<(), AllocError>
         ensures { OnOk result (self.new ≡ map text_of names.entry.items ∷ self.old) }
     {
@@ -54,14 +54,14 @@ impl<'a> Binders<'a> {
         Ok(())
     }
 
-    /// Goes out of the innermost binder.
+    /// Leaves the innermost binder.
     pub fn leave(&mut self)
         ensures { self.new ≡ outer_scope true self.old }
     {
         let _ = self.binders.pop();
     }
 
-    /// How many binders further out the name is bound, and its place there; none where no binder has it.
+    /// How many binders further out the name is bound, and its index there. `None` if no binder has it.
     pub fn find(&self, name: &[u8]) -> Option<(usize, usize)>
         ensures { result ≡ scope_place 0 self.now name.now }
     {

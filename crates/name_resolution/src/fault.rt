@@ -1,39 +1,39 @@
-//! Which fault a line has.
+//! The faults of a line.
 
-/// What is wrong with a line. Each kind has a number, by which the answer names it.
+/// What is wrong with a line. Each kind has a number, which the answer prints. `docs/FORMAT.md` has the list.
 #[derive(Clone, Copy, Debug, PartialEq, Eq)]
 pub enum FaultKind {
-    /// A byte of 128 or more stands in it.
+    /// It holds a byte of 128 or more.
     OtherByte,
     /// It is not a line of the grammar.
     Syntax,
-    /// A struct, trait or impl before any crate.
+    /// A struct, trait or impl before any crate, or a struct or trait in a section.
     Misplaced,
     /// The declared name is taken, or that of a parameter or of a binder.
     Taken,
-    /// A name or a lifetime is not known.
+    /// A name or a lifetime is not declared.
     Unknown,
-    /// A used struct or trait is not seen by the crate.
+    /// The crate does not see a struct or trait that the line uses.
     Hidden,
-    /// A name stands for something of another kind than its place needs, or has arguments of wrong number or kind.
+    /// A name of another kind than its position needs, or arguments of the wrong number or kind.
     OtherSort,
-    /// A type or const parameter of an impl is not in its header.
+    /// A type or constant parameter of an impl is not in its header.
     FreeParam,
     /// The bounds of a trait use its own name.
     OwnBound,
     /// An auto trait has parameters or bounds.
     LoadedAuto,
-    /// An impl of an auto trait, whose self type is no struct of the impl's crate.
+    /// An impl of an auto trait whose self type is no struct of the impl's crate.
     ForeignAuto,
     /// An impl of a trait that has built-in rules alone.
     BuiltIn,
-    /// A variable outside what a question asks, or of two kinds.
+    /// A variable outside the bound of a query, or of two kinds.
     StrayVariable,
-    /// A `refute` has parameters.
+    /// A `refute` line has parameters.
     RefutesParams,
-    /// The items of a `dyn` don't fit one another.
+    /// The items of a `dyn` do not fit one another.
     BadDyn,
-    /// A limit is passed.
+    /// A limit is exceeded.
     Limit,
 }
 
@@ -41,7 +41,7 @@ impl FaultKind {
     ghost use Rattle.std.specs.Prelude.{◌≡◌};
     ghost use Rattle.name_resolution.specs.FaultNumbers.{fault_number};
 
-    /// The number by which the answer names it.
+    /// The number that the answer prints, from 1 to 16.
     pub fn number(self) -> u8
         ensures { result ≡ fault_number self }
     {
@@ -66,7 +66,7 @@ impl FaultKind {
     }
 }
 
-/// Which tests a line fails.
+/// The tests of a line, and which of them fail.
 #[derive(Clone, Copy)]
 pub(crate) struct Tests {
     pub is_misplaced: bool,
@@ -91,7 +91,7 @@ impl Tests {
     ghost use Rattle.text_definitions.specs.Faults.{first_of};
     ghost use Rattle.name_resolution.specs.FaultNumbers.{fault_number, numbered};
 
-    /// The kind with the smallest number among the tests that the line fails; none where it fails none.
+    /// The kind with the smallest number among the tests that the line fails. `None` if it fails none.
     pub fn first(&self) -> Option<FaultKind>
         ensures { option_map fault_number result ≡ first_of (numbered self.now) }
     {

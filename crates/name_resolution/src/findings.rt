@@ -1,22 +1,22 @@
 //! What is wrong with what a line uses.
 ghost use Rattle.std.specs.Prelude.{◌≡◌};
 
-/// What is wrong with what a line uses, one flag for each test over the uses.
+/// What is wrong with what a line uses, one flag for each test of the uses.
 #[derive(Clone, Copy)]
 pub struct Findings {
     /// A binder's name is taken.
     pub takes_names: bool,
-    /// A name or a lifetime isn't known.
+    /// A name or a lifetime is not declared.
     pub uses_unknown: bool,
-    /// A known struct or trait isn't seen by the crate.
+    /// The crate does not see a declared struct or trait.
     pub uses_hidden: bool,
-    /// A known name is of another sort than is needed, or arguments are of wrong number or kind.
+    /// A declared name is of another kind than is needed, or arguments have the wrong number or kind.
     pub uses_other_sort: bool,
     /// The name that the line declares is used.
     pub uses_own: bool,
-    /// The items of a `dyn` don't fit one another.
+    /// The items of a `dyn` do not fit one another.
     pub has_bad_dyn: bool,
-    /// A limit on what is used is passed.
+    /// A limit on what is used is exceeded.
     pub passes_limit: bool,
 }
 

@@ -1,4 +1,4 @@
-//! What is found, as the cells of a type are gone over from the last to the first.
+//! What is found while the cells of a type are visited from the last to the first.
 ghost use Rattle.std.specs.Prelude.{◌≡◌, ◌∷◌, ◌++◌, [], ◌||◌, false, OnOk, IfOk};
 ghost use Rattle.text_definitions.specs.Uses.{length_uses};
 ghost use Rattle.text_definitions.specs.Faults.{variables_in};
@@ -15,7 +15,7 @@ use std::alloc::{AllocError, Global};
 use std::marker::Model;
 use workspace::ParamKind;
 
-/// What is found so far. What was met last comes first: the variables and the resolved cells are turned round at the end.
+/// What is found so far. What was met last comes first. The variables and the resolved cells are reversed at the end.
 pub(crate) struct Found<'a> {
     faults: Findings,
     variables: Vec<Variable<'a>>,
@@ -23,7 +23,7 @@ pub(crate) struct Found<'a> {
     cells: Vec<ResolvedCell<'a>>,
 }
 
-// Written, so that what owns one drops it by one call at each way out, and not field by field.
+// Hand-written so that the prover sees one drop call: docs/PROVING.md#drop.
 impl Drop for Found<'_> {
     fn drop(self) {
         let Found {
@@ -62,7 +62,7 @@ impl<'a> Found<'a> {
         }
     }
 
-    /// All of it in the order of the text.
+    /// All of it, in the order of the text.
     pub fn finish(self) -> Resolved<'a>
         ensures { found_in result ≡ self.entry }
     {
@@ -82,14 +82,14 @@ impl<'a> Found<'a> {
         }
     }
 
-    /// Something more is wrong.
+    /// Notes that something more is wrong.
     pub fn note(&mut self, faults: Findings)
         ensures { self.new ≡ noting faults self.old }
     {
         self.faults = faults.either(self.faults);
     }
 
-    /// A variable before those that were met.
+    /// Notes a variable that comes before those that were met.
     pub fn note_variable(&mut self, name: &'a [u8], sort: ParamKind) -> Result<(), AllocError>
         ensures { OnOk result (self.new ≡ record self.old { variables = (name.now, sort_of_kind sort) ∷ self.old.variables }) }
     {
@@ -97,7 +97,7 @@ impl<'a> Found<'a> {
         Ok(())
     }
 
-    /// The variable that is the length of an array, if it is one.
+    /// Notes the variable that is the length of an array, if the length is one.
     pub fn note_length(&mut self, length: Length<'a>) -> Result<(), AllocError>
         ensures { OnOk result (self.new ≡ record self.old { variables = variables_in (length_uses (length_of length.entry)) ++ self.old.variables }) }
     {
@@ -107,7 +107,7 @@ impl<'a> Found<'a> {
         Ok(())
     }
 
-    /// A cell before those that were met, unless it is dropped.
+    /// Stores a cell that comes before those that were met, unless it is not wanted.
     pub fn keep(&mut self, is_kept: bool, cell: ResolvedCell<'a>) -> Result<(), AllocError>
         ensures { OnOk result (self.new ≡ keeping is_kept (λ cs. resolved_in cell.entry ∷ cs) self.old) }
     {
@@ -117,7 +117,7 @@ impl<'a> Found<'a> {
         Ok(())
     }
 
-    /// A type where there is room for so many around each other.
+    /// Notes a type where this many more types may be nested.
     pub fn deepen(&mut self, room: Option<usize>)
         ensures { self.new ≡ deepening room self.old }
     {
@@ -126,7 +126,7 @@ impl<'a> Found<'a> {
         }
     }
 
-    /// A type with its cell and what is wrong with it, before what was met.
+    /// Adds a type with its cell and what is wrong with it, before those that were met.
     pub fn add(
         &mut self,
         place: Place,

@@ -1,4 +1,4 @@
-//! The variables of a question.
+//! The variables of a query.
 ghost use Rattle.std.specs.Prelude.{◌≡◌, map, IfOk};
 ghost use Rattle.text_definitions.specs.Faults.{once};
 ghost use Rattle.name_resolution.specs.Views.{variable_in};
@@ -7,9 +7,9 @@ use crate::name_set::NameSet;
 use crate::resolved::Variable;
 use std::alloc::{AllocError, Global};
 
-/// Each variable once, by its first place.
+/// Each variable once, in the order of first occurrence.
 ///
-/// The error says that a request for memory was refused.
+/// Fails only if memory is refused.
 pub fn each_once<'a>(
     alloc: Global,
     variables: &[Variable<'a>],

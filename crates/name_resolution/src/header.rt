@@ -1,4 +1,4 @@
-//! Faults of an impl's header.
+//! Faults of an impl's header: a parameter that is not in it, an auto trait for a foreign type, and a trait with built-in rules alone.
 ghost use Rattle.std.specs.Prelude.{◌≡◌, ◌-◌, ◌&&◌, ℕ, List, [], false, not, map, take, drop, IfOk};
 ghost use Rattle.std.specs.List.{list_any};
 ghost use Rattle.std.specs.Option.{option_copied, option_map, option_map_or};
@@ -36,7 +36,7 @@ fn impl_header(statement: &Statement<'_>) -> Option<ClauseSpans>
     }
 }
 
-/// The name of a cell, if it is one where a type stands.
+/// The name of a cell, if it is a name where a type is expected.
 fn cell_name<'a>(cell: Option<&Cell<'a>>) -> Option<&'a [u8]>
     ensures { option_map text_of result ≡ name_of (option_map cell_of (option_copied cell.entry)) }
 {
@@ -46,14 +46,14 @@ fn cell_name<'a>(cell: Option<&Cell<'a>>) -> Option<&'a [u8]>
     }
 }
 
-/// The name of the type or bound that ends at this place, if it is a name with or without arguments.
+/// The name of the type or bound that ends at this index, if it is a name, with or without arguments.
 fn last_name<'a>(cells: &[Cell<'a>], end: usize) -> Option<&'a [u8]>
     ensures { option_map text_of result ≡ last_name (take end (cells_in cells.now)) }
 {
     cell_name(cells_to(cells, end).last())
 }
 
-/// Whether a name is an auto trait's.
+/// Whether this is the name of an auto trait.
 fn is_auto<N: Names>(names: &N, name: &[u8]) -> bool
     ensures { result ≡ is_auto_name (items (N.sight names.now)) name.now }
 {
@@ -63,7 +63,7 @@ fn is_auto<N: Names>(names: &N, name: &[u8]) -> bool
     }
 }
 
-/// Whether a name is that of a trait that has built-in rules alone.
+/// Whether this is the name of a trait that has built-in rules alone.
 fn is_built_in<N: Names>(names: &N, name: &[u8]) -> bool
     ensures { result ≡ option_map_or is_built_in (known (items (N.sight names.now)) name.now) false }
 {
@@ -73,7 +73,7 @@ fn is_built_in<N: Names>(names: &N, name: &[u8]) -> bool
     }
 }
 
-/// Whether a name that is known is that of a struct of the crate to which the impl belongs.
+/// Whether a declared name is that of a struct of the impl's crate.
 fn is_struct_of_crate<N: LineNames>(names: &N, name: &[u8]) -> bool
     ensures { result ≡ option_map_or (is_struct_in (impl_owner (N.sight names.now).before)) (known (items (N.sight names.now)) name.now) false }
 {
@@ -83,7 +83,7 @@ fn is_struct_of_crate<N: LineNames>(names: &N, name: &[u8]) -> bool
     }
 }
 
-/// Whether a name is that of a struct of the impl's crate, and no parameter.
+/// Whether this is the name of a struct of the impl's crate, and of no parameter.
 fn names_own_struct<N: LineNames>(names: &N, name: &[u8]) -> bool
     ensures { result ≡ names_own_struct (N.sight names.now) name.now }
 {
@@ -117,14 +117,14 @@ fn is_own_struct<N: LineNames>(names: &N, name: Option<&[u8]>) -> bool
     }
 }
 
-/// Whether this is an auto trait, and that no struct of the impl's crate.
+/// Whether the trait is an auto trait, and the subject no struct of the impl's crate.
 fn is_foreign<N: LineNames>(names: &N, name: Option<&[u8]>, subject: Option<&[u8]>) -> bool
     ensures { result ≡ names_foreign_auto (N.sight names.now) (option_map text_of name.entry) (option_map text_of subject.entry) }
 {
     is_auto_trait(names, name) && !is_own_struct(names, subject)
 }
 
-/// Whether the line is an impl of an auto trait whose self type isn't a struct of its crate.
+/// Whether the line is an impl of an auto trait whose self type is no struct of its crate.
 pub(crate) fn is_foreign_auto<N: LineNames>(names: &N, read: &LineRead<'_>) -> bool
     requires { Speaks (N.sight names.now).line (statement_of read.now.statement) }
     ensures { (l : Line) → ReadsLine l read.now → result ≡ is_foreign_auto (N.sight names.now).before l }
@@ -150,7 +150,7 @@ pub(crate) fn implements_built_in<N: Names>(names: &N, read: &LineRead<'_>) -> b
     }
 }
 
-/// The cells from one place to another.
+/// The cells from one index to another.
 fn cells_between<'c, 'a>(cells: &'c [Cell<'a>], start: usize, end: usize) -> &'c [Cell<'a>]
     ensures { cells_in result.now ≡ drop start (take end (cells_in cells.now)) }
 {
@@ -158,7 +158,7 @@ fn cells_between<'c, 'a>(cells: &'c [Cell<'a>], start: usize, end: usize) -> &'c
     &front[start.min(front.len())..]
 }
 
-/// The names that a header uses where a type or a const has to stand.
+/// The names that a header uses where a type or a constant is expected.
 fn header_names<'a>(
     alloc: Global,
     cells: &[Cell<'a>],
@@ -173,7 +173,7 @@ fn header_names<'a>(
     Ok(used)
 }
 
-/// Whether one of the names isn't used.
+/// Whether one of the names is not used.
 fn any_unused(used: &NameSet<'_>, params: &[&[u8]]) -> bool
     ensures { (ns : List (List ℕ)) → Holds used.now ns → result ≡ list_any (λ n. not (is_among n ns)) (map text_of params.now) }
 {
@@ -185,8 +185,8 @@ fn any_unused(used: &NameSet<'_>, params: &[&[u8]]) -> bool
     false
 }
 
-/// Whether the line is an impl with a type or const parameter that isn't in its header. The error says that a request for memory was
-/// refused.
+/// Whether the line is an impl with a type or constant parameter that is not in its header, as in `impl<T> Show for u8`. Fails only if
+/// memory is refused.
 pub(crate) fn has_free_param(alloc: Global, read: &LineRead<'_>) -> Result<bool, AllocError>
     ensures { IfOk result (λ b. (d : Declarations) (l : Line) → ReadsLine l read.now → b ≡ has_free_param d l) }
 {

@@ -18,7 +18,7 @@ use crate::resolved::{NodeLabel, ResolvedCell};
 use line_reader::Length;
 use workspace::{Known, ParamKind};
 
-/// The place of a name among the line's parameters of this sort, or their number where it is none of them.
+/// The index of a name among the line's parameters of this kind. If it is none of them, their number.
 fn place_among<N: Names>(names: &N, sort: ParamKind, name: &[u8]) -> usize
     ensures { result ≡ place_among name.now (params_of_sort (params (N.sight names.now)) (sort_of_kind sort)) }
 {
@@ -28,7 +28,7 @@ fn place_among<N: Names>(names: &N, sort: ParamKind, name: &[u8]) -> usize
     }
 }
 
-/// A name where a const stands.
+/// The cell of a name where a constant is expected.
 fn const_cell<'a, N: Names>(names: &N, name: &[u8]) -> ResolvedCell<'a>
     ensures { resolved_in result ≡ const_cell (params (N.sight names.now)) name.now }
 {
@@ -39,7 +39,7 @@ fn const_cell<'a, N: Names>(names: &N, name: &[u8]) -> ResolvedCell<'a>
     }
 }
 
-/// The length of an array.
+/// The cell of the length of an array.
 pub(crate) fn length_cell<'a, N: Names>(names: &N, length: Length<'a>) -> ResolvedCell<'a>
     ensures { resolved_in result ≡ length_cell (params (N.sight names.now)) (length_of length.entry) }
 {
@@ -56,7 +56,7 @@ pub(crate) fn length_cell<'a, N: Names>(names: &N, length: Length<'a>) -> Resolv
     }
 }
 
-/// A struct; nothing else has values.
+/// The label of a struct. Nothing else has values.
 fn struct_label<'a>(meaning: Option<Known<'_>>) -> NodeLabel<'a>
     ensures { label_in result ≡ struct_label (option_map known_of meaning.entry) }
 {
@@ -66,7 +66,7 @@ fn struct_label<'a>(meaning: Option<Known<'_>>) -> NodeLabel<'a>
     }
 }
 
-/// A name where a type stands, over so many arguments.
+/// The cell of a name where a type is expected, with this many arguments.
 fn type_cell<'a, N: Names>(
     names: &N,
     name: &[u8],
@@ -89,7 +89,7 @@ fn type_cell<'a, N: Names>(
     }
 }
 
-/// A name over so many arguments, at a place of this sort.
+/// The cell of a name with this many arguments, in a position of this kind.
 pub(crate) fn named_cell<'a, N: Names>(
     names: &N,
     sort: ParamKind,
@@ -107,7 +107,7 @@ pub(crate) fn named_cell<'a, N: Names>(
     }
 }
 
-/// The kinds of the parameters of the struct that a name stands for; none where it stands for something else.
+/// The kinds of the parameters of the struct with this name. Empty if the name stands for something else.
 pub(crate) fn struct_kinds(meaning: Option<Known<'_>>) -> &[ParamKind]
     ensures { sorts_of result.now ≡ kinds_of_struct (option_map known_of meaning.entry) }
 {
@@ -117,7 +117,7 @@ pub(crate) fn struct_kinds(meaning: Option<Known<'_>>) -> &[ParamKind]
     }
 }
 
-/// The kinds of the parameters, Self apart, of the trait that a name stands for; none where it stands for something else.
+/// The kinds of the parameters of the trait with this name, without Self. Empty if the name stands for something else.
 pub(crate) fn trait_kinds(meaning: Option<Known<'_>>) -> &[ParamKind]
     ensures { sorts_of result.now ≡ kinds_of_trait (option_map known_of meaning.entry) }
 {
@@ -127,7 +127,7 @@ pub(crate) fn trait_kinds(meaning: Option<Known<'_>>) -> &[ParamKind]
     }
 }
 
-/// The number of the trait that a name stands for; 0 where it stands for something else, which no faultless line shows.
+/// The number of the trait with this name. If the name stands for something else, it is 0, and the line has a fault.
 pub(crate) fn trait_number(meaning: Option<Known<'_>>) -> usize
     ensures { result ≡ trait_number (option_map known_of meaning.entry) }
 {
@@ -137,7 +137,7 @@ pub(crate) fn trait_number(meaning: Option<Known<'_>>) -> usize
     }
 }
 
-/// Whether a name is an auto trait's.
+/// Whether this is the name of an auto trait.
 #[tactic(auto, using(crate::proofs::Meanings::auto_by))]
 pub(crate) fn is_auto<N: Names>(names: &N, name: &[u8], meaning: Option<Known<'_>>) -> bool
     requires { option_map known_of meaning ≡ known (items (N.sight names.now)) name.now }

@@ -1,4 +1,5 @@
-//! The fault of a line that was read, and what was found of a line without one.
+//! The fault of a line that was read, or what was found of a line without one. All tests are computed, and then the first that fails is
+//! looked for. So no test has to know what was tested before.
 ghost use Rattle.std.specs.Prelude.{◌≡◌, ◌||◌, ◌&&◌, false, map, is_some, length, nat_le, IfOk};
 ghost use Rattle.std.specs.Option.{option_map, option_map_or};
 ghost use Rattle.text_definitions.specs.Syntax.{Line};
@@ -30,13 +31,13 @@ use std::alloc::{AllocError, Global};
 /// A line that was judged.
 #[derive(Drop)]
 pub enum JudgedLine<'a> {
-    /// Of all faults that apply the one with the smallest number.
+    /// Of all faults that apply, the one with the smallest number.
     Faulty(FaultKind),
     /// No fault applies, and this was found of the line.
     Faultless(LineFound<'a>),
 }
 
-/// Whether a struct or trait stands in a section of a later version, or a struct, trait or impl outside one before any crate but `core`.
+/// Whether the line is misplaced: a struct or trait in a section, or a struct, trait or impl outside a section before any crate but `core`.
 fn is_misplaced<N: LineNames>(names: &N, statement: &Statement<'_>) -> bool
     ensures { result ≡ is_misplaced_for (N.sight names.now).before (statement_of statement.now) }
 {
@@ -46,7 +47,7 @@ fn is_misplaced<N: LineNames>(names: &N, statement: &Statement<'_>) -> bool
     statement.belongs_to_crate() && names.crate_count() <= 1
 }
 
-/// Whether the name that the line declares was known before it.
+/// Whether the name that the line declares was declared before.
 fn declares_taken<N: LineNames>(names: &N, statement: &Statement<'_>) -> bool
     ensures { result ≡ option_map_or (λ n. is_some (known (N.sight names.now).before n)) (name_said (statement_of statement.now)) false }
 {
@@ -79,7 +80,7 @@ fn is_trait(statement: &Statement<'_>) -> bool
     }
 }
 
-/// Whether there is a variable outside what a question asks, or one of two kinds.
+/// Whether there is a variable outside the bound of a query, or one of two kinds.
 fn has_stray_variable(alloc: Global, found: &LineFound<'_>) -> Result<bool, AllocError>
     ensures { IfOk result (λ b. b ≡ (is_any (map variable_in found.now.others.variables.items)
         || have_two_kinds (map variable_in found.now.asked.variables.items))) }
@@ -123,7 +124,7 @@ fn tests_of<N: LineNames>(
     })
 }
 
-/// A line that fails these tests, and of which this was found.
+/// The judged line, with these tests and what was found of it.
 fn judged_by(tests: Tests, found: LineFound<'_>) -> JudgedLine<'_>
     ensures fault { option_map fault_number (fault_in result) ≡ first_of (numbered tests) }
     ensures found { (v : Sight) (read : LineRead) → FindsLine v read found.entry → HandsOn v read result }
@@ -134,11 +135,11 @@ fn judged_by(tests: Tests, found: LineFound<'_>) -> JudgedLine<'_>
     }
 }
 
-/// What is wrong with a line that was read: of all faults that apply, the one with the smallest number. Of a line without a fault the
-/// answer is what was found of it, its types and bounds with all names looked up. The names are those of the line: they know what is
-/// declared before it, and its own name and parameters.
+/// The fault of a line that was read: of all faults that apply, the one with the smallest number. For a line without a fault, what was
+/// found of it: its types and bounds with all names looked up. Each name is looked up once.
 ///
-/// The error says that a request for memory was refused.
+/// The names must be those of the line: they know what is declared before it, and its own name and parameters. Fails only if memory is
+/// refused.
 pub fn judge_line<'a, N: LineNames>(
     names: &N,
     alloc: Global,

@@ -25,13 +25,13 @@ use std::alloc::{AllocError, Global};
 use type_terms::CrateId;
 use workspace::{Known, ParamKind};
 
-/// Bytes that a name may have.
+/// How many bytes a name may have.
 const NAME_LIMIT: usize = 64;
 
-/// Items that a tuple or the inputs of a fn may have.
+/// How many items a tuple or the inputs of a `fn` may have.
 const LIST_LIMIT: usize = 12;
 
-/// An argument that can't be of the kind of its place.
+/// An argument that cannot be of the kind of its position.
 const MISFIT: Findings = Findings {
     takes_names: false,
     uses_unknown: false,
@@ -64,7 +64,7 @@ fn limit(is_passed: bool) -> Findings
     }
 }
 
-/// A type that isn't a name alone or a variable, at a place of this sort.
+/// A type that is no name alone and no variable, in a position of this kind.
 pub(crate) fn misfits(sort: ParamKind) -> Findings
     ensures { (v : Sight) → result ≡ findings v (sort_misfits (sort_of_kind sort)) }
 {
@@ -75,7 +75,7 @@ pub(crate) fn misfits(sort: ParamKind) -> Findings
     }
 }
 
-/// A name or a variable at a place of this sort.
+/// A name or a variable in a position of this kind.
 pub(crate) fn named_misfits(sort: ParamKind) -> Findings
     ensures { (v : Sight) → result ≡ findings v (name_misfits (sort_of_kind sort)) }
 {
@@ -86,7 +86,7 @@ pub(crate) fn named_misfits(sort: ParamKind) -> Findings
     }
 }
 
-/// A lifetime at a place of this sort.
+/// A lifetime in a position of this kind.
 pub(crate) fn lifetime_misfits(sort: ParamKind) -> Findings
     ensures { (v : Sight) → result ≡ findings v (lifetime_misfits (sort_of_kind sort)) }
 {
@@ -105,7 +105,7 @@ pub(crate) fn variable(name: &[u8]) -> Findings
     limit(name.len() > NAME_LIMIT)
 }
 
-/// So many items of a tuple, or inputs of a fn.
+/// What is wrong with this many items of a tuple, or inputs of a `fn`.
 #[tactic(auto, using(crate::proofs::Judged::one_items))]
 pub(crate) fn items(count: usize) -> Findings
     ensures { (v : Sight) → result ≡ findings v (items_use count ∷ []) }
@@ -113,7 +113,7 @@ pub(crate) fn items(count: usize) -> Findings
     limit(count > LIST_LIMIT)
 }
 
-/// Whether a lifetime isn't known.
+/// Whether a lifetime is not declared.
 fn is_unknown_lifetime<N: Names>(names: &N, binders: &Binders<'_>, name: &[u8]) -> bool
     ensures { result ≡ is_unknown_use (N.sight names.now).before (N.sight names.now).line (lifetime_use binders.now name.now) }
 {
@@ -129,7 +129,7 @@ fn is_unknown_lifetime<N: Names>(names: &N, binders: &Binders<'_>, name: &[u8]) 
     true
 }
 
-/// What is wrong with a lifetime: it is not in scope.
+/// What is wrong with a lifetime: it may not be in scope.
 #[tactic(auto, using(crate::proofs::Judged::one_lifetime))]
 pub(crate) fn lifetime<N: Names>(names: &N, binders: &Binders<'_>, name: &[u8]) -> Findings
     ensures { result ≡ findings (N.sight names.now) (lifetime_use binders.now name.now ∷ []) }
@@ -156,7 +156,7 @@ pub(crate) fn region<N: Names>(names: &N, binders: &Binders<'_>, name: &[u8]) ->
     }
 }
 
-/// A lifetime that may be omitted.
+/// What is wrong with a lifetime that may be omitted.
 pub(crate) fn optional_lifetime<N: Names>(
     names: &N,
     binders: &Binders<'_>,
@@ -170,14 +170,14 @@ pub(crate) fn optional_lifetime<N: Names>(
     }
 }
 
-/// Nothing is used.
+/// No use, so nothing is wrong.
 fn no_use() -> Findings
     ensures { (v : Sight) → result ≡ findings v [] }
 {
     Findings::NONE
 }
 
-/// What a lifetime stands for; an omitted one is `'static`.
+/// What a lifetime stands for. An omitted one is `'static`.
 pub(crate) fn optional_region<N: Names>(
     names: &N,
     binders: &Binders<'_>,
@@ -191,7 +191,7 @@ pub(crate) fn optional_region<N: Names>(
     }
 }
 
-/// Whether a name is a type or const parameter of the line.
+/// Whether a name is a type or constant parameter of the line.
 pub fn is_param<N: Names>(names: &N, name: &[u8]) -> bool
     ensures { result ≡ is_param (N.sight names.now).line name.now }
 {
@@ -215,7 +215,7 @@ fn home(meaning: Option<Known<'_>>) -> Option<CrateId>
     }
 }
 
-/// Whether the line's crate doesn't see what a name stands for.
+/// Whether the line's crate does not see what a name stands for.
 fn is_hidden<N: Names>(names: &N, meaning: Option<Known<'_>>) -> bool
     ensures { result ≡ option_map_or (λ h. is_hidden_home (N.sight names.now) h) (option_and_then home_of (option_map known_of meaning.entry)) false }
 {
@@ -225,7 +225,7 @@ fn is_hidden<N: Names>(names: &N, meaning: Option<Known<'_>>) -> bool
     }
 }
 
-/// Whether a name isn't known.
+/// Whether a name is not declared.
 fn is_unknown<N: Names>(names: &N, name: &[u8], meaning: Option<Known<'_>>) -> bool
     requires { option_map known_of meaning ≡ known (items (N.sight names.now)) name.now }
     ensures { result ≡ not (is_known_name (N.sight names.now).before (N.sight names.now).line name.now) }
@@ -239,7 +239,7 @@ fn is_unknown<N: Names>(names: &N, name: &[u8], meaning: Option<Known<'_>>) -> b
     }
 }
 
-/// Whether the line's crate doesn't see what a name stands for, which is no parameter.
+/// Whether the line's crate does not see what a name stands for, and the name is no parameter.
 fn is_hidden_known<N: Names>(names: &N, name: &[u8], meaning: Option<Known<'_>>) -> bool
     requires { option_map known_of meaning ≡ known (items (N.sight names.now)) name.now }
     ensures { result ≡ option_map_or (λ c. is_hidden_name (N.sight names.now).before (N.sight names.now).line c name.now)
@@ -251,7 +251,7 @@ fn is_hidden_known<N: Names>(names: &N, name: &[u8], meaning: Option<Known<'_>>)
     is_hidden(names, meaning)
 }
 
-/// Whether a parameter may stand at a place of this sort with so many arguments.
+/// Whether a parameter fits a position of this kind with this many arguments.
 fn fits_param<N: Names>(names: &N, sort: ParamKind, name: &[u8], count: usize) -> bool
     ensures { result ≡ is_param_of (N.sight names.now).line (sort_of_kind sort) name.now count }
 {
@@ -271,7 +271,7 @@ fn fits_param<N: Names>(names: &N, sort: ParamKind, name: &[u8], count: usize) -
     }
 }
 
-/// Whether this is a struct with so many parameters, at a place of this sort.
+/// Whether this is a struct with this many parameters, in a position of this kind.
 fn is_struct_of(sort: ParamKind, count: usize, meaning: Option<Known<'_>>) -> bool
     ensures { result ≡ option_map_or (is_type_of (sort_of_kind sort) count) (option_map known_of meaning.entry) false }
 {
@@ -284,7 +284,7 @@ fn is_struct_of(sort: ParamKind, count: usize, meaning: Option<Known<'_>>) -> bo
     }
 }
 
-/// Whether this is a trait with so many parameters.
+/// Whether this is a trait with this many parameters.
 fn is_trait_of(count: usize, meaning: Option<Known<'_>>) -> bool
     ensures { result ≡ option_map_or (is_trait_of count) (option_map known_of meaning.entry) false }
 {
@@ -294,7 +294,7 @@ fn is_trait_of(count: usize, meaning: Option<Known<'_>>) -> bool
     }
 }
 
-/// Whether a name is of another sort than its place needs, or has a wrong number of arguments.
+/// Whether a name is of another kind than its position needs, or has the wrong number of arguments.
 fn is_other_name<N: Names>(
     names: &N,
     sort: ParamKind,
@@ -312,7 +312,7 @@ fn is_other_name<N: Names>(
     }
 }
 
-/// Whether the name of a bound is no trait, or has a wrong number of arguments.
+/// Whether the name of a bound is no trait, or has the wrong number of arguments.
 fn is_other_trait<N: Names>(
     names: &N,
     name: &[u8],
@@ -328,7 +328,7 @@ fn is_other_trait<N: Names>(
     !is_trait_of(count, meaning)
 }
 
-/// A name with so many arguments, at a place of this sort; it stands for this.
+/// What is wrong with a name with this many arguments, in a position of this kind. `meaning` is what it stands for.
 #[tactic(auto, using(crate::proofs::Judged::one_name))]
 pub(crate) fn name<N: Names>(
     names: &N,
@@ -349,7 +349,7 @@ pub(crate) fn name<N: Names>(
     }
 }
 
-/// The name of a bound with so many arguments; it stands for this.
+/// What is wrong with the name of a bound with this many arguments. `meaning` is what it stands for.
 #[tactic(auto, using(crate::proofs::Judged::one_trait))]
 pub(crate) fn bound<N: Names>(
     names: &N,
@@ -392,7 +392,7 @@ pub fn crate_name<N: Names>(names: &N, name: &[u8]) -> Findings
     }
 }
 
-/// A number with one more digit, where it stays below 2^64.
+/// The number with one more digit, if it stays below 2^64.
 fn with_digit(value: u64, digit: u8) -> Option<u64>
     ensures { MatchOption result (2 ^ 64 ≤ 10 * value + (digit - 48)) (λ n. n ≡ 10 * value + (digit - 48)) }
 {
@@ -402,7 +402,7 @@ fn with_digit(value: u64, digit: u8) -> Option<u64>
     }
 }
 
-/// Whether a number isn't below 2^64, by its digits.
+/// Whether the number that these digits write is 2^64 or more.
 fn is_large(digits: &[u8]) -> bool
     ensures { result ≡ nat_le (2 ^ 64) (number_from 0 digits.now) }
 {
@@ -416,7 +416,7 @@ fn is_large(digits: &[u8]) -> bool
     false
 }
 
-/// What is wrong with a number: it may be 2 to the 64 or more.
+/// What is wrong with a number: it may be 2^64 or more.
 #[tactic(auto, using(crate::proofs::Judged::one_number))]
 pub(crate) fn number(digits: &[u8]) -> Findings
     ensures { (v : Sight) → result ≡ findings v (number_use (number_from 0 digits.now) ∷ []) }
@@ -424,7 +424,7 @@ pub(crate) fn number(digits: &[u8]) -> Findings
     limit(is_large(digits))
 }
 
-/// A number where an argument for a parameter of this sort stands.
+/// What is wrong with a number as an argument for a parameter of this kind.
 #[tactic(auto, using(crate::proofs::Judged::misfit_number))]
 pub(crate) fn number_argument(sort: ParamKind, digits: &[u8]) -> Findings
     ensures { (v : Sight) → result ≡ findings v (number_arg_uses (sort_of_kind sort) (number_from 0 digits.now)) }
@@ -436,7 +436,7 @@ pub(crate) fn number_argument(sort: ParamKind, digits: &[u8]) -> Findings
     }
 }
 
-/// The length of an array.
+/// What is wrong with the length of an array.
 pub(crate) fn length<N: Names>(names: &N, length: Length<'_>) -> Findings
     ensures { result ≡ findings (N.sight names.now) (length_uses (length_of length.entry)) }
 {
@@ -447,7 +447,7 @@ pub(crate) fn length<N: Names>(names: &N, length: Length<'_>) -> Findings
     }
 }
 
-/// Whether a name comes again. The error says that a request for memory was refused.
+/// Whether a name occurs twice. Fails only if memory is refused.
 pub fn repeats(alloc: Global, names: &[&[u8]]) -> Result<bool, AllocError>
     ensures { IfOk result (λ b. b ≡ repeats (map text_of names.now)) }
 {
@@ -486,7 +486,7 @@ fn has_long(names: &[&[u8]]) -> bool
     false
 }
 
-/// Whether a lifetime is a parameter of the line or bound around.
+/// Whether a lifetime is a parameter of the line or bound by a binder around.
 fn is_in_scope<N: Names>(names: &N, binders: &Binders<'_>, name: &[u8]) -> bool
     ensures { result ≡ is_in_scope (N.sight names.now).line binders.now name.now }
 {
@@ -511,7 +511,7 @@ fn hides_others<N: Names>(names: &N, binders: &Binders<'_>, bound: &[&[u8]]) -> 
     false
 }
 
-/// A binder of these lifetimes, under those that are around.
+/// What is wrong with a binder of these lifetimes, under those that are around.
 #[tactic(auto, using(crate::proofs::Judged::one_binder))]
 pub(crate) fn binder<N: Names>(
     names: &N,

@@ -1,7 +1,8 @@
-//! The names of a line looked up, and what is wrong with it: of all faults that apply the one with the smallest number.
+//! The names of a line are looked up, and the line is judged: of all faults that apply, the one with the smallest number is its fault.
 //!
-//! A machine over the cells of a type, from the last to the first, finds each use of a name, a lifetime, a binder and a `dyn`, and
-//! the cells with numbers in the place of names; what is found of a line's types and bounds is put together, and judged.
+//! A machine visits the cells of a type from the last to the first. It finds each use of a name, a lifetime, a binder and a `dyn`, and the
+//! cells with numbers for names. It keeps its own stack, so nothing recurses, however deep a type is. What is found of the types and bounds
+//! of a line is put together, and judged.
 #![tactic(auto)]
 
 ghost use Rattle.name_resolution.specs.Standing.{CellsStand};
@@ -46,7 +47,7 @@ pub use parts::{PartsFound, ResolvedPart};
 pub use resolve::{Resolved, ResolvedBound, resolve_bound, resolve_type};
 pub use resolved::{NodeLabel, Region, ResolvedCell, Variable};
 
-/// The resolved cells of a type stand for the type's tree.
+/// The resolved cells of a type stand for the type's term.
 pub fn cells_stand()
     ensures { CellsStand }
 {}
@@ -58,14 +59,14 @@ pub fn found_together()
     ensures none { NothingFound }
 {}
 
-/// The names in the cells of a type, or of arguments, are those that these use where a type or a const has to stand.
+/// The names in the cells of a type, or of arguments, are those that these use where a type or a constant is expected.
 pub fn used_names()
     ensures types { TypesUseNames }
     ensures args { ArgsUseNames }
 {}
 
-/// Going over the cells of a type from the last to the first comes to what the definitions say of the type: its uses, whether it is
-/// too deep, and its resolved cells.
+/// The visit of a type's cells from the last to the first finds what the definitions say of the type: its uses, whether it is too deep, and
+/// its resolved cells.
 pub fn machine_laws()
     ensures types { MachineResolves }
     ensures args { ArgsResolved }

@@ -1,4 +1,4 @@
-//! Limits that a line passes.
+//! Limits that a line exceeds.
 ghost use Rattle.std.specs.Prelude.{◌≡◌, length, nat_lt, IfOk};
 ghost use Rattle.text_definitions.specs.Syntax.{Line};
 ghost use Rattle.text_definitions.specs.Faults.{param_limit, passes_limit};
@@ -15,23 +15,23 @@ use crate::names::LineNames;
 use line_reader::{LineRead, Statement};
 use std::alloc::{AllocError, Global};
 
-/// Crates of a text, `core` among them.
+/// The crates of a text, with `core`.
 const CRATE_LIMIT: usize = 256;
 
 const QUESTION_LIMIT: usize = 65_536;
 
-/// Structs, traits and impls of a crate, or impls of a section.
+/// The structs, traits and impls of a crate, or the impls of a section.
 const ITEM_LIMIT: usize = 4_096;
 
 const PARAM_LIMIT: usize = 16;
 
-/// Fields, bounds or clauses.
+/// Fields, bounds or where-clauses.
 const PART_LIMIT: usize = 64;
 
-/// Variables of a question.
+/// The variables of a query.
 const VARIABLE_LIMIT: usize = 16;
 
-/// Whether there are as many already as there may be.
+/// Whether there are already as many crates, queries or items as there may be.
 fn is_full<N: LineNames>(names: &N, statement: &Statement<'_>) -> bool
     ensures { result ≡ is_full_for (N.sight names.now).before (statement_of statement.now) }
 {
@@ -52,7 +52,7 @@ fn has_many_params(statement: &Statement<'_>) -> bool
     statement.params().len() > PARAM_LIMIT
 }
 
-/// Whether the statement without its types passes a limit.
+/// Whether the statement without its types exceeds a limit.
 fn is_large<N: LineNames>(names: &N, statement: &Statement<'_>) -> bool
     ensures { result ≡ is_large_for (N.sight names.now).before (statement_of statement.now) }
 {
@@ -68,7 +68,7 @@ fn is_large<N: LineNames>(names: &N, statement: &Statement<'_>) -> bool
     statement.part_count() > PART_LIMIT
 }
 
-/// Whether a line passes a limit, of which this was found. The error says that a request for memory was refused.
+/// Whether a line exceeds a limit, given what was found of it. Fails only if memory is refused.
 pub(crate) fn passes_limit<N: LineNames>(
     names: &N,
     alloc: Global,

@@ -19,7 +19,7 @@ use std::alloc::{AllocError, Global};
 pub struct LineFound<'a> {
     /// What is wrong with the crates that it names.
     pub crates: Findings,
-    /// What was found of what a question asks.
+    /// What was found of the bound of a query.
     pub asked: PartsFound<'a>,
     /// What was found of all other types and bounds.
     pub others: PartsFound<'a>,
@@ -37,7 +37,7 @@ fn crate_names<N: Names>(names: &N, crates: &[&[u8]]) -> Findings
     faults
 }
 
-/// Nothing is used.
+/// No names, so nothing is wrong.
 fn no_names() -> Findings
     ensures { (v : Sight) → result ≡ findings v [] }
 {
@@ -65,7 +65,7 @@ fn named_crates<N: Names>(names: &N, statement: &Statement<'_>) -> Findings
     }
 }
 
-/// How many of a line's types and bounds are of what a question asks.
+/// How many of a line's types and bounds belong to the bound of a query.
 fn asked_count(statement: &Statement<'_>) -> usize
     ensures { result ≡ asked_count (statement_of statement.now) }
 {
@@ -86,7 +86,7 @@ impl<'a> LineFound<'a> {
     }
 }
 
-/// What is found of a line that was read. The error says that a request for memory was refused.
+/// What is found of a line that was read. Fails only if memory is refused.
 pub(crate) fn find_line<'a, N: Names>(
     names: &N,
     alloc: Global,

@@ -9,17 +9,17 @@ ghost use Rattle.workspace.specs.Views.{known_of, sort_of_kind};
 use type_terms::CrateId;
 use workspace::{Known, ParamKind};
 
-/// What the names of one line are looked up in: what is declared before it, the struct or trait that it declares itself, and the
-/// parameters that it names.
+/// What the names of one line are looked up in: what is declared before it, the struct or trait that it declares itself, and its
+/// parameters. Of the line this depends on its kind, its name and its parameters alone.
 pub trait Names {
     // What is declared before the line, and the line.
     ghost sight: { Self → Sight };
 
-    /// What a name stands for, if it is a crate's, a struct's or a trait's.
+    /// What a name stands for: a crate, a struct or a trait. `None` if it was not declared.
     fn known(&self, name: &[u8]) -> Option<Known<'_>>
         ensures { option_map known_of result ≡ known (items (sight self.now)) name.now };
 
-    /// Whether the crate for which the line speaks doesn't see this crate.
+    /// Whether the crate of the line does not see this crate.
     fn hides(&self, home: CrateId) -> bool
         ensures { result ≡ is_hidden_home (sight self.now) home.index };
 
@@ -27,11 +27,11 @@ pub trait Names {
     fn is_own(&self, name: &[u8]) -> bool
         ensures { result ≡ is_own_name (sight self.now) name.now };
 
-    /// The place of a parameter among the line's parameters of its sort.
+    /// The index of a parameter among the line's parameters of its kind.
     fn param_place(&self, sort: ParamKind, name: &[u8]) -> Option<usize>
         ensures { result ≡ place_in name.now (params_of_sort (params (sight self.now)) (sort_of_kind sort)) };
 
-    /// How many parameters of the sort the line has.
+    /// How many parameters of this kind the line has.
     fn param_count(&self, sort: ParamKind) -> usize
         ensures { result ≡ length (params_of_sort (params (sight self.now)) (sort_of_kind sort)) };
 }

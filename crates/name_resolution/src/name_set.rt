@@ -8,12 +8,12 @@ use line_reader::{Cell, Length};
 use std::alloc::{AllocError, Global};
 use std::collections::HashSet;
 
-/// The names that types use where a type or a const has to stand: by them a parameter of an impl is found in its header.
+/// The names that types use where a type or a constant is expected. With it, a parameter of an impl is looked for in its header.
 pub struct NameSet<'a> {
     names: HashSet<&'a [u8]>,
 }
 
-// Written, so that what owns one drops it by one call at each way out, and not field by field.
+// Hand-written so that the prover sees one drop call: docs/PROVING.md#drop.
 impl Drop for NameSet<'_> {
     fn drop(self) {
         let NameSet { names: _ } = self;
@@ -21,7 +21,7 @@ impl Drop for NameSet<'_> {
 }
 
 impl<'a> NameSet<'a> {
-    /// There is none.
+    /// The empty set.
     pub fn new(alloc: Global) -> Self
         ensures { Holds result [] }
     {
@@ -30,7 +30,7 @@ impl<'a> NameSet<'a> {
         }
     }
 
-    /// This name too. The error says that a request for memory was refused; then it was not added.
+    /// Adds a name. Fails only if memory is refused, and then the name was not added.
     pub fn insert(&mut self, name: &'a [u8]) -> Result<(), AllocError>
         ensures { OnOk result ((ns : List (List ℕ)) → Holds self.old ns → Holds self.new (name.now ∷ ns)) }
     {
@@ -48,10 +48,10 @@ impl<'a> NameSet<'a> {
         }
     }
 
-    /// The names too that stand in these cells where a type or a const has to stand. The cells of a bound are those of its arguments:
-    /// its own name is a trait's.
+    /// Adds the names in these cells where a type or a constant is expected. The cells of a bound are those of its arguments, because its
+    /// own name is a trait's.
     ///
-    /// The error says that a request for memory was refused; then only some of them were added.
+    /// Fails only if memory is refused, and then only some of them were added.
     pub fn add_used(&mut self, cells: &[Cell<'a>]) -> Result<(), AllocError>
         ensures { OnOk result ((ns : List (List ℕ)) → Holds self.old ns → Holds self.new (names_with (cells_in cells.now) ns)) }
     {
@@ -61,7 +61,7 @@ impl<'a> NameSet<'a> {
         Ok(())
     }
 
-    /// Whether the name was put in. It takes no memory and one hash.
+    /// Whether the name is in the set. It takes no memory and one hash.
     pub fn contains(&self, name: &[u8]) -> bool
         ensures { (ns : List (List ℕ)) → Holds self.now ns → result ≡ is_among name.now ns }
     {

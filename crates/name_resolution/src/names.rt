@@ -1,4 +1,4 @@
-//! What the names of a line are looked up in.
+//! What is declared before a line, and what its names are looked up in.
 ghost use Rattle.std.specs.Prelude.{◌≡◌, length, is_some};
 ghost use Rattle.text_definitions.specs.Declarations.{known, impl_owner, last_later};
 ghost use Rattle.text_definitions.specs.Faults.{last_items};
@@ -8,19 +8,19 @@ use type_terms::CrateId;
 
 /// What the names of one line are looked up in, and how much is declared before it.
 pub trait LineNames: Names {
-    /// How many crates there are, `core` among them.
+    /// How many crates there are, with `core`.
     fn crate_count(&self) -> usize
         ensures { result ≡ length (Self.sight self.now).before.crates };
 
-    /// How many questions there are.
+    /// How many queries there are.
     fn question_count(&self) -> usize
         ensures { result ≡ length (Self.sight self.now).before.questions };
 
-    /// Whether an impl of the line belongs to a section of a later version.
+    /// Whether a section is open, so that an impl of the line belongs to it.
     fn is_in_section(&self) -> bool
         ensures { result ≡ (Self.sight self.now).before.in_section };
 
-    /// The crate to which an impl of the line belongs: the one that the section changes, or else the last one.
+    /// The crate to which an impl of the line belongs: the changed crate of the open section, or the last crate if none is open.
     fn impl_owner(&self) -> CrateId
         ensures { result.index ≡ impl_owner (Self.sight self.now).before };
 
@@ -32,7 +32,7 @@ pub trait LineNames: Names {
     fn last_items(&self) -> usize
         ensures { result ≡ last_items (Self.sight self.now).before };
 
-    /// Whether a name was a crate's, a struct's or a trait's before the line.
+    /// Whether a name was that of a crate, a struct or a trait before the line.
     fn was_known(&self, name: &[u8]) -> bool
         ensures { result ≡ is_some (known (Self.sight self.now).before name.now) };
 }

@@ -12,11 +12,11 @@ use crate::looked_up::Names;
 use line_reader::Param;
 use std::alloc::{AllocError, Global};
 
-/// The names of parameters. Those of lifetimes are apart from all others.
+/// The names of parameters, those of lifetimes separate from all others.
 #[derive(Drop)]
 pub(crate) struct ParamNames<'a> {
     pub lifetimes: Vec<&'a [u8]>,
-    /// Of types and consts.
+    /// Those of types and constants.
     pub others: Vec<&'a [u8]>,
 }
 
@@ -33,8 +33,7 @@ impl<'a> ParamNames<'a> {
         Ok(())
     }
 
-    /// The names of these parameters, in their order, lifetimes apart from types and constants. The error says that a request for memory
-    /// was refused.
+    /// The names of these parameters, in their order. Fails only if memory is refused.
     pub fn of(alloc: Global, params: &[Param<'a>]) -> Result<Self, AllocError>
         ensures lifetimes { IfOk result (λ names. map text_of names.lifetimes.items ≡ lifetimes_said (params_in params.now)) }
         ensures others { IfOk result (λ names. map text_of names.others.items ≡ others_said (params_in params.now)) }
@@ -52,7 +51,7 @@ impl<'a> ParamNames<'a> {
     }
 }
 
-/// Whether one of the names is a crate's, a struct's or a trait's.
+/// Whether one of the names is that of a crate, a struct or a trait.
 fn any_known<N: Names>(names: &N, params: &[&[u8]]) -> bool
     ensures { result ≡ list_any (λ n. is_some (known (items (N.sight names.now)) n)) (map text_of params.now) }
 {
@@ -81,8 +80,7 @@ impl<'a> ParamNames<'a> {
     }
 }
 
-/// Whether the name of a parameter is taken: another parameter has it, it is `'static`, or it is known. The error says that a request
-/// for memory was refused.
+/// Whether the name of a parameter is taken: another parameter has it, it is `'static`, or it is declared. Fails only if memory is refused.
 pub fn is_taken_param<N: Names>(
     names: &N,
     alloc: Global,

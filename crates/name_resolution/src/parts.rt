@@ -14,29 +14,29 @@ use crate::resolved::{ResolvedCell, Variable};
 use line_reader::{Cell, LinePart};
 use std::alloc::{AllocError, Global};
 
-/// A type or a bound of a line, by numbers.
+/// A type or a bound of a line, with numbers for names.
 #[derive(Drop)]
 pub struct ResolvedPart<'a> {
-    /// The number of a bound's trait. Of a type, and where the bound's name isn't a trait's, 0.
+    /// The number of a bound's trait. It is 0 for a type, and if the bound's name is no trait.
     pub trait_number: usize,
-    /// Its cells with numbers in the place of names; of a bound, those of its arguments.
+    /// Its cells, with numbers for names. For a bound, those of its arguments.
     pub cells: Vec<ResolvedCell<'a>>,
 }
 
-/// What was found of types and bounds that stand one behind the other.
+/// What was found of types and bounds that follow one another.
 #[derive(Drop)]
 pub struct PartsFound<'a> {
     /// What is wrong with what they use.
     pub faults: Findings,
     /// Their variables, in the order in which they are written.
     pub variables: Vec<Variable<'a>>,
-    /// Whether more types than may be are around each other.
+    /// Whether too many types are nested.
     pub is_deep: bool,
     /// Each of them with its names looked up, so that no later step looks one up again.
     pub parts: Vec<ResolvedPart<'a>>,
 }
 
-/// The cells before this place.
+/// The cells before this index.
 pub(crate) fn cells_to<'c, 'a>(cells: &'c [Cell<'a>], end: usize) -> &'c [Cell<'a>]
     ensures { result.now ≡ take end cells.now }
 {
@@ -44,7 +44,7 @@ pub(crate) fn cells_to<'c, 'a>(cells: &'c [Cell<'a>], end: usize) -> &'c [Cell<'
 }
 
 impl<'a> PartsFound<'a> {
-    /// Of none.
+    /// What is found of no types.
     fn nothing(alloc: Global) -> Self
         ensures { (v : Sight) → IsFound v [] result }
     {
@@ -56,7 +56,7 @@ impl<'a> PartsFound<'a> {
         }
     }
 
-    /// What was found of one more, behind the others; of a bound with the number of its trait.
+    /// Adds what was found of one more. For a bound, with the number of its trait.
     fn join(&mut self, found: Resolved<'a>, trait_number: usize) -> Result<(), AllocError>
         ensures faults { OnOk result (self.new.faults ≡ either self.old.faults found.entry.faults) }
         ensures variables { OnOk result (map variable_in self.new.variables.items
@@ -80,7 +80,7 @@ impl<'a> PartsFound<'a> {
         Ok(())
     }
 
-    /// What is found of one more, behind the others.
+    /// Adds what is found of one more.
     fn add<N: Names>(
         &mut self,
         names: &N,
@@ -108,7 +108,7 @@ impl<'a> PartsFound<'a> {
     }
 }
 
-/// What is found of types and bounds of a line, which stand there among its cells. The error says that a request for memory was refused.
+/// What is found of types and bounds of a line, which are among its cells. Fails only if memory is refused.
 pub fn find_parts<'a, N: Names>(
     names: &N,
     alloc: Global,

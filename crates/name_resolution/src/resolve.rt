@@ -1,4 +1,4 @@
-//! Types and bounds of a line, looked up.
+//! Types and bounds of a line are looked up.
 ghost use Rattle.std.specs.Prelude.{◌≡◌, List, [], length, IfOk, OnOk};
 ghost use Rattle.text_definitions.specs.Syntax.{Bound};
 ghost use Rattle.text_definitions.specs.Declarations.{known};
@@ -19,7 +19,7 @@ use line_reader::Cell;
 use std::alloc::{AllocError, Global};
 use workspace::ParamKind;
 
-/// How many types may be around each other.
+/// How many types may be nested.
 const DEPTH_LIMIT: usize = 64;
 
 /// What was found of a type, or of a bound.
@@ -29,24 +29,24 @@ pub struct Resolved<'a> {
     pub faults: Findings,
     /// Its variables, in the order in which they are written.
     pub variables: Vec<Variable<'a>>,
-    /// Whether more types than may be are around each other.
+    /// Whether too many types are nested.
     pub is_deep: bool,
-    /// Its cells with numbers in the place of names; of a bound, those of its arguments.
+    /// Its cells, with numbers for names. For a bound, those of its arguments.
     pub cells: Vec<ResolvedCell<'a>>,
 }
 
 /// What was found of a bound.
 #[derive(Drop)]
 pub struct ResolvedBound<'a> {
-    /// The number of its trait; where the name isn't a trait's, 0.
+    /// The number of its trait. It is 0 if the name is no trait.
     pub trait_number: usize,
     pub resolved: Resolved<'a>,
 }
 
-/// Looks up the names of the type that stands last among the cells of a line. The cells may go on before it, and end with it. However
-/// deep the type is nested, nothing recurses.
+/// Looks up the names of the last type among the cells of a line. Other cells may come before it. Nothing recurses, however deep the type
+/// is.
 ///
-/// The error says that a request for memory was refused.
+/// Fails only if memory is refused.
 pub fn resolve_type<'a, N: Names>(
     names: &N,
     alloc: Global,
@@ -64,7 +64,7 @@ pub fn resolve_type<'a, N: Names>(
     Ok(walk.into_found().finish())
 }
 
-/// Goes over the arguments of the bound of this name, which begin at this place, and returns the number of its trait.
+/// Visits the arguments of the bound with this name, which begin at this index, and returns the number of its trait.
 fn run_bound<'n, 'c, 'a, N: Names>(
     walk: &mut Walk<'n, 'c, 'a>,
     names: &'n N,
@@ -76,7 +76,7 @@ fn run_bound<'n, 'c, 'a, N: Names>(
     requires binders { walk.old.binders ≡ [] }
     requires found { walk.old.found ≡ nothing_found }
     ensures number { IfOk result (λ n. n ≡ trait_number (known (items (N.sight names.now)) name.now)) }
-    // Whichever bound it is, before whichever cells.
+    // It holds for each bound, with any cells before it.
     ensures found { OnOk result ((b : Bound) (r : List cell.Cell) → name.now ≡ b.trait → start ≡ length r → walk.old.rest ≡ args_back b.args r
         → walk.new.found ≡ bound_found (N.sight names.now) b) }
 {
@@ -97,10 +97,9 @@ fn run_bound<'n, 'c, 'a, N: Names>(
     Ok(heads::trait_number(meaning))
 }
 
-/// Looks up the names of the bound that stands last among the cells of a line, as the type of its name and arguments. Self isn't among
-/// the arguments.
+/// Looks up the names of the last bound among the cells of a line, as the type of its name and arguments. Self is not among the arguments.
 ///
-/// The error says that a request for memory was refused.
+/// Fails only if memory is refused.
 pub fn resolve_bound<'a, N: Names>(
     names: &N,
     alloc: Global,

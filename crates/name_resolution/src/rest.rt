@@ -1,4 +1,4 @@
-//! The cells that are not gone over yet.
+//! The cells that are not visited yet.
 ghost use Rattle.std.specs.Prelude.{◌≡◌, ◌+◌, ◌^◌, ◌<◌, ◌≤◌, List, [], ◌∷◌, length, map, min, reverse, MatchOption, IfOk};
 ghost use Rattle.line_reader.specs.Cells as cell;
 ghost use Rattle.line_reader.specs.TokenViews.{text_of};
@@ -9,7 +9,7 @@ use line_reader::Cell;
 use std::alloc::{AllocError, Global};
 use std::marker::Model;
 
-/// The cells of a line that are not gone over yet. Contracts see them from the last to the first.
+/// The cells of a line that are not visited yet. In contracts they go from the last to the first.
 #[derive(Drop)]
 pub(crate) struct Rest<'c, 'a> {
     cells: &'c [Cell<'a>],
@@ -28,7 +28,7 @@ impl<'c, 'a> Model for Rest<'c, 'a> {
     ghost invariant = { λ r. r.at ≤ length r.cells.now };
 }
 
-/// From where on what stands before a cell is inside it, if so many stand before it; `None` if that is the one part before it.
+/// The index from which cells are inside this one, if this many cells are before it. `None` if only the part directly before it is inside.
 fn inside_from(last: Cell<'_>, before: usize) -> Option<usize>
     ensures { (r : List cell.Cell) → before ≡ length r
         → MatchOption result (begins (cell_of last.entry ∷ r) ≡ begins r) (λ start. begins (cell_of last.entry ∷ r) ≡ min start (length r)) }
@@ -70,7 +70,7 @@ impl<'c, 'a> Rest<'c, 'a> {
         self.at
     }
 
-    /// Takes the last one.
+    /// Takes the last cell.
     pub fn next(&mut self) -> Option<Cell<'a>>
         ensures cell { MatchOption result (self.old ≡ []) (λ c. self.old ≡ cell_of c ∷ self.new) }
         ensures room { length self.new + 1 < 2 ^ 64 }
@@ -84,7 +84,7 @@ impl<'c, 'a> Rest<'c, 'a> {
         }
     }
 
-    /// Takes the last one if it is a name with its arguments, and says where these begin.
+    /// Takes the last cell if it is a name with arguments, and returns where these begin.
     pub fn next_named(&mut self) -> Option<(&'a [u8], usize)>
         ensures { TakesNamed result self.old self.new }
     {
@@ -94,7 +94,7 @@ impl<'c, 'a> Rest<'c, 'a> {
         }
     }
 
-    /// Leaves those before this place.
+    /// Keeps only the cells before this index.
     pub fn down_to(&mut self, start: usize)
         ensures { self.new ≡ down_to start self.old }
     {
@@ -113,7 +113,7 @@ impl<'c, 'a> Rest<'c, 'a> {
         }
     }
 
-    /// Where the last one, with what stands inside it, begins.
+    /// The index where the last cell begins, with what is inside it.
     fn begins(&self) -> usize
         ensures { result ≡ begins self.now }
     {
@@ -126,7 +126,7 @@ impl<'c, 'a> Rest<'c, 'a> {
         0
     }
 
-    /// Takes the last one, with what stands inside it.
+    /// Takes the last cell, with what is inside it.
     pub fn next_part(&mut self) -> Option<Cell<'a>>
         ensures { TakesPart result self.old self.new }
     {
@@ -136,7 +136,7 @@ impl<'c, 'a> Rest<'c, 'a> {
         cell
     }
 
-    /// Of how many parts what stands from this place on is made, without what stands inside these.
+    /// How many parts there are from this index on, without those inside them.
     pub fn count_above(&self, start: usize) -> usize
         ensures { result ≡ count_above start self.now }
     {
@@ -151,7 +151,7 @@ impl<'c, 'a> Rest<'c, 'a> {
         count
     }
 
-    /// The names of a binder that stands between these places.
+    /// The names of the binder between these indices.
     pub fn names_between(
         &self,
         alloc: Global,

@@ -20,22 +20,22 @@ use line_reader::Cell;
 use std::alloc::{AllocError, Global};
 use std::marker::Model;
 
-/// Bounds that a `dyn` may have.
+/// How many bounds a `dyn` may have.
 const PART_LIMIT: usize = 64;
 
-/// The items of a `dyn`, summed up from the last on.
+/// A summary of the items of a `dyn`, made from the last one on.
 #[derive(Drop)]
 pub(crate) struct Shapes {
     is_empty: bool,
     bounds: usize,
-    /// Those that aren't auto traits.
+    /// How many of them are no auto traits.
     principals: usize,
     has_principal: bool,
-    /// A trait behind the first item isn't an auto trait.
+    /// A trait after the first item is no auto trait.
     has_late: bool,
     /// An auto trait has a binder.
     binds_auto: bool,
-    /// A lifetime isn't last.
+    /// A lifetime is not last.
     has_early_lifetime: bool,
     /// The numbers of the auto traits, rising, each once.
     autos: Vec<usize>,
@@ -58,7 +58,7 @@ impl Model for Shapes {
     } };
 }
 
-/// Puts a number where it belongs among rising numbers, unless it is there.
+/// Inserts a number into rising numbers, unless it is there.
 fn insert_once(numbers: &mut Vec<usize>, number: usize) -> Result<(), AllocError>
     ensures { OnOk result (numbers.new.items ≡ inserted number numbers.old.items) }
 {
@@ -81,7 +81,7 @@ fn insert_once(numbers: &mut Vec<usize>, number: usize) -> Result<(), AllocError
 impl Shapes {
     ghost use Rattle.name_resolution.specs.Shapes.{is_bad, no_items, with_auto_trait, with_lifetime, with_principal};
 
-    /// There is no item.
+    /// The summary of no items.
     fn new(alloc: Global) -> Self
         ensures { result ≡ no_items }
     {
@@ -97,7 +97,7 @@ impl Shapes {
         }
     }
 
-    /// A lifetime before those that were met.
+    /// Adds a lifetime before those that were met.
     fn lifetime(&mut self)
         ensures { self.new ≡ with_lifetime self.old }
     {
@@ -106,7 +106,7 @@ impl Shapes {
         self.is_empty = false;
     }
 
-    /// An auto trait before those that were met.
+    /// Adds an auto trait before those that were met.
     fn auto_trait(&mut self, has_binder: bool, number: usize) -> Result<(), AllocError>
         requires { self.old.bounds + 1 < 2 ^ 64 }
         ensures { OnOk result (self.new ≡ with_auto_trait has_binder number self.old) }
@@ -118,7 +118,7 @@ impl Shapes {
         insert_once(&mut self.autos, number)
     }
 
-    /// Another trait before those that were met.
+    /// Adds another trait before those that were met.
     fn principal(&mut self)
         requires bounds { self.old.bounds + 1 < 2 ^ 64 }
         requires principals { self.old.principals + 1 < 2 ^ 64 }
@@ -131,7 +131,7 @@ impl Shapes {
         self.principals += 1;
     }
 
-    /// The item of this cell before those that were met.
+    /// Adds the item of this cell before those that were met.
     fn add<N: Names>(&mut self, names: &N, cell: Cell<'_>) -> Result<(), AllocError>
         requires bounds { self.old.bounds + 1 < 2 ^ 64 }
         requires principals { self.old.principals + 1 < 2 ^ 64 }
@@ -151,7 +151,7 @@ impl Shapes {
         Ok(())
     }
 
-    /// Whether they don't fit one another.
+    /// Whether they do not fit one another.
     fn is_bad(&self) -> bool
         ensures { result ≡ is_bad self.now }
     {
@@ -171,7 +171,7 @@ impl Shapes {
 }
 
 impl<'a> Found<'a> {
-    /// The auto traits of a `dyn` before what was met.
+    /// Stores the auto traits of a `dyn` before what was met.
     fn keep_autos(&mut self, autos: &[usize]) -> Result<(), AllocError>
         ensures { OnOk result (self.new ≡ keeping true (λ cs. autos_before autos.now cs) self.old) }
     {
@@ -184,7 +184,7 @@ impl<'a> Found<'a> {
         Ok(())
     }
 
-    /// A `dyn` with its lifetime and its auto traits, over so many types, consts and lifetimes, unless it is dropped.
+    /// Stores a `dyn` with its lifetime and its auto traits, over this many types, constants and lifetimes, unless it is not wanted.
     fn keep_dyn(
         &mut self,
         is_kept: bool,
@@ -205,7 +205,7 @@ impl<'a> Found<'a> {
 }
 
 impl<'n, 'c, 'a> Walk<'n, 'c, 'a> {
-    /// The items of the `dyn` that begins at this place.
+    /// The summary of the `dyn` that begins at this index.
     fn shapes<N: Names>(&self, names: &N, alloc: Global, start: usize) -> Result<Shapes, AllocError>
         ensures { IfOk result (λ x. x ≡ summary (items (N.sight names.now)) (map shape_of (parts_above start self.now.rest))) }
     {
@@ -221,7 +221,7 @@ impl<'n, 'c, 'a> Walk<'n, 'c, 'a> {
         Ok(shapes)
     }
 
-    /// The lifetime of a `dyn`, if it stands last.
+    /// The lifetime of a `dyn`, if it is the last item.
     fn last_region<N: Names>(&self, names: &N) -> Region
         ensures { region_in result ≡ last_item_region (params (N.sight names.now)) self.now.binders self.now.rest }
     {
@@ -232,7 +232,7 @@ impl<'n, 'c, 'a> Walk<'n, 'c, 'a> {
         }
     }
 
-    /// A `dyn`.
+    /// The step at a `dyn`.
     pub(crate) fn dyn_of<N: Names>(
         &mut self,
         names: &N,

@@ -1,4 +1,4 @@
-//! The turns of going over the cells of a type.
+//! The loop over the cells of a type.
 ghost use Rattle.std.specs.Prelude.{◌≡◌, ◌∷◌, drop};
 ghost use Rattle.text_definitions.specs.Uses.{next_kind};
 ghost use Rattle.name_resolution.specs.Machine.{Sight, arg_place, args_inside, frame_step, going, inside_step, item_step, step, type_place, types_inside, visit_step};
@@ -12,7 +12,7 @@ use line_reader::Cell;
 use std::alloc::{AllocError, Global};
 use workspace::ParamKind;
 
-/// The place of an argument for a parameter of this sort; only types are around one another.
+/// The position of an argument for a parameter of this kind. Only types count as nested.
 fn arg_place(sort: ParamKind, room: Option<usize>, is_kept: bool) -> Place
     ensures { place_of result ≡ arg_place (sort_of_kind sort) room is_kept }
 {
@@ -27,7 +27,7 @@ fn arg_place(sort: ParamKind, room: Option<usize>, is_kept: bool) -> Place
     }
 }
 
-/// The place of a type inside what is open.
+/// The position of a type inside what is open.
 fn type_place(room: Option<usize>, is_kept: bool) -> Place
     ensures { place_of result ≡ type_place room is_kept }
 {
@@ -49,7 +49,7 @@ fn kind_at(kinds: &[ParamKind], place: usize) -> ParamKind
 }
 
 impl<'n, 'c, 'a> Walk<'n, 'c, 'a> {
-    /// An argument of this frame, of which so many are left.
+    /// The step at an argument of this frame, of which this many are left.
     fn args_inside(
         &mut self,
         frame: Frame<'n>,
@@ -77,7 +77,7 @@ impl<'n, 'c, 'a> Walk<'n, 'c, 'a> {
         Ok(Next::Visiting(type_place(frame.room, frame.is_kept)))
     }
 
-    /// An item of a `dyn`, which is this frame.
+    /// The step at an item of the `dyn` that is this frame.
     fn item_inside<N: Names>(
         &mut self,
         names: &'n N,
@@ -99,7 +99,7 @@ impl<'n, 'c, 'a> Walk<'n, 'c, 'a> {
         }
     }
 
-    /// What stands inside this frame, which was on top.
+    /// The step inside this frame, which was on top.
     fn inside<N: Names>(
         &mut self,
         names: &'n N,
@@ -116,7 +116,7 @@ impl<'n, 'c, 'a> Walk<'n, 'c, 'a> {
         }
     }
 
-    /// What is open: its end, or what stands inside it.
+    /// The step at what is open: it ends, or something inside it comes.
     fn frame_step<N: Names>(&mut self, names: &'n N, alloc: Global) -> Result<Next, AllocError>
         ensures { WalkSteps result (λ fs s r a. frame_step (N.sight names.now) fs s r a) self.old self.new }
     {
@@ -133,7 +133,7 @@ impl<'n, 'c, 'a> Walk<'n, 'c, 'a> {
         }
     }
 
-    /// What comes at this place.
+    /// The step at a cell in this position.
     fn visit<N: Names>(
         &mut self,
         names: &'n N,
@@ -199,7 +199,7 @@ impl<'n, 'c, 'a> Walk<'n, 'c, 'a> {
         Ok(())
     }
 
-    /// Opens this frame, and goes over all that comes then.
+    /// Opens this frame, and runs all steps that follow.
     pub fn run_frame<N: Names>(
         &mut self,
         names: &'n N,

@@ -14,7 +14,7 @@ use crate::resolved::Variable;
 use std::alloc::{AllocError, Global};
 use workspace::ParamKind;
 
-/// The names of variables of another sort than this.
+/// For each kind, the names of the variables of other kinds.
 #[derive(Drop)]
 pub(crate) struct OtherKinds<'a> {
     than_type: NameSet<'a>,
@@ -32,7 +32,7 @@ fn is_same(first: ParamKind, second: ParamKind) -> bool
     }
 }
 
-/// The names of those that are of another sort than this.
+/// The names of those that are of another kind than this.
 fn names_but<'a>(
     alloc: Global,
     variables: &[Variable<'a>],
@@ -63,7 +63,7 @@ impl<'a> OtherKinds<'a> {
         })
     }
 
-    /// Whether there is a variable of this name and of another sort.
+    /// Whether there is a variable with this name and of another kind.
     fn have(&self, variable: Variable<'_>) -> bool
         ensures { (vs : List (List ℕ × label.Sort)) → HoldsKinds self.now vs → result ≡ list_any (is_of_other_kind (variable_in variable.entry)) vs }
     {
@@ -87,7 +87,7 @@ fn any_in(others: &OtherKinds<'_>, variables: &[Variable<'_>]) -> bool
     false
 }
 
-/// Whether a variable stands where things of two sorts have to. The error says that a request for memory was refused.
+/// Whether a variable is used where two kinds are expected. Fails only if memory is refused.
 pub(crate) fn are_of_two_kinds(
     alloc: Global,
     variables: &[Variable<'_>],

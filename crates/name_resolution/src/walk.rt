@@ -1,4 +1,4 @@
-//! Going over the cells of a type from the last to the first.
+//! The steps of the machine that visits the cells of a type from the last to the first.
 ghost use Rattle.std.specs.Prelude.{◌≡◌, ◌+◌, ◌<◌, ◌^◌, ◌∷◌, [], length, map, reverse, not, ◌&&◌, OnOk, MatchOption};
 ghost use Rattle.std.specs.Option.{option_map};
 ghost use Rattle.line_reader.specs.TokenViews.{text_of};
@@ -25,27 +25,27 @@ use line_reader::{Cell, Length};
 use std::alloc::{AllocError, Global};
 use workspace::ParamKind;
 
-/// Where an argument or a type stands.
+/// The position of an argument or a type.
 #[derive(Clone, Copy)]
 pub(crate) struct Place {
     pub sort: ParamKind,
-    /// How many types may be around each other from here on, or any number.
+    /// How many more types may be nested from here on. `None` is any number.
     pub room: Option<usize>,
     /// Whether its resolved cells are wanted.
     pub is_kept: bool,
 }
 
-/// What stands inside what is open.
+/// What is inside something that is open.
 #[derive(Clone, Copy)]
 pub(crate) enum Inside<'n> {
     Types,
     /// The items of a `dyn`.
     Items,
-    /// Arguments for parameters of these kinds, of which so many are left.
+    /// Arguments for parameters of these kinds, of which this many are left.
     Args { kinds: &'n [ParamKind], left: usize },
 }
 
-/// What is open. What stands inside it begins at `inner`, and it begins itself at `start`.
+/// What is open. It begins at `start`, and what is inside it begins at `inner`.
 #[derive(Clone, Copy)]
 pub(crate) struct Frame<'n> {
     pub start: usize,
@@ -56,7 +56,7 @@ pub(crate) struct Frame<'n> {
     pub is_kept: bool,
 }
 
-/// What is to come: a type or an argument, what is open, or nothing.
+/// What comes next: a type or an argument, what is open, or nothing.
 #[derive(Clone, Copy)]
 pub(crate) enum Next {
     Visiting(Place),
@@ -64,7 +64,7 @@ pub(crate) enum Next {
     Finished,
 }
 
-/// Going over the cells of a type.
+/// The state of the machine.
 pub(crate) struct Walk<'n, 'c, 'a> {
     pub rest: Rest<'c, 'a>,
     pub frames: Vec<Frame<'n>>,
@@ -72,7 +72,7 @@ pub(crate) struct Walk<'n, 'c, 'a> {
     pub found: Found<'a>,
 }
 
-// Written, so that what owns one drops it by one call at each way out, and not field by field.
+// Hand-written so that the prover sees one drop call: docs/PROVING.md#drop.
 impl Drop for Walk<'_, '_, '_> {
     fn drop(self) {
         let Walk {
@@ -95,7 +95,7 @@ pub(crate) fn deeper(room: Option<usize>) -> Option<usize>
 }
 
 impl<'n, 'c, 'a> Walk<'n, 'c, 'a> {
-    /// Behind the last of these cells.
+    /// The state after the last of these cells.
     pub fn new(alloc: Global, cells: &'c [Cell<'a>]) -> Self
         ensures rest { result.rest ≡ reverse (cells_in cells.now) }
         ensures frames { frames_in result.frames.items ≡ [] }
@@ -145,7 +145,7 @@ impl<'n, 'c, 'a> Walk<'n, 'c, 'a> {
         self.frames.pop()
     }
 
-    /// What stands inside this frame, which was on top, has been gone over.
+    /// Ends this frame, which was on top: all inside it has been visited.
     pub fn close(&mut self, frame: Frame<'n>)
         ensures rest { self.new.rest ≡ down_to frame.entry.start self.old.rest }
         ensures binders { self.new.binders ≡ outer_scope frame.entry.binds self.old.binders }
@@ -158,7 +158,7 @@ impl<'n, 'c, 'a> Walk<'n, 'c, 'a> {
         self.rest.down_to(frame.start);
     }
 
-    /// A type without others inside.
+    /// The step at a type with no others inside.
     pub fn leaf(&mut self, place: Place, label: NodeLabel<'a>) -> Result<Next, AllocError>
         ensures { (v : Sight) → WalkSteps result (λ fs s r a. leaf_step v (place_of place) fs s (label_in label.entry) r a) self.old self.new }
     {
@@ -167,7 +167,7 @@ impl<'n, 'c, 'a> Walk<'n, 'c, 'a> {
         Ok(Next::Going)
     }
 
-    /// The step at a variable: one more use, one more of the variables, and a resolved cell with its name.
+    /// The step at a variable: one more use, one more variable, and a resolved cell with its name.
     pub fn variable(&mut self, place: Place, name: &'a [u8]) -> Result<Next, AllocError>
         ensures { (v : Sight) → WalkSteps result (λ fs s r a. variable_step v (place_of place) fs s name.now r a) self.old self.new }
     {
@@ -181,7 +181,7 @@ impl<'n, 'c, 'a> Walk<'n, 'c, 'a> {
         Ok(Next::Going)
     }
 
-    /// A lifetime where an argument stands.
+    /// The step at a lifetime as an argument.
     pub fn lifetime<N: Names>(
         &mut self,
         names: &N,
@@ -199,7 +199,7 @@ impl<'n, 'c, 'a> Walk<'n, 'c, 'a> {
         Ok(Next::Going)
     }
 
-    /// A number where an argument stands.
+    /// The step at a number as an argument.
     pub fn number(&mut self, place: Place, digits: &'a [u8]) -> Result<Next, AllocError>
         ensures { (v : Sight) → WalkSteps result (λ fs s r a. number_step v (place_of place) fs s (number_from 0 digits.now) r a) self.old self.new }
     {
@@ -211,7 +211,7 @@ impl<'n, 'c, 'a> Walk<'n, 'c, 'a> {
         Ok(Next::Going)
     }
 
-    /// A struct or a parameter with its arguments.
+    /// The step at a struct or a parameter with its arguments.
     pub fn named<N: Names>(
         &mut self,
         names: &'n N,
@@ -239,7 +239,7 @@ impl<'n, 'c, 'a> Walk<'n, 'c, 'a> {
         Ok(Next::Going)
     }
 
-    /// An array over the type that comes next.
+    /// The step at an array. Its item type comes next.
     pub fn array<N: Names>(
         &mut self,
         names: &N,
@@ -258,7 +258,7 @@ impl<'n, 'c, 'a> Walk<'n, 'c, 'a> {
         Ok(Next::Visiting(inner_place(place)))
     }
 
-    /// A pointer or a slice over the type that comes next.
+    /// The step at a pointer or a slice. The type inside it comes next.
     pub fn wrapped(&mut self, place: Place, label: NodeLabel<'a>) -> Result<Next, AllocError>
         ensures { (v : Sight)
             → WalkSteps result (λ fs s r a. wrapped_step v (place_of place) fs s [] (λ cs. node_cell (label_in label.entry) 1 ∷ cs) r a) self.old self.new }
@@ -268,7 +268,7 @@ impl<'n, 'c, 'a> Walk<'n, 'c, 'a> {
         Ok(Next::Visiting(inner_place(place)))
     }
 
-    /// A reference to the type that comes next.
+    /// The step at a reference `&T`. T comes next.
     pub fn reference<N: Names>(
         &mut self,
         names: &N,
@@ -287,7 +287,7 @@ impl<'n, 'c, 'a> Walk<'n, 'c, 'a> {
         Ok(Next::Visiting(inner_place(place)))
     }
 
-    /// The step at a tuple: how many items it has is read off the cells, and they come next.
+    /// The step at a tuple. The cells tell how many items it has, and they come next.
     pub fn tuple(&mut self, place: Place, start: usize) -> Result<Next, AllocError>
         ensures { (v : Sight) → WalkSteps result (λ fs s r a. tuple_step v (place_of place) fs s start r a) self.old self.new }
     {
@@ -323,7 +323,7 @@ impl<'n, 'c, 'a> Walk<'n, 'c, 'a> {
         Ok(())
     }
 
-    /// A fn with a written output, which is the last of its types.
+    /// The step at a `fn` with a written output, which is the last of its types.
     pub fn fn_to<N: Names>(
         &mut self,
         names: &N,
@@ -349,7 +349,7 @@ impl<'n, 'c, 'a> Walk<'n, 'c, 'a> {
         self.open(fn_frame(place, start, inner), bound)?;
         Ok(Next::Going)
     }
-    /// A fn without a written output.
+    /// The step at a `fn` without a written output.
     pub fn fn_to_unit<N: Names>(
         &mut self,
         names: &N,
@@ -379,7 +379,7 @@ impl<'n, 'c, 'a> Walk<'n, 'c, 'a> {
         Ok(Next::Going)
     }
 
-    /// A lifetime of a `dyn`, which is the outer frame.
+    /// The step at a lifetime of a `dyn`, which is the outer frame.
     pub fn bound_lifetime<N: Names>(
         &mut self,
         names: &N,
@@ -395,7 +395,7 @@ impl<'n, 'c, 'a> Walk<'n, 'c, 'a> {
         Ok(Next::Going)
     }
 
-    /// A bound of a `dyn`, which is the outer frame.
+    /// The step at a bound of a `dyn`, which is the outer frame.
     pub fn bound<N: Names>(
         &mut self,
         names: &'n N,
@@ -438,14 +438,14 @@ impl<'n, 'c, 'a> Walk<'n, 'c, 'a> {
     }
 }
 
-/// Whether what was wanted stays wanted, if this isn't so.
+/// Whether the resolved cells of a bound are wanted: those of an auto trait are not.
 fn is_kept_but(is_kept: bool, is_auto: bool) -> bool
     ensures { result ≡ (is_kept && not is_auto) }
 {
     is_kept && !is_auto
 }
 
-/// What a fn is open with.
+/// The frame of a `fn`.
 fn fn_frame<'n>(place: Place, start: usize, inner: usize) -> Frame<'n>
     ensures { frame_of result ≡ fn_frame (place_of place) start inner }
 {
@@ -459,7 +459,7 @@ fn fn_frame<'n>(place: Place, start: usize, inner: usize) -> Frame<'n>
     }
 }
 
-/// The place of the type inside a type of one type.
+/// The position of the type inside a type with one part.
 pub(crate) fn inner_place(place: Place) -> Place
     ensures { place_of result ≡ type_place (deeper place.room) place.is_kept }
 {
@@ -470,7 +470,7 @@ pub(crate) fn inner_place(place: Place) -> Place
     }
 }
 
-/// Whether the resolved cells of a name's arguments are wanted: those of a const aren't.
+/// Whether the resolved cells of a name's arguments are wanted: those of a constant are not.
 fn keeps_args(place: Place) -> bool
     ensures { result ≡ (place.is_kept && not (is_const_place (sort_of_kind place.sort))) }
 {
