@@ -14,11 +14,11 @@ use Rattle.view_lowering.specs.Seen.{param_sorts}
 abbrev pub unnumbered : ImplDecl → ImplDecl
 unnumbered i = record i { name = zero }
 
--- the impls of section k of the text, in order, as rules are read from them: without binders, as those that a crate sees
+-- The impls of section k of the text, in order, as rules are read from them: without binders, like those that a crate sees.
 abbrev pub added_impls : Declarations → ℕ → List ImplDecl
 added_impls d k = map (λ i. unnumbered (plain_impl i.item)) (section_impls d k)
 
--- the sorts of their parameters
+-- The kinds of their parameters.
 abbrev pub added_sorts : Declarations → ℕ → List (List Sort)
 added_sorts d k = map param_sorts (section_impls d k)
 

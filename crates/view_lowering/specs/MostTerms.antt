@@ -1,4 +1,4 @@
--- How many terms the declarations that a crate sees are made at most.
+-- How many terms are made at most of the declarations that a crate sees.
 use Rattle.std.specs.Prelude.{ℕ, ◌+◌, ◌*◌, sum_by, if◌then◌else◌}
 use Rattle.type_terms.specs.Worlds.{StructDecl, TraitDecl, ImplDecl, sees}
 use Rattle.text_definitions.specs.Declarations as text
@@ -14,7 +14,7 @@ trait_terms x = sum_by reference_terms x.bounds
 abbrev pub impl_terms : ImplDecl → ℕ
 impl_terms x = reference_terms x.header + sum_by reference_terms x.clauses
 
--- ---- of a text's items those that crate c sees
+-- ---- the items of a text that crate c sees
 abbrev pub struct_terms_seen : text.Declarations → ℕ → text.NamedStruct → ℕ
 struct_terms_seen d c s = if sees (world_of d) c s.item.home then struct_terms s.item else 0
 
@@ -24,6 +24,6 @@ trait_terms_seen d c t = if sees (world_of d) c t.item.home then trait_terms t.i
 abbrev pub impl_terms_seen : text.Declarations → ℕ → text.NamedImpl → ℕ
 impl_terms_seen d c i = if sees (world_of d) c i.item.home then impl_terms i.item else 0
 
--- So many terms there are at most of all that crate c sees.
+-- An upper bound for the terms that are made of all that crate c sees.
 abbrev pub most_terms : text.Declarations → ℕ → ℕ
 most_terms d c = sum_by (struct_terms_seen d c) d.structs + sum_by (trait_terms_seen d c) d.traits + sum_by (impl_terms_seen d c) d.impls

@@ -1,6 +1,6 @@
--- Declarations and questions as goals are made of them: they bind no lifetimes. A lifetime that a `for<..>` binds is `'static`, and so are
--- a parameter of an impl that stands in its where-clauses alone and each parameter in the fields of a struct and the bounds of a trait.
--- Up to lifetimes nothing changes.
+-- Declarations and queries as goals are made of them: they bind no lifetimes. A lifetime that a `for<...>` binds is `'static`. So is a
+-- parameter of an impl that occurs in its where-clauses alone, and each lifetime parameter in the fields of a struct and the bounds of a
+-- trait. Up to lifetimes nothing changes.
 use Rattle.std.specs.Prelude.{ℕ, zero, Bool, true, false, ◌==◌, List, map, if◌then◌else◌}
 use Rattle.type_terms.specs.Label.{Label, of_lifetime, static, fn_ptr, principal, param, bound}
 use Rattle.type_terms.specs.Trees.{Trees, none, tree, some_node}
@@ -8,7 +8,7 @@ use Rattle.type_terms.specs.Worlds.{World, Reference, StructDecl, TraitDecl, Imp
 use Rattle.text_definitions.specs.Declarations as text
 use Rattle.view_lowering.specs.Seen.{seen_from}
 
--- ---- labels and trees, with the lifetime parameters that are kept
+-- ---- labels and terms, with the lifetime parameters that are kept
 abbrev pub plain_label : (ℕ → Bool) → Label → Label
 plain_label kept (param of_lifetime i) = if kept i then param of_lifetime i else static
 plain_label kept (bound of_lifetime k i) = static
@@ -23,7 +23,7 @@ plain kept (tree l c o) = tree (plain_label kept l) (plain kept c) (plain kept o
 abbrev pub plain_reference : (ℕ → Bool) → Reference → Reference
 plain_reference kept r = record { trait = r.trait; args = plain kept r.args }
 
--- ---- questions, which have no parameters of this kind
+-- ---- queries, which have no parameters of this kind
 abbrev pub all_kept : ℕ → Bool
 all_kept i = true
 
@@ -37,12 +37,12 @@ unbound_references rs = map unbound_reference rs
 abbrev pub none_kept : ℕ → Bool
 none_kept i = false
 
--- the lifetime parameter of this number
+-- The lifetime parameter with this number.
 abbrev pub is_lifetime : ℕ → Label → Bool
 is_lifetime i (param of_lifetime j) = i == j
 is_lifetime i l = false
 
--- it stands in the tree
+-- It occurs in the term.
 abbrev pub stands_in : Trees → ℕ → Bool
 stands_in t i = some_node (is_lifetime i) t
 
@@ -58,6 +58,6 @@ plain_impl i = record i { header = unbound_reference i.header; clauses = map (pl
 abbrev pub plain_world : World → World
 plain_world W = record W { structs = map plain_struct W.structs; traits = map plain_trait W.traits; impls = map plain_impl W.impls }
 
--- what crate c sees
+-- What crate c sees.
 abbrev pub plainly_seen_from : text.Declarations → ℕ → World
 plainly_seen_from d c = plain_world (seen_from d c)

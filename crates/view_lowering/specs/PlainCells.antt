@@ -9,7 +9,7 @@ use Rattle.view_lowering.specs.Plain.{plain_label, is_lifetime}
 use Rattle.view_lowering.specs.declared.plain.Kept.{Kept}
 use Rattle.view_lowering.specs.declared.plain.Kept.TheVariants as kept
 
--- the cell is the lifetime parameter of this number, or a reference for that
+-- The cell is the lifetime parameter with this number, or a reference with that lifetime.
 abbrev pub names : ℕ → TermCell → Bool
 names i (cells.Lifetime r) = is_lifetime i (region_label r.kind)
 names i (cells.Ref r m) = is_lifetime i (region_label r.kind)
@@ -23,7 +23,7 @@ is_kept kept.All i = true
 is_kept (kept.NamedIn cs) i = named_in cs.now i
 is_kept kept.None i = false
 
--- the cell is no lifetime, and nothing in which a lifetime stands beside its parts or is bound
+-- The cell is no lifetime, has no lifetime of its own, and binds none.
 abbrev pub is_without_lifetimes : TermCell → Bool
 is_without_lifetimes (cells.Lifetime r) = false
 is_without_lifetimes (cells.Ref r m) = false

@@ -1,4 +1,4 @@
--- What the questions of a text speak of.
+-- What the queries of a text hold.
 use Rattle.std.specs.Prelude.{◌≡◌, ℕ, zero, suc, Bool, true, false, not, ltb, if◌then◌else◌, List, [], ◌∷◌, map, Ok, Some, slice_get}
 use Rattle.type_terms.specs.Label.{Label, Sort, of_type, of_const, of_lifetime, param, placeholder, infer, canonical, bound}
 use Rattle.type_terms.specs.Trees.{is_sort, some_node}
@@ -6,7 +6,7 @@ use Rattle.text_definitions.specs.Declarations.{Declarations, Question}
 use Rattle.text_definitions.specs.Text.{TextGives}
 use Rattle.view_lowering.specs.Plain.{unbound_reference}
 
--- The kinds of a question's variables, in their order.
+-- The kinds of a query's variables, in their order.
 abbrev pub variable_kinds : Question → List Sort
 variable_kinds q = map (λ v. v.kind) q.variables
 
@@ -15,7 +15,7 @@ abbrev pub number_of : Sort → List Sort → ℕ
 number_of s [] = zero
 number_of s (k ∷ ks) = if is_sort k s then suc (number_of s ks) else number_of s ks
 
--- An open place that is no unknown of these kinds: in what is asked it can't get a value.
+-- A parameter or inference variable that is none of these kinds. In a query it cannot get a value.
 abbrev pub is_stray : List Sort → Label → Bool
 is_stray ks (infer of_type i) = not (ltb i (number_of of_type ks))
 is_stray ks (infer of_const i) = not (ltb i (number_of of_const ks))
@@ -29,11 +29,11 @@ is_stray ks (bound of_lifetime j i) = false
 is_stray ks (bound s j i) = true
 is_stray ks l = false
 
--- The question's reference holds no parameter that is a type or a constant, and no unknown but its own variables.
+-- The query's trait reference holds no parameter that is a type or a constant, and no inference variable but those of the query.
 abbrev pub HasVariablesAlone : Question → Type 0
 HasVariablesAlone q = some_node (is_stray (variable_kinds q)) (unbound_reference q.asked).args ≡ false
 
--- So does each `refute` question of a text without a fault.
+-- This holds for each `refute` query of a text without a fault.
 abbrev pub RefutationsHaveVariablesAlone : Type 0
 RefutationsHaveVariablesAlone =
     (bytes : List ℕ) (d : Declarations) → TextGives bytes (Ok d) → (k : ℕ) (q : Question) → slice_get d.questions k ≡ Some q → q.is_refute ≡ true → HasVariablesAlone q

@@ -1,4 +1,4 @@
--- Questions of a text, and their terms.
+-- Queries of a text, and their terms.
 use Rattle.std.specs.Prelude.{◌≡◌, ◌≤◌, ◌-◌, ℕ, List, ◌∷◌, map, Some, slice_get}
 use Rattle.text_definitions.specs.Declarations.{Declarations, Question, Variable}
 use Rattle.text_definitions.specs.Names.{own_from, own_unknowns}
@@ -14,13 +14,13 @@ use Rattle.view_lowering.specs.Plain.{unbound_reference, unbound_references}
 use Rattle.view_lowering.specs.declared.question.LoweredQuestion.{LoweredQuestion}
 use Rattle.view_lowering.specs.declared.question.Counts.{Counts}
 
--- question number n of the text, counted from 1, is q
+-- Query number n of the text, counted from 1, is q.
 pub record IsQuestion (d : Declarations) (n : ℕ) (q : Question) : Type 0 where
   pub counted : 1 ≤ n
   pub there : slice_get d.questions (n - 1) ≡ Some q
 
--- The terms are the question's, without binders: its parameters stand in them as placeholders, its variables as unknowns. For each
--- variable, in their order, there is the unknown that stands for it.
+-- The terms are the query's, without binders. Its parameters are placeholders, and its variables are inference variables. These are listed
+-- in the order of the query's variables.
 pub record IsLowered (es : List Entry) (q : Question) (l : LoweredQuestion) : Type 0 where
   pub asked : reference_in es l.asked ≡ unbound_reference q.asked
   pub clauses : references_in es l.clauses.items ≡ unbound_references q.clauses
@@ -29,7 +29,7 @@ pub record IsLowered (es : List Entry) (q : Question) (l : LoweredQuestion) : Ty
   pub clauses_held : TraitRefsHeld es l.clauses.items
   pub unknowns_held : ArgsHeld es l.unknowns.items
 
--- the unknown of the first of variables, of this kind, behind as many of each kind as were counted
+-- The inference variable for the first of these variables, of this kind, after as many of each kind as were counted.
 abbrev pub IsNextUnknown : List Entry → ParamKind → Counts → GenericArgKind → Counts → Type 0
 IsNextUnknown es kind before arg behind =
     (v : Variable) (vs : List Variable) → v.kind ≡ sort_of_kind kind → own_from before.types before.consts (v ∷ vs) ≡ arg_trees es arg ∷ own_from behind.types behind.consts vs

@@ -1,4 +1,4 @@
--- What a crate sees of a text's declarations, and items of an interner's terms with the sorts of their parameters.
+-- What a crate sees of a text's declarations, and the kinds of the parameters of items over an interner.
 use Rattle.std.specs.Prelude.{◌≡◌, ℕ, true, List, [], ◌∷◌, map, filter}
 use Rattle.type_terms.specs.Label.{Sort, of_type}
 use Rattle.type_terms.specs.Erased.{erased_world}
@@ -14,15 +14,15 @@ use Rattle.declarations.specs.Heads.{begins_declared}
 use Rattle.declarations.specs.Items.{HeldImpl}
 use Rattle.workspace.specs.Numbered.{EachNumbered}
 
--- what crate c sees: the items of all crates that it sees. The crates themselves are left out, for rules don't read them
+-- What crate c sees: the items of all crates that it sees. The crates themselves are left out, because rules do not read them.
 abbrev pub seen_from : text.Declarations → ℕ → World
 seen_from d c = record (view_of (world_of d) c) { crates = [] }
 
--- the same without lifetimes, as rules are read from it
+-- The same without lifetimes, as rules are read from it.
 abbrev pub rules_seen_from : text.Declarations → ℕ → World
 rules_seen_from d c = record (view_of (erased_world (world_of d)) c) { crates = [] }
 
--- ---- the sorts of an item's parameters
+-- ---- the kinds of an item's parameters
 abbrev pub struct_sorts : AdtId × AdtDef → List Sort
 struct_sorts x = map sort_of_param x.1.params.items
 
@@ -32,7 +32,7 @@ trait_sorts x = map sort_of_param x.1.params.items
 abbrev pub impl_sorts : HeldImpl → List Sort
 impl_sorts i = map sort_of_param i.def.params.items
 
--- ---- of the items that crate c sees; a trait has Self before its written parameters
+-- ---- the items that crate c sees; a trait has Self before its written parameters
 abbrev pub struct_sorts_seen : text.Declarations → ℕ → List (List Sort)
 struct_sorts_seen d c = map (λ s. s.kinds) (filter (λ s. sees (world_of d) c s.item.home) d.structs)
 
@@ -45,10 +45,10 @@ param_sorts i = map (λ p. p.1) i.params
 abbrev pub impl_sorts_seen : text.Declarations → ℕ → List (List Sort)
 impl_sorts_seen d c = map param_sorts (filter (λ i. sees (world_of d) c i.item.home) d.impls)
 
--- the self type of each impl is a parameter, or no variable or placeholder
+-- The self type of each impl is a parameter, or begins with no variable or placeholder.
 abbrev pub BeginDeclared : text.Declarations → Type 0
 BeginDeclared d = EachNumbered (λ k i. begins_declared i.item.header.args ≡ true) d.impls
 
--- so it is of the impls that later versions add
+-- The same for the impls that later versions add.
 abbrev pub LaterBeginDeclared : text.Declarations → Type 0
 LaterBeginDeclared d = EachNumbered (λ k i. begins_declared i.added.item.header.args ≡ true) d.later_impls

@@ -5,6 +5,6 @@ use Rattle.text_definitions.specs.Text.{TextGives}
 use Rattle.assembly_laws.specs.DeclaredWell.{is_declared_well}
 use Rattle.view_lowering.specs.Plain.{plainly_seen_from}
 
--- If the text has no fault, each of its crates sees declarations by which goals can be decided: they pass all tests of such.
+-- If the text has no fault, each of its crates sees declarations by which goals can be decided: they pass all tests for that.
 abbrev pub TextsAreDeclaredWell : Type 0
 TextsAreDeclaredWell = (bytes : List ℕ) (d : Declarations) → TextGives bytes (Ok d) → (c : ℕ) → is_declared_well (plainly_seen_from d c) ≡ true

@@ -1,4 +1,4 @@
-//! A struct, a trait, an impl.
+//! A struct, a trait and an impl as declarations. `for<'a> fn(&'a u8)` becomes `fn(&'static u8)`.
 ghost use Rattle.std.specs.Prelude.{◌≡◌, ◌+◌, ◌≤◌, ◌∷◌, true, length, map, IfOk};
 ghost use Rattle.type_terms.specs.Label.{of_type};
 ghost use Rattle.type_terms.specs.Growth.{GrewOrFull};
@@ -20,7 +20,7 @@ use type_terms::Fault;
 use type_terms::interner::Interner;
 use workspace::{ImplEntry, Param, ParamKind, StructEntry, TraitEntry, lower_types};
 
-/// The struct of a row. Its fields hold no lifetime but `'static`.
+/// The struct of an entry. Its fields hold no lifetime but `'static`.
 pub(crate) fn lower_struct(
     alloc: Global,
     cx: &mut Interner,
@@ -40,7 +40,7 @@ pub(crate) fn lower_struct(
     AdtDef::new(alloc, cx, entry.owner, entry.is_fundamental, params, fields)
 }
 
-/// The parameters of a trait: Self and those that are written.
+/// The parameters of a trait: Self, and those that are written.
 fn trait_params(alloc: Global, kinds: &[ParamKind]) -> Result<Vec<GenericParamKind>, AllocError>
     ensures { IfOk result (λ params. map sort_of_param params.items ≡ of_type ∷ sorts_of kinds.now) }
 {
@@ -50,7 +50,7 @@ fn trait_params(alloc: Global, kinds: &[ParamKind]) -> Result<Vec<GenericParamKi
     Ok(params)
 }
 
-/// The trait of a row. Its bounds hold no lifetime but `'static`.
+/// The trait of an entry. Its bounds hold no lifetime but `'static`.
 pub(crate) fn lower_trait(
     alloc: Global,
     cx: &mut Interner,
@@ -84,8 +84,8 @@ fn impl_params(alloc: Global, list: &[Param]) -> Result<Vec<GenericParamKind>, A
     Ok(params)
 }
 
-/// The impl of a row, whose self type is a parameter, or no variable or placeholder. Its where-clauses hold the lifetimes of the header
-/// and `'static`.
+/// The impl of an entry. Its self type must be a parameter, or begin with no variable or placeholder. Its where-clauses hold the lifetimes
+/// of the header and `'static`.
 pub(crate) fn lower_impl(
     alloc: Global,
     cx: &mut Interner,

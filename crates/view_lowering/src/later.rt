@@ -13,10 +13,10 @@ use type_terms::Fault;
 use type_terms::interner::Interner;
 use workspace::Workspace;
 
-/// The impls of a section, by its number from 0, in the order of the text. A section of a higher number than the text has holds none.
+/// The impls of a section, in the order of the text. Sections count from 0. If the text has no such section, the list is empty.
 ///
-/// They stand in no view, so they have no numbers among the impls that a crate sees. The error is `Memory`, or `Full` where a table of
-/// the interner is full; the interner may then hold more terms than before.
+/// They are in no view, so they have no numbers among the impls that a crate sees. Each handle keeps its term, after an error too. Fails
+/// with `Memory`, or with `Full` if a table of the interner is full. The interner may then hold more terms than before.
 pub fn lower_later(
     alloc: Global,
     cx: &mut Interner,

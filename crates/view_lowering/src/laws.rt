@@ -4,13 +4,13 @@ ghost use Rattle.text_definitions.specs.Declarations.{Declarations};
 ghost use Rattle.text_definitions.specs.Text.{TextGives};
 ghost use Rattle.view_lowering.specs.Seen.{BeginDeclared, LaterBeginDeclared};
 
-/// In a text without a fault the self type of each impl is a parameter, or begins with no variable or placeholder: so each of its
-/// views can be lowered.
+/// In a text without a fault, the self type of each impl is a parameter, or begins with no variable or placeholder. So each of its views
+/// can be lowered.
 pub fn impls_begin_declared()
     ensures { (bytes : List ℕ) (d : Declarations) → TextGives bytes (Ok d) → BeginDeclared d }
 {}
 
-/// So it is of each impl that a later version adds.
+/// The same holds for each impl that a later version adds.
 pub fn later_impls_begin_declared()
     ensures { (bytes : List ℕ) (d : Declarations) → TextGives bytes (Ok d) → LaterBeginDeclared d }
 {}

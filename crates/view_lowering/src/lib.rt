@@ -1,5 +1,8 @@
-//! What a crate sees of a text's declarations, as rules are read from it, and the text's questions: with their types made terms of
-//! an interner.
+//! What a crate sees of a text's declarations, and the text's queries, with their types as terms of an interner.
+//!
+//! Declarations and queries have no binders: a lifetime that a `for<...>` binds becomes `'static`, because rules hold up to lifetimes. So
+//! does a lifetime parameter that occurs only in an impl's where-clauses, and each one in a struct's fields and a trait's bounds. Lifetimes
+//! in headers stay.
 #![tactic(auto)]
 
 mod items;

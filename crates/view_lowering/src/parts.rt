@@ -1,4 +1,4 @@
-//! Parameters and references.
+//! Parameters and trait references.
 ghost use Rattle.std.specs.Prelude.{◌≡◌, ◌+◌, ◌≤◌, ◌++◌, length, map, sum_by, IfOk, OnOk};
 ghost use Rattle.type_terms.specs.Growth.{GrewOrFull};
 ghost use Rattle.declarations.specs.Applied.{sort_of_param, references_in};
@@ -19,7 +19,7 @@ use type_terms::Fault;
 use type_terms::interner::Interner;
 use workspace::{ParamKind, ReferenceCells, lower_args};
 
-/// What a parameter stands for, as declarations have it.
+/// The kind of a parameter, as declarations have it.
 pub(crate) fn param_kind(kind: ParamKind) -> GenericParamKind
     ensures { sort_of_param result ≡ sort_of_kind kind }
 {
@@ -30,7 +30,7 @@ pub(crate) fn param_kind(kind: ParamKind) -> GenericParamKind
     }
 }
 
-/// Puts parameters behind others.
+/// Appends parameters.
 pub(crate) fn push_params(
     params: &mut Vec<GenericParamKind>,
     kinds: &[ParamKind],
@@ -43,7 +43,7 @@ pub(crate) fn push_params(
     Ok(())
 }
 
-/// A reference whose arguments are the terms that its cells stand for. Errors are those of `lower_args`.
+/// The trait reference with the terms of these cells as arguments. The errors are those of `lower_args`.
 fn lower_as_written(
     alloc: Global,
     cx: &mut Interner,
@@ -62,7 +62,8 @@ fn lower_as_written(
     })
 }
 
-/// A reference whose arguments are terms, with the lifetimes that are kept and without binders. Errors are those of `lower_args`.
+/// The trait reference with the terms of these cells as arguments, without binders and with the lifetimes that are kept. The errors are
+/// those of `lower_args`.
 pub(crate) fn lower_reference(
     alloc: Global,
     cx: &mut Interner,
@@ -82,7 +83,7 @@ pub(crate) fn lower_reference(
     lower_as_written(alloc, cx, &plain)
 }
 
-/// References whose arguments are terms, in order, with the lifetimes that are kept and without binders.
+/// The trait references with terms as arguments, in order, without binders and with the lifetimes that are kept.
 pub(crate) fn lower_references(
     alloc: Global,
     cx: &mut Interner,

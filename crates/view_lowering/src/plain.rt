@@ -16,12 +16,12 @@ use workspace::{ReferenceCells, TermCell};
 #[derive(Clone, Copy)]
 pub(crate) enum Kept<'c> {
     All,
-    /// Those that stand among these cells.
+    /// Those that occur in these cells.
     NamedIn(&'c [TermCell]),
     None,
 }
 
-/// Whether the lifetime is the parameter of this number.
+/// Whether the lifetime is the parameter with this number.
 fn is_param(region: Region, param: u32) -> bool
     ensures { result ≡ is_lifetime param (region_label region.kind) }
 {
@@ -34,7 +34,7 @@ fn is_param(region: Region, param: u32) -> bool
     }
 }
 
-/// Whether the cell is that parameter, or a reference for so long.
+/// Whether the cell is that parameter, or a reference `&'a T` with that lifetime.
 fn names(cell: TermCell, param: u32) -> bool
     ensures { result ≡ names param cell }
 {
@@ -45,7 +45,7 @@ fn names(cell: TermCell, param: u32) -> bool
     }
 }
 
-/// Whether that parameter stands among the cells.
+/// Whether that parameter occurs in the cells.
 fn named_in(cells: &[TermCell], param: u32) -> bool
     ensures { result ≡ named_in cells.now param }
 {
@@ -53,7 +53,7 @@ fn named_in(cells: &[TermCell], param: u32) -> bool
 }
 
 impl<'c> Kept<'c> {
-    /// Whether the parameter of this number is kept.
+    /// Whether the parameter with this number is kept.
     fn has(self, param: u32) -> bool
         ensures { result ≡ is_kept self.entry param }
     {
@@ -65,7 +65,7 @@ impl<'c> Kept<'c> {
     }
 }
 
-/// The lifetime; `'static` for one that is bound, and for a parameter that is not kept.
+/// The lifetime, or `'static` if it is bound or a parameter that is not kept.
 fn plain_region(region: Region, kept: Kept<'_>) -> Region
     ensures is { region_label result.kind ≡ plain_label (is_kept kept.entry) (region_label region.kind) }
     ensures held { RegionHeld region.kind → RegionHeld result.kind }
@@ -84,7 +84,7 @@ fn plain_region(region: Region, kept: Kept<'_>) -> Region
     Region { kind }
 }
 
-/// The cell with the lifetimes that are kept, and without a binder.
+/// The cell without a binder, and with the lifetimes that are kept.
 fn plain_cell(cell: TermCell, kept: Kept<'_>) -> TermCell
     ensures is { cell_of result ≡ plain_cell (is_kept kept.entry) (cell_of cell) }
     ensures parts { (S : List StackPart) → parts_behind result S ≡ parts_behind cell S }
@@ -109,7 +109,7 @@ fn plain_cell(cell: TermCell, kept: Kept<'_>) -> TermCell
     }
 }
 
-/// Whether no lifetime stands among the cells, and nothing that may bind one: these are plain as they are, whatever is kept.
+/// Whether the cells hold no lifetime, and nothing that may bind one. Such cells need no copy, whatever is kept.
 pub(crate) fn are_without_lifetimes(cells: &[TermCell]) -> bool
     ensures { result ≡ list_all is_without_lifetimes cells.now }
 {
@@ -124,7 +124,7 @@ pub(crate) fn are_without_lifetimes(cells: &[TermCell]) -> bool
     })
 }
 
-/// The cells with the lifetimes that are kept, and without binders. The error says that a request for memory was refused.
+/// The cells without binders, and with the lifetimes that are kept. Fails only if memory is refused.
 pub(crate) fn plain_cells(
     alloc: Global,
     cells: &[TermCell],
@@ -140,7 +140,7 @@ pub(crate) fn plain_cells(
     Ok(plain)
 }
 
-/// The reference with the lifetimes that are kept, and without binders. The error says that a request for memory was refused.
+/// The trait reference without binders, and with the lifetimes that are kept. Fails only if memory is refused.
 pub(crate) fn plain_reference(
     alloc: Global,
     cells: &ReferenceCells,

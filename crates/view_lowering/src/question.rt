@@ -1,4 +1,4 @@
-//! Questions.
+//! Queries, with their types as terms.
 ghost use Rattle.std.specs.Prelude.{◌≡◌, map, IfOk};
 ghost use Rattle.text_definitions.specs.Declarations.{Question};
 ghost use Rattle.text_definitions.specs.Names.{own_from};
@@ -19,26 +19,26 @@ use type_terms::region::{Region, RegionKind};
 use type_terms::{Fault, MAX_INDEX};
 use workspace::{Param, ParamKind, QuestionEntry, Workspace};
 
-/// A question with its types as terms, which bind no lifetimes: one that a `for<..>` binds is `'static`. Its parameters are
-/// placeholders, its variables unknowns.
+/// A query with its types as terms. A lifetime that a `for<...>` binds is `'static`. Its parameters are placeholders, and its variables are
+/// inference variables.
 #[derive(Drop)]
 pub struct LoweredQuestion {
-    /// The reference that the question asks about, its variables as unknowns.
+    /// The trait reference of the query.
     pub asked: TraitRef,
-    /// The where-clauses as they are written.
+    /// The where-clauses as they are written, without their supertraits.
     pub clauses: Vec<TraitRef>,
-    /// For each variable, by first place, the unknown that stands for it: those of one kind are counted from 0.
+    /// The inference variable for each variable of the query, in the order of first occurrence. Those of one kind count from 0.
     pub unknowns: Vec<GenericArgKind>,
 }
 
-/// How many unknowns of each kind there are.
+/// How many inference variables of each kind there are.
 #[derive(Clone, Copy)]
 pub(crate) struct Counts {
     pub types: u32,
     pub consts: u32,
 }
 
-/// The unknown of the next variable, of this kind.
+/// The inference variable for the next variable, of this kind.
 fn next_unknown(
     cx: &mut Interner,
     kind: ParamKind,
@@ -75,7 +75,7 @@ fn next_unknown(
     }
 }
 
-/// The unknowns that stand for the variables, in their order.
+/// The inference variables for the query's variables, in their order.
 fn own_unknowns(
     alloc: Global,
     cx: &mut Interner,
@@ -97,7 +97,7 @@ fn own_unknowns(
     Ok(unknowns)
 }
 
-/// The question of a row.
+/// The query of an entry.
 fn lower_entry(
     alloc: Global,
     cx: &mut Interner,
@@ -118,8 +118,10 @@ fn lower_entry(
     })
 }
 
-/// The question with a number, counted from 1. The error is `Memory`, also where there are more variables than `MAX_INDEX`, or `Full`
-/// where a table of the interner is full; the interner may then hold more terms than before.
+/// The query with this number, counted from 1. Each handle keeps its term, after an error too.
+///
+/// Fails with `Memory` if memory is refused or there are more variables than `MAX_INDEX`, and with `Full` if a table of the interner is
+/// full. The interner may then hold more terms than before.
 pub fn lower_question(
     alloc: Global,
     cx: &mut Interner,

@@ -1,4 +1,5 @@
-//! The whole view of a crate, lowered anew or behind that of an earlier crate.
+//! The whole view of a crate, lowered anew or after that of an earlier crate. If `crate b uses a` follows `crate a`, b sees all that a
+//! sees, and then its own items, so only these are lowered for it.
 ghost use Rattle.std.specs.Prelude.{◌≡◌, ◌+◌, ◌<◌, ◌≤◌, ◌++◌, true, Some, length, map, sum_by, OnOk, IfOk, IfErr, IfSome, IfNone};
 ghost use Rattle.type_terms.specs.Worlds.{sees};
 ghost use Rattle.type_terms.specs.declared.Fault.TheVariants.{Memory};
@@ -166,8 +167,8 @@ fn lower_impls(
 
 /// The structs, traits and impls of all crates that a crate sees, each with its number, in the order of the text.
 ///
-/// Types are read without recursion, parts before what they stand in. The error is `Memory`, or `Full` where a table of the
-/// interner is full; the interner may then hold more terms than before.
+/// Types are read without recursion. Each handle keeps its term, after an error too. Fails with `Memory`, or with `Full` if a table of the
+/// interner is full. The interner may then hold more terms than before.
 pub fn lower(
     alloc: Global,
     cx: &mut Interner,
@@ -185,7 +186,7 @@ pub fn lower(
     ensures held { IfOk result (λ decls. AreHeld cx.new.entries decls) }
     ensures terms { GrewOrFull cx.old cx.new result }
 
-    // So many terms are made at most, after a fault too.
+    // It makes no more terms, after a fault too: two for each part of a type, and one for each trait reference.
     ensures few { length cx.new.entries ≤ length cx.old.entries + most_terms workspace.now crate_id.index }
 {
     let mut decls = Declarations::new(alloc, crate_id);
@@ -196,8 +197,8 @@ pub fn lower(
     Ok(decls)
 }
 
-/// Whether there was a new row, one that the crate sees and the earlier crate does not, once a further row is gone over. `None` where
-/// what the crate sees does not begin with what the earlier one sees: that alone sees the row, or both see it, behind a new one.
+/// Whether there was a new entry so far, one that the crate sees and the earlier crate does not, after one more entry. `None` if what the
+/// crate sees does not begin with what the earlier one sees: only the earlier one sees the entry, or both see it after a new one.
 fn next_row(
     workspace: &Workspace,
     earlier: CrateId,
@@ -279,11 +280,11 @@ fn impls_begin_with(workspace: &Workspace, earlier: CrateId, crate_id: CrateId) 
     true
 }
 
-/// Whether what the crate sees of the text's structs, traits and impls begins with what the earlier crate sees: so it can be lowered
-/// behind that, by `lower_behind`.
+/// Whether what the crate sees of the text's structs, traits and impls begins with what the earlier crate sees. If so, `lower_behind` can
+/// lower it after that.
 ///
-/// So it is where a crate uses the earlier one, and each crate that it sees besides comes later in the text. The rows of the text
-/// are gone over once, in constant time for each. Where the answer is false, `lower` lowers the view anew.
+/// It does if the crate uses the earlier one, and every other crate that it sees comes later in the text. The entries of the text are
+/// visited once, in constant time for each. If the answer is `false`, `lower` lowers the view anew.
 pub fn begins_with(workspace: &Workspace, earlier: CrateId, crate_id: CrateId) -> bool
     requires earlier { earlier.index < length workspace.now.crates }
     requires there { crate_id.index < length workspace.now.crates }
@@ -299,12 +300,11 @@ pub fn begins_with(workspace: &Workspace, earlier: CrateId, crate_id: CrateId) -
     impls_begin_with(workspace, earlier, crate_id)
 }
 
-/// Makes what an earlier crate sees, as it was lowered into this interner, what this crate sees, which begins with that
-/// (`begins_with`): only what is new is lowered, behind the rest.
+/// Extends what an earlier crate sees to what this crate sees, which must begin with that (`begins_with`). Only what is new is lowered. The
+/// interner may have grown since the earlier view was lowered into it.
 ///
-/// So crates that each use the one before lower each row once, and not once for each crate. The interner may hold other terms by
-/// now: what was declared is read over its entries as before. The error is `Memory`, or `Full` where a table of the interner is full;
-/// of the declarations nothing is said then, and the interner may hold more terms than before.
+/// So crates that each use the one before lower each entry once, and not once for each crate. Fails with `Memory`, or with `Full` if a
+/// table of the interner is full. Nothing is then said of the declarations, and the interner may hold more terms than before.
 pub fn lower_behind(
     alloc: Global,
     cx: &mut Interner,
@@ -331,7 +331,7 @@ pub fn lower_behind(
     ensures held { OnOk result (AreHeld cx.new.entries decls.new) }
     ensures terms { GrewOrFull cx.old cx.new result }
 
-    // So many terms are made at most, after a fault too.
+    // It makes no more terms, after a fault too.
     ensures few { length cx.new.entries ≤ length cx.old.entries + most_new_terms workspace.now crate_id.index (Some earlier) }
 {
     let _ = workspace.crates();
