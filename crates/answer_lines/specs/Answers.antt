@@ -36,7 +36,7 @@ answer_of (Open q) = output.unrefuted q
 abbrev pub orphan_start : List ℕ → ℕ → List ℕ
 orphan_start n k = output.crate_start n ++ codes "orphan impl " ++ decimal k
 
--- values behind the first one
+-- values after the first one
 abbrev pub more_values : List output.ValueText → List ℕ
 more_values [] = []
 more_values (v ∷ vs) = codes ", " ++ (output.value_text v ++ more_values vs)

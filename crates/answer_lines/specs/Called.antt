@@ -4,6 +4,6 @@ use Rattle.type_terms.specs.Label.{Sort}
 use Rattle.answer_lines.specs.Kinds as term
 use Rattle.answer_lines.specs.declared.question.Unknown.{Unknown}
 
--- unknowns that a question doesn't hold
+-- Variables that are not the query's own.
 abbrev pub unknowns_of : List Unknown → List (Sort × ℕ)
 unknowns_of us = map (λ u. (term.sort_of_kind u.kind, u.index)) us

@@ -22,22 +22,22 @@ abbrev pub ListHeld : List Entry → List Listed → Type 0
 ListHeld es [] = Unit {0}
 ListHeld es (l ∷ ls) = ArgHeld es l.value × ListHeld es ls
 
--- the number of the unknown that stands for the next variable, of this kind
+-- The number of the inference variable for the next variable, of this kind.
 abbrev pub own_number : ParamKind → Counts → ℕ
 own_number kinds.Lifetime n = 0
 own_number kinds.Type n = n.types
 own_number kinds.Const n = n.consts
 
--- the counts behind a variable of this kind
+-- The counts after a variable of this kind.
 abbrev pub counted : ParamKind → Counts → Counts
 counted kinds.Lifetime n = n
 counted kinds.Type n = record { types = suc n.types; consts = n.consts }
 counted kinds.Const n = record { types = n.types; consts = suc n.consts }
 
--- a variable with this value, which the unknown with this number stands for: it is listed unless that is its value
+-- A variable with this value. It is listed unless the value is the inference variable with this number, which stands for it.
 abbrev pub valued_one : List Entry → Param → GenericArgKind → ℕ → List (Variable × Trees)
 valued_one es p a n = if same (leaf (infer (sort_of_kind p.kind) n)) (arg_trees es a) then [] else (variable_of p, arg_trees es a) ∷ []
 
--- the variables with a value of their own, of these with these values
+-- Those of the variables with these values that have a value of their own.
 abbrev pub valued_of : List Entry → List Param → List GenericArgKind → List (Variable × Trees)
 valued_of es ps values = valued (map variable_of ps) (own_from 0 0 (map variable_of ps)) (map (arg_trees es) values)

@@ -1,4 +1,4 @@
--- What the visitor that lists free unknowns answers.
+-- What the visitor that lists inference variables returns.
 use Rattle.std.specs.Prelude.{◌≡◌, Bool, true, false, refl}
 use Rattle.type_terms.specs.Label.{Label, infer, principal, auto_trait}
 use Rattle.type_terms.specs.Trees.{Trees, none, tree}
@@ -18,7 +18,7 @@ abbrev pub is_unknown_root : Trees → Bool
 is_unknown_root none = false
 is_unknown_root (tree l c o) = is_unknown l
 
--- it enters what is no unknown, and lists what it doesn't enter; a break comes where memory is refused
+-- It enters each node that is no inference variable, and lists one that it does not enter. It breaks if memory is refused.
 abbrev pub ListsAt : {B : Type 0} → Trees → ListsFree → ListsFree → Seen B → Type 0
 ListsAt t v w (Break b) = Unit {0}
 ListsAt t v w Enter = (w.free.items ≡ v.free.items) × (is_unknown_root t ≡ false)

@@ -13,12 +13,12 @@ use Rattle.answer_lines.specs.declared.piece.Piece.{Piece}
 use Rattle.answer_lines.specs.declared.piece.Piece.TheVariants.{Ty as PTy, Const as PConst, Text, Types, Args, Autos}
 
 -- ---- texts
--- the texts with this before each
+-- The texts, with this before each.
 abbrev pub text_behind : List ℕ → List (List ℕ) → List ℕ
 text_behind c [] = []
 text_behind c (t ∷ ts) = c ++ (t ++ text_behind c ts)
 
--- arguments, of which some are printed or none
+-- Arguments, after some that are printed, or after none.
 abbrev pub more_args : Bool → List (List ℕ) → List ℕ
 more_args false ts = angled ts
 more_args true ts = text_behind (codes ", ") ts ++ codes ">"
@@ -31,7 +31,7 @@ piece_text N es (Types ts) = text_behind (codes ", ") (texts N (tys_trees es ts.
 piece_text N es (Args xs is_open) = more_args is_open (texts N (args_trees es xs.now))
 piece_text N es (Autos ts) = text_behind (codes " + ") (texts N (autos_trees ts.now))
 
--- of all pieces of a stack: the last one comes first
+-- The text of all pieces of a stack. The last piece comes first.
 abbrev pub pending : Names → List Entry → List Piece → List ℕ
 pending N es [] = []
 pending N es (p ∷ ps) = pending N es ps ++ piece_text N es p
@@ -66,7 +66,7 @@ abbrev pub pieces_load : List Entry → List Piece → ℕ
 pieces_load es [] = 0
 pieces_load es (p ∷ ps) = piece_load es p + pieces_load es ps
 
--- ---- A step appends a part of a text to what is written, and puts what is left of it on the stack: less than there was.
+-- ---- A step appends a part of a text to what is written, and puts the rest of it on the stack, which is less than there was.
 pub record Prints (N : Names) (es : List Entry) (t : List ℕ) (l : ℕ) (stack_before stack_after : List Piece) (before after : List ℕ) : Type 0 where
   pub bytes : List ℕ
   pub pieces : List Piece
@@ -76,15 +76,15 @@ pub record Prints (N : Names) (es : List Entry) (t : List ℕ) (l : ℕ) (stack_
   pub held : PiecesHeld es pieces
   pub lighter : pieces_load es pieces < l
 
--- ... the text of trees
+-- ... for the text of a term
 abbrev pub PrintsTrees : Names → List Entry → Trees → List Piece → List Piece → List ℕ → List ℕ → Type 0
 PrintsTrees N es t so sn oo on = Prints N es (type_text N t) (load t) so sn oo on
 
--- ... of a piece
+-- ... for the text of a piece
 abbrev pub PrintsPiece : Names → List Entry → Piece → List Piece → List Piece → List ℕ → List ℕ → Type 0
 PrintsPiece N es p so sn oo on = Prints N es (piece_text N es p) (piece_load es p) so sn oo on
 
--- ---- what stands before a type
+-- ---- what comes before a type
 abbrev pub ref_sign : Bool → List ℕ
 ref_sign false = codes "&"
 ref_sign true = codes "&mut "
@@ -93,12 +93,12 @@ abbrev pub raw_ptr_sign : Bool → List ℕ
 raw_ptr_sign false = codes "*const "
 raw_ptr_sign true = codes "*mut "
 
--- ---- what stands before an argument
+-- ---- what comes before an argument
 abbrev pub arg_sign : Bool → List ℕ
 arg_sign false = codes "<"
 arg_sign true = codes ", "
 
--- ---- steps that write nothing at once: types with commas between them, and what stands behind the inputs of a fn
+-- ---- steps that write nothing at once: types with commas between them, and what comes after the inputs of a fn
 abbrev pub PushesTypes : List Entry → Trees → List Piece → List Piece → Type 0
 PushesTypes es t so sn = (N : Names) (o : List ℕ) → Prints N es (between (codes ", ") (texts N t)) (2 + load t) so sn o o
 
@@ -112,7 +112,7 @@ PrintsPrincipal N es t args autos so sn oo on = Prints N es (codes "dyn " ++ bet
 abbrev pub PrintsAutos : Names → List Entry → Trees → List Piece → List Piece → List ℕ → List ℕ → Type 0
 PrintsAutos N es autos so sn oo on = Prints N es (codes "dyn " ++ between (codes " + ") (texts N autos)) (6 + load autos) so sn oo on
 
--- ---- the next of types, of arguments and of auto traits behind those that are printed
+-- ---- the next of types, of arguments and of auto traits after those that are printed
 abbrev pub PrintsTypes : Names → List Entry → Trees → List Piece → List Piece → List ℕ → List ℕ → Type 0
 PrintsTypes N es t so sn oo on = Prints N es (text_behind (codes ", ") (texts N t)) (1 + load t) so sn oo on
 
@@ -122,8 +122,9 @@ PrintsArgs N es is_open t so sn oo on = Prints N es (more_args is_open (texts N 
 abbrev pub PrintsMoreAutos : Names → List Entry → Trees → List Piece → List Piece → List ℕ → List ℕ → Type 0
 PrintsMoreAutos N es t so sn oo on = Prints N es (text_behind (codes " + ") (texts N t)) (1 + load t) so sn oo on
 
--- ---- the text of a kind, of a struct with its arguments, of a tuple and of a fn by their types, of a principal trait by its arguments and the auto
--- traits, and of arguments by the first one's tree
+-- ---- the texts of kinds
+-- A struct has its arguments, a tuple and a fn have their types, a principal trait has its arguments and the auto traits, and arguments
+-- have the term of the first one.
 abbrev pub PrintsKind : Names → List Entry → TyKind → List Piece → List Piece → List ℕ → List ℕ → Type 0
 PrintsKind N es k so sn oo on = PrintsTrees N es (kind_trees es k) so sn oo on
 

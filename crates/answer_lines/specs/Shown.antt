@@ -1,4 +1,4 @@
--- The texts that names have where an answer is explained.
+-- The texts of names in explanations.
 use Rattle.std.specs.Prelude.{◌≡◌, ℕ, List, ◌++◌, map, codes, slice_get}
 use Rattle.std.specs.Option.{option_map_or}
 use Rattle.type_terms.specs.Label.{Sort}
@@ -8,7 +8,7 @@ use Rattle.text_definitions.specs.Output.{Names}
 use Rattle.workspace.specs.Views.{param_names, variable_of}
 use Rattle.workspace.specs.declared.declared.Param.{Param}
 
--- an unknown is called by the variable that it stands for, and `_` where it stands for none
+-- An inference variable has the name of the variable that it stands for. It is `_` if it stands for none.
 abbrev pub shown_unknown : List Param → Sort → ℕ → List ℕ
 shown_unknown vs s i = option_map_or (λ v. codes "?" ++ v.text) (slice_get (of_kind s (map variable_of vs)) i) (codes "_")
 
@@ -21,6 +21,6 @@ shown_names d ps vs = record {
   of_unknown = shown_unknown vs;
 }
 
--- the second text is a beginning of the first
+-- The second text is a prefix of the first.
 abbrev pub IsBeginning : List ℕ → List ℕ → Type 0
 IsBeginning whole part = (rest : List ℕ) × (part ++ rest ≡ whole)

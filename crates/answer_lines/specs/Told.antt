@@ -1,4 +1,4 @@
--- What a line tells of the answer that it prints.
+-- The answer can be read from the line that prints it.
 use Rattle.std.specs.Prelude.{◌≡◌, ℕ, ◌<◌, ◌^◌, Bool, true, not, ◌&&◌, ◌==◌, List, All, IfSome}
 use Rattle.std.specs.List.{list_all, flat_map}
 use Rattle.text_definitions.specs.Output.{Answer, fault, accepted, nonlocal, uncovered, overlap, compatible, breaking, held, missing, undecided, yes, maybe, unproved, no, unrefuted, ValueText, output_text}
@@ -22,7 +22,7 @@ IsNumber n = n < 2 ^ 32
 abbrev pub IsPrintableValue : ValueText → Type 0
 IsPrintableValue v = IsName v.variable × IsTermText v.term
 
--- Crates, parameters and variables go by names, types by texts of types.
+-- Crates, parameters and variables have names, and types have texts of types.
 abbrev pub IsPrintable : Answer → Type 0
 IsPrintable (fault l n) = IsNumber l × IsNumber n
 IsPrintable (accepted n) = IsName n
@@ -44,6 +44,6 @@ IsPrintable (unrefuted q) = IsNumber q
 abbrev pub LinesTellAnswers : Type 0
 LinesTellAnswers = (a b : Answer) → IsPrintable a → IsPrintable b → output_text a ≡ output_text b → a ≡ b
 
--- So do different lists of answers.
+-- Different lists of answers print different texts.
 abbrev pub OutputsTellAnswers : Type 0
 OutputsTellAnswers = (xs ys : List Answer) → All IsPrintable xs → All IsPrintable ys → flat_map output_text xs ≡ flat_map output_text ys → xs ≡ ys

@@ -7,7 +7,7 @@ use Rattle.workspace.specs.Views.{question_of}
 use Rattle.answer_lines.specs.Called.{unknowns_of}
 use Rattle.answer_lines.specs.declared.question.QuestionNames.{QuestionNames}
 
--- what things are called in the values of a question
+-- The names in the values of a query.
 abbrev pub names_of : QuestionNames → output.Names
 names_of n = question_names n.workspace.now (question_of n.question.now) (unknowns_of n.free.now)
 

@@ -1,4 +1,4 @@
-//! The lines of the answer.
+//! The lines of the output.
 ghost use Rattle.std.specs.Prelude.{◌≡◌, ◌++◌, ◌∷◌, [], IfOk, OnOk, map, codes};
 ghost use Rattle.text_definitions.specs.Output.{output_text, accepted, fault, nonlocal, uncovered, overlap, compatible, breaking, held, missing, undecided, clause_text, yes, maybe, unproved, no, unrefuted, value_text, values_text, before_text};
 ghost use Rattle.answer_lines.specs.Answers.{answer_of, value_of, text_of, more_values};
@@ -9,88 +9,91 @@ ghost use Rattle.text_definitions.specs.Output as output;
 use crate::printer::push_number;
 use std::alloc::{AllocError, Global};
 
-/// The value of a variable of a question, as text.
+/// The value of a variable of a query, as text.
 #[derive(Drop)]
 pub struct ValueText {
     /// The variable's name, without `?`.
     pub variable: Vec<u8>,
-    /// The type or const.
+    /// The type or constant.
     pub term: Vec<u8>,
 }
 
-/// A line of the answer. Crates go by their names, impls and questions by their numbers, from 1; types by their texts.
+/// A line of the output. Crates go by their names, impls and queries by their numbers from 1, and types by their texts.
 #[derive(Clone, Copy)]
 pub enum Answer<'a> {
-    /// The first faulty line of the text, with the number of its fault. It stands alone.
+    /// `line 3: fault 5`: the first faulty line of the text, counted from 1, with the number of its fault. It is the only line of its
+    /// output.
     Fault {
         line: u32,
         number: u32,
     },
-    /// The crate keeps the orphan rule, and no two impls that it brings together overlap.
+    /// `crate a: accepted`: the crate keeps the orphan rule, and no two impls that it brings together overlap.
     Accepted {
         name: &'a [u8],
     },
-    /// An impl's header has no local type (`NonLocalInputType`).
+    /// `crate a: orphan impl 1 nonlocal`: an impl's header has no local type. rustc: `NonLocalInputType`.
     Nonlocal {
         name: &'a [u8],
         number: u32,
     },
-    /// An impl's header has a parameter before its first local type, if it has one (`UncoveredTyParams`).
+    /// `crate a: orphan impl 1 uncovered T before B`: an impl's header has a parameter before its first local type, if it has one. rustc:
+    /// `UncoveredTyParams`.
     Uncovered {
         name: &'a [u8],
         number: u32,
         param: &'a [u8],
         before: Option<&'a [u8]>,
     },
-    /// An impl of the crate and one of the other crate overlap.
+    /// `crate a: overlap impl 2 with base 1`: an impl of the crate and one of the other crate overlap.
     Overlap {
         name: &'a [u8],
         number: u32,
         other: &'a [u8],
         other_number: u32,
     },
-    /// The impls of the section make a later version of the crate.
+    /// `later a: compatible`: a later version of the crate may add the impls of the section.
     Compatible {
         name: &'a [u8],
     },
-    /// They do not: the impl of this number of the section is the first that a later version may not add.
+    /// `later a: breaking impl 2`: it may not. The number is that of the first impl of the section that it may not add.
     Breaking {
         name: &'a [u8],
         number: u32,
     },
-    /// The supertraits of the crate's headers have proofs.
+    /// `supers a: held`: the supertraits of all headers of the crate have proofs.
     Held {
         name: &'a [u8],
     },
-    /// A supertrait of an impl's header, counted from 1, has no proof that was found.
+    /// `supers a: missing impl 3 clause 1`: the search found no proof of a supertrait of an impl's header. Supertraits count from 1.
     Missing {
         name: &'a [u8],
         number: u32,
         clause: u32,
     },
-    /// It is not settled whether a supertrait of an impl's header has one.
+    /// `supers a: undecided impl 3 clause 1`: the search does not know whether a supertrait of an impl's header has a proof.
     Undecided {
         name: &'a [u8],
         number: u32,
         clause: u32,
     },
-    /// Proved, with the values of the question's variables.
+    /// `prove 1: yes ?x = u8`: the query has a proof, with these values for its variables.
     Yes {
         question: u32,
         values: &'a [ValueText],
     },
-    /// Neither proved nor refuted within the limits.
+    /// `prove 1: maybe`: the search does not know, within the limits.
     Maybe {
         question: u32,
     },
+    /// `prove 1: unproved`: the search found no proof of the query.
     Unproved {
         question: u32,
     },
-    /// Refuted: no proof wherever the crate is linked.
+    /// `refute 2: no`: the query has no proof in any linked set with the crate.
     No {
         question: u32,
     },
-    /// Not refuted.
+    /// `refute 2: open`: the query was not refused.
     Open {
         question: u32,
     },
@@ -118,7 +121,7 @@ fn later_start(alloc: Global, name: &[u8]) -> Result<Vec<u8>, AllocError>
     Ok(text)
 }
 
-/// How the line about a crate's supertraits begins.
+/// How the line for a crate's supertraits begins.
 fn supers_start(alloc: Global, name: &[u8]) -> Result<Vec<u8>, AllocError>
     ensures { IfOk result (λ text. text.items ≡ output.supers_start name.now) }
 {
@@ -129,7 +132,7 @@ fn supers_start(alloc: Global, name: &[u8]) -> Result<Vec<u8>, AllocError>
     Ok(text)
 }
 
-/// How the line of a `prove` question begins.
+/// How the line of a `prove` query begins.
 fn prove_start(alloc: Global, question: u32) -> Result<Vec<u8>, AllocError>
     ensures { IfOk result (λ text. text.items ≡ output.prove_start question) }
 {
@@ -140,7 +143,7 @@ fn prove_start(alloc: Global, question: u32) -> Result<Vec<u8>, AllocError>
     Ok(text)
 }
 
-/// How the line of a `refute` question begins.
+/// How the line of a `refute` query begins.
 fn refute_start(alloc: Global, question: u32) -> Result<Vec<u8>, AllocError>
     ensures { IfOk result (λ text. text.items ≡ output.refute_start question) }
 {
@@ -264,7 +267,7 @@ fn held_line(alloc: Global, name: &[u8]) -> Result<Vec<u8>, AllocError>
     Ok(text)
 }
 
-/// Which supertrait of which impl, and the end of the line.
+/// Appends which supertrait of which impl it is, and the end of the line.
 fn push_clause(text: &mut Vec<u8>, number: u32, clause: u32) -> Result<(), AllocError>
     ensures { OnOk result (text.new.items ≡ text.old.items ++ (clause_text number clause ++ 10 ∷ [])) }
 {
@@ -323,7 +326,7 @@ fn push_values(text: &mut Vec<u8>, values: &[ValueText]) -> Result<(), AllocErro
     }
 }
 
-/// Values behind the first one.
+/// Appends the values after the first one.
 fn push_more_values(text: &mut Vec<u8>, values: &[ValueText]) -> Result<(), AllocError>
     ensures { OnOk result (text.new.items ≡ text.old.items ++ more_values (map value_of values.now)) }
 {
@@ -376,7 +379,7 @@ fn open_line(alloc: Global, question: u32) -> Result<Vec<u8>, AllocError>
     Ok(text)
 }
 
-/// The text of a line, with its end. The error is a refused request for memory.
+/// The text of a line, with its line end. Fails only if memory is refused.
 pub fn print_line(alloc: Global, answer: &Answer<'_>) -> Result<Vec<u8>, AllocError>
     ensures { IfOk result (λ text. text.items ≡ output_text (answer_of answer.now)) }
 {

@@ -1,4 +1,4 @@
-//! The unknowns of a question's values that the question doesn't hold.
+//! The variables in a query's values that are not the query's own.
 ghost use Rattle.std.specs.Prelude.{◌≡◌, length, nat_lt, OnOk, IfOk, map, []};
 ghost use Rattle.type_terms.specs.Label.{infer};
 ghost use Rattle.type_terms.specs.Trees.{leaf};
@@ -25,7 +25,7 @@ use type_terms::region::Region;
 use type_terms::visit::{Seen, TypeVisitor, visit_ty};
 use workspace::QuestionEntry;
 
-/// Whether an unknown stands for a variable of the question.
+/// Whether an inference variable stands for a variable of the query.
 fn is_own(question: &QuestionEntry, kind: TermKind, index: u32) -> bool
     ensures { result ≡ nat_lt index (length (of_kind (sort_of_kind kind) (question_of question.now).variables)) }
 {
@@ -46,7 +46,7 @@ fn is_listed(free: &[Unknown], kind: TermKind, index: u32) -> bool
     false
 }
 
-/// Lists an unknown, unless it is the question's or is listed.
+/// Lists an inference variable, unless it is the query's or is listed.
 fn add_unknown(
     question: &QuestionEntry,
     free: &mut Vec<Unknown>,
@@ -66,7 +66,7 @@ fn add_unknown(
     Ok(())
 }
 
-/// Lists a constant, if it is an unknown that is not the question's.
+/// Lists a constant, if it is an inference variable that is not the query's.
 fn add_const(
     cx: &Interner,
     question: &QuestionEntry,
@@ -82,7 +82,7 @@ fn add_const(
     }
 }
 
-/// Lists the unknowns that it meets, each once, but for those that the question holds.
+/// Lists the inference variables that it meets, each once, without those of the query.
 #[derive(Drop)]
 struct ListsFree<'w> {
     question: &'w QuestionEntry,
@@ -131,7 +131,7 @@ impl TypeVisitor for ListsFree<'_> {
     }
 }
 
-/// Lists the unknowns of a value.
+/// Lists the inference variables of a value.
 fn list_value(
     cx: &Interner,
     lists: &mut ListsFree<'_>,
@@ -152,7 +152,7 @@ fn list_value(
     }
 }
 
-/// The unknowns that stand in the values and for no variable of the question, each once, by first place.
+/// The inference variables in the values that stand for no variable of the query, each once, in the order of first occurrence.
 pub(crate) fn free_unknowns(
     alloc: Global,
     cx: &Interner,

@@ -1,4 +1,4 @@
-//! The names of a refused header.
+//! The names in the header of a refused impl.
 ghost use Rattle.std.specs.Prelude.{◌≡◌, ◌++◌, OnOk};
 
 use crate::items::{push_struct_name, push_trait_name};
@@ -8,8 +8,8 @@ use std::alloc::AllocError;
 use type_terms::{AdtId, TraitId};
 use workspace::{Param, Workspace};
 
-/// What things are called where the header of an impl is refused: an unknown by the parameter of the impl that it stands for,
-/// those of one kind being counted from 0.
+/// The names in the header of a refused impl. An inference variable has the name of the impl's parameter that it stands for. Those of one
+/// kind count from 0.
 #[derive(Clone, Copy)]
 pub struct HeaderNames<'w> {
     pub workspace: &'w Workspace,

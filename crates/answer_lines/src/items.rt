@@ -1,4 +1,4 @@
-//! Names of items.
+//! The names of structs and traits.
 ghost use Rattle.std.specs.Prelude.{◌≡◌, ◌++◌, OnOk};
 ghost use Rattle.text_definitions.specs.Names.{struct_text, trait_text};
 
@@ -6,7 +6,8 @@ use std::alloc::AllocError;
 use type_terms::{AdtId, TraitId};
 use workspace::Workspace;
 
-/// Appends the name of a struct as the text has it; of a number that no struct has, nothing. The error is a refused request for memory.
+/// Appends the name of a struct as the text writes it. If there is no struct with this number, it appends nothing. Fails only if memory is
+/// refused.
 pub(crate) fn push_struct_name(
     workspace: &Workspace,
     id: AdtId,
@@ -20,7 +21,8 @@ pub(crate) fn push_struct_name(
     }
 }
 
-/// Appends the name of a trait as the text has it; of a number that no trait has, nothing. The error is a refused request for memory.
+/// Appends the name of a trait as the text writes it. If there is no trait with this number, it appends nothing. Fails only if memory is
+/// refused.
 pub(crate) fn push_trait_name(
     workspace: &Workspace,
     id: TraitId,

@@ -1,11 +1,11 @@
-//! Mathematics without running code: what a line tells of the answer that it prints.
+//! The answer can be read from the line that prints it. This is a law, with no code to run.
 
 ghost use Rattle.answer_lines.specs.Told.{LinesTellAnswers, OutputsTellAnswers};
 
-/// Different answers print different lines, and different lists of answers print different texts: so what was answered can be read off
-/// what was printed.
+/// Different answers print different lines, and different lists of answers print different texts.
 ///
-/// It holds of answers in which crates, parameters and variables go by names, types by texts without `=`, and numbers have 32 bits.
+/// It holds for answers in which crates, parameters and variables have names, the texts of types have no `=`, and numbers have 32 bits. A
+/// crate with the name `a: accepted` would print as the line of another crate.
 pub fn lines_tell_answers()
     ensures lines { LinesTellAnswers }
     ensures outputs { OutputsTellAnswers }

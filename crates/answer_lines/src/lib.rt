@@ -1,4 +1,4 @@
-//! Lines of the answer: types, constants and values as text, what items, parameters and unknowns are called, and each kind of line.
+//! The lines of the output: types, constants and values as text, the names of items, parameters and variables, and each kind of line.
 #![tactic(auto)]
 
 mod answer;

@@ -1,4 +1,4 @@
-//! The values of a question's variables that a line lists.
+//! The values of a query's variables that a line lists.
 ghost use Rattle.std.specs.Prelude.{◌≡◌, ◌≤◌, ◌++◌, ◌∷◌, [], map, OnOk, IfOk, suc};
 ghost use Rattle.type_terms.specs.Label.{infer};
 ghost use Rattle.type_terms.specs.Trees.{leaf};
@@ -14,7 +14,7 @@ use type_terms::kinds::{Const, ConstKind, GenericArgKind, Ty, TyKind};
 use type_terms::region::{Region, RegionKind};
 use workspace::{Param, ParamKind};
 
-/// A variable of a question with its value.
+/// A variable of a query with its value.
 #[derive(Clone, Copy)]
 pub(crate) struct Listed<'w> {
     pub variable: &'w Param,
@@ -28,7 +28,7 @@ struct Counts {
     consts: usize,
 }
 
-/// The number of the unknown that stands for the next variable, of this kind.
+/// The number of the inference variable for the next variable, of this kind.
 fn own_number(kind: ParamKind, counts: Counts) -> usize
     ensures { result ≡ own_number kind counts }
 {
@@ -79,7 +79,7 @@ fn is_unknown(cx: &Interner, value: GenericArgKind, kind: ParamKind, number: usi
     }
 }
 
-/// Lists a variable with its value, unless that is the unknown that stands for it.
+/// Lists a variable with its value, unless the value is the variable itself.
 fn list_one<'w>(
     cx: &Interner,
     listed: &mut Vec<Listed<'w>>,
@@ -99,7 +99,7 @@ fn list_one<'w>(
     Ok(())
 }
 
-/// The counts behind a variable of this kind.
+/// The counts after a variable of this kind.
 fn counted(kind: ParamKind, counts: Counts) -> Counts
     requires types { suc counts.types ≤ usize.MAX }
     requires consts { suc counts.consts ≤ usize.MAX }

@@ -1,4 +1,4 @@
-//! The values of a question as texts.
+//! The values of a query as texts.
 ghost use Rattle.std.specs.Prelude.{◌≡◌, map, IfOk};
 ghost use Rattle.text_definitions.specs.Names as names;
 ghost use Rattle.text_definitions.specs.Output.{type_text};
@@ -75,11 +75,13 @@ fn value_texts(
     Ok(texts)
 }
 
-/// The values of a question's variables as texts: `values` has a type or a constant for each variable, by first place. A variable
-/// whose value is the unknown that stands for it is left out. So of variables with one unknown for a value the first one is left
-/// out, and the others are printed as it. Unknowns that stand for no variable are `?1`, `?2` by first place in the line.
+/// The values of a query's variables as texts. `values` has a type or a constant for each variable, in the order of first occurrence.
 ///
-/// The error is a refused request for memory.
+/// A variable is left out if its value is the inference variable that stands for it. So if several variables have the same inference
+/// variable as value, one of them is left out, and the others are printed as it. Inference variables that stand for no variable are `?1`,
+/// `?2`, in the order of first occurrence in the line.
+///
+/// Fails only if memory is refused.
 pub fn answer_values(
     alloc: Global,
     cx: &Interner,

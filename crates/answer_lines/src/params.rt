@@ -19,7 +19,7 @@ fn is_of(kind: ParamKind, wanted: TermKind) -> bool
     }
 }
 
-/// The parameter of a kind with a number, where those of that kind are counted from 0.
+/// The parameter with this number among those of its kind, counted from 0.
 pub(crate) fn nth_of_kind(params: &[Param], kind: TermKind, index: u32) -> Option<&Param>
     ensures { option_map (λ p. p.now) result ≡ slice_get (filter (λ p. is_sort (param.sort_of_kind p.kind) (term.sort_of_kind kind)) params.now) index }
 {
@@ -35,7 +35,7 @@ pub(crate) fn nth_of_kind(params: &[Param], kind: TermKind, index: u32) -> Optio
     None
 }
 
-/// Appends the name of a parameter without what says of which kind it is: `a` of `'a`, `N` of `const N`.
+/// Appends the name of a parameter without the marks of its kind: `a` of `'a`, `N` of `const N`.
 pub(crate) fn push_name(param: &Param, out: &mut Vec<u8>) -> Result<(), AllocError>
     ensures { OnOk result (out.new.items ≡ out.old.items ++ param.now.name.items) }
 {

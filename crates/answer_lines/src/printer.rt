@@ -1,4 +1,5 @@
-//! Types and constants as text.
+//! Types and constants as text. Lifetimes, binders and bound variables are not printed, nor is the output `()` of a `fn`. The printer works
+//! off a list of pieces, so it does not recurse, however deep a type is.
 ghost use Rattle.std.specs.Prelude.{◌≡◌, ◌≢◌, ◌++◌, false, length, OnOk, codes, []};
 ghost use Rattle.std.specs.Fmt.{decimal};
 ghost use Rattle.type_terms.specs.Trees.{is_no_tree};
@@ -19,6 +20,7 @@ use type_terms::kinds::{
 use type_terms::region::Region;
 use type_terms::{AdtId, TraitId};
 
+/// Appends a number in decimal digits.
 pub(crate) fn push_number(text: &mut Vec<u8>, number: u64) -> Result<(), AllocError>
     ensures { OnOk result (text.new.items ≡ text.old.items ++ decimal number) }
 {
@@ -55,7 +57,7 @@ fn uint_text(uint: UintTy) -> &'static [u8]
 
 /// Appends the text of a constant.
 ///
-/// A call fails where a request for memory is refused, and may have appended a part of the text then.
+/// Fails only if memory is refused. It may then have appended a part of the text.
 pub fn print_const<N: PrintNames>(
     interner: &Interner,
     names: &N,
@@ -245,7 +247,7 @@ fn is_unit(interner: &Interner, ty: Ty) -> bool
     }
 }
 
-/// What stands behind the inputs of a fn.
+/// What comes after the inputs of a `fn`.
 fn push_output<'i>(
     interner: &'i Interner,
     output: Ty,
@@ -289,7 +291,7 @@ fn start_fn<'i, N: PrintNames>(
     }
 }
 
-/// A `dyn` with a principal trait.
+/// Begins a `dyn` with a principal trait.
 fn start_principal<'i, N: PrintNames>(
     interner: &'i Interner,
     names: &N,
@@ -313,7 +315,7 @@ fn start_principal<'i, N: PrintNames>(
     Ok(())
 }
 
-/// A `dyn` of auto traits alone.
+/// Begins a `dyn` of auto traits alone.
 fn start_autos<'i, N: PrintNames>(
     interner: &'i Interner,
     names: &N,
@@ -428,7 +430,7 @@ fn start_type<'i, N: PrintNames>(
     Ok(())
 }
 
-/// A constant, as a step: nothing of it is left.
+/// Prints a constant in one step.
 fn start_const<'i, N: PrintNames>(
     interner: &'i Interner,
     names: &N,
@@ -445,7 +447,7 @@ fn start_const<'i, N: PrintNames>(
     Ok(())
 }
 
-/// The next of types behind commas.
+/// The next of the types after commas.
 fn next_type<'i, N: PrintNames>(
     interner: &'i Interner,
     names: &N,
@@ -469,7 +471,7 @@ fn next_type<'i, N: PrintNames>(
     }
 }
 
-/// What stands before an argument.
+/// What comes before an argument.
 fn arg_sign(is_open: bool) -> &'static [u8]
     ensures { result.now ≡ arg_sign is_open }
 {
@@ -568,7 +570,7 @@ fn next_arg<'i, N: PrintNames>(
     }
 }
 
-/// The next of auto traits behind `+`.
+/// The next of the auto traits after `+`.
 fn next_auto<'i, N: PrintNames>(
     interner: &'i Interner,
     names: &N,
@@ -612,9 +614,9 @@ fn step<'i, N: PrintNames>(
     }
 }
 
-/// Appends the text of a type.
+/// Appends the text of a type, for any depth.
 ///
-/// A call fails where a request for memory is refused, and may have appended a part of the text then.
+/// Fails only if memory is refused. It may then have appended a part of the text.
 pub fn print_type<N: PrintNames>(
     interner: &Interner,
     names: &N,
@@ -633,10 +635,10 @@ pub fn print_type<N: PrintNames>(
     Ok(())
 }
 
-/// Appends a beginning of the text of a type: all of it, if it is short. No piece of the text is begun where the output has so many
-/// bytes, and a piece is a name or shorter. So the time that it takes is bounded, whatever the type.
+/// Appends the text of a type, or the beginning of a long one. No piece of the text is begun once the output has this many bytes. A piece
+/// is at most as long as a name. So the time is bounded for every type.
 ///
-/// A call fails where a request for memory is refused, and may have appended a part of the text then.
+/// Fails only if memory is refused. It may then have appended a part of the text.
 pub fn print_type_within<N: PrintNames>(
     interner: &Interner,
     names: &N,

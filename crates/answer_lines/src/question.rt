@@ -1,4 +1,4 @@
-//! The names of a question's values.
+//! The names in a query's values.
 ghost use Rattle.std.specs.Prelude.{◌≡◌, ◌++◌, OnOk, codes};
 ghost use Rattle.std.specs.Fmt.{decimal};
 ghost use Rattle.text_definitions.specs.Names.{text_at, question_unknown};
@@ -14,24 +14,24 @@ use std::alloc::AllocError;
 use type_terms::{AdtId, TraitId};
 use workspace::{Param, QuestionEntry, Workspace};
 
-/// An unknown, by its number among those of its kind.
+/// An inference variable, by its number among those of its kind.
 #[derive(Clone, Copy, PartialEq, Eq)]
 pub struct Unknown {
     pub kind: TermKind,
     pub index: u32,
 }
 
-/// What things are called in the values of a question: a placeholder by the parameter, an unknown by the variable that it stands
-/// for. Unknowns that the question doesn't hold are `?1`, `?2` by their places in a list.
+/// The names in the values of a query. A placeholder has the name of the parameter, and an inference variable that of the variable that it
+/// stands for. Inference variables that are not the query's are `?1`, `?2`, by their indices in a list.
 #[derive(Clone, Copy)]
 pub struct QuestionNames<'w> {
     pub workspace: &'w Workspace,
     pub question: &'w QuestionEntry,
-    /// The unknowns that the question doesn't hold, each once.
+    /// The inference variables that are not the query's, each once.
     pub free: &'w [Unknown],
 }
 
-/// The place of an unknown in a list; without one the list's length.
+/// The index of an inference variable in a list. If it is not there, the list's length.
 fn place_of(free: &[Unknown], kind: TermKind, index: u32) -> usize
     ensures { result ≡ place_in (sort_of_kind kind) index (unknowns_of free.now) }
 {
@@ -45,7 +45,7 @@ fn place_of(free: &[Unknown], kind: TermKind, index: u32) -> usize
     place
 }
 
-/// Appends `?` and a number. It has 128 bits, so that it can be one above any length.
+/// Appends `?` and a number. The number has 128 bits, so that it can be one more than any length.
 fn push_numbered(out: &mut Vec<u8>, number: u128) -> Result<(), AllocError>
     ensures { OnOk result (out.new.items ≡ out.old.items ++ (codes "?" ++ decimal number)) }
 {

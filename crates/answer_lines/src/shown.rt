@@ -1,4 +1,4 @@
-//! The names of what is explained.
+//! The names in explanations.
 
 ghost use Rattle.std.specs.Prelude.{◌≡◌, ◌++◌, OnOk, codes};
 ghost use Rattle.text_definitions.specs.Names.{text_at};
@@ -11,14 +11,14 @@ use std::alloc::AllocError;
 use type_terms::{AdtId, TraitId};
 use workspace::{Param, Workspace};
 
-/// What things are called where an answer is explained: a parameter and a placeholder by the parameter at its place, an unknown by the
-/// variable that it stands for. An unknown that stands for none is `_`.
+/// The names in explanations. A parameter and a placeholder have the name of the parameter at their index, and an inference variable has
+/// that of the variable that it stands for. An inference variable that stands for none is `_`.
 #[derive(Clone, Copy)]
 pub struct ShownNames<'w> {
     pub workspace: &'w Workspace,
-    /// The parameters of the question, or of the impl.
+    /// The parameters of the query, or of the impl.
     pub params: &'w [Param],
-    /// The variables of the question.
+    /// The variables of the query.
     pub variables: &'w [Param],
 }
 
@@ -40,7 +40,7 @@ fn push_variable(out: &mut Vec<u8>, variable: &Param) -> Result<(), AllocError>
     Ok(())
 }
 
-/// Appends what an unknown is called that stands for no variable.
+/// Appends `_`, for an inference variable that stands for no variable.
 fn push_blank(out: &mut Vec<u8>) -> Result<(), AllocError>
     ensures { OnOk result (out.new.items ≡ out.old.items ++ codes "_") }
 {
