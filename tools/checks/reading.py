@@ -5,9 +5,12 @@
 
 From the names in a function's clauses it follows each definition of specs/ to those that it names, and counts their lines, without
 comments and blank lines. Names of the toolchain's library and types of the code are not followed. A definition of which a law on a
-contract says exactly what it means is read by that law, and its own lines are not counted (LAWS below).
+contract says exactly what it means is read by that law, and its own lines are not counted (LAWS below). Of a method it also follows
+what the type's `new` says, but for what that costs: a session speaks of declarations, and `new` ties them to the bytes of a text. What
+else the type's invariant says is proved and relied on by the type alone, and is not counted.
 
 The figures of those calls, and of what is to become less, stand in tools/checks/reading.txt: a case is a figure that is as it stands there.
+With --write that file gets the figures of today.
 """
 from __future__ import annotations
 
@@ -52,6 +55,7 @@ WORD = re.compile(r"[^\s(){}\[\],;]+")
 USE = re.compile(r"^ *(?:(?:unfoldable|abbrev|pub|ghost) )*use (Rattle\.[\w.]+?)(?:\.\{([^}]*)\})?(?: as (\w+))?;?\s*$")
 CLAUSE = re.compile(r" *(requires|ensures)\b *(\w*)")
 BODY = re.compile(r" *(\{|\}|\{ *\})$")
+IMPL = re.compile(r"impl(?:<[^>]*>)? (?:.* for )?(\w+)")
 BEHIND_CLAUSES = re.compile(r" *(pub |fn |//|#)")
 COSTS = ("frames", "full")
 WIDE = 160
@@ -213,35 +217,58 @@ def contract_in(lines: Sequence[str], number: int) -> Contract:
     return Contract(clauses, imports)
 
 
-def contract_of(crate: str, function: str) -> Contract:
-    head = re.compile(rf" *pub fn {re.escape(function.rpartition('::')[2])}\b")
+def contract_if_any(crate: str, function: str) -> Optional[Contract]:
+    """The contract of a function of the crate, or of a method by its type and name, if it is there."""
+    owner, _, name = function.rpartition("::")
+    head = re.compile(rf" *pub fn {re.escape(name)}\b")
     for at, _, files in os.walk(TOP / "crates" / crate / "src"):
         for file in sorted(files):
             lines = Path(at, file).read_text(encoding="utf-8").split("\n")
+            within = ""
             for number, line in enumerate(lines):
-                if head.match(line):
+                block = IMPL.match(line)
+                within = block[1] if block else "" if line == "}" else within
+                if head.match(line) and within == owner:
                     return contract_in(lines, number)
-    raise Missing(f"no function {function} in crates/{crate}/src")
+    return None
+
+
+def contract_of(crate: str, function: str) -> Contract:
+    contract = contract_if_any(crate, function)
+    if not contract:
+        raise Missing(f"no function {function} in crates/{crate}/src")
+    return contract
+
+
+def ties_of(crate: str, function: str) -> set[Name]:
+    """What says what a value is of which the function is a method: what `new` of its type says, if it has one."""
+    owner = function.rpartition("::")[0]
+    maker = contract_if_any(crate, f"{owner}::new") if owner else None
+    return maker.without_costs().definitions() if maker else set()
 
 
 class Count(NamedTuple):
-    """What stands behind a contract: lines of definitions, definitions, files; and lines without what it costs and when it is full."""
+    """What stands behind a contract: lines of definitions, definitions, files; lines without what it costs and when it is full; and lines
+    behind its own clauses alone, without what says what its value is of."""
 
     lines: int
     definitions: int
     files: int
     without_costs: int
+    of_clauses: int
 
     def __str__(self) -> str:
         beside = f"; {self.without_costs} without what it costs and when it is full" if self.without_costs != self.lines else ""
-        return f"{self.lines} lines of {self.definitions} definitions in {self.files} files{beside}"
+        own = f"; {self.of_clauses} behind its own clauses" if self.of_clauses != self.lines else ""
+        return f"{self.lines} lines of {self.definitions} definitions in {self.files} files{beside}{own}"
 
 
 def count_of(crate: str, function: str) -> Count:
-    contract = contract_of(crate, function)
-    reached, said = contract.definitions(), contract.without_costs().definitions()
-    lines, without = (sum(len(lines_of(it)) for it in some) for some in (reached, said))
-    return Count(lines, len(reached), len({it.module for it in reached}), without)
+    contract, ties = contract_of(crate, function), ties_of(crate, function)
+    own, said = contract.definitions(), contract.without_costs().definitions()
+    reached = own | ties
+    lines, without, clauses = (sum(len(lines_of(it)) for it in some) for some in (reached, said | ties, own))
+    return Count(lines, len(reached), len({it.module for it in reached}), without, clauses)
 
 
 def counts_of_calls() -> dict[str, Count]:
@@ -305,7 +332,17 @@ def kept_figures() -> dict[str, tuple[int, ...]]:
     return {name: tuple(map(int, numbers)) for name, *numbers in rows}
 
 
+def write(found: dict[str, tuple[int, ...]]) -> None:
+    """Puts these figures into the file, each behind its name, and leaves its other lines."""
+    lines = FIGURES.read_text(encoding="utf-8").split("\n")
+    names = [line.partition(" ")[0] for line in lines]
+    rows = {name: " ".join([name, *map(str, found[name])]) for name in found}
+    kept = [rows.get(name, line) for name, line in zip(names, lines)]
+    FIGURES.write_text("\n".join(kept), encoding="utf-8")
+
+
 def add_words(reader: argparse.ArgumentParser) -> None:
+    reader.add_argument("--write", action="store_true")
     reader.add_argument("crate", nargs="?")
     reader.add_argument("functions", nargs="*")
 
@@ -316,7 +353,10 @@ def check(tally: Tally, given: argparse.Namespace) -> None:
             print(f"{function}: {count_of(given.crate, function)}")
             tally.passed += 1
         return
-    found, kept = figures(), kept_figures()
+    found = figures()
+    if given.write:
+        write(found)
+    kept = kept_figures()
     for name in {**kept, **found}:
         now, then = (" ".join(map(str, it.get(name, ()))) or "none" for it in (found, kept))
         tally.expect(name, now == then, f"{now}, and {then} in {FIGURES.relative_to(TOP)}")
