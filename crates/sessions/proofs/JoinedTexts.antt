@@ -5,9 +5,8 @@ use Rattle.std.proofs.lemmas.Option.{same_Some, slice_get_within}
 use Rattle.std.specs.Prelude.{slice_get, nat_lt}
 use Rattle.std.specs.List.{list_all, list_any}
 use Rattle.type_terms.specs.Label.{Sort, of_type, adt}
-use Rattle.type_terms.specs.Trees.{Trees, tree, erase, some_node}
+use Rattle.type_terms.specs.Trees.{Trees, none, tree, erase, some_node}
 use Rattle.type_terms.specs.Worlds.{World, CrateDecl, StructDecl, TraitDecl, ImplDecl, Reference, core, structs_named, traits_named, sees, view_of}
-use Rattle.type_terms.specs.Rules.{sized}
 use Rattle.type_terms.specs.Erased.{erased_reference, erased_struct, erased_trait, erased_impl}
 use Rattle.type_terms.specs.Core.{core_world}
 use Rattle.type_terms.specs.Proofs.{In}
@@ -34,7 +33,9 @@ use Rattle.view_lowering.proofs.Tests.{is_good, is_good_struct, is_good_trait, i
 use Rattle.view_lowering.proofs.Applied.{each-map}
 use Rattle.view_lowering.proofs.Trees.{and, and-left, and-right}
 use Rattle.type_terms.specs.Supers.{dyns_of_bounds, mentions_as}
+use Rattle.sessions.specs.JoinedSets.{IsPlainTerm, TraitObeys, ImplObeys, ObeysTextRules, OrderedCrates}
 use Rattle.sessions.specs.JoinedTexts.{text_world, CratesKeepOrphanRule, TextsAreJoined, TextsListInOrder}
+use Rattle.sessions.proofs.FourRecords.{joined-of-four}
 use Rattle.sessions.proofs.Seeing.{AreOrdered, core-seen, from-core}
 use Rattle.sessions.proofs.TextTerms.{IsStructAt, IsTraitAt, TextNodes, IsPlaced}
 use Rattle.sessions.proofs.FormedViews.{each-in, map-in}
@@ -77,6 +78,22 @@ good-plain kept sorts t h = ap (some_node is_stray) (sym (plain-erased kept t)) 
 
 good-dyns : (kept : ℕ → Bool) (sorts : List Sort) (t : Trees) → is_good kept sorts t ≡ true → dyns_of_bounds (erase t) ≡ true
 good-dyns kept sorts t h = ap dyns_of_bounds (sym (plain-erased kept t)) ∙ made-dyns (plain kept t) (map-erased kept sorts t h)
+
+-- what is without lifetimes has none to lose: it stands in an erased world, as a struct's field
+erase-twice : (t : Trees) → erase (erase t) ≡ erase t
+erase-twice t =
+    ap (λ (V : World). only (fields-of V.structs)) (erased-is-terms (record { crates = []; structs = record { name = 0; home = 0; is_fundamental = false; fields = t ∷ [] } ∷ []; traits = []; impls = [] }))
+  where
+    fields-of : List StructDecl → List Trees
+    fields-of [] = []
+    fields-of (x ∷ xs) = x.fields
+
+    only : List Trees → Trees
+    only [] = none
+    only (u ∷ us) = u
+
+good-term : (kept : ℕ → Bool) (sorts : List Sort) (t : Trees) → is_good kept sorts t ≡ true → IsPlainTerm (erase t)
+good-term kept sorts t h = record { term = erase-twice t; open_places = good-plain kept sorts t h; dyns = good-dyns kept sorts t h }
 
 within : {A : Type 0} (xs : List A) (k : ℕ) → k < length xs → (x : A) × (slice_get xs k ≡ Some x)
 within [] k h = absurd (omega (arith, h))
@@ -381,56 +398,61 @@ module _ (d : Declarations) (a : AllKept d) where
       (λ k n e j b f. each-at (λ (r : Reference). Rises r.args) n.item.bounds (each-at (λ (x : NamedTrait). Each (λ (r : Reference). Rises r.args) x.item.bounds) d.traits a.kept.bounds_rise k n e) j b f)
       (λ k n e. (each-at ImplRises d.impls a.kept.impls_rise k n e).0) (λ k n e j b f. each-at (λ (r : Reference). Rises r.args) n.item.clauses (each-at ImplRises d.impls a.kept.impls_rise k n e).1 j b f)
 
-  -- ---- all of it
-  pub joined : CratesKeepOrphanRule d → (cs : List ℕ) → JoinedSet W (map (view_at W) cs) (λ n. n)
-  joined orphan cs = record {
-    terms = erased-is-terms (world_of d);
-    core_there = whole-there W core-there;
-    core_later = whole-later W core-there;
-    one_struct = one-struct;
-    one_trait = one-trait;
-    one_impl = one-impl;
-    headers_in_scope = in-scope;
-    autos_bare = bare-autos;
-    bounds_in_scope = λ x b i j.
-        let q = trait-at x i in
-        let r = map-at erased_reference q.1.item.bounds b (subst (λ (z : TraitDecl). In b z.bounds) q.3 j) in
-        subst (λ (z : TraitDecl). in_scope W z.home b ≡ true) (sym q.3) (subst (λ z. in_scope W q.1.item.home z ≡ true) (sym r.3) (bound-scope q.0 q.1 q.2 r.0 r.1 r.2));
+  -- ---- the rules of the text
+  pub text-obeys : ObeysTextRules W
+  text-obeys = record {
+    structs = λ x i t j.
+        let q = struct-at x i in
+        let r = map-at erase q.1.item.fields t (subst (λ (z : StructDecl). In t z.fields) q.3 j) in
+        subst IsPlainTerm (sym r.3) (good-term none_kept q.1.kinds r.1 (good-field q.0 q.1 q.2 r.0 r.1 r.2));
+    traits = λ x i. let q = trait-at x i in subst (TraitObeys W) (sym q.3) (trait-obeys q.0 q.1 q.2);
+    impls = λ x i. let q = impl-at x i in subst (ImplObeys W) (sym q.3) (impl-obeys q.0 q.1 q.2);
+    autos_at_home = autos-at-home;
     trait_rank = λ n. n;
-    bounds_before = λ x b i j.
+    supers_before = λ x b i j.
         let q = trait-at x i in
         let r = map-at erased_reference q.1.item.bounds b (subst (λ (z : TraitDecl). In b z.bounds) q.3 j) in
         subst (λ (z : TraitDecl). b.trait < z.name) (sym q.3) (subst (λ (z : Reference). z.trait < q.1.item.name) (sym r.3) (bound-below q.0 q.1 q.2 r.0 r.1 r.2));
-    autos_at_home = autos-at-home;
-    plain_headers = λ i m. let q = impl-at i m in subst (λ (y : ImplDecl). some_node is_stray y.header.args ≡ false) (sym q.3) (good-plain all_kept (param_sorts q.1) q.1.item.header.args (good-header q.0 q.1 q.2));
-    plain_clauses = λ i k m j.
-        let q = impl-at i m in
-        let r = map-at erased_reference q.1.item.clauses k (subst (λ (z : ImplDecl). In k z.clauses) q.3 j) in
-        subst (λ (z : Reference). some_node is_stray z.args ≡ false) (sym r.3) (good-plain (stands_in q.1.item.header.args) (param_sorts q.1) r.1.args (good-clause q.0 q.1 q.2 r.1 r.0 r.2));
-    plain_fields = λ x t i j.
-        let q = struct-at x i in
-        let r = map-at erase q.1.item.fields t (subst (λ (z : StructDecl). In t z.fields) q.3 j) in
-        subst (λ z. some_node is_stray z ≡ false) (sym r.3) (good-plain none_kept q.1.kinds r.1 (good-field q.0 q.1 q.2 r.0 r.1 r.2));
-    plain_bounds = λ x b i j.
-        let q = trait-at x i in
-        let r = map-at erased_reference q.1.item.bounds b (subst (λ (z : TraitDecl). In b z.bounds) q.3 j) in
-        subst (λ (z : Reference). some_node is_stray z.args ≡ false) (sym r.3) (good-plain none_kept (of_type ∷ q.1.kinds) r.1.args (good-bound q.0 q.1 q.2 r.0 r.1 r.2));
-    clauses_covered = λ i k m j s n h.
-        let q = impl-at i m in
-        let r = map-at erased_reference q.1.item.clauses k (subst (λ (z : ImplDecl). In k z.clauses) q.3 j) in
-        ap (λ (y : ImplDecl). mentions_as s n y.header.args) q.3
-        ∙ covered (stands_in q.1.item.header.args) (param_sorts q.1) q.1.item.header.args r.1.args (good-header q.0 q.1 q.2) (and-left (all_stand q.1.item.header.args 0 (param_sorts q.1)) _ (good-more q.0 q.1 q.2)) (good-clause q.0 q.1 q.2 r.1 r.0 r.2) s n
-        (ap (λ (z : Reference). mentions_as s n z.args) (sym r.3) ∙ h);
-    sized_alone = λ i m. let q = impl-at i m in ap (λ (y : ImplDecl). y.header.trait == sized) q.3 ∙ (header q.0 q.1 q.2).not_sized;
-    dyns_hold_bounds = written-pass dyns_of_bounds (λ k n e j t f. good-dyns none_kept n.kinds t (good-field k n e j t f)) (λ k n e j b f. good-dyns none_kept (of_type ∷ n.kinds) b.args (good-bound k n e j b f))
-        (λ k n e. good-dyns all_kept (param_sorts n) n.item.header.args (good-header k n e)) (λ k n e j b f. good-dyns (stands_in n.item.header.args) (param_sorts n) b.args (good-clause k n e b j f));
-    dyns_in_order = rising-in-order W dyns-rise;
+  }
+    where
+      trait-obeys : (k : ℕ) (n : NamedTrait) → slice_get d.traits k ≡ Some n → TraitObeys W (erased_trait n.item)
+      trait-obeys k n e = record {
+        plain = λ b j. let r = map-at erased_reference n.item.bounds b j in
+            subst (λ (z : Reference). IsPlainTerm z.args) (sym r.3) (good-term none_kept (of_type ∷ n.kinds) r.1.args (good-bound k n e r.0 r.1 r.2));
+        names = λ b j. let r = map-at erased_reference n.item.bounds b j in subst (λ z. in_scope W n.item.home z ≡ true) (sym r.3) (bound-scope k n e r.0 r.1 r.2);
+        autos_bare = λ h. ap (map erased_reference) (each-at (λ (m : NamedTrait). m.item.is_auto ≡ true → m.item.bounds ≡ []) d.traits a.kept.autos k n e h);
+      }
+
+      impl-obeys : (k : ℕ) (n : NamedImpl) → slice_get d.impls k ≡ Some n → ImplObeys W (erased_impl n.item)
+      impl-obeys k n e = record {
+        plain_header = good-term all_kept (param_sorts n) n.item.header.args (good-header k n e);
+        plain_clauses = λ c j. let r = map-at erased_reference n.item.clauses c j in
+            subst (λ (z : Reference). IsPlainTerm z.args) (sym r.3) (good-term (stands_in n.item.header.args) (param_sorts n) r.1.args (good-clause k n e r.1 r.0 r.2));
+        names = header-scope k n e;
+        covered = λ c j s m h.
+            let r = map-at erased_reference n.item.clauses c j in
+            covered (stands_in n.item.header.args) (param_sorts n) n.item.header.args r.1.args (good-header k n e) (and-left (all_stand n.item.header.args 0 (param_sorts n)) _ (good-more k n e)) (good-clause k n e r.1 r.0 r.2) s m
+            (ap (λ (z : Reference). mentions_as s m z.args) (sym r.3) ∙ h);
+        not_sized = (header k n e).not_sized;
+      }
+
+  -- ---- its crates fit together
+  pub text-is-ordered : OrderedCrates W (λ n. n)
+  text-is-ordered = record {
+    core_there = whole-there W core-there;
+    core_later = whole-later W core-there;
     core_first = refl;
     uses_before = λ x u i j. uses-below x u i j;
     uses_stand = uses-there;
-    as_answered = hold-views W cs;
-    orphan_rule = orphan-rule orphan;
+    one_struct = one-struct;
+    one_trait = one-trait;
+    one_impl = one-impl;
+    dyns_in_order = rising-in-order W dyns-rise;
   }
+
+  -- ---- all of it
+  pub joined : CratesKeepOrphanRule d → (cs : List ℕ) → JoinedSet W (map (view_at W) cs) (λ n. n)
+  joined orphan cs = joined-of-four W (map (view_at W) cs) (λ n. n) (record { rules = text-obeys; order = text-is-ordered; orphans = orphan-rule orphan; answers = hold-views W cs })
 
 pub texts-are-joined : TextsAreJoined
 texts-are-joined d (bytes, t) h cs = joined d (texts-are-kept bytes d t) h cs

@@ -83,6 +83,7 @@ mod DeclaredTrees
 mod CoveredClauses
 mod RisingBounds
 mod KeptTexts
+pub mod FourRecords
 pub mod JoinedTexts
 pub mod CoherentTexts
 pub mod ScopedTexts

@@ -23,6 +23,7 @@ pub mod Decided
 pub mod Asking
 pub mod Promises
 pub mod ScopedTexts
+pub mod JoinedSets
 pub mod JoinedTexts
 pub mod CoherentTexts
 pub mod Releases

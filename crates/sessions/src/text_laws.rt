@@ -1,8 +1,16 @@
 //! Mathematics without running code: the crates of a text without a fault, as a set of linked crates.
 
 ghost use Rattle.sessions.specs.CoherentTexts.{AcceptedTextsAreCoherent, HeldTextsAreCoherent};
+ghost use Rattle.sessions.specs.JoinedSets.{HeldCratesAreLinked, JoinedSetsAreFourRecords};
 ghost use Rattle.sessions.specs.JoinedTexts.{TextsAreJoined, TextsListInOrder};
 ghost use Rattle.sessions.specs.ScopedTexts.{ImplsAreInScope};
+
+/// A joined set is four things: crates that obey the rules of texts, that fit together, that keep the orphan rule, and that stand as they
+/// were answered. So these are a linked set where each impl's crate was asked about its supertraits, and all were held.
+pub fn joined_sets_are_four_records()
+    ensures same { JoinedSetsAreFourRecords }
+    ensures held { HeldCratesAreLinked }
+{}
 
 /// The crates of a text without a fault are a joined set, with the views that their answers are about, where all keep the orphan rule:
 /// of what makes them linked crates, the supertraits of headers alone are left.
