@@ -84,7 +84,13 @@ mod CoveredClauses
 mod RisingBounds
 mod KeptTexts
 pub mod FourRecords
+mod RenumberedItems
 pub mod JoinedTexts
 pub mod CoherentTexts
+mod ArrangedItems
+mod AnsweredInOrder
+mod AnsweredSets
+pub mod LinkedTexts
+pub mod WorkedSets
 pub mod ScopedTexts
 pub mod LaterChecks

@@ -26,6 +26,8 @@ pub mod ScopedTexts
 pub mod JoinedSets
 pub mod JoinedTexts
 pub mod CoherentTexts
+pub mod AnsweredSets
+pub mod WorkedSets
 pub mod Releases
 pub mod Placeholders
 pub mod Supertraits

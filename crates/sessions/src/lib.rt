@@ -62,8 +62,9 @@ pub use session::Session;
 pub use supertrait_laws::impls_apply;
 pub use supertraits::{SupertraitGoals, own_goals_in};
 pub use text_laws::{
-    accepted_texts_are_coherent, held_texts_are_coherent, impls_are_in_scope,
-    joined_sets_are_four_records, texts_are_joined, texts_list_in_order,
+    accepted_texts_are_coherent, answered_sets_are_linked, crates_of_two_texts_are_a_set,
+    held_texts_are_coherent, impls_are_in_scope, joined_sets_are_four_records, texts_are_joined,
+    texts_list_in_order,
 };
 pub use view::{declarations_are_ready, impls_are_numbered};
 pub use written::ready_impls_are_written_well;

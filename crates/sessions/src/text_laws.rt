@@ -1,15 +1,32 @@
 //! Mathematics without running code: the crates of a text without a fault, as a set of linked crates.
 
+ghost use Rattle.sessions.specs.AnsweredSets.{AnsweredSetsAreCoherent, AnsweredSetsAreLinked, AnsweredSetsInAnyOrder, TextsObeyTheirRules};
 ghost use Rattle.sessions.specs.CoherentTexts.{AcceptedTextsAreCoherent, HeldTextsAreCoherent};
 ghost use Rattle.sessions.specs.JoinedSets.{HeldCratesAreLinked, JoinedSetsAreFourRecords};
 ghost use Rattle.sessions.specs.JoinedTexts.{TextsAreJoined, TextsListInOrder};
 ghost use Rattle.sessions.specs.ScopedTexts.{ImplsAreInScope};
+ghost use Rattle.sessions.specs.WorkedSets.{CratesOfTwoTextsAreASet};
 
 /// A joined set is four things: crates that obey the rules of texts, that fit together, that keep the orphan rule, and that stand as they
 /// were answered. So these are a linked set where each impl's crate was asked about its supertraits, and all were held.
 pub fn joined_sets_are_four_records()
     ensures same { JoinedSetsAreFourRecords }
     ensures held { HeldCratesAreLinked }
+{}
+
+/// For linkers: a finite set of crates of any texts, closed under uses, that fit together, and each of which is accepted and held, is a
+/// linked set. So no closed reference has proofs by two impls in it, and what was answered of its crates holds in it; also where the texts
+/// list the auto traits of a `dyn` in different orders.
+pub fn answered_sets_are_linked()
+    ensures rules { TextsObeyTheirRules }
+    ensures linked { AnsweredSetsAreLinked }
+    ensures coherent { AnsweredSetsAreCoherent }
+    ensures any_order { AnsweredSetsInAnyOrder }
+{}
+
+/// Two crates of two texts are such a set.
+pub fn crates_of_two_texts_are_a_set()
+    ensures { CratesOfTwoTextsAreASet }
 {}
 
 /// The crates of a text without a fault are a joined set, with the views that their answers are about, where all keep the orphan rule:
