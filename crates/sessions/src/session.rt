@@ -4,14 +4,15 @@ ghost use Rattle.std.specs.Prelude.{◌≡◌, ◌<◌, ◌≤◌, ◌+◌, ℕ,
 ghost use Rattle.type_terms.specs.Failures.{SomeKindIsFull};
 ghost use Rattle.type_terms.specs.Kinds.{ArgsHeld};
 ghost use Rattle.type_terms.specs.declared.TheConstants.{MAX_INDEX};
-ghost use Rattle.type_terms.specs.Laws.{HeldSetsAreLinked, InEveryLinkedSet};
+ghost use Rattle.type_terms.specs.Laws.{InEveryLinkedSet};
 ghost use Rattle.declarations.specs.Merges.{Each};
 ghost use Rattle.orphan_check.specs.Held.{ErrorHeld};
-ghost use Rattle.overlap_check.specs.SessionLaws.{AnswersHoldEverywhere, HeadlineHolds, HeadlineOfHeldSets};
+ghost use Rattle.overlap_check.specs.SessionLaws.{AnswersHoldEverywhere, HeadlineHolds};
 ghost use Rattle.proof_checker.specs.Steps.{StepHeld};
 ghost use Rattle.view_lowering.specs.MostTerms.{most_terms};
 ghost use Rattle.workspace.specs.Numbered.{IsNumbered};
 ghost use Rattle.text_definitions.specs.Declarations.{Question};
+ghost use Rattle.sessions.specs.AnsweredSets.{AnsweredSetsAreCoherent, AnsweredSetsAreLinked};
 ghost use Rattle.sessions.specs.ByTrait.{ListsSeen, HavePartnersSeen};
 ghost use Rattle.sessions.specs.CoherentTexts.{HeldTextsAreCoherent};
 ghost use Rattle.sessions.specs.Checking.{HasOrphan, HasJudged, HasPartner, HasOverlap};
@@ -40,13 +41,11 @@ use crate::seen_view::SeenView;
 use crate::shown::is_proof_of_question;
 use crate::supertrait_laws::impls_apply;
 use crate::supertraits::{HeaderAnswer, header_answer_at};
-use crate::text_laws::held_texts_are_coherent;
+use crate::text_laws::{answered_sets_are_linked, held_texts_are_coherent};
 use candidate_assembly::solver::Solver;
 use declarations::declarations::Declarations;
 use orphan_check::errors::OrphanCheckErr;
-use overlap_check::{
-    accepted_sets_have_one_impl, answers_hold_in_linked_sets, held_sets_have_one_impl,
-};
+use overlap_check::{accepted_sets_have_one_impl, answers_hold_in_linked_sets};
 use proof_checker::steps::Step;
 use search_graph::{GlobalCache, SearchGraph};
 use solver_context::{SolverCx, SolverGraph};
@@ -55,7 +54,6 @@ use std::marker::Model;
 use std::mem;
 use type_terms::interner::Interner;
 use type_terms::kinds::{GenericArgKind, Ty};
-use type_terms::laws::held_sets_are_linked;
 use type_terms::{CrateId, Fault, ImplId};
 use view_lowering::refutations_have_variables_alone;
 use workspace::Workspace;
@@ -447,14 +445,14 @@ impl<'w> Session<'w> {
     /// of which none was found, or of which it is not known: all before have proofs, and that one is not determinate. The fault is `Memory`
     /// where memory is refused, or `Full` where a table of the session is full.
     ///
-    /// Crates that keep the rules of their texts and were held are a set of linked crates; so where they were accepted too, no closed
-    /// reference has proofs by two impls, with nothing assumed of supertraits. A text whose crates were all accepted and held is coherent
-    /// as a whole.
+    /// Crates of any texts that fit together, each accepted and held, are a set of linked crates, in which no closed reference has proofs by
+    /// two impls and what was answered holds, with nothing assumed of supertraits. A text whose crates were all accepted and held is
+    /// coherent as a whole.
     ///
     /// `check_impl` of `rustc_hir_analysis`, as far as it asks for the supertraits of the header.
     pub fn check_supertraits(&mut self) -> Result<SupersAnswer, Fault>
-        ensures linked { HeldSetsAreLinked }
-        ensures one_impl { HeadlineOfHeldSets }
+        ensures linked { AnsweredSetsAreLinked }
+        ensures one_impl { AnsweredSetsAreCoherent }
         ensures coherent { HeldTextsAreCoherent }
 
         // In each linked set with a crate that was asked, what got `no` has no solution, and what got `yes` without where-clauses has a proof.
@@ -465,8 +463,7 @@ impl<'w> Session<'w> {
         // `Full` comes only where a limit of the session is reached.
         ensures full { IfErr result (SessionFullAtLimit self.new) }
     {
-        held_sets_are_linked();
-        held_sets_have_one_impl();
+        answered_sets_are_linked();
         held_texts_are_coherent();
         answers_hold_in_linked_sets();
         let end = self.impl_end();
