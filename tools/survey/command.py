@@ -14,7 +14,8 @@ from .registry import Package
 USAGE = """survey: steps of a survey of a registry of crates. tools/survey/Snakefile calls it; docs/RUSTDOC.md tells of it.
 
   survey list --registry DIR                           the packages of a registry, a line each
-  survey document|read|check NAME-VERSION              a step of one crate; its results are OUT/crates/NAME-VERSION/STEP.jsonl
+  survey document NAME-VERSION [--feature NAME ..]     a step of one crate; its results are OUT/crates/NAME-VERSION/STEP.jsonl
+  survey read|check NAME-VERSION                       further steps, each from what those before it have left
   survey ask NAME-VERSION --questions N                N questions about the crate, to rustc and to the translator
   survey judge NAME-VERSION [--before NAME-VERSION]    the release from an earlier version, else each impl as if it were added
   survey join                                          all results as OUT/survey.sqlite
@@ -38,7 +39,7 @@ def step(arguments: argparse.Namespace) -> int:
     place = steps.Place(arguments.out, arguments.registry, arguments.target, arguments.program, arguments.jobs)
     older = package_of(arguments.before, among) if arguments.before else None
     work: dict[str, Callable[[results.Step], None]] = {
-        "document": lambda s: steps.document(place, package, s), "read": lambda s: steps.read(place, package, s),
+        "document": lambda s: steps.document(place, package, s, tuple(arguments.feature)), "read": lambda s: steps.read(place, package, s),
         "check": lambda s: steps.check(place, package, s), "ask": lambda s: steps.ask(place, package, arguments.questions, s),
         "judge": lambda s: steps.judge(place, package, older, s)}
     lines = results.measured(arguments.command, work[arguments.command])
@@ -78,6 +79,7 @@ def parser() -> argparse.ArgumentParser:
     common.add_argument("--jobs", type=int, default=1)
     common.add_argument("--questions", type=int, default=100)
     common.add_argument("--before")
+    common.add_argument("--feature", action="append", default=[])
     top = argparse.ArgumentParser(prog="survey", usage=USAGE)
     commands = top.add_subparsers(dest="command", required=True)
     for name in ONE_CRATE:
