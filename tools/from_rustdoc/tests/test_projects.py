@@ -140,7 +140,13 @@ FILES = {
     "app/src/lib.rs": "#![deny(warnings)]\nfn unused() {}\npub struct X(pub mid::M, pub dbl::A);\nimpl dbl::T for X {}\n"
                       "pub trait Mark {}\n#[cfg(doc)]\nimpl Mark for u64 {}\n",
     "mid/Cargo.toml": '[package]\nname = "mid"\nversion = "0.1.0"\nedition = "2021"\n[features]\nmore = ["dbl/more"]\n[dependencies]\ndbl = { path = "../old" }\n',
-    "mid/src/lib.rs": "#![deny(warnings)]\nfn unused() {}\npub struct M(pub dbl::A);\nimpl dbl::T for M {}\n",
+    "mid/src/lib.rs": "#![deny(warnings)]\nfn unused() {}\npub struct M(pub dbl::A);\nimpl dbl::T for M {}\n"
+                      "pub trait Nightly {}\n#[cfg(nightly)]\nimpl Nightly for u64 {}\npub trait Built {}\n#[cfg(built)]\nimpl Built for u64 {}\n",
+    # As crates find out whether the compiler takes unstable features: rustc does so where RUSTC_BOOTSTRAP is set.
+    "mid/build.rs": 'use std::process::Command;\nfn main() {\n    println!("cargo:rustc-check-cfg=cfg(nightly, built)");\n'
+                    '    println!("cargo:rustc-cfg=built");\n    let rustc = std::env::var("RUSTC").unwrap();\n'
+                    '    if Command::new(rustc).args(["-Z", "help"]).output().unwrap().status.success() {\n'
+                    '        println!("cargo:rustc-cfg=nightly");\n    }\n}\n',
     "old/Cargo.toml": '[package]\nname = "dbl"\nversion = "0.1.0"\nedition = "2021"\n[features]\nmore = []\n[workspace]\n',
     "old/src/lib.rs": 'pub struct A(pub u8);\npub trait T {}\nimpl T for A {}\n#[cfg(feature = "more")]\npub struct More(*const u8);\n',
     "new/Cargo.toml": '[package]\nname = "dbl"\nversion = "0.2.0"\nedition = "2021"\n[workspace]\n',
@@ -189,6 +195,8 @@ class Projects(unittest.TestCase):
         base = "target/from-rustdoc/app"
         self.assertEqual([a.split(" ")[0] for a in self.ask(base, "app::X: dbl@0.2.0::T", "app::X: dbl@0.1::T", "mid::M: dbl@0.1.0::T", "dbl@0.1.0::A: Send",
                                                            "dbl@0.2.0::A: Send", "dbl@0.1.0::More: Send")], ["yes", "no", "yes", "yes", "no", "no"])
+        # What a build script finds of the compiler is as in any build.
+        self.assertEqual([a.split(" ")[0] for a in self.ask(base, "u64: mid::Built", "u64: mid::Nightly")], ["yes", "no"])
         self.assertEqual(self.ask(base, "u64: app::Mark"), ["yes (argued: items of app depend on `cfg(doc)`, which rustdoc sets (lib.rs:6))"])
         status, _, errors = self.call("ask", os.path.join(self.folder, base), "dbl::A: Send")
         self.assertEqual(status, 3)
