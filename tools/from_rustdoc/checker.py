@@ -303,9 +303,9 @@ class Checker:
     def traits_of_projections(self, term: Type, impl: Impl) -> Iterator[str]:
         """A projection in a header brings two clauses: that its trait holds, and the companion."""
         for part in walk(term):
-            if isinstance(part, Alias):
-                declaration = self.world.get(part.key)
-                yield from self.traits_of_projections(put(declaration.fields[0], argument_values(declaration.params, part.arguments)), impl)
+            meant = self.meant(part) if isinstance(part, Alias) else None
+            if meant is not None:
+                yield from self.traits_of_projections(meant, impl)
             if isinstance(part, Projection):
                 for declaration in self.renderer.traits.values():
                     if part.name in declaration.associated:
@@ -325,6 +325,14 @@ class Checker:
                 self.problems.append(f"{mode} text: an impl has two lines")
 
     # ---- types
+    def meant(self, alias: Alias) -> Optional[Type]:
+        """The type that an alias stands for; None where its crate was not given."""
+        try:
+            declaration = self.world.get(alias.key)
+        except Lossy:
+            return None
+        return put(declaration.fields[0], argument_values(declaration.params, alias.arguments))
+
     def matches(self, written: Type, real: Type, names: dict[str, str], fresh: set[str], lossy: bool = False, in_field: bool = False) -> bool:
         """Whether the written type is the real one in the text's form, with fresh parameters for what has none there."""
         def inside(w: Type, r: Type) -> bool:
@@ -334,8 +342,8 @@ class Checker:
             return len(ws) == len(rs) and all(inside(w, r) for w, r in zip(ws, rs))
 
         if isinstance(real, Alias):
-            declaration = self.world.get(real.key)
-            return inside(written, put(declaration.fields[0], argument_values(declaration.params, real.arguments)))
+            meant = self.meant(real)
+            return inside(written, meant) if meant is not None else lossy and isinstance(written, Parameter) and written.name in fresh
         if isinstance(written, (Projection, Part)):
             return self.is_projection(written, real, names, fresh)
         if isinstance(real, Projection):

@@ -14,7 +14,7 @@ from .impls import ImplWriter
 from .negative import Negatives
 from .program import Answer, run
 from .reach import BY_PARTS, Reach, Reacher
-from .render import CLAUSE, MAXIMAL_PARAMS, QUESTION, Scope, bracketed, is_sizedness, names_of
+from .render import CLAUSE, MAXIMAL_PARAMS, QUESTION, THEN, Scope, bracketed, is_sizedness, names_of
 from .show import Show
 from .standard import FN_TRAITS
 from .terms import (Alias, BadInput, Bound, BoundsOf, Declaration, Dyn, Lossy, Param, Parameter, Predicate, Projection, Type, Unknown, Unsayable,
@@ -526,6 +526,9 @@ class Asker:
         for name, places in self.translation.world.doc_cfgs.items():
             if crate_name(name) in crates:
                 return f"argued: items of {name} depend on `cfg(doc)`, which rustdoc sets ({', '.join(places)})"
+        # The definitions have no associated types, so that a pattern says what a clause on one says is no law.
+        if any(trait.endswith(THEN) for trait in reach.traits):
+            return "argued: a clause on an associated type is asked as a pattern"
         return ""
 
     def basis_of_no(self, question: Question, reach: Reach) -> str:

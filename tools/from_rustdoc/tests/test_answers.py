@@ -98,6 +98,21 @@ class NoAnswers(unittest.TestCase):
                 reader.read_all(written)
 
     @unittest.skipUnless(proved_program(), "there is no proved program of these sources")
+    def test_an_alias_of_a_crate_that_is_not_given_is_a_loss(self) -> None:
+        """`user` names an alias of `ab` in a header and in a field; what leads to neither is answered."""
+        with tempfile.TemporaryDirectory() as folder, mock.patch.dict(os.environ, {"XDG_CACHE_HOME": folder}):
+            base = os.path.join(folder, "user")
+            with contextlib.redirect_stdout(io.StringIO()) as said, contextlib.redirect_stderr(io.StringIO()) as errors:
+                statuses = [main(["read", "-o", base, "--docs", kept("std"), "--quiet", kept("user")]), main(["check", base]),
+                            main(["later", "--docs", kept("std"), kept("user"), kept("user")]),
+                            main(["ask", base, "user::Mine<u8>: Send", "user::Mine<u8>: Clone", "<T: Send> user::Held<T>: Send", "user::Held<*const u8>: Send"])]
+            answers = [line.split("    ")[1].split("   ")[0] for line in said.getvalue().splitlines() if line.startswith(("user::", "<T"))]
+            self.assertEqual((statuses, errors.getvalue()), ([0, 0, 0, 4], ""))
+            self.assertEqual(answers, ["yes", "not settled", "not settled", "no"])
+            self.assertIn("user 1.0.0: coherent. 2 impls, 1 whole, 1 with a loss", said.getvalue())
+            self.assertIn("user 1.0.0 to 1.0.0: compatible", said.getvalue())
+
+    @unittest.skipUnless(proved_program(), "there is no proved program of these sources")
     def test_one_bad_question_ends_with_3_and_the_others_are_answered(self) -> None:
         with tempfile.TemporaryDirectory() as folder, mock.patch.dict(os.environ, {"XDG_CACHE_HOME": folder}):
             base = os.path.join(folder, "ab")

@@ -13,6 +13,7 @@ import unittest
 from typing import Any
 from unittest import mock
 
+from .. import command
 from ..cargo import HERE, Unit, artifacts_of, docs_folder, pinned, read_metadata, shared_flags
 from ..command import main
 from ..doc_cfg import lines
@@ -193,6 +194,8 @@ class Projects(unittest.TestCase):
         self.assertEqual([line.split(".")[0] for line in said.splitlines() if ": coherent" in line], ["dbl 0", "dbl 0", "mid 0", "app 0"])
         self.assertRegex(errors, r"warning: rustdoc sets `cfg\(doc\)`, on which items of app depend \(lib\.rs:6\)")
         base = "target/from-rustdoc/app"
+        # Several processes say the same, in the same order.
+        self.assertEqual(self.call("check", os.path.join(self.folder, base), "--jobs", "3")[:2], (0, "".join(said.splitlines(True)[1:])))
         self.assertEqual([a.split(" ")[0] for a in self.ask(base, "app::X: dbl@0.2.0::T", "app::X: dbl@0.1::T", "mid::M: dbl@0.1.0::T", "dbl@0.1.0::A: Send",
                                                            "dbl@0.2.0::A: Send", "dbl@0.1.0::More: Send")], ["yes", "no", "yes", "yes", "no", "no"])
         # What a build script finds of the compiler is as in any build.
@@ -203,7 +206,11 @@ class Projects(unittest.TestCase):
         self.assertIn("`dbl` may be any of `dbl@0.2.0`, `dbl@0.1.0`", errors)
 
     def test_what_an_earlier_run_has_left_does_not_count(self) -> None:
-        self.assertEqual(self.project("app")[0], 0)
+        # What questions need is there before anything is checked.
+        with mock.patch.object(command, "check_project", side_effect=BadInput("the check is given up")):
+            status, _, errors = self.project("app")
+        self.assertEqual((status, errors.splitlines()[-1]), (3, "from-rustdoc: the check is given up"))
+        self.assertEqual(self.ask("target/from-rustdoc/app", "mid::M: dbl@0.1.0::T"), ["yes (by law)"])
         status, said, _ = self.project("mid")
         self.assertEqual(status, 0)
         self.assertEqual([line.split(":")[0] for line in said.splitlines() if ": coherent" in line], ["dbl 0.1.0", "mid 0.1.0"])

@@ -115,6 +115,8 @@ class Merged(unittest.TestCase):
             (["yes", "open"], ["yes", "open"], "shapes::B: Send", "argued: the auto traits of shapes::A"),
             (["unproved", "no"], ["unproved", "no"], "shapes::NeverSent: Send", "by law"),
             (["unproved", "no"], ["unproved", "no"], "shapes::Raw<?x>: Send", "argued: the question has unknowns"),
+            (["yes", "open"], ["yes", "open"], "shapes::Peeked<u8>: Debug", "argued: a clause on an associated type is asked as a pattern"),
+            (["unproved", "no"], ["unproved", "no"], "shapes::Peeked<u8>: Debug", "argued: a clause on an associated type is asked as a pattern"),
             (["unproved", "no"], ["unproved", "no"], "shapes::B: Sync", "argued: the question leads to chains without end"),
         ]:
             (verdict,) = answered(lower, upper, written)

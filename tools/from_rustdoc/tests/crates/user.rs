@@ -2,3 +2,4 @@
 pub struct Mine<T>(T);
 impl ab::Ta for Mine<ab::Kept<u8>> {}
 impl<T: ab::Ta> Clone for Mine<T> { fn clone(&self) -> Self { loop {} } }
+pub struct Held<T>(ab::Kept<T>, T);
