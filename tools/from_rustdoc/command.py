@@ -27,6 +27,7 @@ from .program import run
 from .questions import QuestionReader
 from .report import Report
 from .standard_json import JsonStandard, json_folder
+from .std_text import std_text
 from .terms import BadInput, Lossy
 from .verdicts import Checked, answer_message, check_verdicts, say_answer, say_checks
 from .world import World
@@ -40,6 +41,7 @@ USAGE = """from-rustdoc: a translator of crates to texts for this program, and o
   from-rustdoc ask --project PROJECT QUESTION ..         the same of a project, which is documented first
   from-rustdoc later OLD.json NEW.json                   what of a release breaks crates that use it?
   from-rustdoc later --baseline REV|FOLDER [PROJECT]     the same of a project and its older version
+  from-rustdoc std -o FILE                               the part of std that people name, as a text to stand in front of others
 
 ask: --expect yes|no (another answer is status 1), --why (the proof too, where there is one).
 later: --private (private and sealed impls too), -p NAME (this library alone), --with CRATE.json (crates that both files use).
@@ -105,6 +107,15 @@ def read(arguments: argparse.Namespace) -> int:
     report = Report(translation)
     write_all(arguments.output, report, texts_of(translation), inputs)
     print("\n".join(report.summary()))
+    return 0
+
+
+def std(arguments: argparse.Namespace) -> int:
+    world = new_world(arguments.docs)
+    text = std_text(world)
+    keep(world)
+    with open(arguments.output, "w", encoding="utf-8") as handle:
+        handle.write(text)
     return 0
 
 
@@ -286,6 +297,7 @@ def parser(prog: str = "from-rustdoc") -> argparse.ArgumentParser:
     one.add_argument("-o", dest="output", required=True)
     one.add_argument("--metadata")
     one.add_argument("--all-std", action="store_true")
+    commands.add_parser("std", parents=[common], usage=USAGE).add_argument("-o", dest="output", required=True)
     two = commands.add_parser("check", parents=[common], usage=USAGE)
     two.add_argument("base")
     three = commands.add_parser("ask", parents=[common], usage=USAGE)
@@ -321,12 +333,12 @@ def run_command(arguments: argparse.Namespace, extra: list[str]) -> int:
             return ask(arguments)
         arguments.questions = arguments.words
         return ask_project(arguments, extra)
-    return {"read": read, "check": check}[arguments.command](arguments)
+    return {"read": read, "check": check, "std": std}[arguments.command](arguments)
 
 
 def main(words: list[str]) -> int:
     words, extra = divided(words)
-    if words and words[0] not in ("read", "check", "ask", "later", "project") and os.path.isdir(words[0]):
+    if words and words[0] not in ("read", "check", "ask", "later", "std", "project") and os.path.isdir(words[0]):
         words = ["project", *words]
     return guarded("from-rustdoc", lambda: run_command(parser().parse_args(words), extra))
 

@@ -5,14 +5,16 @@ import os
 import unittest
 from unittest import mock
 
-from .. import split
+from .. import split, std_text
 from ..build import Translation
 from ..checker import check_texts
 from ..messages import Sources, rendered
 from ..program import proved_program, run
 from ..report import Report
+from ..terms import BadInput
 from ..verdicts import refusal
-from .common import HERE, crate_part, texts, translation, world
+from ..world import World
+from .common import HERE, crate_part, pages, texts, translation, world
 
 
 class Texts(unittest.TestCase):
@@ -53,6 +55,32 @@ class Texts(unittest.TestCase):
         found = translation("shapes")
         same = next(d for d in found.renderer.traits.values() if d.name == "Same")
         self.assertTrue(found.renderer.lost(same))
+
+
+class Std(unittest.TestCase):
+    """The part of std that people name; of the kept sample of std's documents, which has fewer."""
+    TRAITS = {"core::marker": "Send Sync Unpin Copy", "core::clone": "Clone", "core::default": "Default", "core::fmt": "Debug", "core::iter": "Iterator IntoIterator"}
+    TYPES = {"core::marker": "PhantomData", "alloc::vec": "Vec", "alloc::rc": "Rc"}
+    QUESTIONS = {"prove in mine Vec<S, Global>: Send": "yes", "prove in mine Rc<S, Global>: Send": "unproved", "prove in mine Vec<S, Global>: Clone": "yes",
+                 "prove in mine Vec<S, Global>: IntoIterator__Item<S>": "yes", "refute in mine S: Debug": "no"}
+
+    def setUp(self) -> None:
+        for name, value in (("TRAITS", self.TRAITS), ("TYPES", self.TYPES)):
+            patch = mock.patch.object(std_text, name, value)
+            patch.start()
+            self.addCleanup(patch.stop)
+
+    @unittest.skipUnless(proved_program(), "there is no proved program of these sources")
+    def test_a_text_behind_it_is_answered(self) -> None:
+        text = std_text.std_text(World(pages()))
+        answer = run(text + "crate mine uses std\nstruct S\nimpl Clone for S\n" + "\n".join(self.QUESTIONS) + "\n")
+        self.assertEqual((answer.refusals(), answer.questions), ({}, list(self.QUESTIONS.values())))
+        self.assertIn("// Left out: std: impl<T: ?Sized + Thin> Default for *const T: ", text)
+        self.assertNotIn(" Default for PtrConst_", text)
+
+    def test_what_the_documents_have_not_is_named(self) -> None:
+        with mock.patch.object(std_text, "TYPES", {"alloc::vec": "Nothing"}), self.assertRaisesRegex(BadInput, "have no alloc::vec::Nothing"):
+            std_text.std_text(World(pages()))
 
 
 class Split(unittest.TestCase):
