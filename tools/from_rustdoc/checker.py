@@ -95,7 +95,7 @@ class Checker:
             self.complain(mode, line, "an auto trait, or not one, unlike the crate's")
         written = Counter(b.key for b in line.bounds)
         lost = len(self.renderer.supertraits(declaration)[1])
-        wanted = Counter()
+        wanted: Counter[str] = Counter()
         for bound in declaration.supers:
             if is_sizedness(bound):
                 continue

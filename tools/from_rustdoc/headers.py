@@ -371,7 +371,7 @@ class Reader:
         if what == "trait":
             raise NotUnderstood(f"the trait `{name}` as a type")
         arguments, _ = self.arguments()
-        return (Alias if what == "type" else Named)(key, tuple(arguments))
+        return Alias(key, tuple(arguments)) if what == "type" else Named(key, tuple(arguments))
 
     def scope(self) -> frozenset[str]:
         """Names that are parameters where `name::Item` is read: in the documents paths are links, so any short or plain name."""

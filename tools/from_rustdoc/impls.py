@@ -182,14 +182,15 @@ class ImplWriter:
 
     def write(self, impl: Impl) -> Written:
         """The impl's lines. What was written in an earlier text is taken as it is, where this one speaks of the same associated types."""
-        kept = self.world.written
+        kept: dict[tuple[int, bool, bool], Kept] = self.world.written
         key = (id(impl), self.projector.with_patterns, self.renderer.names_values)
         if key in kept and kept[key].state == self.state(impl):
             self.renderer.again(kept[key].needs)
             self.projector.again(kept[key].patterns)
             return kept[key].written
         before, patterns = self.renderer.log, len(self.projector.log)
-        self.renderer.log = needs = []
+        needs: list[Need] = []
+        self.renderer.log = needs
         written = self.written_anew(impl)
         self.renderer.log = before
         if before is not None:

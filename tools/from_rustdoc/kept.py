@@ -91,7 +91,7 @@ def written(path: str, data: bytes) -> None:
 
 
 # ---- crates
-class Decoded(Mapping):
+class Decoded(Mapping[str, Declaration]):
     """Declarations by their keys, each decoded when it is asked for."""
 
     def __init__(self, data: dict[str, bytes]) -> None:
@@ -113,7 +113,7 @@ class Decoded(Mapping):
         return len(self.data)
 
 
-class DecodedImpls(Sequence):
+class DecodedImpls(Sequence[Impl]):
     def __init__(self, data: list[bytes]) -> None:
         self.data = data
         self.known: dict[int, Impl] = {}
@@ -254,7 +254,7 @@ class Store:
         row = self.base.execute("select path from first where key = ?", (key,)).fetchone()
         if row is None:
             raise Damaged(f"no page of {key}")
-        return row[0]
+        return str(row[0])
 
     def flush(self) -> None:
         self.base.executemany("insert or replace into page values (?, ?)", list(self.new_pages.items()))

@@ -15,6 +15,7 @@ from .negative import Negatives
 from .program import Answer, run
 from .reach import BY_PARTS, Reach, Reacher
 from .render import CLAUSE, MAXIMAL_PARAMS, QUESTION, THEN, Scope, bracketed, is_sizedness, names_of
+from .rustdoc_json import ItemName
 from .show import Show
 from .standard import FN_TRAITS
 from .terms import (Alias, BadInput, Bound, BoundsOf, Declaration, Dyn, Lossy, Param, Parameter, Predicate, Projection, Type, Unknown, Unsayable,
@@ -148,8 +149,10 @@ class QuestionReader:
     def key(self, words: list[str]) -> Optional[str]:
         if words[0] in self.world.crates:
             found = self.world.crates[words[0]].items
-            for test in (lambda d: d.public_path == words, lambda d: d.key == "::".join(words),
-                         lambda d: d.name == words[-1] and d.public_path, lambda d: d.name == words[-1]):
+            tests: tuple[Callable[[ItemName], bool], ...] = (
+                lambda d: d.public_path == words, lambda d: d.key == "::".join(words), lambda d: d.name == words[-1] and d.public_path is not None,
+                lambda d: d.name == words[-1])
+            for test in tests:
                 keys = {d.key for d in found if test(d)}
                 if len(keys) == 1:
                     return keys.pop()

@@ -237,7 +237,7 @@ class Renderer:
             case Array(element, length):
                 return f"[{self.type(element, scope)}; {self.constant(length, scope, of_array=True)}]"
             case Tuple(items):
-                return self.tuple(items, scope)
+                return self.tuple_type(items, scope)
             case Function(inputs, output, plain):
                 return self.function(inputs, output, plain, scope)
             case Dyn(bounds):
@@ -260,7 +260,7 @@ class Renderer:
                 raise Lossy(why)
         raise Lossy("a type that the text has not")
 
-    def tuple(self, items: tuple[Type, ...], scope: Scope) -> str:
+    def tuple_type(self, items: tuple[Type, ...], scope: Scope) -> str:
         if scope.coarse and len(items) > 1 and len(items) <= MAXIMAL_ITEMS:
             raise Lossy("more than 16 parameters")
         if len(items) > MAXIMAL_ITEMS:

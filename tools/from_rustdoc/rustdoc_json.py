@@ -26,7 +26,8 @@ class ItemName:
 
 
 def kind_and_body(item: dict[str, Any]) -> tuple[str, Any]:
-    return next(iter(item["inner"].items()))
+    kind, body = next(iter(item["inner"].items()))
+    return kind, body
 
 
 def stem_of(crate: dict[str, Any]) -> str:
@@ -186,14 +187,15 @@ class JsonCrate:
             declaration.fields.append(self.type(found["inner"]["struct_field"], itself) if found else Unsayable("a field that is not documented"))
 
     def field_numbers(self, kind: str, body: dict[str, Any]) -> list[Optional[int]]:
+        numbers: list[Optional[int]] = []
         if kind == "union":
-            return body["fields"]
+            numbers += body["fields"]
+            return numbers
         if kind == "struct":
             form = body["kind"]
-            if not isinstance(form, dict):
-                return []
-            return form["tuple"] if "tuple" in form else form["plain"]["fields"]
-        numbers: list[Optional[int]] = []
+            if isinstance(form, dict):
+                numbers += form["tuple"] if "tuple" in form else form["plain"]["fields"]
+            return numbers
         for number in body["variants"]:
             variant = self.item(number)
             if variant is None:
@@ -323,6 +325,8 @@ class JsonCrate:
 
     # ---- types
     def type(self, written: Any, itself: Optional[Type]) -> Type:
+        kind: Any
+        body: Any
         kind, body = next(iter(written.items())) if isinstance(written, dict) else (written, None)
         match kind:
             case "resolved_path":

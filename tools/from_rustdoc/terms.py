@@ -5,7 +5,7 @@ A type is one of the frozen classes below. Lifetimes are left away by the reader
 from __future__ import annotations
 
 from dataclasses import dataclass, field, replace
-from typing import Callable, Iterator, Optional, Union
+from typing import Any, Callable, Iterator, Optional, Union
 
 
 class Lossy(Exception):
@@ -192,7 +192,7 @@ class Declaration:
     public_path: Optional[list[str]] = None
     place: Optional[Place] = None
     field_names: list[str] = field(default_factory=list)
-    item: dict = field(default_factory=dict)
+    item: dict[str, Any] = field(default_factory=dict)
 
     @property
     def is_trait(self) -> bool:

@@ -5,8 +5,7 @@ import re
 from dataclasses import dataclass, field, replace
 from typing import Optional
 
-from .headers import Named_, NotUnderstood, Reader
-from .render import FLOATS
+from .headers import FLOATS, Named_, NotUnderstood, Reader
 from .terms import (Array, Bound, Constant, Dyn, Function, Named, Never, Param, Parameter, Predicate, Primitive, Slice, Tuple, Type, UNIT, Unknown,
                     parts, walk)
 

@@ -59,6 +59,9 @@ class Unfolder:
             form = Form(put(value, values), tuple(sorted(free)))
             if not line.clauses:
                 return Unfolded(place, None, form)
-            values |= {value.name: place} if isinstance(value, Parameter) else {n: Part(place, form, n) for n in free}
+            if isinstance(value, Parameter):
+                values[value.name] = place
+            else:
+                values.update((name, Part(place, form, name)) for name in free)
             subject, bound = put(line.clauses[0][0], values), put_bound(line.clauses[0][1], values)
         return Unfolded(subject, bound)

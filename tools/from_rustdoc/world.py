@@ -161,7 +161,7 @@ class World:
         if not self.by_trait:
             self.find_impls()
         by_head = self.by_trait.get(trait, {})
-        for its in by_head if head is None else dict.fromkeys((head, ANY_HEAD)):
+        for its in list(by_head) if head is None else list(dict.fromkeys((head, ANY_HEAD))):
             for name, number in by_head.get(its, []):
                 yield self.crates[name].impls[number]
 

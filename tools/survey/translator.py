@@ -2,7 +2,6 @@
 the documents of a project, reading, and the check of one crate among others."""
 from __future__ import annotations
 
-import argparse
 import json
 import os
 import re
@@ -13,6 +12,7 @@ from typing import Any, Optional, Sequence
 
 from from_rustdoc import cargo, command
 from from_rustdoc.cargo import Links, Project
+from from_rustdoc.crate_check import check_crate
 from from_rustdoc.program import TOP
 from from_rustdoc.terms import BadInput
 from from_rustdoc.world import World
@@ -139,7 +139,7 @@ class CheckedCrate:
 
 def check(world: World, name: str, program: Optional[str]) -> CheckedCrate:
     """Whether a crate is coherent beside what it uses, and what became of each of its impls."""
-    checks, report = command.check_crate(world, name, argparse.Namespace(program=program, quiet=True))
+    checks, report = check_crate(world, name, program)
     impls = [impl for impl in map(read_impl, report) if impl is not None]
     if not checks:
         return CheckedCrate("coherent", "", impls)

@@ -10,9 +10,9 @@ from typing import Any, Callable, Optional
 
 from ..html_docs import Pages
 from ..questions import Question
-from ..rustdoc_json import kind_and_body
+from ..rustdoc_json import JsonCrate, kind_and_body
 from ..show import Show
-from ..terms import Array, Bound, Declaration, Function, Lossy, Named, Param, Parameter, Pointer, Primitive, Reference, Slice, Tuple, Type
+from ..terms import Array, Bound, Declaration, Function, Lossy, Named, Param, Parameter, Pointer, Predicate, Primitive, Reference, Slice, Tuple, Type
 from ..world import World
 
 TRAITS = {"Clone": "core/clone/trait.Clone.html", "Copy": "core/marker/trait.Copy.html", "Default": "core/default/trait.Default.html",
@@ -45,13 +45,15 @@ def around(pages: Pages) -> list[Callable[[Type], Type]]:
 def rust_generics(world: World, declaration: Declaration, show: Show) -> tuple[str, str, str]:
     """The item's parameters, its where-clauses, and its arguments, as Rust."""
     _, body = kind_and_body(declaration.item)
+    crate = world.crates[declaration.crate]
+    assert isinstance(crate, JsonCrate)
     params, arguments = [], []
     for param in body["generics"]["params"]:
         kind, inner = next(iter(param["kind"].items()))
         if kind == "lifetime":
             arguments.append("'static")
         elif kind == "const":
-            params.append(f"const {param['name']}: {show.type(world.crates[declaration.crate].type(inner['type'], None))}")
+            params.append(f"const {param['name']}: {show.type(crate.type(inner['type'], None))}")
             arguments.append(param["name"])
         else:
             params.append(param["name"])
@@ -78,7 +80,7 @@ def questions(world: World, crate: str, count: int, seed: int) -> list[Asked]:
         types = [p for p in declaration.params if p.kind == "type"]
         for name, key in keys.items():
             for bounded in (False, True) if types else (False,):
-                extra = [(Parameter(p.name), Bound(key or "")) for p in types] if bounded else []
+                extra: list[Predicate] = [(Parameter(p.name), Bound(key or "")) for p in types] if bounded else []
                 rust_clauses = ", ".join([c for c in [clauses] if c] + [f"{p.name}: {show.path(key or '')}" for p in types if bounded])
                 for wrap in around(pages):
                     inner = wrap(declaration.itself())

@@ -68,6 +68,7 @@ def new_project(folder: str, crates: list[str]) -> None:
 @unittest.skipIf(missing(), missing())
 class RealCrates(unittest.TestCase):
     folder: str
+    crates: list[str]
     project: Project
     pages: Pages
 
@@ -85,7 +86,7 @@ class RealCrates(unittest.TestCase):
 
     def world(self, crate: str) -> World:
         world = World(self.pages)
-        world.load([self.project.files[c] for c in self.project.closure([crate])], self.project.uses)
+        world.load([self.project.files[c] for c in self.project.closure([crate])], self.project.links)
         return world
 
     def test_all_are_coherent(self) -> None:

@@ -45,6 +45,9 @@ OTHERS = {
 
 @unittest.skipUnless(proved_program(), "there is no proved program of these sources")
 class Answers(unittest.TestCase):
+    reader: QuestionReader
+    answerer: Answerer
+
     @classmethod
     def setUpClass(cls) -> None:
         found = world("ab", "user")

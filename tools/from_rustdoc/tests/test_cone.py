@@ -4,7 +4,7 @@ from __future__ import annotations
 import os
 import tempfile
 import unittest
-from typing import Iterator
+from typing import Callable, Iterator
 from unittest import mock
 
 from ..build import Translation
@@ -12,7 +12,7 @@ from ..cone import cone_of_crate, cone_of_questions
 from ..kept import Damaged, KeptPages, KeptStandard, packed, unpacked
 from ..questions import Question, QuestionReader, QuestionWriter
 from ..reach import BY_PARTS, Reacher
-from ..terms import Bound, Declaration, Param, Parameter
+from ..terms import Bound, Declaration, Param, Parameter, Predicate
 from ..text_form import read_text
 from ..world import World
 from .common import kept, texts, world
@@ -43,10 +43,11 @@ def reached(translation: Translation, question: Question) -> tuple[set[object], 
 
 def of_type(declaration: Declaration, name: str, key: str) -> Iterator[Question]:
     """The trait of the type, as its bounds allow it, and with the same bound on its parameters."""
-    types = [p for p in declaration.params if p.kind == "type"]
-    for more in [[], [(Parameter(p.name), Bound(key)) for p in types]] if types else [[]]:
+    bounds: list[Predicate] = [(Parameter(p.name), Bound(key)) for p in declaration.params if p.kind == "type"]
+    choices: list[list[Predicate]] = [[], bounds] if bounds else [[]]
+    for more in choices:
         params = [Param(p.kind, p.name) for p in declaration.params]
-        yield Question(f"{declaration.name}: {name}", declaration.itself(), Bound(key), params, [*declaration.predicates, *more], crate="shapes")
+        yield Question(f"{declaration.name}: {name}", declaration.itself(), Bound(key), params, declaration.predicates + more, crate="shapes")
 
 
 class SameReach(unittest.TestCase):
@@ -126,7 +127,8 @@ class Kept(unittest.TestCase):
 
     def test_what_is_damaged_is_made_anew(self) -> None:
         wanted = self.read()[1]
-        for change in (lambda data: b"", lambda data: data[:len(data) // 2], lambda data: data[:60] + b"?" + data[61:]):
+        changes: tuple[Callable[[bytes], bytes], ...] = (lambda data: b"", lambda data: data[:len(data) // 2], lambda data: data[:60] + b"?" + data[61:])
+        for change in changes:
             for file in self.files():
                 with open(file, "rb") as handle:
                     data = handle.read()

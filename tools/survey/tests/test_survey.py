@@ -8,12 +8,14 @@ import sqlite3
 import subprocess
 import tempfile
 import unittest
+from collections import Counter
 from typing import Any
 
-from from_rustdoc.program import TOP
+from from_rustdoc.program import TOP, proved_program
 from from_rustdoc.terms import BadInput
+from from_rustdoc.tests.common import world
 
-from .. import database, figures, registry, results
+from .. import database, figures, registry, results, translator
 from ..registry import Dependency, Package
 from ..steps import chosen, first_error, is_added, without_impls
 
@@ -127,6 +129,18 @@ class Steps(Room):
                 list(results.read(put(self.room, "bad.jsonl", text + "\n")))
 
 
+@unittest.skipUnless(proved_program(), "there is no proved program of these sources")
+class Checked(unittest.TestCase):
+    def test_a_kept_crate_is_checked_with_each_of_its_impls(self) -> None:
+        self.assertEqual([(found.word, found.why) for found in [translator.check(world("before"), "before", None)]], [("coherent", "")])
+        found = translator.check(world("shapes"), "shapes", None)
+        self.assertEqual(found.word, "not settled")
+        self.assertIn("`impl shapes::Draw for unsafe fn(u8)`", found.why)
+        self.assertEqual(len(found.impls), len(world("shapes").crates["shapes"].impls))
+        self.assertEqual(Counter(impl["fate"] for impl in found.impls)["loss"], 2)
+        self.assertIn(("From", "shapes::Tree"), {(impl["trait"], impl["type"]) for impl in found.impls})
+
+
 def step_line(step: str, status: str = "done", **more: Any) -> dict[str, Any]:
     return {"kind": "step", "step": step, "status": status, "why": "", "seconds": 2.0, "processor": 1.5, "memory": 90, **more}
 
@@ -195,4 +209,17 @@ class Rules(Room):
         self.assertEqual(done.returncode, 0, done.stdout[-800:])
         for line in ("document 3", "read 3", "check 3", "ask 3", "judge 3", "join 1", "page 1"):
             self.assertIn(line.split(), [words.split()[:2] for words in done.stdout.splitlines()])
+        self.assertNotIn("--feature", done.stdout)
         self.assertIn("nom-4.2.3/document.jsonl", next(line for line in done.stdout.splitlines() if "input:" in line and "nom-7.1.1/read" in line and "nom-4.2.3" in line))
+
+    def test_a_file_names_the_packages_and_their_features(self) -> None:
+        for name, version in (("nom", "7.1.1"), ("either", "1.6.1")):
+            put(self.room, f"registry/{name}-{version}/Cargo.toml", manifest(name, version))
+            put(self.room, f"registry/{name}-{version}/src/lib.rs", "")
+        wanted = put(self.room, "wanted.txt", "# one of them\nnom +alloc +std\n")
+        done = subprocess.run(["snakemake", "-s", os.path.join(TOP, "tools", "survey", "Snakefile"), "--cores", "1", "-n", "-p", "--directory", self.room, "--config",
+                               f"registry={self.room}/registry", "out=out", f"packages={wanted}", f"features={wanted}"],
+                              stdout=subprocess.PIPE, stderr=subprocess.STDOUT, text=True)
+        self.assertEqual(done.returncode, 0, done.stdout[-800:])
+        self.assertRegex(done.stdout, r"run document nom-7.1.1 .*--feature alloc --feature std\n")
+        self.assertNotIn("either", done.stdout)
