@@ -25,7 +25,7 @@ GROUPS = {
     "sources": ["promises", "documents", "reading"],
     "programs": [
         "examples", "explained_words", "statuses", "options", "transcripts", "limits", "prefixes", "orders", "hostile", "walks", "refused_growth",
-        "rustdoc_cases", "driven",
+        "rustdoc_cases", "survey_cases", "driven",
     ],
     "by_hand": ["explained", "explained_json"],
 }

@@ -25,10 +25,14 @@ class Result(unittest.TextTestResult):
 
 
 def check(tally: Tally, given: argparse.Namespace) -> None:
+    run_tests(tally, "from_rustdoc", "*_crates.py" if given.real else "test_*.py")
+
+
+def run_tests(tally: Tally, package: str, pattern: str) -> None:
+    """Runs the tests of a package of tools/ in the files that the pattern names."""
     # (types of real crates are deep)
     sys.setrecursionlimit(20000)
-    pattern = "*_crates.py" if given.real else "test_*.py"
-    suite = unittest.defaultTestLoader.discover(str(TOOLS / "from_rustdoc" / "tests"), pattern, str(TOOLS))
+    suite = unittest.defaultTestLoader.discover(str(TOOLS / package / "tests"), pattern, str(TOOLS))
     result = unittest.TextTestRunner(stream=sys.stderr, verbosity=0, resultclass=partial(Result, tally)).run(suite)
     for case, why in result.skipped:
         print(f"skipped {case.id().rpartition('.')[2]}: {why}")

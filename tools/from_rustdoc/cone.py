@@ -1,9 +1,32 @@
 """The cone of a question, or of a crate's check: the smallest part of all crates that answers as the whole does, for a text of its own.
 
-Rules conclude a reference by the impls whose headers have it as an instance, and by what is declared of the struct at its head, of the traits
-of a `dyn`, and of the fields (`type_terms/specs/Rules.antt`); whether it is known is said of its own trait and types. So a set of references
-that holds the premises of its rules, and the supertraits of each, needs these and no more. `close` makes such a set: it may hold
-more than there is, never less, since an unknown matches everything. docs/RUSTDOC.md has the rules of it, with the reasons.
+A set of references is closed if it holds, of each of its references r, as the asking crate's view has them:
+
+1. the premises of each impl of which r may be an instance;
+2. those of the built-in rules: the fields of a struct for an auto trait, its last field for `Sized` and `Unsize`, the parts of tuples,
+   arrays and slices, the output of a fn pointer, the bounds of a `dyn` that is unsized to;
+3. the supertraits of r, which are asked of a `dyn`, and where another crate may have the impl.
+
+The cone of a closed set has, each in its own crate:
+
+- each impl of which some reference of the set may be an instance, with its companions (read by `impl_rules`);
+- of an auto trait that is asked of a struct each impl for that struct, whatever its arguments are: such an impl takes the built-in rule away
+  (`is_written`);
+- each struct and trait that one of its lines names, with its fields, its supertraits, `fundamental` and `auto` (`sized_rules`, `auto_rules`,
+  `unsize_rules`, `object_rules`, `strict_supertraits`, `visited`);
+- each crate that has such an item, and uses which keep who sees whom (`sees`, `is_known_in`).
+
+That such a part answers alike is a law: `APartAnswersAlike` of `type_terms/specs/Parts.antt`. That `close` finds a closed set is not proved. It may
+hold more than there is, never less, since an unknown matches everything. Before an answer is given, the references that the finished
+text leads to are looked up in it (`Asker.inside`); one that is missing is an error.
+
+The check of a crate asks of its headers that they keep the orphan rule, which reads homes, and of each pair of one of its impls and one that
+it sees whether they have a common instance, and then whether a clause of the two is impossible there. Its cone has its impls, each impl that may
+have a common instance with one of them, and the cone of their clauses, with unknowns for parameters that the instance leaves open.
+
+Where the subject is an unknown that no question wrote, impls that name an item which no line of the cone names are left out: an unknown is
+found out by matching lines of the cone, so it becomes a type of their names. A question that writes `?x` leaves none out. Terms that are more
+than `DEEPEST` deep, and traits of which more than `MANY` references are asked, are taken as unknowns.
 """
 from __future__ import annotations
 

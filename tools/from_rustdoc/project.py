@@ -3,7 +3,26 @@
 `where I::Item: Debug` is a pattern with a hole, `_: Debug`, and `I::Item` in it. The pattern becomes a struct, with what it means as an
 impl, `impl<H> Apply_<H> for Pat1_ where H: Debug`; and the clause becomes `I: Iterator__Item__Then<Wrap_<Pat1_>>`. Each impl of Iterator
 brings one of this trait that asks the pattern of its value, `impl<T, K> Iterator__Item__Then<Wrap_<K>> for Once<T> where K: Apply_<T>`.
-So each clause is said exactly. docs/RUSTDOC.md has the rules, and what would break without `Wrap_`.
+
+- The hole is the first outermost projection without a name, wherever it stands in the clause, and as often. What else the pattern has of the
+  impl, its parameters and its other projections, become parameters of the pattern's struct. So each step takes one projection out of
+  the clause, and what is left is a clause again; steps end.
+- Parameters that stand in no header are what an equation says: of `F: Fn() -> R`, R is `<F as FnOnce<()>>::Output`. Of `I: Iterator<Item = (A, B)>`
+  A and B are parts of a form, and the pattern is asked of that: `impl<A, B> Apply_<(A, B)> for Pat2_ where B: Debug`. The equation itself is
+  the pattern without a clause. A second equation of one parameter is a clause by a companion.
+- A value that is a projection, `type Item = <J::Item as IntoIterator>::Item`, is a hole too: its line asks `K_: Apply_<value>`, which is a clause.
+  Where the value is the hole itself, the pattern K_ goes on as it is. A struct for each place in the crates is enough for chains of any
+  length (`Map<Map<..>>`): a trait for each clause would not be, since each step would need a new one.
+- A projection in a header goes by its fresh parameter, one that equals a type of the header by that type.
+- The trait that asks patterns is fundamental if its own trait is; its lines stand in the crate of the impl, a pattern in that of the clause.
+  Where a value is not known the upper line has no `Apply_`, and the lower text no line.
+- A clause `F: FnMut(I::Item)` brings `F: std__FnMut__Any` too, that F is `FnMut` for some arguments: rustc puts an unknown for `I::Item`, and
+  may refuse `S: FnMut(?)` all the same.
+- A `dyn` whose supertraits fix a value, `trait Bytes: Iterator<Item = u8>`, has no line that asks patterns: it cannot be said.
+
+A proof of `T: Tr__Item__Then<Wrap_<K>>` is an impl of Tr that applies to T, with its clauses, and a proof of K's clause for its value: what rustc
+asks of `<T as Tr>::Item`. The orphan rule looks at Tr's own terms alone, since `Wrap_` is nobody's but `alloc`'s and is not gone into. So these impls
+may stand, meet and be added where those of Tr may.
 """
 from __future__ import annotations
 

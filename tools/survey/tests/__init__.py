@@ -1,1 +1,1 @@
-"""Tests of the survey. `tools/survey_cases` runs them; with --real those that document crates of Debian's registry and call rustc."""
+"""Tests of the survey. `tools/check survey_cases` runs them; with --real those that document crates of Debian's registry and call rustc."""
