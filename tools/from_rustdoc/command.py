@@ -20,7 +20,6 @@ from .build import Translation
 from .crate_check import check_crate, texts_of
 from .html_docs import Pages
 from .kept import Damaged, KeptPages, KeptStandard, remove_stores
-from .later_command import later
 from .made_by import current, made_by
 from .messages import NO_ANSWER, Message, Output, Sources, worst
 from .program import run
@@ -326,6 +325,8 @@ def run_command(arguments: argparse.Namespace, extra: list[str]) -> int:
     if arguments.command == "project":
         return project(arguments.folder, extra, arguments)
     if arguments.command == "later":
+        # (Here, since the other commands need none of its modules, which take as long to load as an answer takes.)
+        from .later_command import later
         return later(arguments, extra, world_of, links_of(arguments.metadata))
     if arguments.command == "ask":
         if arguments.project is None:

@@ -13,6 +13,7 @@ import pickle
 import sqlite3
 import sys
 import tempfile
+import time
 import zlib
 from collections.abc import Mapping, Sequence
 from dataclasses import replace
@@ -26,6 +27,8 @@ from .terms import ANY_HEAD, Declaration, Impl, Named, Type, head_of
 
 HERE = os.path.dirname(os.path.abspath(__file__))
 SAME = ("core", "alloc", "std")
+# Seconds after which a file has another time if it is written again.
+SETTLED = 2.0
 
 
 class Damaged(Exception):
@@ -161,8 +164,7 @@ class Keeper:
 
     def crate(self, file: str, pages: Pages, own: str, artifacts: dict[str, str]) -> KeptCrate:
         try:
-            with open(file, "rb") as handle:
-                total = hashlib.sha256(handle.read()).hexdigest()
+            total = self.store.sum_of(file)
         except OSError as error:
             raise terms.BadInput(f"{file}: cannot be read as JSON: {error}")
         # Keys of std's items stand in what is kept of a crate, so it goes with the very store that gave them out.
@@ -190,6 +192,7 @@ class Store:
 
     TABLES = ("create table if not exists page (path text primary key, key text)",
               "create table if not exists first (key text primary key, path text)",
+              "create table if not exists sum (path text primary key, state text, total text)",
               "create table if not exists thing (kind text, name text, data blob, primary key (kind, name))",
               "create table if not exists impl (trait text, number integer, header integer, head text, data blob, primary key (trait, number))",
               "create index if not exists by_head on impl (trait, head)")
@@ -236,6 +239,21 @@ class Store:
     def put(self, kind: str, name: str, value: Any) -> None:
         self.base.execute("insert or replace into thing values (?, ?, ?)", (kind, name, packed(value)))
         self.flush()
+
+    def sum_of(self, file: str) -> str:
+        """The hash of a file. It is taken once of a file that has not changed since, by its size, its times and its place on the disk."""
+        found = os.stat(file)
+        path, state = os.path.abspath(file), repr((found.st_size, found.st_mtime_ns, found.st_ctime_ns, found.st_ino, found.st_dev))
+        row = self.base.execute("select total from sum where path = ? and state = ?", (path, state)).fetchone()
+        if row:
+            return str(row[0])
+        with open(file, "rb") as handle:
+            total = hashlib.sha256(handle.read()).hexdigest()
+        # What was written just now may be written again within what the clock of the disk tells apart.
+        if time.time() - found.st_ctime > SETTLED:
+            self.base.execute("insert or replace into sum values (?, ?, ?)", (path, state, total))
+            self.base.commit()
+        return total
 
     def put_impls(self, trait: str, headers: list[tuple[str, str, str]], rows: list[tuple[int, Impl]]) -> None:
         self.base.executemany("insert or replace into impl values (?, ?, ?, ?, ?)",

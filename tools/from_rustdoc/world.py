@@ -151,6 +151,8 @@ class World:
 
     def key_of(self, key: str) -> str:
         """The item's own key, for one that another crate names."""
+        if key in self.homes or is_std_key(key):
+            return key
         try:
             return self.get(key).key
         except Lossy:

@@ -137,6 +137,25 @@ class Kept(unittest.TestCase):
                 with self.subTest(file):
                     self.assertEqual(self.read()[1], wanted)
 
+    def test_a_file_that_is_written_again_is_hashed_again(self) -> None:
+        store = KeptPages(kept("std")).store
+        file = os.path.join(self.folder.name, "crate.json")
+
+        def put(text: str, age: float) -> str:
+            with open(file, "w", encoding="utf-8") as handle:
+                handle.write(text)
+            with mock.patch("from_rustdoc.kept.time.time", return_value=os.stat(file).st_ctime + age):
+                return store.sum_of(file)
+
+        sums = [put("one", 9.0), put("two", 9.0), put("one", 0.1)]
+        self.assertEqual([sums[0], len(set(sums))], [sums[2], 2])
+        with mock.patch("builtins.open", side_effect=AssertionError("read anew")):
+            self.assertRaises(AssertionError, store.sum_of, file)
+        self.assertEqual(put("two", 9.0), sums[1])
+        with mock.patch("builtins.open", side_effect=AssertionError("read anew")):
+            self.assertEqual(store.sum_of(file), sums[1])
+        store.base.close()
+
     def test_another_version_reads_anew(self) -> None:
         self.read()
         with mock.patch("from_rustdoc.kept.tool_sum", return_value="another"):
