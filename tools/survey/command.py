@@ -18,6 +18,7 @@ USAGE = """survey: steps of a survey of a registry of crates. tools/survey/Snake
   survey read|check NAME-VERSION                       further steps, each from what those before it have left
   survey ask NAME-VERSION --questions N                N questions about the crate, to rustc and to the translator
   survey judge NAME-VERSION [--before NAME-VERSION]    the release from an earlier version, else each impl as if it were added
+  survey adopt BASE                                    takes the crates of a project that from-rustdoc has documented, for further steps
   survey join                                          all results as OUT/survey.sqlite
   survey page                                          OUT/figures.md, of the database
 
@@ -55,6 +56,13 @@ def listed(arguments: argparse.Namespace) -> int:
     return 0
 
 
+def adopt(arguments: argparse.Namespace) -> int:
+    place = steps.Place(arguments.out, arguments.registry, arguments.target, arguments.program, arguments.jobs)
+    for package in steps.adopt(place, arguments.base, registry.packages(arguments.registry)):
+        print(package.folder)
+    return 0
+
+
 def join(arguments: argparse.Namespace) -> int:
     among = [p for p in registry.packages(arguments.registry) if os.path.isdir(os.path.join(arguments.out, "crates", p.folder))]
     database.joined(arguments.out, among, os.path.join(arguments.out, "survey.sqlite"))
@@ -84,6 +92,7 @@ def parser() -> argparse.ArgumentParser:
     commands = top.add_subparsers(dest="command", required=True)
     for name in ONE_CRATE:
         commands.add_parser(name, parents=[common], usage=USAGE).add_argument("package")
+    commands.add_parser("adopt", parents=[common], usage=USAGE).add_argument("base")
     for name in ("list", "join", "page"):
         commands.add_parser(name, parents=[common], usage=USAGE)
     return top
@@ -93,7 +102,7 @@ def main(words: list[str]) -> int:
     sys.setrecursionlimit(20000)
     arguments = parser().parse_args(words)
     try:
-        return {"list": listed, "join": join, "page": page}.get(arguments.command, step)(arguments)
+        return {"list": listed, "adopt": adopt, "join": join, "page": page}.get(arguments.command, step)(arguments)
     except BadInput as error:
         print(f"survey: {error}", file=sys.stderr)
         return 3

@@ -27,6 +27,8 @@ from .results import Skipped, Step
 BATCH = 150
 ADDED = "impl-added"
 CARGO = ["--offline"]
+# Of a crate whose project was documented before: the metadata of what it uses.
+COMPILED = "compiled.json"
 
 
 @dataclass
@@ -143,6 +145,29 @@ def document(place: Place, package: Package, step: Step, features: tuple[str, ..
     step.figures = {"crates": len(sizes), "bytes": sum(sizes.values()), "own_bytes": sizes[name], "versions": sorted(n for n in sizes if "@" in n)}
 
 
+def adopt(place: Place, base: str, among: list[Package]) -> list[Package]:
+    """Takes the crates of a project that `from-rustdoc` has documented as if each had been documented by itself; `base` is that of its map.
+    They are those of the registry; others, the project's own among them, are left."""
+    inputs = translator.map_of(base)["inputs"]
+    links = Links(**inputs["links"])
+    world = translator.read(inputs["json"], links)
+    files = {name: crate.file for name, crate in world.crates.items()}
+    compiled = compiled_in(links.root, os.path.dirname(os.path.abspath(base)), place.jobs)
+    known = {(package.crate, package.version): package for package in among}
+    found = [(name, known[key]) for name, crate in world.crates.items() if (key := (name.split("@")[0], crate.version)) in known]
+    for name, package in found:
+        folder = place.folder(package)
+        project = Project(links, [name], {used: files[used] for used in Project(links, files=files).closure([name])})
+        os.makedirs(folder, exist_ok=True)
+        save_project(folder, project)
+        with open(os.path.join(folder, COMPILED), "w", encoding="utf-8") as handle:
+            json.dump(compiled, handle)
+        sizes = {used: os.path.getsize(file) for used, file in project.files.items()}
+        results.write(place.file(package, "document"), results.measured("document", lambda step: step.figures.update(
+            crates=len(sizes), bytes=sum(sizes.values()), own_bytes=sizes[name], versions=sorted(n for n in sizes if "@" in n))))
+    return [package for _, package in found]
+
+
 # ---- reading and checks
 def crates_of(project: Project, name: str) -> list[str]:
     return [project.files[used] for used in project.closure([name])]
@@ -174,25 +199,36 @@ def check(place: Place, package: Package, step: Step) -> None:
 
 
 # ---- questions
+Compiled = dict[str, list[tuple[str, str]]]
+
+
 def metadata_of(place: Place, folder: str, package: Package) -> dict[str, str]:
     """The crates' metadata as rustc reads it, by the crates' names; of two versions of one crate neither, but for the crate itself."""
-    words = ["cargo", "check", *CARGO, "-j", str(place.jobs), "--message-format", "json", "--target-dir",
-             os.path.join(place.build(folder), "from-rustdoc")]
+    kept = os.path.join(folder, COMPILED)
+    if os.path.exists(kept):
+        with open(kept, encoding="utf-8") as handle:
+            return chosen({name: [(number, file) for number, file in files] for name, files in json.load(handle).items()}, package)
     with locked(place.build(folder)):
-        done = subprocess.run(words, cwd=os.path.join(folder, "project"), stdout=subprocess.PIPE, stderr=subprocess.PIPE, text=True)
+        return chosen(compiled_in(os.path.join(folder, "project"), os.path.join(place.build(folder), "from-rustdoc"), place.jobs), package)
+
+
+def compiled_in(project: str, target: str, jobs: int) -> Compiled:
+    """The metadata of each library that a project uses, by the crates' names, each with its package."""
+    words = ["cargo", "check", *CARGO, "-j", str(jobs), "--message-format", "json", "--target-dir", target]
+    done = subprocess.run(words, cwd=project, stdout=subprocess.PIPE, stderr=subprocess.PIPE, text=True)
     if done.returncode != 0:
         raise BadInput(f"cargo check failed: {(done.stderr.splitlines() or ['it said nothing'])[-1]}")
-    found: dict[str, list[tuple[str, str]]] = {}
+    found: Compiled = {}
     for line in done.stdout.splitlines():
         message = json.loads(line)
         if message.get("reason") == "compiler-artifact" and "lib" in message["target"]["kind"]:
             for file in message["filenames"]:
                 if file.endswith(".rmeta"):
                     found.setdefault(message["target"]["name"].replace("-", "_"), []).append((message["package_id"], file))
-    return chosen(found, package)
+    return found
 
 
-def chosen(found: dict[str, list[tuple[str, str]]], package: Package) -> dict[str, str]:
+def chosen(found: Compiled, package: Package) -> dict[str, str]:
     kept = {}
     for name, files in found.items():
         if name == "surveyed":

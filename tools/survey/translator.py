@@ -125,6 +125,11 @@ def read(files: list[str], links: Links) -> World:
     return command.world_of(files, None, links)
 
 
+def map_of(base: str) -> dict[str, Any]:
+    """What was written of a project, or of crates, for questions."""
+    return command.kept(base)
+
+
 def write_base(base: str, files: list[str], links: Links) -> None:
     """What `ask` needs."""
     command.write_map(base, {"inputs": command.inputs_of(read(files, links), files, links)})
