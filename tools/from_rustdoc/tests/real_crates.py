@@ -18,7 +18,7 @@ from ..build import Translation
 from ..cargo import Project, docs_folder, document
 from ..checker import check_texts
 from ..html_docs import Pages
-from ..program import TOP, run
+from ..program import proved_program, run
 from ..questions import Asker
 from ..messages import Sources, rendered
 from ..report import Report
@@ -31,7 +31,7 @@ REGISTRY = "/usr/share/cargo/registry"
 CRATES = """semver either smallvec bytes itoa anyhow arrayvec hashbrown http indexmap itertools log memchr nom num-traits num-integer num-bigint
             num-rational num-complex once_cell petgraph serde serde_json url""".split()
 ASKED_OF_EACH = int(os.environ.get("FROM_RUSTDOC_QUESTIONS", "150"))
-PROGRAM = os.environ.get("FROM_RUSTDOC_PROGRAM") or os.path.join(TOP, "crates", "celtisdarts", "out", "celtisdarts")
+PROGRAM = os.environ.get("FROM_RUSTDOC_PROGRAM") or proved_program()
 
 
 def missing() -> str:
@@ -40,8 +40,8 @@ def missing() -> str:
         return "there is no cargo"
     if not os.path.isdir(REGISTRY):
         return "Debian's registry of crates is not installed"
-    if not os.path.exists(PROGRAM):
-        return "the program is not built"
+    if PROGRAM is None:
+        return "there is no proved program of these sources"
     try:
         docs_folder(None)
     except BadInput as error:
