@@ -215,7 +215,7 @@ class QuestionReader:
 
     @staticmethod
     def parameter_names(written: str) -> set[str]:
-        reader = Reader(written, lambda words: ("word", None, words[-1]), unknowns=True)
+        reader = Reader(written, lambda words: ("struct", words[-1], words[-1]), unknowns=True)
         return {p.name for p in reader.generics()[0]} if reader.has_generics() else set()
 
     def plain(self, term: Type) -> Type:

@@ -9,6 +9,7 @@ import re
 from dataclasses import dataclass, field
 from typing import Any, Optional
 
+from .assume import Assumed, Assumer, asked_goal
 from .back import Back
 from .build import Piece
 from .headers import Named_, NotUnderstood, Reader
@@ -16,6 +17,7 @@ from .html_docs import is_std_key
 from .messages import Message, at
 from .program import explain
 from .questions import InText, Verdict
+from .reach import Reach
 from .render import FIELD, Scope
 from .show import Show
 from .terms import BadInput, Bound, Declaration, Lossy, Named, Parameter, Projection, Type, argument_values, put, rebuilt
@@ -30,7 +32,7 @@ STEP = re.compile(r"required for `(.*)` to implement `(.*)`(, by a built-in rule
 CYCLE = "needs itself"
 NEVER, APPLY, WRAP = "Never_", "Apply_", "Wrap_"
 SPECIAL = (NEVER, APPLY, WRAP)
-SHOWN = 4
+SHOWN, DEEPEST = 4, 4
 
 
 @dataclass
@@ -79,6 +81,11 @@ class Explainer:
         told = self.told([self.prove])[0]
         if told is not None and told.is_cycle:
             told = self.without_cycle(told) or told
+        for _ in range(DEEPEST):
+            deeper = self.of_value(told) if told is not None else None
+            if deeper is None:
+                break
+            told = deeper
         return self.notes(told) if told is not None else []
 
     def said(self, lines: list[str]) -> list[dict[str, Any]]:
@@ -173,6 +180,22 @@ class Explainer:
                 if other is not None and not other.is_cycle:
                     other.goals += told.goals[number:]
                     return other
+        return None
+
+    def of_value(self, told: Told) -> Optional[Told]:
+        """Why a pattern does not hold of the value that the question's clauses give an associated type: the program is asked that by itself."""
+        first = told.goals[0]
+        if first.bound.key not in self.thens:
+            return None
+        text = read_text(self.text + self.prove + "\n")
+        line = text.lines[-1]
+        thens = {name: self.translation.renderer.companion_name(self.world.get(key), value) for name, (key, value) in self.thens.items()}
+        reach = Reach(references={(first.bound.key, (first.subject, *first.bound.arguments))})
+        lines = [asked_goal(self.prove, line, candidate.goal()) for candidate in Assumer(text, thens).candidates(line, reach, Assumed())]
+        for other in self.told(lines):
+            if other is not None:
+                other.goals += told.goals
+                return other
         return None
 
     def field_line(self, goal: Goal, declaration: Declaration, term: Type) -> str:

@@ -26,6 +26,7 @@ WITH_TYPES = {
     "<I: Iterator> <I as IntoIterator>::Item: Copy where I::Item: Copy": "yes", "<I: Iterator> <I as IntoIterator>::Item: Copy": "unproved",
     "fn(u8) -> bool: Fn(u8) -> bool": "yes", "fn(u8) -> bool: Fn(u8) -> u8": "unproved", "ab::Pred<fn(u8) -> bool>: ab::Ta": "yes",
     "ab::Pred<fn(u8) -> u8>: ab::Ta": "unproved", "<F: FnMut(u8) -> bool> ab::Pred<F>: ab::Ta": "yes",
+    "<I: Iterator<Item = Vec<u8>>> <I as Iterator>::Item: IntoIterator<Item = u8>": "yes", "<T: PartialEq<Vec<Vec<u8>>> + Send> Vec<T>: Send": "yes",
     "<u8 as Iterator>::Item: Send": "unproved"}
 OF_DYN = {
     "dyn Iterator<Item = u8>: ab::Ta": "yes", "dyn Iterator<Item = u8> + Send: ab::Ta": "yes", "dyn Iterator<Item = u16>: ab::Ta": "no",

@@ -58,6 +58,12 @@ class Reasons(unittest.TestCase):
             "required for `reasons::All<IntoIter<reasons::NoClone>>: reasons::Show`, by `impl<I> reasons::Show for reasons::All<I>` (line 13)"])
         self.assertEqual(self.told("reasons::Fun<fn(u8) -> u8>: reasons::Show")[0], "`<fn(u8) -> u8 as FnOnce<(u8,)>>::Output == bool` does not hold")
 
+    def test_a_value_that_the_clauses_give_has_a_reason_of_its_own(self) -> None:
+        self.assertEqual(self.told("<I: Iterator<Item = Vec<reasons::NoClone>>> reasons::All<I>: reasons::Show")[:4], [
+            "`reasons::NoClone: Clone` does not hold", "required for `Vec<reasons::NoClone>: Clone`, by `impl<T, A> Clone for Vec<T, A>` (std)",
+            "it is asked of the value of `<I as Iterator>::Item`",
+            "required for `reasons::All<I>: reasons::Show`, by `impl<I> reasons::Show for reasons::All<I>` (line 13)"])
+
     def test_a_trait_that_nothing_implements_is_named(self) -> None:
         self.assertIn("nothing that is seen implements `reasons::Need`", self.told("core::cell::Cell<u8>: reasons::Show"))
 
