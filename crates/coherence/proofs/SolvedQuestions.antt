@@ -12,6 +12,7 @@ use Rattle.text_definitions.specs.Declarations.{Declarations}
 use Rattle.sessions.specs.QuestionAnswers.{FitKinds, of_kind, filled, filled_reference, SolutionBy, IsProveAnswer, yes, IsRefuteAnswer, no}
 use Rattle.sessions.specs.CoherentTexts.{TextIsCoherent}
 use Rattle.sessions.specs.JoinedTexts.{text_world}
+use Rattle.sessions.specs.OwnValues.{SpeakOfOwn}
 use Rattle.sessions.specs.Promises.{view_in}
 use Rattle.coherence.specs.ProvedAnswers.{with_values, reference_with, SolvedBy, YesTells, NoTells, TextHolds}
 
@@ -62,8 +63,8 @@ module _ (H : Reference → Type 0) (ks : List Sort) (r : Reference) where
 
 -- ---- answers
 module _ (limit : ℕ) (d : Declarations) (c : ℕ) (ks : List Sort) where
-  pub to-yes : (E : List Reference) (r : Reference) (ts : List Trees) → IsProveAnswer limit (view_in d c) ks E r (yes ts) → YesTells d c ks E r ts
-  to-yes E r ts h = (to-zip ks ts h.0, subst (HasProof (view_in d c) E) (reference-same ks ts r) h.1, λ x. to-solved (HasProof (view_in d c) E) ks r (h.2 x))
+  pub to-yes : (E : List Reference) (r : Reference) (ts : List Trees) → IsProveAnswer limit (view_in d c) ks E r (yes ts) → SpeakOfOwn (view_in d c) E r ts → YesTells d c ks E r ts
+  to-yes E r ts h own = (to-zip ks ts h.0, subst (HasProof (view_in d c) E) (reference-same ks ts r) h.1, λ x. to-solved (HasProof (view_in d c) E) ks r (h.2 x), own)
 
   of-yes : (E : List Reference) (r : Reference) (ts : List Trees) → YesTells d c ks E r ts → IsProveAnswer limit (view_in d c) ks E r (yes ts)
   of-yes E r ts h = (of-zip ks ts h.0, subst (HasProof (view_in d c) E) (sym (reference-same ks ts r)) h.1, λ x. of-solved (HasProof (view_in d c) E) ks r (h.2 x))
@@ -90,5 +91,5 @@ text-holds limit d h = record {
   one_impl = h.one_impl;
   no_holds = λ c ks r n x. h.no_holds c ks r (of-no limit d c ks r n) (of-solved (HasProof (text_world d) []) ks r x);
   yes_holds = λ c ks ts r y. subst (HasProof (text_world d) []) (reference-same ks ts r) (h.yes_holds c ks ts r (of-yes limit d c ks [] r ts y));
-  no_or_yes = λ c e ks ts r n y u. h.no_or_yes c e ks ts r (of-no limit d c ks r n) (of-yes limit d e ks [] r ts y) u;
+  no_or_yes = λ c e ks ts r alone n y. h.no_or_yes c e ks ts r alone (of-no limit d c ks r n) (of-yes limit d e ks [] r ts y) y.3;
 }

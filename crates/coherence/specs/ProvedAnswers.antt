@@ -16,6 +16,7 @@ use Rattle.text_definitions.specs.Declarations.{Declarations, Question}
 use Rattle.language_definitions.specs.PrintedTypes.{yes_values_text}
 use Rattle.sessions.specs.QuestionAnswers.{HoldUnknownsAlone}
 use Rattle.sessions.specs.JoinedTexts.{text_world}
+use Rattle.sessions.specs.OwnValues.{HasNoParameter, SpeakOfOwn}
 use Rattle.sessions.specs.Promises.{view_in}
 
 -- The values in place of the unknowns: number i of a sort has value i of that sort, and an unknown without a value stays.
@@ -32,10 +33,12 @@ abbrev pub SolvedBy : (Reference → Type 0) → List Sort → Reference → Typ
 SolvedBy H ks r = (ts : List Trees) × AllZip IsA ks ts × Every (λ t. IsTrue (is_closed t)) ts × H (reference_with ks ts r)
 
 -- What `yes` with values tells in crate c: with them the reference has a proof by what the crate sees and the where-clauses E; unknowns that are
--- left, and parameters, stand for themselves. Where the values hold unknowns alone, there are closed ones with which it has a proof.
+-- left, and parameters, stand for themselves. Where the values hold unknowns alone, there are closed ones with which it has a proof. They name
+-- what the crate sees, and their open places are unknowns and parameters that the question names.
 abbrev pub YesTells : Declarations → ℕ → List Sort → List Reference → Reference → List Trees → Type 0
 YesTells d c ks E r ts =
     AllZip IsA ks ts × HasProof (view_in d c) E (reference_with ks ts r) × (HoldUnknownsAlone ts → SolvedBy (HasProof (view_in d c) E) ks r)
+    × SpeakOfOwn (view_in d c) E r ts
 
 -- What `no` tells in crate c: no closed values give the reference a proof by what the crate sees alone, with the supertraits of all that the proof
 -- concludes, nor in a linked set with the crate. Of a bounded reference it is said exactly if the reference is not possible.
@@ -68,5 +71,5 @@ pub record TextHolds (limit : ℕ) (d : Declarations) : Type 0 where
   pub no_holds : (c : ℕ) (ks : List Sort) (r : Reference) → NoTells limit d c ks r → SolvedBy (HasProof (text_world d) []) ks r → ⊥
   -- what is answered `yes` without where-clauses has a proof
   pub yes_holds : (c : ℕ) (ks : List Sort) (ts : List Trees) (r : Reference) → YesTells d c ks [] r ts → HasProof (text_world d) [] (reference_with ks ts r)
-  -- what is answered `no` in some crate is not answered `yes` without where-clauses in any, where the values hold unknowns alone
-  pub no_or_yes : (c e : ℕ) (ks : List Sort) (ts : List Trees) (r : Reference) → NoTells limit d c ks r → YesTells d e ks [] r ts → HoldUnknownsAlone ts → ⊥
+  -- what is answered `no` in some crate is not answered `yes` without where-clauses in any; a `refute` question has no parameters
+  pub no_or_yes : (c e : ℕ) (ks : List Sort) (ts : List Trees) (r : Reference) → HasNoParameter r → NoTells limit d c ks r → YesTells d e ks [] r ts → ⊥

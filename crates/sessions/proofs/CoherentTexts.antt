@@ -18,6 +18,7 @@ use Rattle.text_definitions.specs.Declarations.{Declarations}
 use Rattle.sessions.specs.JoinedTexts.{text_world}
 use Rattle.sessions.specs.Promises.{view_in}
 use Rattle.sessions.specs.CoherentTexts.{CratesAreAccepted, CratesAreHeld, TextIsCoherent, AcceptedTextsAreCoherent, HeldTextsAreCoherent}
+use Rattle.sessions.proofs.OwnValues.{solved}
 use Rattle.sessions.proofs.KeptTexts.{AllKept, texts-are-kept}
 use Rattle.sessions.proofs.JoinedTexts.{joined, home-below, of-core, core-or-later, map-at}
 
@@ -118,7 +119,7 @@ module _ (d : Declarations) (a : AllKept d) (accepted : CratesAreAccepted d) whe
       one_impl = (headline W own (λ n. n) (linked cs) answered (of-own (λ v. IsAccepted v.world v.asker) accepted)).one_impl;
       no_holds = no-holds limit;
       yes_holds = yes-holds limit;
-      no_or_yes = λ c e ks ts r h y a. no-holds limit c ks r h (solved-there limit e ks r (y.2 a));
+      no_or_yes = λ c e ks ts r alone h y own. no-holds limit c ks r h (solved-there limit e ks r (solved (view_in d e) r alone limit ks ts y own));
     }
 
 pub accepted-texts-are-coherent : HeadlineHolds → AnswersHoldEverywhere → AcceptedTextsAreCoherent

@@ -86,6 +86,9 @@ mod KeptTexts
 pub mod FourRecords
 mod RenumberedItems
 pub mod JoinedTexts
+pub mod OwnValues
+pub mod HandedOn
+pub mod Foreign
 pub mod CoherentTexts
 mod ArrangedItems
 mod AnsweredInOrder

@@ -36,7 +36,10 @@ use Rattle.sessions.specs.DecidedAnswers.{OtherAnswersAreRight}
 use Rattle.sessions.specs.Fitting.{sorts_in}
 use Rattle.sessions.specs.Goals.{goal_of, is_fixed, are_fixed}
 use Rattle.sessions.specs.Promises.{view_in}
-use Rattle.sessions.specs.Proving.{is_bound_term, goal_asking, IsRefusedGoal, IsUnsettledGoal}
+use Rattle.sessions.specs.Foreign.{is_unknown_term}
+use Rattle.sessions.specs.Proving.{is_bound_term, goal_asking, IsAnsweredBySolver, IsRefusedGoal, IsUnsettledGoal}
+use Rattle.sessions.specs.declared.answers.ProveAnswer.TheVariants.{Maybe}
+use Rattle.type_terms.specs.Terms.{Entry}
 use Rattle.sessions.specs.Questions.{IsFormedAsWritten}
 use Rattle.sessions.specs.Sessions.{IsSolvingOf}
 use Rattle.sessions.specs.Subjects.{IsOfText}
@@ -78,6 +81,18 @@ none-bound : (t : Trees) → EachLabel IsFixed t → some_node is_bound_term t �
 none-bound none h = refl
 none-bound (tree l c o) h =
     ap (λ b. b || some_node is_bound_term c || some_node is_bound_term o) (not-bound l h.0) ∙ ap (λ b. b || some_node is_bound_term o) (none-bound c h.1) ∙ none-bound o h.2
+
+-- and none is unknown
+not-unknown : (l : Label) → IsFixed l → is_unknown_term l ≡ false
+not-unknown (infer of_type i) g = absurd (false-true (g refl))
+not-unknown (infer of_const i) g = absurd (false-true (g refl))
+not-unknown (infer of_lifetime i) g = refl
+not-unknown l g = refl
+
+none-unknown : (t : Trees) → EachLabel IsFixed t → some_node is_unknown_term t ≡ false
+none-unknown none h = refl
+none-unknown (tree l c o) h =
+    ap (λ b. b || some_node is_unknown_term c || some_node is_unknown_term o) (not-unknown l h.0) ∙ ap (λ b. b || some_node is_unknown_term o) (none-unknown c h.1) ∙ none-unknown o h.2
 
 -- ---- answers
 not-so : (b : Bool) → not b ≡ true → b ≡ false
@@ -160,5 +175,18 @@ module _ (d : Declarations) (text : IsOfText d) (n : ℕ) (q : Question) (is : I
   never : IsUnsettledGoal solver_by_view s depth (goal_asking s.view q) → ⊥
   never h = never-unsettled d text q.asker s of E r (formed-so d text n q is s of depth decided) ks depth (single d text n q is s of depth decided) h
 
+  -- nothing that it asks about is unknown, so no value is foreign
+  known : some_node is_unknown_term r.args ≡ false
+  known =
+      none-unknown r.args
+      (made-labels is_fixed terms r.args (asked-fixed d text q.asker s of E r (formed-so d text n q is s of depth decided) ks depth (single d text n q is s of depth decided)))
+
+  never-maybe : (es : List Entry) → IsAnsweredBySolver s depth q es Maybe → ⊥
+  never-maybe es (inl h) = never h
+  never-maybe es (inr h) = false-true (sym known ∙ h.unknowns)
+
 pub other-answers-are-right : OtherAnswersAreRight
-other-answers-are-right d text n q is s of depth es = (λ h decided proof. unproved d text n q is s of depth decided h proof, λ h decided. never d text n q is s of depth decided h)
+other-answers-are-right d text n q is s of depth es = (
+  λ h. (λ decided proof. unproved d text n q is s of depth decided h proof, tt),
+  λ h. (λ decided. never-maybe d text n q is s of depth decided es h, tt),
+)

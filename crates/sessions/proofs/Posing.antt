@@ -18,7 +18,7 @@ use Rattle.text_definitions.specs.Declarations.{Question}
 use Rattle.text_definitions.specs.Names.{own_unknowns}
 use Rattle.view_lowering.specs.QuestionVariables.{variable_kinds}
 use Rattle.sessions.specs.Goals.{goal_of}
-use Rattle.sessions.specs.Proving.{IsAnsweredBySolver, IsGoalAnswered, goal_asking}
+use Rattle.sessions.specs.Proving.{IsAnsweredInSearch, IsGoalAnswered, goal_asking}
 use Rattle.sessions.specs.Questions.{where_clauses}
 use Rattle.sessions.specs.declared.answers.ProveAnswer.{ProveAnswer}
 
@@ -53,6 +53,6 @@ goal-answered s t depth ks g h us vs es a e f i x =
     subst (λ z. IsGoalAnswered t depth ks h z es a) i (subst (λ z. IsGoalAnswered t depth ks z us es a) f (subst (λ z. IsGoalAnswered z depth ks g us es a) e x))
 
 pub answer-is : (s t : Solving) (depth : ℕ) (q : Question) (ks : List Sort) (g : GoalTrees) (us : List Trees) (es : List Entry) (a : ProveAnswer)
-    → s ≡ t → ks ≡ variable_kinds q → g ≡ goal_asking t.view q → us ≡ own_unknowns q → IsGoalAnswered s depth ks g us es a → IsAnsweredBySolver t depth q es a
+    → s ≡ t → ks ≡ variable_kinds q → g ≡ goal_asking t.view q → us ≡ own_unknowns q → IsGoalAnswered s depth ks g us es a → IsAnsweredInSearch t depth q es a
 answer-is s t depth q ks g us es a e f h i x =
     goal-answered s t depth (variable_kinds q) g (goal_asking t.view q) us (own_unknowns q) es a e h i (subst (λ z. IsGoalAnswered s depth z g us es a) f x)

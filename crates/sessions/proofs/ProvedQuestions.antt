@@ -54,7 +54,9 @@ use Rattle.sessions.specs.ProvedQuestions.{YesIsRight}
 use Rattle.sessions.specs.Given.{answer_in}
 use Rattle.sessions.specs.Promises.{IsProved, view_in}
 use Rattle.sessions.specs.Sessions.{IsSolvingOf}
-use Rattle.sessions.specs.Proving.{is_bound_term, IsAnsweredBySolver, IsGoalAnswered}
+use Rattle.sessions.specs.OwnValues.{is_unknown, are_own, SpeaksOfOwn}
+use Rattle.sessions.specs.Foreign.{is_unknown_term}
+use Rattle.sessions.specs.Proving.{is_bound_term, HasUnknowns, speak_of_own, IsAnsweredBySolver, IsGoalAnswered}
 use Rattle.sessions.specs.Questions.{AreFixedReferences}
 use Rattle.sessions.specs.Subjects.{IsOfText}
 use Rattle.sessions.specs.Tables.{count_of}
@@ -63,6 +65,7 @@ use Rattle.sessions.specs.declared.answers.ProveAnswer.TheVariants.{Yes}
 use Rattle.sessions.proofs.Clauses.{supertraits-prove-no-more}
 use Rattle.sessions.proofs.ElaboratedClauses.{IsFormedClause, all-are-fixed, elaborated-formed, levels-erased}
 use Rattle.sessions.proofs.Filled.{values-fill}
+use Rattle.sessions.proofs.OwnValues.{unknown-erased, own-erased, undeclared-erased}
 use Rattle.sessions.proofs.PlainProofs.{plain-proof}
 use Rattle.sessions.proofs.SeenPlainly.{rules-are, seen-begin, seen-erased}
 use Rattle.sessions.proofs.WithoutLifetimes.{FieldsAreErased, erased-is}
@@ -411,14 +414,36 @@ module _ (d : Declarations) (text : IsOfText d) (n : ℕ) (q : Question) (is : I
   each : (x : Reference) → In x E → IsFormedClause W (sorts_in of.declarations) x
   each = clause-formed text.0 d text.1 (n - 1) q is.there of.entries of.declarations of.seen
 
+  abbrev U : World
+  U = view_in d q.asker
+
+  -- what is asked is unknown where it is so without lifetimes
+  unknown : some_node is_unknown (erase q.asked.args) ≡ true → some_node is_unknown_term asked.args ≡ true
+  unknown u = sym (unknown-erased asked.args) ∙ ap (some_node is_unknown) (plain-erased q.asked.args) ∙ u
+
+  references-same : map erased_reference (asked ∷ E) ≡ erased_reference q.asked ∷ map erased_reference q.clauses
+  references-same = ap (λ z. reference q.asked.trait z ∷ map erased_reference E) (plain-erased q.asked.args) ∙ ap (λ zs. erased_reference q.asked ∷ zs) (clauses-erased q.clauses)
+
+  -- the values speak of what the view declares, of unknowns and of the question's parameters, also without lifetimes
+  speaks : (es : List Entry) (values : Vec GenericArgKind) → (HasUnknowns q → speak_of_own (solving_of of.entries of.declarations) q es values.items ≡ true)
+      → SpeaksOfOwn U (map erased_reference q.clauses) (erased_reference q.asked) (answer_in es (Yes values))
+  speaks es values own u =
+      let xs = map (arg_trees es) values.items in
+      ap (are_own U (erased_reference q.asked ∷ map erased_reference q.clauses)) (sym (over (arg_trees es) erase values.items))
+      ∙ ap (λ rs. are_own U rs (map erase xs)) (sym references-same)
+      ∙ ap (λ (V : World). are_own V (map erased_reference (asked ∷ E)) (map erase xs)) (view-is d text q.asker of.entries of.declarations of.seen kinds E asked each)
+      ∙ own-erased (without_lifetimes W (view_in d q.asker).crates) W (undeclared-erased W (view_in d q.asker).crates) (asked ∷ E) xs ∙ own (unknown u)
+
   yes : (limit depth : ℕ) (es : List Entry) (values : Vec GenericArgKind) → IsAnsweredBySolver s depth q es (Yes values) → IsProved limit d q (answer_in es (Yes values))
   yes limit depth es values h =
-      subst (λ F. IsProveAnswer limit (view_in d q.asker) kinds F (erased_reference q.asked) (answer_in es (Yes values))) (clauses-erased q.clauses)
-      (subst (λ x. IsProveAnswer limit (view_in d q.asker) kinds (map erased_reference E) x (answer_in es (Yes values))) (ap (reference q.asked.trait) (plain-erased q.asked.args))
-      (yes-proves d text q.asker of.entries of.declarations of.seen kinds E asked each (clean-own kinds asked.args (good kinds E asked own)) (proper-args kinds E asked own)
-      (asked-with kinds E asked own (elaborate W E)) (asked-closed kinds E asked own (elaborate W E)) limit depth es values
-      (subst (λ us. IsGoalAnswered (solving_of of.entries of.declarations) depth kinds (goal_of (elaborate W E) asked) us es (Yes values)) (own-are 0 0 q.variables)
-      (subst (λ (x : Solving). IsAnsweredBySolver x depth q es (Yes values)) of.is h))))
+      let told = subst (λ (x : Solving). IsAnsweredBySolver x depth q es (Yes values)) of.is h in (
+        subst (λ F. IsProveAnswer limit (view_in d q.asker) kinds F (erased_reference q.asked) (answer_in es (Yes values))) (clauses-erased q.clauses)
+            (subst (λ x. IsProveAnswer limit (view_in d q.asker) kinds (map erased_reference E) x (answer_in es (Yes values))) (ap (reference q.asked.trait) (plain-erased q.asked.args))
+            (yes-proves d text q.asker of.entries of.declarations of.seen kinds E asked each (clean-own kinds asked.args (good kinds E asked own)) (proper-args kinds E asked own)
+            (asked-with kinds E asked own (elaborate W E)) (asked-closed kinds E asked own (elaborate W E)) limit depth es values
+            (subst (λ us. IsGoalAnswered (solving_of of.entries of.declarations) depth kinds (goal_of (elaborate W E) asked) us es (Yes values)) (own-are 0 0 q.variables) told.0))),
+        speaks es values told.1,
+      )
 
 pub yes-is-right : YesIsRight
 yes-is-right d text n q is s of limit depth es values h = yes d text n q is s of limit depth es values h

@@ -9,8 +9,9 @@ use Rattle.type_terms.specs.Supers.{IsHeld}
 use Rattle.type_terms.specs.LinkedSet.{HeadersHaveSupertraits}
 use Rattle.text_definitions.specs.Declarations.{Declarations}
 use Rattle.overlap_check.specs.Verdicts.{IsAccepted}
-use Rattle.overlap_check.specs.Questions.{filled_reference, Solution, HoldUnknownsAlone, yes, IsProveAnswer, no, IsRefuteAnswer}
+use Rattle.overlap_check.specs.Questions.{filled_reference, Solution, yes, IsProveAnswer, no, IsRefuteAnswer}
 use Rattle.sessions.specs.JoinedTexts.{text_world}
+use Rattle.sessions.specs.OwnValues.{HasNoParameter, SpeakOfOwn}
 use Rattle.sessions.specs.Promises.{view_in}
 use Rattle.sessions.specs.Subjects.{IsOfText}
 
@@ -30,8 +31,9 @@ pub record TextIsCoherent (limit : ℕ) (d : Declarations) : Type 0 where
   pub no_holds : (c : ℕ) (ks : List Sort) (r : Reference) → IsRefuteAnswer limit (view_in d c) c ks r no → Solution (text_world d) ks r → ⊥
   -- what is answered `yes` without where-clauses has a proof
   pub yes_holds : (c : ℕ) (ks : List Sort) (ts : List Trees) (r : Reference) → IsProveAnswer limit (view_in d c) ks [] r (yes ts) → HasProof (text_world d) [] (filled_reference ks ts r)
-  -- what is answered `no` in some crate is not answered `yes` without where-clauses in any, where the values hold unknowns alone
-  pub no_or_yes : (c e : ℕ) (ks : List Sort) (ts : List Trees) (r : Reference) → IsRefuteAnswer limit (view_in d c) c ks r no → IsProveAnswer limit (view_in d e) ks [] r (yes ts) → HoldUnknownsAlone ts → ⊥
+  -- what is answered `no` in some crate is not answered `yes` without where-clauses in any; a `refute` question has no parameters
+  pub no_or_yes : (c e : ℕ) (ks : List Sort) (ts : List Trees) (r : Reference) → HasNoParameter r → IsRefuteAnswer limit (view_in d c) c ks r no
+      → IsProveAnswer limit (view_in d e) ks [] r (yes ts) → SpeakOfOwn (view_in d e) [] r ts → ⊥
 
 -- A text whose crates are all accepted is coherent, where the supertraits of headers are proved. Out: `trait Sub: Sup;
 -- impl Sub for u8` without `impl Sup for u8`, all accepted, of which another crate may have been told that nothing is Sub.

@@ -21,6 +21,8 @@ pub mod Readying
 pub mod Numbers
 pub mod Decided
 pub mod Asking
+pub mod OwnValues
+pub mod Foreign
 pub mod Promises
 pub mod ScopedTexts
 pub mod JoinedSets

@@ -6,6 +6,7 @@ use Rattle.text_definitions.specs.Declarations.{Declarations, Question, world_of
 use Rattle.overlap_check.specs.Questions.{IsRefuted, ProveAnswer, IsProveAnswer, RefuteAnswer, IsRefuteAnswer}
 use Rattle.overlap_check.specs.Verdicts.{Verdict, IsVerdict}
 use Rattle.view_lowering.specs.QuestionVariables.{variable_kinds}
+use Rattle.sessions.specs.OwnValues.{SpeaksOfOwn}
 
 -- What answers of crate c are about: all that it sees, up to lifetimes.
 abbrev pub view_in : Declarations → ℕ → World
@@ -15,9 +16,12 @@ view_in d c = view_of (erased_world (world_of d)) c
 abbrev pub IsVerdictOf : ℕ → Declarations → ℕ → Verdict → Type 0
 IsVerdictOf limit d c v = IsVerdict limit (view_in d c) c v
 
--- The answer to a `prove` question, by what the asking crate sees of the text and the question's where-clauses.
+-- The answer to a `prove` question, by what the asking crate sees of the text and the question's where-clauses; the values of a yes name only
+-- what it sees, and their open places are unknowns and the question's parameters.
 abbrev pub IsProved : ℕ → Declarations → Question → ProveAnswer → Type 0
-IsProved limit d q a = IsProveAnswer limit (view_in d q.asker) (variable_kinds q) (map erased_reference q.clauses) (erased_reference q.asked) a
+IsProved limit d q a =
+    let E = map erased_reference q.clauses in
+    IsProveAnswer limit (view_in d q.asker) (variable_kinds q) E (erased_reference q.asked) a × SpeaksOfOwn (view_in d q.asker) E (erased_reference q.asked) a
 
 -- The answer to a `refute` question, by what the asking crate sees of the text.
 abbrev pub IsRefutation : ℕ → Declarations → Question → RefuteAnswer → Type 0

@@ -1,5 +1,6 @@
 -- Questions whether a reference has a proof: how they are asked, outside coherence, and what is known of the answers.
-use Rattle.std.specs.Prelude.{◌≡◌, ◌+◌, ◌⊎◌, ℕ, Bool, true, false, List, [], map, Option, Some, None}
+use Rattle.std.specs.Global.{Vec}
+use Rattle.std.specs.Prelude.{◌≡◌, ◌+◌, ◌⊎◌, ℕ, Bool, true, false, List, [], map, Option, Some, None, ◌∷◌}
 use Rattle.type_terms.specs.Label.{Label, Sort, of_type, of_const, canonical, bound}
 use Rattle.type_terms.specs.Trees.{Trees, some_node}
 use Rattle.type_terms.specs.Worlds.{World}
@@ -38,6 +39,7 @@ use Rattle.view_lowering.specs.Questions.{IsLowered}
 use Rattle.view_lowering.specs.declared.question.LoweredQuestion.{LoweredQuestion}
 use Rattle.goal_frames.specs.Meanings.{HandlerMeaning}
 use Rattle.candidate_assembly.specs.SolverMeaning.{solver_by_view}
+use Rattle.sessions.specs.Foreign.{is_unknown_term, are_own_terms}
 use Rattle.sessions.specs.Goals.{goal_of}
 use Rattle.sessions.specs.Proved.{fact_with_values}
 use Rattle.sessions.specs.Tables.{table_of}
@@ -124,5 +126,26 @@ IsGoalAnswered s depth ks g us es a =
     IsAnswered solver_by_view s depth ks g us es a
 
 -- What it says of a question.
+abbrev pub IsAnsweredInSearch : Solving → ℕ → Question → List Entry → ProveAnswer → Type 0
+IsAnsweredInSearch s depth q es a = IsGoalAnswered s depth (variable_kinds q) (goal_asking s.view q) (own_unknowns q) es a
+
+-- Some type or constant is unknown in what it asks for.
+abbrev pub HasUnknowns : Question → Type 0
+HasUnknowns q = some_node is_unknown_term (unbound_reference q.asked).args ≡ true
+
+-- The values speak of what the view declares, of unknowns, and of parameters that the question names.
+abbrev pub speak_of_own : Solving → Question → List Entry → List GenericArgKind → Bool
+speak_of_own s q es values = are_own_terms s.view (unbound_reference q.asked ∷ unbound_references q.clauses) (map (arg_trees es) values)
+
+-- The search said yes, with a value that speaks of something else.
+pub record HasForeignValues (s : Solving) (depth : ℕ) (q : Question) (es : List Entry) : Type 0 where
+  pub values : Vec GenericArgKind
+  pub answered : IsAnsweredInSearch s depth q es (Yes values)
+  pub unknowns : HasUnknowns q
+  pub foreign : speak_of_own s q es values.items ≡ false
+
+-- What is answered to a question: what the search says, but that a yes with such a value is handed on as maybe.
 abbrev pub IsAnsweredBySolver : Solving → ℕ → Question → List Entry → ProveAnswer → Type 0
-IsAnsweredBySolver s depth q es a = IsGoalAnswered s depth (variable_kinds q) (goal_asking s.view q) (own_unknowns q) es a
+IsAnsweredBySolver s depth q es (Yes values) = IsAnsweredInSearch s depth q es (Yes values) × (HasUnknowns q → speak_of_own s q es values.items ≡ true)
+IsAnsweredBySolver s depth q es Unproved = IsAnsweredInSearch s depth q es Unproved
+IsAnsweredBySolver s depth q es Maybe = IsAnsweredInSearch s depth q es Maybe ⊎ HasForeignValues s depth q es

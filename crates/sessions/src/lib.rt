@@ -22,6 +22,7 @@ mod later;
 pub mod laws;
 mod limits;
 mod obligations;
+mod own_values;
 mod pair_laws;
 mod placeholders;
 mod proved_questions;

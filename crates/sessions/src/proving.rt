@@ -21,7 +21,7 @@ ghost use Rattle.candidate_assembly.specs.Fitting.{solving_of};
 ghost use Rattle.candidate_assembly.specs.SolverMeaning.{solver_by_view};
 ghost use Rattle.sessions.specs.Frames.{SettlesInFrames, QuestionInFrames};
 ghost use Rattle.sessions.specs.Given.{AnswerValuesHeld};
-ghost use Rattle.sessions.specs.Proving.{AreReadOff, ClausesApply, IsAnswered, IsAnsweredBySolver, IsGoalAnswered, SolverAdvances, SolverIsReady, SolvesTheSame, is_bound_term};
+ghost use Rattle.sessions.specs.Proving.{AreReadOff, ClausesApply, IsAnswered, IsAnsweredBySolver, IsAnsweredInSearch, IsGoalAnswered, SolverAdvances, SolverIsReady, SolvesTheSame, is_bound_term};
 ghost use Rattle.sessions.specs.Questions.{where_clauses};
 ghost use Rattle.sessions.specs.Resting.{AreAtRest};
 ghost use Rattle.sessions.specs.Sessions.{SolverRests};
@@ -29,6 +29,7 @@ ghost use Rattle.sessions.specs.Tables.{table_of};
 
 use crate::answers::ProveAnswer;
 use crate::asked::{lower_in, rest_laws};
+use crate::own_values::own_answer;
 use crate::question_laws::references_are_goals;
 use crate::settling::{Outcome, ask_until_settled};
 use crate::table::question_table;
@@ -256,7 +257,7 @@ fn prove_lowered(
     ensures limits { KeepsLimits cx.old cx.new }
     ensures held { IfOk result (AnswerValuesHeld cx.new.interner.entries) }
     ensures answer { IfOk result (λ a. (q : Question) → IsLowered cx.old.interner.entries q lowered.now
-        → IsAnsweredBySolver (solving_of cx.old.interner.entries cx.old.handler.declarations) graph.old.root_depth q cx.new.interner.entries a) }
+        → IsAnsweredInSearch (solving_of cx.old.interner.entries cx.old.handler.declarations) graph.old.root_depth q cx.new.interner.entries a) }
     ensures frames { (q : Question) → IsLowered cx.old.interner.entries q lowered.now
         → QuestionInFrames (solving_of cx.old.interner.entries cx.old.handler.declarations) graph.old.root_depth q graph.old graph.new }
     ensures full { IfErr result (ContextFullAtLimit cx.new) }
@@ -293,5 +294,6 @@ pub(crate) fn prove_question(
 {
     rest_laws::<Solver>();
     let lowered = lower_in(cx, workspace, number)?;
-    prove_lowered(graph, cache, cx, &lowered)
+    let answer = prove_lowered(graph, cache, cx, &lowered)?;
+    Ok(own_answer(&cx.interner, &cx.handler.declarations, &lowered, answer))
 }

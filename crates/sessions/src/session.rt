@@ -493,7 +493,8 @@ impl<'w> Session<'w> {
     ///
     /// It is asked outside coherence, under the where-clauses with all their supertraits, and again until an answer brings no more values.
     /// `Yes` has a value for each of the question's variables, in their order: with them the reference has a proof, in which parameters, and
-    /// variables that a value leaves, stand for themselves. `Unproved` says that the search found none, and `Maybe` that it does not know.
+    /// variables that a value leaves, stand for themselves. The values name only what the crate sees; what is open in them are unknowns and
+    /// parameters that the question names. `Unproved` says that the search found none, and `Maybe` that it does not know.
     /// A reference is decided if it has no variables, its chains of premises are shorter than the depth, and at each step one rule at most
     /// has premises with proofs: of such a one `Unproved` says that it has no proof, and `Maybe` is never said. The fault is `Memory` where
     /// memory is refused, or `Full` where a table of the session is full.

@@ -1,9 +1,14 @@
-use Rattle.std.proofs.Common.{◌∙◌, sym, subst}
-use Rattle.declarations.specs.Applied.{AreApplied}
+use Rattle.std.proofs.Common.{◌∙◌, ap, sym, subst}
+use Rattle.declarations.specs.Applied.{AreApplied, references_in}
 use Rattle.candidate_assembly.specs.Solving.{Solving}
 use Rattle.candidate_assembly.specs.declared.solver.Solver.{Solver}
 use Rattle.sessions.specs.Proving.{IsAnsweredBySolver}
-use Rattle.sessions.proofs.Posing.{over-ok}
+use Rattle.type_terms.specs.Terms.{args_lists}
+use Rattle.type_terms.specs.Kept.{has-later}
+use Rattle.declarations.specs.Items.{reference_in, written}
+use Rattle.candidate_assembly.specs.Fitting.{solving_of}
+use Rattle.declarations.proofs.Bounded.{all-same}
+use Rattle.sessions.proofs.HandedOn.{handed-on, own-held, reference-later, references-later}
 use Rattle.candidate_assembly.specs.SolverMeaning.{solver_by_view}
 use Rattle.sessions.specs.Frames.{QuestionInFrames}
 use Rattle.sessions.proofs.FramesStarted.{asked-none}
@@ -49,15 +54,57 @@ pub returns-clause-keeps : goal.returns-clause-keeps
 returns-clause-keeps c = λ i e h. c.prove_lowered.ensures.keeps i e (c.lower_in.ensures.advances.entries i e h)
 
 pub returns-clause-held : goal.returns-clause-held
-returns-clause-held c = c.prove_lowered.ensures.held
+returns-clause-held c =
+    let new = c.prove_lowered.new.cx.interner.entries in
+    let l = c.in_ok-lowered.lowered in
+    own-held (solving_of new c.prove_lowered.new.cx.handler.declarations) c.args.graph.now.root_depth c.requires.question.0 new (written new c.prove_lowered.new.cx.handler.declarations)
+    (reference_in new l.asked) (references_in new l.clauses.items) c.in_ok-answer.answer c.own_answer.result c.own_answer.ensures c.in_ok-answer.ensures.held
+
+pub own_answer-requires-clause-answer : goal.own_answer-requires-clause-answer
+own_answer-requires-clause-answer c = c.in_ok-answer.ensures.held
+
+pub own_answer-requires-clause-reference : goal.own_answer-requires-clause-reference
+own_answer-requires-clause-reference c =
+    has-later c.lower_in.new.cx.interner.entries c.prove_lowered.new.cx.interner.entries c.prove_lowered.ensures.keeps args_lists c.in_ok-lowered.lowered.asked.args.0
+    (c.in_ok-lowered.ensures.lowered c.requires.question.0 c.requires.question.1).asked_held
+
+pub own_answer-requires-clause-clauses : goal.own_answer-requires-clause-clauses
+own_answer-requires-clause-clauses c =
+    references-later c.lower_in.new.cx.interner.entries c.prove_lowered.new.cx.interner.entries c.prove_lowered.ensures.keeps c.in_ok-lowered.lowered.clauses.items
+    (c.in_ok-lowered.ensures.lowered c.requires.question.0 c.requires.question.1).clauses_held
+
+pub returns-in_err-answer-clause-rest : goal.returns-in_err-answer-clause-rest
+returns-in_err-answer-clause-rest c = c.prove_lowered.ensures.rest
+
+pub returns-in_err-answer-clause-solving : goal.returns-in_err-answer-clause-solving
+returns-in_err-answer-clause-solving c = c.prove_lowered.ensures.solving ∙ c.rest_laws.ensures.meaning c.args.cx.now c.lower_in.new.cx c.requires.rest.ready c.lower_in.ensures.advances
+
+pub returns-in_err-answer-clause-keeps : goal.returns-in_err-answer-clause-keeps
+returns-in_err-answer-clause-keeps c = λ i e h. c.prove_lowered.ensures.keeps i e (c.lower_in.ensures.advances.entries i e h)
+
+pub returns-in_err-answer-clause-limits : goal.returns-in_err-answer-clause-limits
+returns-in_err-answer-clause-limits c = limits-further c.args.cx.now c.lower_in.new.cx c.prove_lowered.new.cx c.lower_in.ensures.advances.limits c.prove_lowered.ensures.limits
+
+pub returns-in_err-answer-clause-frames : goal.returns-in_err-answer-clause-frames
+returns-in_err-answer-clause-frames c = λ q is.
+    subst (λ (s : Solving). QuestionInFrames s c.args.graph.now.root_depth q c.args.graph.now c.prove_lowered.new.graph)
+    (c.rest_laws.ensures.meaning c.args.cx.now c.lower_in.new.cx c.requires.rest.ready c.lower_in.ensures.advances)
+    (c.prove_lowered.ensures.frames q (c.in_ok-lowered.ensures.lowered q is))
 
 pub returns-clause-answer : goal.returns-clause-answer
-returns-clause-answer c =
-    over-ok c.prove_lowered.result
-    (λ a h q is.
-    subst (λ (s : Solving). IsAnsweredBySolver s c.args.graph.now.root_depth q c.prove_lowered.new.cx.interner.entries a)
-    (c.rest_laws.ensures.meaning c.args.cx.now c.lower_in.new.cx c.requires.rest.ready c.lower_in.ensures.advances) (h q (c.in_ok-lowered.ensures.lowered q is)))
-    c.prove_lowered.ensures.answer
+returns-clause-answer c = λ q is.
+    let old = c.lower_in.new.cx.interner.entries in
+    let new = c.prove_lowered.new.cx.interner.entries in
+    let l = c.in_ok-lowered.lowered in
+    let low = c.in_ok-lowered.ensures.lowered q is in
+    subst (λ (s : Solving). IsAnsweredBySolver s c.args.graph.now.root_depth q new c.own_answer.result)
+    (c.rest_laws.ensures.meaning c.args.cx.now c.lower_in.new.cx c.requires.rest.ready c.lower_in.ensures.advances)
+    (handed-on (solving_of old c.lower_in.new.cx.handler.declarations) c.args.graph.now.root_depth q new (written new c.prove_lowered.new.cx.handler.declarations)
+    (reference_in new l.asked) (references_in new l.clauses.items) c.in_ok-answer.answer c.own_answer.result
+    (ap (λ (s : Solving). s.view) c.prove_lowered.ensures.solving)
+    (reference-later old new c.prove_lowered.ensures.keeps l.asked low.asked_held ∙ low.asked)
+    (all-same old new c.prove_lowered.ensures.keeps l.clauses.items low.clauses_held ∙ low.clauses)
+    (c.in_ok-answer.ensures.answer q low) c.own_answer.ensures)
 
 pub returns-in_err-lowered-clause-frames : goal.returns-in_err-lowered-clause-frames
 returns-in_err-lowered-clause-frames c = λ q is. asked-none solver_by_view _ _ _ _ _ _

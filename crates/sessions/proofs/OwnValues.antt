@@ -1,0 +1,222 @@
+-- Values that speak of what their question speaks of: with lifetimes and without; and what follows of a question without parameters.
+use Rattle.std.proofs.Common.{◌≡◌, ℕ, Bool, true, false, not, ◌||◌, ◌&&◌, ◌==◌, if◌then◌else◌, filter, List, [], ◌∷◌, map, refl, sym, ap, ◌∙◌, subst, IsTrue}
+use Rattle.std.specs.List.{list_any}
+use Rattle.type_terms.specs.Answers.{is_closed, is_undeclared, is_variable}
+use Rattle.type_terms.specs.Erased.{erased_reference, erased_struct}
+use Rattle.type_terms.specs.Label.{Label, Sort, of_type, of_const, of_lifetime, bool, value, static, adt, fn_ptr, principal, auto_trait, predicate, of_trait, param, placeholder, infer, canonical, bound}
+use Rattle.type_terms.specs.Proofs.{Every, HasProof}
+use Rattle.type_terms.specs.Trees.{Trees, none, tree, leaf, erase, erase_label, some_node}
+use Rattle.type_terms.specs.Worlds.{World, CrateDecl, StructDecl, Reference}
+use Rattle.type_terms.proofs.Fitting.{or-no, no-left, child-shut, next-shut}
+use Rattle.type_terms.proofs.Made.{false-true}
+use Rattle.assembly_laws.proofs.ErasedCandidates.{without_lifetimes}
+use Rattle.overlap_check.specs.Questions.{FitKinds, filled_reference, HoldUnknownsAlone, SolutionBy, IsProveAnswer, yes, is_bound_place}
+use Rattle.overlap_check.proofs.Filling.{filled-shut}
+use Rattle.sessions.specs.Foreign.{is_unknown_term, is_foreign_term, are_own_terms}
+use Rattle.sessions.specs.OwnValues.{is_unknown, is_same_param, stands_in, is_stray, is_foreign, are_own, HasNoParameter, SpeakOfOwn}
+
+-- ---- tests of nodes
+swapped : (a b c d : Bool) → (a || b) || (c || d) ≡ (a || c) || (b || d)
+swapped true b c d = refl
+swapped false true true d = refl
+swapped false true false d = refl
+swapped false false c d = refl
+
+pub some-either : (p q : Label → Bool) (t : Trees) → some_node (λ l. p l || q l) t ≡ (some_node p t || some_node q t)
+some-either p q none = refl
+some-either p q (tree l c o) =
+    ap (λ b. (p l || q l) || b || some_node (λ m. p m || q m) o) (some-either p q c)
+    ∙ ap (λ b. (p l || q l) || (some_node p c || some_node q c) || b) (some-either p q o)
+    ∙ ap (λ b. b || (some_node p o || some_node q o)) (swapped (p l) (q l) (some_node p c) (some_node q c))
+    ∙ swapped (p l || some_node p c) (q l || some_node q c) (some_node p o) (some_node q o)
+
+-- the same test, label by label
+pub some-same : (p q : Label → Bool) → ((l : Label) → p (erase_label l) ≡ q l) → (t : Trees) → some_node p (erase t) ≡ some_node q t
+some-same p q e none = refl
+some-same p q e (tree l c o) =
+    ap (λ b. b || some_node p (erase c) || some_node p (erase o)) (e l) ∙ ap (λ b. q l || b || some_node p (erase o)) (some-same p q e c) ∙ ap (λ b. q l || some_node q c || b) (some-same p q e o)
+
+-- ---- unknowns
+unknown-label : (l : Label) → is_unknown (erase_label l) ≡ is_unknown_term l
+unknown-label (fn_ptr n) = refl
+unknown-label (principal n t) = refl
+unknown-label (param of_lifetime i) = refl
+unknown-label (param of_type i) = refl
+unknown-label (param of_const i) = refl
+unknown-label (placeholder of_lifetime i) = refl
+unknown-label (placeholder of_type i) = refl
+unknown-label (placeholder of_const i) = refl
+unknown-label (infer of_lifetime i) = refl
+unknown-label (infer of_type i) = refl
+unknown-label (infer of_const i) = refl
+unknown-label (canonical of_lifetime i) = refl
+unknown-label (canonical of_type i) = refl
+unknown-label (canonical of_const i) = refl
+unknown-label (bound of_lifetime j i) = refl
+unknown-label (bound of_type j i) = refl
+unknown-label (bound of_const j i) = refl
+unknown-label l = refl
+
+pub unknown-erased : (t : Trees) → some_node is_unknown (erase t) ≡ some_node is_unknown_term t
+unknown-erased t = some-same is_unknown is_unknown_term unknown-label t
+
+-- ---- parameters
+param-same : (m l : Label) → is_same_param (erase_label l) m ≡ is_same_param l m
+param-same m (fn_ptr n) = refl
+param-same m (principal n t) = refl
+param-same m (param of_lifetime i) = refl
+param-same m (param of_type i) = refl
+param-same m (param of_const i) = refl
+param-same m (placeholder of_lifetime i) = refl
+param-same m (placeholder of_type i) = refl
+param-same m (placeholder of_const i) = refl
+param-same m (infer of_lifetime i) = refl
+param-same m (infer of_type i) = refl
+param-same m (infer of_const i) = refl
+param-same m (canonical of_lifetime i) = refl
+param-same m (canonical of_type i) = refl
+param-same m (canonical of_const i) = refl
+param-same m (bound of_lifetime j i) = refl
+param-same m (bound of_type j i) = refl
+param-same m (bound of_const j i) = refl
+param-same m l = refl
+
+stands-same : (rs : List Reference) (m : Label) → stands_in (map erased_reference rs) m ≡ stands_in rs m
+stands-same [] m = refl
+stands-same (r ∷ rs) m =
+    ap (λ b. b || stands_in (map erased_reference rs) m) (some-same (λ l. is_same_param l m) (λ l. is_same_param l m) (param-same m) r.args)
+    ∙ ap (λ b. some_node (λ l. is_same_param l m) r.args || b) (stands-same rs m)
+
+stray-same : (rs : List Reference) (l : Label) → is_stray (map erased_reference rs) l ≡ is_stray rs l
+stray-same rs (placeholder s i) = ap not (stands-same rs (placeholder s i))
+stray-same rs l = refl
+
+module _ (U V : World) (declared : (l : Label) → is_undeclared U (erase_label l) ≡ is_undeclared V l) where
+  foreign-label : (rs : List Reference) (l : Label) → is_foreign U (map erased_reference rs) (erase_label l) ≡ is_foreign_term V rs l
+  foreign-label rs l = ap (λ b. b || is_stray (map erased_reference rs) (erase_label l)) (declared l) ∙ ap (λ b. is_undeclared V l || b) (stray-same rs (erase_label l))
+
+  pub own-erased : (rs : List Reference) (ts : List Trees) → are_own U (map erased_reference rs) (map erase ts) ≡ are_own_terms V rs ts
+  own-erased rs [] = refl
+  own-erased rs (t ∷ ts) =
+      ap (λ b. not b && are_own U (map erased_reference rs) (map erase ts)) (some-same (is_foreign U (map erased_reference rs)) (is_foreign_term V rs) (foreign-label rs) t)
+      ∙ ap (λ b. not (some_node (is_foreign_term V rs) t) && b) (own-erased rs ts)
+
+-- ---- names
+named-same : (s : ℕ) (xs : List StructDecl) → list_any (λ (x : StructDecl). true) (filter (λ x. x.name == s) (map erased_struct xs)) ≡ list_any (λ (x : StructDecl). true) (filter (λ x. x.name == s) xs)
+named-same s [] = refl
+named-same s (x ∷ xs) = by (x.name == s) (named-same s xs)
+  where
+    by : (b : Bool) → list_any (λ (y : StructDecl). true) (filter (λ y. y.name == s) (map erased_struct xs)) ≡ list_any (λ (y : StructDecl). true) (filter (λ y. y.name == s) xs)
+        → list_any (λ (y : StructDecl). true) (if b then erased_struct x ∷ filter (λ y. y.name == s) (map erased_struct xs) else filter (λ y. y.name == s) (map erased_struct xs))
+        ≡ list_any (λ (y : StructDecl). true) (if b then x ∷ filter (λ y. y.name == s) xs else filter (λ y. y.name == s) xs)
+    by true e = refl
+    by false e = e
+
+pub undeclared-erased : (V : World) (cs : List CrateDecl) (l : Label) → is_undeclared (without_lifetimes V cs) (erase_label l) ≡ is_undeclared V l
+undeclared-erased V cs (adt s) = ap not (named-same s V.structs)
+undeclared-erased V cs (fn_ptr n) = refl
+undeclared-erased V cs (principal n t) = refl
+undeclared-erased V cs (auto_trait t) = refl
+undeclared-erased V cs (predicate (of_trait t)) = refl
+undeclared-erased V cs (param of_lifetime i) = refl
+undeclared-erased V cs (param of_type i) = refl
+undeclared-erased V cs (param of_const i) = refl
+undeclared-erased V cs (placeholder of_lifetime i) = refl
+undeclared-erased V cs (placeholder of_type i) = refl
+undeclared-erased V cs (placeholder of_const i) = refl
+undeclared-erased V cs (infer of_lifetime i) = refl
+undeclared-erased V cs (infer of_type i) = refl
+undeclared-erased V cs (infer of_const i) = refl
+undeclared-erased V cs (canonical of_lifetime i) = refl
+undeclared-erased V cs (canonical of_type i) = refl
+undeclared-erased V cs (canonical of_const i) = refl
+undeclared-erased V cs (bound of_lifetime j i) = refl
+undeclared-erased V cs (bound of_type j i) = refl
+undeclared-erased V cs (bound of_const j i) = refl
+undeclared-erased V cs l = refl
+
+-- ---- a reference without parameters
+-- what no label of one test has none of the other has
+pub some-less : (p q : Label → Bool) → ((l : Label) → p l ≡ false → q l ≡ false) → (t : Trees) → some_node p t ≡ false → some_node q t ≡ false
+some-less p q f none h = refl
+some-less p q f (tree l c o) h =
+    or-no (q l || some_node q c) (some_node q o)
+    (or-no (q l) (some_node q c) (f l (no-left (p l) (some_node p c) (no-left (p l || some_node p c) (some_node p o) h))) (some-less p q f c (child-shut p l c o h)))
+    (some-less p q f o (next-shut p l c o h))
+
+no-right : (a b : Bool) → (a || b) ≡ false → b ≡ false
+no-right false b h = h
+no-right true b h = cc
+
+pub both-false : (a b : Bool) → a ≡ false → b ≡ false → (a || b) ≡ false
+both-false a b e f = or-no a b e f
+
+no-same : (m l : Label) → is_bound_place l ≡ false → is_same_param l m ≡ false
+no-same m (placeholder s i) h = cc
+no-same m l h = refl
+
+-- an unknown is the one variable that no binder binds
+variable-label : (l : Label) → (is_unknown l || is_bound_place l) ≡ false → is_variable l ≡ false
+variable-label (infer s i) h = cc
+variable-label (canonical s i) h = cc
+variable-label l h = refl
+
+default : Sort → Trees
+default of_type = leaf bool
+default of_const = leaf (value 0)
+default of_lifetime = leaf static
+
+defaults : List Sort → List Trees
+defaults [] = []
+defaults (k ∷ ks) = default k ∷ defaults ks
+
+defaults-fit : (ks : List Sort) → FitKinds ks (defaults ks)
+unfolding defaults default
+defaults-fit [] = tt
+defaults-fit (of_type ∷ ks) = ((refl, refl), defaults-fit ks)
+defaults-fit (of_const ∷ ks) = ((refl, refl), defaults-fit ks)
+defaults-fit (of_lifetime ∷ ks) = ((refl, refl, refl), defaults-fit ks)
+
+defaults-closed : (ks : List Sort) → Every (λ t. IsTrue (is_closed t)) (defaults ks)
+unfolding defaults default
+defaults-closed [] = tt
+defaults-closed (of_type ∷ ks) = (refl, defaults-closed ks)
+defaults-closed (of_const ∷ ks) = (refl, defaults-closed ks)
+defaults-closed (of_lifetime ∷ ks) = (refl, defaults-closed ks)
+
+module _ (V : World) (r : Reference) (alone : HasNoParameter r) where
+  none-stands : (m : Label) → stands_in (r ∷ []) m ≡ false
+  none-stands m = both-false (some_node (λ l. is_same_param l m) r.args) false (some-less is_bound_place (λ l. is_same_param l m) (no-same m) r.args alone) refl
+
+  own-label : (l : Label) → is_foreign V (r ∷ []) l ≡ false → is_bound_place l ≡ false
+  own-label (infer s i) h = refl
+  own-label (placeholder s i) h = absurd (false-true (sym h ∙ ap not (none-stands (placeholder s i))))
+  own-label l h = no-right (is_undeclared V l) (is_bound_place l) h
+
+  own-each : (ts : List Trees) → are_own V (r ∷ []) ts ≡ true → HoldUnknownsAlone ts
+  own-each [] h = tt
+  own-each (t ∷ ts) h =
+      let x = both (not (some_node (is_foreign V (r ∷ [])) t)) (are_own V (r ∷ []) ts) h in
+      (some-less (is_foreign V (r ∷ [])) is_bound_place own-label t (not-false (some_node (is_foreign V (r ∷ [])) t) x.0), own-each ts x.1)
+    where
+      both : (a b : Bool) → (a && b) ≡ true → (a ≡ true) × (b ≡ true)
+      both true b h = (refl, h)
+      both false b h = cc
+
+      not-false : (a : Bool) → not a ≡ true → a ≡ false
+      not-false false h = refl
+      not-false true h = cc
+
+  -- what is answered yes without where-clauses has a solution
+  pub solved : (limit : ℕ) (ks : List Sort) (ts : List Trees) → IsProveAnswer limit V ks [] r (yes ts) → SpeakOfOwn V [] r ts → SolutionBy (HasProof V []) ks r
+  solved limit ks ts y own = by (some_node is_unknown r.args) refl
+    where
+      shut : some_node is_unknown r.args ≡ false → some_node is_variable r.args ≡ false
+      shut e = some-less (λ l. is_unknown l || is_bound_place l) is_variable variable-label r.args (some-either is_unknown is_bound_place r.args ∙ both-false (some_node is_unknown r.args) (some_node is_bound_place r.args) e alone)
+
+      same : some_node is_unknown r.args ≡ false → filled_reference ks ts r ≡ filled_reference ks (defaults ks) r
+      same e = ap (λ z. (let x : Reference = record { trait = r.trait; args = z } in x)) (filled-shut ks ts r.args (shut e) ∙ sym (filled-shut ks (defaults ks) r.args (shut e)))
+
+      by : (b : Bool) → some_node is_unknown r.args ≡ b → SolutionBy (HasProof V []) ks r
+      by true e = y.2 (own-each ts (own e))
+      by false e = record { values = defaults ks; fitting = defaults-fit ks; closed = defaults-closed ks; proved = subst (HasProof V []) (same e) y.1 }

@@ -1,0 +1,23 @@
+use Rattle.std.proofs.Common.{ap, ◌∙◌, sym, is_some, not}
+use Rattle.std.specs.ControlFlow.{break_value}
+use Rattle.type_terms.specs.Terms.{trees_at}
+use Rattle.declarations.specs.Items.{written}
+use Rattle.candidate_assembly.specs.Finding.{names_undeclared}
+use Rattle.candidate_assembly.proofs.Finding.{own-names, type-made}
+use Rattle.candidate_assembly.proofs.FindingOnce.{once-finds}
+use Rattle.sessions.specs.declared.own_values.FindsUndeclared.{FindsUndeclared}
+use Rattle.sessions.proofs.own_values.ty_is_declared.Goals as goal
+
+pub returns-in-Break : goal.returns-in-Break
+returns-in-Break c =
+    let es = c.args.cx.now.entries in
+    ap (λ z. not (is_some (break_value z))) (sym c.in-Break.is)
+    ∙ ap not (once-finds (λ (v : FindsUndeclared) t. names_undeclared (written es v.declarations.now) t) es c.visit_ty.ensures.visited c.new-finds.ensures.visitor (c.new-finds.ensures.entered es))
+    ∙ sym (own-names (written es c.args.declarations.now) (trees_at es c.args.ty.0) (type-made es c.lawful.ensures c.args.ty.0 c.requires))
+
+pub returns : goal.returns
+returns c =
+    let es = c.args.cx.now.entries in
+    ap (λ z. not (is_some (break_value z))) (sym c.in-Continue.is)
+    ∙ ap not (once-finds (λ (v : FindsUndeclared) t. names_undeclared (written es v.declarations.now) t) es c.visit_ty.ensures.visited c.new-finds.ensures.visitor (c.new-finds.ensures.entered es))
+    ∙ sym (own-names (written es c.args.declarations.now) (trees_at es c.args.ty.0) (type-made es c.lawful.ensures c.args.ty.0 c.requires))
