@@ -1,4 +1,4 @@
--- What the solver answers to questions without unknowns by what a crate sees of a text.
+-- What the solver answers to queries without variables, by what a crate sees of a text.
 use Rattle.std.specs.Prelude.{◌≡◌, ◌≤◌, ◌⊎◌, ℕ, true, List, [], map, Option, None}
 use Rattle.type_terms.specs.Answers.{SingleWay, is_bounded}
 use Rattle.type_terms.specs.Proofs.{HasProof}
@@ -29,32 +29,32 @@ use Rattle.sessions.specs.Questions.{IsFormedAsWritten}
 abbrev pub solver_goals : Programs frame_tables
 solver_goals = programs_of goals_by_view
 
--- the reference has a proof, and the answer is a definite yes; or it has none, and the answer is a refusal
+-- The trait reference has a proof, and the answer is a definite yes. Or it has none, and the answer is a refusal.
 abbrev pub IsRightOf : World → List Reference → Reference → Option AnswerTrees → Type 0
 IsRightOf V E r a = (HasProof V E r × IsYes frame_tables a) ⊎ ((HasProof V E r → ⊥) × (a ≡ None))
 
 module _ {C I R F : Type 0} (handles : Handles C I R F Solving (GoalInMode frame_tables solver_goals) (Option AnswerTrees)) where
-  -- plain recursion, in chains of fewer than `limit` questions, comes to no other answer
+  -- Plain recursion, in chains of fewer than `limit` goals, comes to no other answer.
   abbrev pub IsOnlyAnswer : Solving → TypingMode → ℕ → GoalTrees → Option AnswerTrees → Type 0
   IsOnlyAnswer w mode limit g a = (b : Option AnswerTrees) → IsPlain (meaning frame_tables solver_goals handles) w limit (mode, canonical_form g) b → b ≡ a
 
-  -- Outside coherence, a question of which there is one way at most at each step, in chains of fewer than n, is answered rightly by the
-  -- declarations as they are written. It is meant up to lifetimes.
+  -- Outside coherence, a query with at most one rule instance at each step, in chains of fewer than n, is answered rightly by the
+  -- declarations as they are written, up to lifetimes.
   abbrev pub AreAnsweredRight : List Entry → Items → Type 0
   AreAnsweredRight es d =
       let V = written es d in
       (E : List Reference) (r : Reference) → IsFormedQuestion V (sorts_in d) E r → (n limit : ℕ) → n ≤ limit → SingleWay n V (map erased_reference E) (erased_reference r)
       → (a : Option AnswerTrees) → IsOnlyAnswer (solving_of es d) PostAnalysis limit (goal_of E r) a → IsRightOf V (map erased_reference E) (erased_reference r) a
 
-  -- A question is asked under its where-clauses E with all their supertraits. So it is answered rightly by E as they are written, if under
-  -- these there is one way at most at each step.
+  -- A query is evaluated under its where-clauses E with all their supertraits. It is answered rightly by E as they are written, if under
+  -- these there is at most one rule instance at each step.
   abbrev pub AreAnsweredAsWritten : List Entry → Items → Type 0
   AreAnsweredAsWritten es d =
       let V = written es d in
       (E : List Reference) (r : Reference) → IsFormedAsWritten V (sorts_in d) E r → (n limit : ℕ) → n ≤ limit → SingleWay n V (map erased_reference E) (erased_reference r)
       → (a : Option AnswerTrees) → IsOnlyAnswer (solving_of es d) PostAnalysis limit (goal_of (elaborate V E) r) a → IsRightOf V (map erased_reference E) (erased_reference r) a
 
-  -- in coherence, a bounded reference without where-clauses is refused exactly if it is not possible in the crate
+  -- In coherence, a bounded trait reference without where-clauses is refused exactly if it is not possible in the crate.
   abbrev pub AreToldPossible : List Entry → Items → Type 0
   AreToldPossible es d =
       let V = written es d in

@@ -1,4 +1,4 @@
--- The where-clauses of questions, as goals are asked under them.
+-- The where-clauses of queries, as goals are evaluated under them.
 use Rattle.std.specs.Prelude.{ℕ, List, Ok}
 use Rattle.type_terms.specs.Terms.{Entry}
 use Rattle.declarations.specs.Applied.{AreApplied}
@@ -13,14 +13,14 @@ use Rattle.sessions.specs.Proving.{ClausesApply}
 use Rattle.sessions.specs.Sessions.{IsSolvingOf}
 use Rattle.sessions.specs.Subjects.{IsOfText}
 
--- The where-clauses of a question of a text without a fault have an argument for each parameter of their traits, by what the crate that
--- asks sees, over whatever terms they are lowered to.
+-- The where-clauses of a query of a text without a fault have an argument for each parameter of their traits, by what the query's crate
+-- sees, over any terms that they are lowered to.
 abbrev pub TextsClausesApply : Type 0
 TextsClausesApply =
     (bytes : List ℕ) (d : text.Declarations) → TextGives bytes (Ok d) → (n : ℕ) (q : text.Question) → IsQuestion d n q
     → (es : List Entry) (decls : Items) → AreSeen es decls d q.asker → (held : List Entry) (l : LoweredQuestion) → IsLowered held q l → AreApplied held decls l.clauses.items
 
--- They have it also by any declarations that mean for the solver what the crate that asks sees.
+-- They also have it by all declarations that mean for the solver what the query's crate sees.
 abbrev pub SolversClausesApply : Type 0
 SolversClausesApply =
     (d : text.Declarations) → IsOfText d → (n : ℕ) (q : text.Question) → IsQuestion d n q

@@ -35,7 +35,7 @@ HaveNumbers ns ids = (n : ℕ) → In n ns → HasNumber n ids
 abbrev pub IsListed : ImplsByTrait → ImplDecl → Type 0
 IsListed m y = (t : TraitId) → t.index ≡ y.header.trait → HasNumber y.name (listed m t)
 
--- Each impl is listed.
+-- Each impl of the world is listed.
 abbrev pub ListsAll : World → ImplsByTrait → Type 0
 ListsAll V m = (y : ImplDecl) → In y V.impls → IsListed m y
 
@@ -43,7 +43,7 @@ ListsAll V m = (y : ImplDecl) → In y V.impls → IsListed m y
 abbrev pub IsOwnBlanket : ℕ → ImplDecl → Type 0
 IsOwnBlanket c x = (x.home ≡ c) × (head_of x.header.args ≡ None)
 
--- So it is of an impl that is declared so, over the terms of an interner.
+-- The same for an impl of declarations, over the terms of an interner.
 abbrev pub DeclaresOwnBlanket : List Entry → ℕ → ImplDef → Type 0
 DeclaresOwnBlanket es c def = (def.home.index ≡ c) × (head_of (trees_at es def.header.args.0) ≡ None)
 

@@ -31,19 +31,19 @@ use Rattle.sessions.specs.Subjects.{Subject}
 abbrev pub IsReadySolver : SolverCx Solver → Type 0
 IsReadySolver cx = IsReadyContext (λ (h : Solver) es. AreReadyDeclarations es h.declarations) cx
 
--- It has grown, and stays ready.
+-- The context has grown, and stays ready.
 abbrev pub SolverStaysReady : SolverCx Solver → SolverCx Solver → Type 0
 SolverStaysReady old new = Advances (λ (h : Solver) es. AreReadyDeclarations es h.declarations) old new
 
--- What it solves by.
+-- What the context solves by.
 abbrev pub solving_in : SolverCx Solver → Solving
 solving_in cx = solving_of (entries_of cx) cx.handler.declarations
 
--- The world from which it reads rules.
+-- The world from which the context reads rules.
 abbrev pub rules_in : SolverCx Solver → World
 rules_in cx = declared (entries_of cx) cx.handler.declarations
 
--- Impls that are ready are as a text writes them, and speak of no unknowns.
+-- Impls that are ready are as a text writes them, and hold no variables.
 abbrev pub ReadyAreWritten : Type 0
 ReadyAreWritten = (es : List Entry) (d : Items) → AreReadyDeclarations es d → AreWrittenWell es d × Each (λ (i : HeldImpl). IsWithoutVariables es i.def) d.impls
 
@@ -76,18 +76,18 @@ pub record IsFoundAt (old : List Entry) (d : Items) (k j : ImplId) (new : List E
 abbrev pub ArePassedAt : World → ℕ → ℕ → ℕ → Type 0
 ArePassedAt V c k j = (x y : ImplDecl) → IsPairOf V c k j x y → IsPassed V c x y
 
--- What is said of two numbers: that their impls overlap, or that they are passed.
+-- What is stated of two numbers: their impls overlap, or the pair is passed.
 abbrev pub IsJudgedAt : ℕ → World → ℕ → ℕ → ℕ → Bool → Type 0
 IsJudgedAt limit V c k j true = IsOverlap limit V c k j
 IsJudgedAt limit V c k j false = ArePassedAt V c k j
 
 -- ---- all pairs, where the numbers of impls are below n
--- Impl number k overlaps with the one that was found; or it is passed beside all.
+-- Impl number k overlaps with the one that was found. If none was, all its pairs are passed.
 abbrev pub IsPartnerOf : ℕ → World → ℕ → ℕ → ℕ → Option ImplId → Type 0
 IsPartnerOf limit V c n k None = (j : ℕ) → j < n → ArePassedAt V c k j
 IsPartnerOf limit V c n k (Some j) = IsOverlap limit V c k j.index
 
--- The two that were found overlap; or all are passed.
+-- The two that were found overlap. If none were, all pairs are passed.
 abbrev pub IsFoundOverlap : ℕ → World → ℕ → ℕ → Option (ImplId × ImplId) → Type 0
 IsFoundOverlap limit V c n None = (k j : ℕ) → k < n → j < n → ArePassedAt V c k j
 IsFoundOverlap limit V c n (Some x) = IsOverlap limit V c x.0.index x.1.index

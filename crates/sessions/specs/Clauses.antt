@@ -6,11 +6,11 @@ use Rattle.type_terms.specs.Worlds.{World, Reference, TraitDecl, traits_named}
 use Rattle.type_terms.specs.Rules.{elaborated}
 use Rattle.type_terms.specs.Proofs.{In, HasProof}
 
--- bounds lead to traits of lower rank: no trait is among its own supertraits
+-- The bounds of a trait are of traits with lower rank, so no trait is among its own supertraits.
 abbrev pub BoundsLeadDown : World → (ℕ → ℕ) → Type 0
 BoundsLeadDown V rank = (x : TraitDecl) (b : Reference) → In x V.traits → In b x.bounds → rank b.trait < rank x.name
 
--- each of the second clauses is one of the first or one of their supertraits
+-- Each of the second clauses is one of the first or one of their supertraits.
 abbrev pub AddSupertraits : World → List Reference → List Reference → Type 0
 AddSupertraits V E F = (x : Reference) → In x F → In x (elaborated V E)
 
@@ -18,11 +18,11 @@ AddSupertraits V E F = (x : Reference) → In x F → In x (elaborated V E)
 abbrev pub SupertraitsProveNoMore : Type 0
 SupertraitsProveNoMore = (V : World) (rank : ℕ → ℕ) → BoundsLeadDown V rank → (E F : List Reference) → AddSupertraits V E F → (r : Reference) → HasProof V F r → HasProof V E r
 
--- the arguments of the references and of their supertraits fit the bounds of their traits
+-- The arguments of the trait references and of their supertraits fit the bounds of their traits.
 abbrev pub BoundsFit : World → List Reference → Type 0
 BoundsFit W E = (r : Reference) → In r (elaborated W E) → (x : TraitDecl) → In x (traits_named W r.trait) → (b : Reference) → In b x.bounds → Fits r.args b.args
 
--- So it is without lifetimes where it is so with them.
+-- Supertraits with lifetimes are also supertraits without them.
 abbrev pub SupertraitsAreErased : Type 0
 SupertraitsAreErased =
     (W : World) (rank : ℕ → ℕ) → BoundsLeadDown W rank → (E F : List Reference) → BoundsFit W E → AddSupertraits W E F

@@ -1,4 +1,4 @@
--- What it says of a text as a whole that all its crates are accepted.
+-- What follows for a text as a whole if all its crates are accepted.
 use Rattle.std.specs.Prelude.{◌≡◌, ℕ, ◌<◌, IsTrue, List, [], length}
 use Rattle.type_terms.specs.Label.{Sort}
 use Rattle.type_terms.specs.Trees.{Trees}
@@ -19,13 +19,13 @@ use Rattle.sessions.specs.Subjects.{IsOfText}
 abbrev pub CratesAreAccepted : Declarations → Type 0
 CratesAreAccepted d = (c : ℕ) → core < c → c < length d.crates → IsAccepted (view_in d c) c
 
--- In each, the supertraits of the headers of its impls have proofs by what it sees and the impls' where-clauses.
+-- In each crate but `core`, the supertraits of the headers of its impls have proofs by what it sees and the impls' where-clauses.
 abbrev pub CratesAreHeld : Declarations → Type 0
 CratesAreHeld d = (c : ℕ) → core < c → c < length d.crates → IsHeld (view_in d c) c
 
--- What holds of the text as a whole, and not by what one of its crates sees.
+-- What holds for the text as a whole, and not only by what one of its crates sees.
 pub record TextIsCoherent (limit : ℕ) (d : Declarations) : Type 0 where
-  -- no closed reference has proofs by two impls
+  -- no concrete trait reference has proofs by two impls
   pub one_impl : (r : Reference) → IsTrue (is_closed r.args) → (n k : ℕ) → HasProofByImpl (text_world d) [] r n → HasProofByImpl (text_world d) [] r k → n ≡ k
   -- what is answered `no` in some crate has no solution
   pub no_holds : (c : ℕ) (ks : List Sort) (r : Reference) → IsRefuteAnswer limit (view_in d c) c ks r no → Solution (text_world d) ks r → ⊥
@@ -35,12 +35,13 @@ pub record TextIsCoherent (limit : ℕ) (d : Declarations) : Type 0 where
   pub no_or_yes : (c e : ℕ) (ks : List Sort) (ts : List Trees) (r : Reference) → HasNoParameter r → IsRefuteAnswer limit (view_in d c) c ks r no
       → IsProveAnswer limit (view_in d e) ks [] r (yes ts) → SpeakOfOwn (view_in d e) [] r ts → ⊥
 
--- A text whose crates are all accepted is coherent, where the supertraits of headers are proved. Out: `trait Sub: Sup;
--- impl Sub for u8` without `impl Sup for u8`, all accepted, of which another crate may have been told that nothing is Sub.
+-- A text whose crates are all accepted is coherent, if the supertraits of headers have proofs. Without that it need not be: for
+-- `trait Sub: Sup; impl Sub for u8` without `impl Sup for u8`, all crates are accepted, and another crate may have the answer that nothing
+-- implements `Sub`.
 abbrev pub AcceptedTextsAreCoherent : Type 0
 AcceptedTextsAreCoherent =
     (d : Declarations) → IsOfText d → CratesAreAccepted d → HeadersHaveSupertraits (text_world d) → (limit : ℕ) → TextIsCoherent limit d
 
--- So it is where each crate's supertraits are held, by what it sees.
+-- The same holds if each crate has the supertraits of its headers, by what it sees.
 abbrev pub HeldTextsAreCoherent : Type 0
 HeldTextsAreCoherent = (d : Declarations) → IsOfText d → CratesAreAccepted d → CratesAreHeld d → (limit : ℕ) → TextIsCoherent limit d

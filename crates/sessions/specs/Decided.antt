@@ -1,4 +1,4 @@
--- Decided references, as the search of a session answers them outside coherence.
+-- Unambiguous trait references, as the search of a session answers them outside coherence.
 use Rattle.std.specs.Prelude.{ℕ, ◌+◌, List, map, Option}
 use Rattle.type_terms.specs.Answers.{SingleWay, IsUnambiguous}
 use Rattle.type_terms.specs.Erased.{erased_reference}
@@ -24,32 +24,32 @@ use Rattle.sessions.specs.Refusals.{session_meaning}
 use Rattle.sessions.specs.Sessions.{IsSolvingOf}
 use Rattle.sessions.specs.Subjects.{IsOfText}
 
--- The reference, asked outside coherence under the where-clauses with all their supertraits.
+-- The trait reference, evaluated outside coherence under the where-clauses with all their supertraits.
 abbrev pub asked_under : World → List Reference → Reference → Asked
 asked_under V E r = (PostAnalysis, canonical_form (goal_of (elaborate V E) r))
 
--- It has an answer within this depth; and what the search finds is a definite yes if by V and the where-clauses as they are written it has
--- a proof, and a refusal if it has none.
+-- It has an answer within this depth. What the search finds is a definite yes if it has a proof by V and the where-clauses as they are
+-- written, and a refusal if it has none.
 pub record IsAnsweredRightly (s : Solving) (depth : ℕ) (V : World) (E : List Reference) (r : Reference) : Type 0 where
   pub plainly : IsNotPlain session_meaning s (depth + 1) (asked_under s.view E r) → ⊥
   pub found : (a : Option AnswerTrees) → IsFoundBySearch session_meaning s depth (asked_under s.view E r) a → IsRightOf V (map erased_reference E) (erased_reference r) a
 
--- So it is where by what the crate sees there is one way at most at each step.
+-- This holds if at each step there is at most one rule instance, by what the crate sees.
 abbrev pub DecidedAreAnswered : Type 0
 DecidedAreAnswered =
     (d : Declarations) → IsOfText d → (c : ℕ) (s : Solving) (of : IsSolvingOf d c s) (E : List Reference) (r : Reference)
     → IsFormedAsWritten (written of.entries of.declarations) (sorts_in of.declarations) E r
     → (depth : ℕ) → SingleWay depth (view_in d c) (map erased_reference E) (erased_reference r) → IsAnsweredRightly s depth (view_in d c) E r
 
--- ---- questions of a text
--- A question, asked outside coherence, is answered within this depth: by a definite yes if by V it has a proof, and by a refusal if it has
+-- ---- queries of a text
+-- A query, evaluated outside coherence, is answered within this depth: by a definite yes if it has a proof by V, and by a refusal if it has
 -- none.
 pub record IsQuestionAnswered (s : Solving) (depth : ℕ) (V : World) (q : Question) : Type 0 where
   pub plainly : IsNotPlain session_meaning s (depth + 1) (asked_under s.view (unbound_references q.clauses) (unbound_reference q.asked)) → ⊥
   pub found : (a : Option AnswerTrees) → IsFoundBySearch session_meaning s depth (asked_under s.view (unbound_references q.clauses) (unbound_reference q.asked)) a
       → IsRightOf V (map erased_reference q.clauses) (erased_reference q.asked) a
 
--- So is each question that is decided by what the asking crate sees.
+-- This holds for each query that is unambiguous by what its crate sees.
 abbrev pub DecidedQuestionsAreAnswered : Type 0
 DecidedQuestionsAreAnswered =
     (d : Declarations) → IsOfText d → (n : ℕ) (q : Question) → IsQuestion d n q → (s : Solving) → IsSolvingOf d q.asker s → (depth : ℕ)

@@ -1,4 +1,4 @@
--- What the solver answers to decided questions, if it is no yes.
+-- What the solver answers to unambiguous queries, apart from yes.
 use Rattle.std.specs.Prelude.{ℕ, List}
 use Rattle.type_terms.specs.Terms.{Entry}
 use Rattle.text_definitions.specs.Declarations.{Declarations, Question}
@@ -11,7 +11,7 @@ use Rattle.sessions.specs.Sessions.{IsSolvingOf}
 use Rattle.sessions.specs.Subjects.{IsOfText}
 use Rattle.sessions.specs.declared.answers.ProveAnswer.TheVariants.{Unproved, Maybe}
 
--- The answer is right, if it is no yes: of a decided question the solver says `Unproved` only if it has no proof, and `Maybe` never.
+-- An answer that is no yes is right: to an unambiguous query the solver answers `Unproved` only if it has no proof, and never `Maybe`.
 abbrev pub OtherAnswersAreRight : Type 0
 OtherAnswersAreRight =
     (d : Declarations) → IsOfText d → (n : ℕ) (q : Question) → IsQuestion d n q → (s : Solving) → IsSolvingOf d q.asker s → (depth : ℕ) (es : List Entry)

@@ -1,5 +1,4 @@
--- How many frames askings start, each with the answers of the search to those before it. What that comes to at most is a number of
--- `FrameBounds`.
+-- How many frames evaluations start, each with the answers of the search to those before it. `FrameBounds` has an upper bound.
 use Rattle.std.specs.Prelude.{◌≡◌, ◌≤◌, ◌+◌, ◌⊎◌, ℕ, zero, suc, List, [], Some}
 use Rattle.type_terms.specs.Label.{Sort}
 use Rattle.type_terms.specs.Trees.{IsA}
@@ -30,26 +29,27 @@ use Rattle.sessions.specs.Proving.{asked_outside, goal_asking}
 use Rattle.sessions.specs.Tables.{table_of}
 use Rattle.sessions.specs.declared.settling.TheConstants.{MAX_ASKINGS}
 
--- The values are terms of their variables' sorts.
+-- The values are terms of their variables' kinds.
 abbrev pub AreTermsOfSorts : List Binding → Type 0
 AreTermsOfSorts bs = Every (λ (b : Binding). IsA b.sort b.value) bs
 
 module _ {Handler : Type 0} (handler : HandlerMeaning Handler) where
-  -- So many at most for a goal that is asked once at this depth: `frame_bound` of how many questions a run of the goal asks at most.
+  -- An upper bound for the frames of a goal that is evaluated once at this depth: `frame_bound` of how many nested goals a run of the goal
+  -- has at most.
   abbrev pub frames_for : handler.goals.World → ℕ → Asked → ℕ
   frames_for w depth g = let m = solver_meaning handler in frame_bound FIXPOINT_STEP_LIMIT (m.number_of w g) depth
 
-  -- The graph has started no more than that for the reference alone, asked once in coherence.
+  -- The graph has started at most as many for the trait reference alone, evaluated once in coherence.
   abbrev pub StartsFramesOfOne : handler.goals.World → Reference → SearchState → SearchState → Type 0
   StartsFramesOfOne w r old new = new.frames ≤ old.frames + frames_for w old.root_depth (asked_alone r)
 
-  -- ---- a goal that is asked again
-  -- What it asks outside coherence, as a table resolves it.
+  -- ---- a goal that is evaluated again
+  -- The goal outside coherence, as a table resolves it.
   abbrev pub resolved_over : TableTrees → GoalTrees → GoalTrees
   resolved_over t g = goal_resolved t.bindings g
 
-  -- From the first count of frames no more than the second is reached by so many askings of the goal at most, over this table: each adds
-  -- the frames of what is asked there, and goes on with the table that an answer of the search leaves.
+  -- From the first count of frames, at most the second is reached by this many evaluations of the goal over this table. Each adds the
+  -- frames of what it evaluates, and goes on with the table that an answer of the search leaves.
   unfoldable pub AskingsStartFrames : handler.goals.World → ℕ → GoalTrees → ℕ → TableTrees → ℕ → ℕ → Type 0
   AskingsStartFrames w depth g zero t before after = after ≤ before
   AskingsStartFrames w depth g (suc k) t before after =
@@ -59,12 +59,12 @@ module _ {Handler : Type 0} (handler : HandlerMeaning Handler) where
       ⊎ ((a : AnswerTrees) × IsFoundBySearch (solver_meaning handler) w depth asked (Some a)
       × ((u : TableTrees) × (left_by t (resolved_over t g) (Some a) ≡ Some u) × AreTermsOfSorts u.bindings × AskingsStartFrames w depth g k u most after))
 
-  -- So it is of a goal in a context, of which the graph has started so many frames.
+  -- The same for a goal in a context, with the frames that the graph has started.
   abbrev pub AskingsOf : ℕ → SolverCx Handler → SearchState → Table → Goal → SearchState → Type 0
   AskingsOf k c graph t g left =
       AskingsStartFrames (handler.world c.handler (entries_of c)) graph.root_depth (goal_trees (entries_of c) g) k (table_trees (entries_of c) t) graph.frames left.frames
 
-  -- One asking of it starts no more than its frames.
+  -- One evaluation of it starts at most its frames.
   abbrev pub StartsFramesOfAsking : SolverCx Handler → SearchState → Table → Goal → SearchState → Type 0
   StartsFramesOfAsking c graph t g left =
       let asked = asked_outside (resolved_over (table_trees (entries_of c) t) (goal_trees (entries_of c) g)) in
@@ -78,10 +78,10 @@ module _ {Handler : Type 0} (handler : HandlerMeaning Handler) where
       (a : AnswerTrees) × IsFoundBySearch (solver_meaning handler) (handler.world c.handler (entries_of c)) graph.root_depth (asked_outside resolved) (Some a)
       × (left_by from resolved (Some a) ≡ Some (table_trees (entries_of d) u)) × AreTermsOfSorts (content (entries_of d) u.values)
 
-  -- A goal over the table of unknowns of these kinds is asked until its answer is settled.
+  -- A goal over the table with variables of these kinds is evaluated until its answer is definite.
   abbrev pub SettlesInFrames : handler.goals.World → ℕ → List Sort → GoalTrees → SearchState → SearchState → Type 0
   SettlesInFrames w depth ks g old new = AskingsStartFrames w depth g MAX_ASKINGS (table_trees [] (table_of ks)) old.frames new.frames
 
--- So it is of a question, asked until its answer is settled.
+-- The same for a query.
 abbrev pub QuestionInFrames : Solving → ℕ → Question → SearchState → SearchState → Type 0
 QuestionInFrames s depth q old new = SettlesInFrames solver_by_view s depth (variable_kinds q) (goal_asking s.view q) old new

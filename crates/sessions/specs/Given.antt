@@ -19,13 +19,13 @@ use Rattle.sessions.specs.Releases as releases
 use Rattle.sessions.specs.declared.answers.Verdict.{Verdict}
 use Rattle.sessions.specs.declared.answers.Verdict.TheVariants.{Accepted, Orphan, Overlap}
 
--- Impls go by their numbers in the text, types by their trees, without lifetimes.
+-- Impls go by their numbers in the text, and types by their terms, without lifetimes.
 abbrev pub verdict_in : List Entry → Verdict → verdicts.Verdict
 verdict_in es Accepted = verdicts.accepted
 verdict_in es (Orphan k e) = verdicts.orphan k.index (error_in es e)
 verdict_in es (Overlap k j) = verdicts.overlap k.index j.index
 
--- The values of a question's unknowns, in their order, without lifetimes.
+-- The values of a query's variables, in their order, without lifetimes.
 abbrev pub answer_in : List Entry → ProveAnswer → answers.ProveAnswer
 answer_in es (Yes values) = answers.yes (map (λ v. erase (arg_trees es v)) values.items)
 answer_in es Maybe = answers.maybe

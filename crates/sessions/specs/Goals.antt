@@ -1,4 +1,4 @@
--- Goals without unknowns, as a search is asked them: a reference under where-clauses, in which placeholders stand for parameters.
+-- Goals without variables, as a search evaluates them: a trait reference under where-clauses, with placeholders for parameters.
 use Rattle.std.specs.Prelude.{◌≡◌, Bool, true, false, List, map}
 use Rattle.std.specs.List.{list_all}
 use Rattle.type_terms.specs.Label.{Label, of_type, of_const, param, infer, canonical, bound}
@@ -17,11 +17,12 @@ use Rattle.solver_exactness.specs.FormedFacts.{Sorts, NodesFit, IsTraitOf, IsFor
 use Rattle.solver_exactness.specs.SolverChoices.{IsElaborated}
 use Rattle.solver_exactness.specs.UnboundGoals.{is_unbound}
 
--- the reference as a goal, under these where-clauses
+-- The trait reference as a goal, under these where-clauses.
 abbrev pub goal_of : List Reference → Reference → GoalTrees
 goal_of E r = record { environment = trees_of_clauses E; predicate = tree_of_reference r none }
 
--- of open places it may be a placeholder, or a lifetime that no binder binds, which is meant as `'static`
+-- The label is no parameter or variable of a type or constant, and it is neither bound nor canonical. It may be a placeholder, or a
+-- lifetime that no binder binds, which is meant as `'static`.
 abbrev pub is_fixed : Label → Bool
 is_fixed (param of_type i) = false
 is_fixed (param of_const i) = false
@@ -34,7 +35,7 @@ is_fixed l = true
 abbrev pub are_fixed : Trees → Bool
 are_fixed t = is_made is_fixed terms t
 
--- The terms are made as terms are, of placeholders and no other open places but lifetimes; names are declared, and have their arguments; and the
+-- The terms are made as terms are, without variables and parameters but for lifetimes. Names are declared, and have their arguments. The
 -- supertraits of where-clauses are where-clauses, up to lifetimes.
 pub record IsFormedQuestion (V : World) (sorts : Sorts) (E : List Reference) (r : Reference) : Type 0 where
   pub terms : are_fixed r.args ≡ true
@@ -43,19 +44,19 @@ pub record IsFormedQuestion (V : World) (sorts : Sorts) (E : List Reference) (r 
   pub clauses : list_all (λ (c : Reference). are_fixed c.args) E ≡ true
   pub elaborated : IsElaborated V (map erased_reference E)
 
--- what a question asks is up to lifetimes this reference, under these where-clauses, where each placeholder stands for itself
+-- Up to lifetimes the query is this trait reference under these where-clauses, where each placeholder stands for itself.
 pub record AsksUnderClauses (E : List Reference) (r : Reference) (s : Assignment) : Type 0 where
   pub reference : reference_in (fact_of (question_of (goal_of E r)) (values_under s (goal_of E r))) ≡ erased_reference r
   pub clauses : clauses_of (fact_of (question_of (goal_of E r)) (values_under s (goal_of E r))).goal.environment ≡ map erased_reference E
 
--- where declarations are formed, such a question is a goal that is answered exactly
+-- By well-formed declarations, such a query is a goal that is answered exactly.
 abbrev pub FormedQuestionsAreGoals : Type 0
 FormedQuestionsAreGoals =
     (V : World) (sorts : Sorts) → IsFormedView V sorts → (E : List Reference) (r : Reference) → IsFormedQuestion V sorts E r → (s : Assignment) → IsSorted s
     → IsFormedGoal V sorts is_unbound (question_of (goal_of E r)) (values_under s (goal_of E r)) × AsksUnderClauses E r s
 
--- ---- references that may hold unknowns
--- neither bound nor canonical
+-- ---- trait references that may hold variables
+-- The label is neither bound nor canonical.
 abbrev pub stands_free : Label → Bool
 stands_free (canonical k i) = false
 stands_free (bound k j i) = false

@@ -1,4 +1,4 @@
--- References that are asked alone, in coherence and without where-clauses.
+-- Trait references that are evaluated alone, in coherence and without where-clauses.
 use Rattle.std.specs.Prelude.{◌≡◌, ◌⊎◌, List, Some, Result, Err, IsOk}
 use Rattle.type_terms.specs.Label.{of_trait, predicate}
 use Rattle.type_terms.specs.Trees.{none, tree}
@@ -29,7 +29,7 @@ use Rattle.solver_context.specs.Roots.{fact_under}
 use Rattle.solver_context.specs.Searching.{solver_meaning, world_of}
 use Rattle.goal_frames.specs.Meanings.{HandlerMeaning}
 
--- The reference as a goal without where-clauses.
+-- The trait reference as a goal without where-clauses.
 abbrev pub alone : Reference → GoalTrees
 alone r = record { environment = none; predicate = tree (predicate (of_trait r.trait)) r.args none }
 
@@ -37,23 +37,23 @@ alone r = record { environment = none; predicate = tree (predicate (of_trait r.t
 abbrev pub resolved_alone : List Entry → Table → TraitRef → GoalTrees
 resolved_alone es t r = goal_resolved (content es t.values) (alone (reference_in es r))
 
--- What is asked of the search.
+-- The goal that the search evaluates.
 abbrev pub asked_alone : List Entry → Table → TraitRef → Asked
 asked_alone es t r = (Coherence, canonical_form (resolved_alone es t r))
 
--- What became of a goal is an answer, or that two answers to some goal differ: neither refuses it.
+-- The evaluation gave an answer, or found that two answers to some goal differ. Neither refuses the goal.
 abbrev pub IsNoRefusal : Result GoalEvaluation RootError → Type 0
 IsNoRefusal e = IsOk e ⊎ (e ≡ Err Conflict)
 
--- In none of the worlds in which a handler looks for its solutions has the goal a proof, at any solution of the table, if both speak of
--- the table's own unknowns.
+-- The goal has no proof in any of the worlds in which a handler looks for its solutions, at any solution of the table, if both hold the
+-- table's own variables alone.
 abbrev pub HasNoProofInWorlds : (TypingMode → CanonicalForm → Handled frame_tables) → List Entry → Table → TraitRef → Type 0
 HasNoProofInWorlds handled es t r =
     IsOfKnown (variables_of t) (content es t.values) → IsOfTable es t r → let h = handled Coherence (asked_alone es t r).1 in
     (x : h.World) (s : Assignment) → Solves s (content es t.values) → h.Proves x (fact_under s (alone (reference_in es r))) → ⊥
 
 module _ {Handler : Type 0} (handler : HandlerMeaning Handler) where
-  -- So it is by the rules of a context's handler.
+  -- The same by the rules of a context's handler.
   abbrev pub IsImpossible : SolverCx Handler → Table → TraitRef → Type 0
   IsImpossible c t r = HasNoProofInWorlds (handler.goals.handled (handler.world c.handler (entries_of c))) (entries_of c) t r
 
@@ -63,7 +63,7 @@ module _ {Handler : Type 0} (handler : HandlerMeaning Handler) where
   SearchAnswers c s t r a =
       IsFoundBySearch (solver_meaning handler) (world_of handler c) s.root_depth (asked_alone (entries_of c) t r) (Some a)
 
-  -- It gives it an answer that is no refusal, or plain recursion within the graph's depth has none.
+  -- The search gives the goal an answer that is no refusal, or plain recursion within the graph's depth has none.
   abbrev pub SearchLeavesOpen : SolverCx Handler → SearchState → Table → TraitRef → Type 0
   SearchLeavesOpen c s t r =
       ((a : AnswerTrees) × SearchAnswers c s t r a) ⊎ IsNotPlainWithin (solver_meaning handler) c s (asked_alone (entries_of c) t r)

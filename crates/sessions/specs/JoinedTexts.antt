@@ -17,7 +17,7 @@ text_world d = erased_world (world_of d)
 abbrev pub CratesKeepOrphanRule : Declarations → Type 0
 CratesKeepOrphanRule d = (c : ℕ) → core < c → c < length d.crates → KeepsOrphanRule (view_in d c) c
 
--- The crates of a text without a fault are a joined set, with the views of whichever of them, where all keep the orphan rule.
+-- If all crates of a text without a fault keep the orphan rule, they are a joined set, with the views of any of them.
 abbrev pub TextsAreJoined : Type 0
 TextsAreJoined =
     (d : Declarations) → IsOfText d → CratesKeepOrphanRule d → (cs : List ℕ) → JoinedSet (text_world d) (map (view_at (text_world d)) cs) (λ n. n)

@@ -1,4 +1,4 @@
--- Laws of the values of questions.
+-- Laws of the values of queries.
 use Rattle.std.specs.Prelude.{◌≡◌, List}
 use Rattle.type_terms.specs.Label.{Sort}
 use Rattle.type_terms.specs.Trees.{Trees, erase}

@@ -8,12 +8,12 @@ use Rattle.text_definitions.specs.Declarations.{Declarations}
 use Rattle.workspace.specs.Numbered.{IsNumbered}
 use Rattle.view_lowering.specs.Plain.{plainly_seen_from}
 
--- All are below n, and a number is that of one impl alone.
+-- All are below n, and each number is that of one impl alone.
 pub record HaveNumbersBelow (n : ℕ) (es : List Entry) (decls : Items) : Type 0 where
   pub above : IsAbove n decls
   pub own : (x y : ImplDecl) → In x (declared es decls).impls → In y (declared es decls).impls → x.name ≡ y.name → x ≡ y
 
--- Where numbers are places, they are below the number of all impls of the text.
+-- If numbers are indices, they are below the number of all impls of the text.
 abbrev pub ImplsAreNumbered : Type 0
 ImplsAreNumbered =
     (d : Declarations) → IsNumbered d → (c : ℕ) (es : List Entry) (decls : Items) → written es decls ≡ plainly_seen_from d c → HaveNumbersBelow (length d.impls) es decls

@@ -24,7 +24,7 @@ use Rattle.sessions.specs.Promises.{view_in}
 use Rattle.sessions.specs.Sessions.{IsSolvingOf}
 use Rattle.sessions.specs.Subjects.{IsOfText}
 
--- Of a pair of impls of what a crate sees of a text, each goal that is left open within this depth is possible, if it is bounded.
+-- For a pair of impls that a crate sees in a text, each goal that is left open within this depth is possible, if it is bounded.
 abbrev pub OpenPairGoalsArePossible : Type 0
 OpenPairGoalsArePossible =
     (d : Declarations) (c depth : ℕ) → IsOfText d

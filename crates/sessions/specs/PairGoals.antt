@@ -1,4 +1,4 @@
--- The goals of a pair of impls, as the search is asked them: their terms are formed, by what a crate sees of a text.
+-- The goals of a pair of impls, as the search evaluates them: their terms are well-formed, by what a crate sees of a text.
 use Rattle.std.specs.Prelude.{ℕ, List}
 use Rattle.type_terms.specs.Worlds.{World, Reference}
 use Rattle.type_terms.specs.Proofs.{In}
@@ -22,11 +22,11 @@ use Rattle.sessions.specs.Fitting.{sorts_in}
 use Rattle.sessions.specs.Goals.{HasFormedTerms}
 use Rattle.sessions.specs.Subjects.{IsOfText}
 
--- The reference as the table resolves it.
+-- The trait reference as the table resolves it.
 abbrev pub as_resolved : List Entry → Table → TraitRef → Reference
 as_resolved es t r = record { trait = r.def_id.index; args = resolved (content es t.values) (trees_at es r.args.0) }
 
--- What is to be asked over the table has formed terms there.
+-- The goals over the table have well-formed terms there.
 abbrev pub AreFormedOver : World → Sorts → List Entry → Table → List TraitRef → Type 0
 AreFormedOver V sorts es t rs = Each (λ (r : TraitRef). HasFormedTerms V sorts (as_resolved es t r)) rs
 
@@ -36,7 +36,7 @@ pub record IsImplOf (V : World) (es : List Entry) (i : ImplId) (def : ImplDef) :
   pub held : ImplHeld es def
   pub written : IsWrittenWell es def
 
--- Of two impls of what a crate sees of a text, the goals that are found have formed terms, as the table that is found resolves them.
+-- The goals of two impls that a crate sees in a text have well-formed terms, as the table of the pair resolves them.
 abbrev pub PairGoalsAreFormed : Type 0
 PairGoalsAreFormed =
     (d : Declarations) → IsOfText d → (c : ℕ) (es : List Entry) → Lawful es

@@ -1,4 +1,4 @@
--- Impls with placeholders in the place of their parameters, over the terms of an interner.
+-- Impls with placeholders in place of their parameters, over the terms of an interner.
 use Rattle.std.specs.Prelude.{◌≡◌, ℕ, suc, List, [], ◌∷◌, map}
 use Rattle.type_terms.specs.Label.{Sort, placeholder}
 use Rattle.type_terms.specs.Supers.{opaque_reference}
@@ -10,7 +10,7 @@ use Rattle.declarations.specs.Items.{reference_in}
 use Rattle.declarations.specs.declared.items.ImplDef.{ImplDef}
 use Rattle.sessions.specs.declared.placeholders.OpaqueImpl.{OpaqueImpl}
 
--- Placeholders of these sorts, numbered by their places from n on: for `impl<'a, T, const N>` they are `'!0, !1, !2`.
+-- Placeholders of these kinds, numbered by their indices from n on: for `impl<'a, T, const N>` they are `'!0, !1, !2`.
 abbrev pub placeholders_from : ℕ → List Sort → Trees
 placeholders_from n [] = none
 placeholders_from n (s ∷ ss) = tree (placeholder s n) none (placeholders_from (suc n) ss)

@@ -8,11 +8,11 @@ use Rattle.overlap_check.specs.Verdicts.{Verdict, IsVerdict}
 use Rattle.view_lowering.specs.QuestionVariables.{variable_kinds}
 use Rattle.sessions.specs.OwnValues.{SpeaksOfOwn}
 
--- What answers of crate c are about: all that it sees, up to lifetimes.
+-- The view that answers of crate c are about: all that it sees, up to lifetimes.
 abbrev pub view_in : Declarations → ℕ → World
 view_in d c = view_of (erased_world (world_of d)) c
 
--- The verdict on crate c, by what it sees of the text.
+-- The verdict of crate c, by what it sees of the text.
 abbrev pub IsVerdictOf : ℕ → Declarations → ℕ → Verdict → Type 0
 IsVerdictOf limit d c v = IsVerdict limit (view_in d c) c v
 
@@ -23,11 +23,11 @@ IsProved limit d q a =
     let E = map erased_reference q.clauses in
     IsProveAnswer limit (view_in d q.asker) (variable_kinds q) E (erased_reference q.asked) a × SpeaksOfOwn (view_in d q.asker) E (erased_reference q.asked) a
 
--- The answer to a `refute` question, by what the asking crate sees of the text.
+-- The answer to a `refute` query, by what its crate sees of the text.
 abbrev pub IsRefutation : ℕ → Declarations → Question → RefuteAnswer → Type 0
 IsRefutation limit d q a = IsRefuteAnswer limit (view_in d q.asker) q.asker (variable_kinds q) (erased_reference q.asked) a
 
--- The question's reference has no solution in a linked set with the asking crate, whatever numbers it has for the text's; nor by what
--- the crate sees alone, by proofs that hold the supertraits of all that they conclude.
+-- The query's trait reference has no solution in a linked set with the query's crate, under any renumbering. Nor has it one by what the
+-- crate sees alone, by proofs that hold the supertraits of all that they conclude.
 abbrev pub IsRefutedQuestion : Declarations → Question → Type 0
 IsRefutedQuestion d q = IsRefuted (view_in d q.asker) q.asker (variable_kinds q) (erased_reference q.asked)

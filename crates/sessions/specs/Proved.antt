@@ -1,4 +1,4 @@
--- What is proved of a question's goal with the values that its table has.
+-- What is proved of a query's goal with the values of its table.
 use Rattle.std.specs.Prelude.{true, Bool, List}
 use Rattle.type_terms.specs.Trees.{erase}
 use Rattle.type_terms.specs.Terms.{Entry, Lawful}
@@ -11,11 +11,11 @@ use Rattle.evaluation.specs.Content.{Fact, trait_of}
 use Rattle.evaluation.specs.Proof as Lists
 use Rattle.solver_context.specs.Roots.{fact_under}
 
--- the goal with the values of these bindings put in, without lifetimes: an unknown without a value stands for itself
+-- The goal with the values of these bindings put in, without lifetimes. A variable without a value stands for itself.
 abbrev pub fact_with_values : List Binding → GoalTrees → Fact
 fact_with_values bs g = record { trait = trait_of g.predicate; goal = record { environment = erase (resolved bs g.environment); predicate = erase (resolved bs g.predicate) }; proper = true }
 
--- what has a proof at each solution of a table has one with the table's values
+-- What has a proof at each solution of a table has one with the table's values.
 abbrev pub ValuesAreProved : (Fact → List Fact → Type 0) → (Fact → Bool) → Type 0
 ValuesAreProved Rule coinductive =
     (es : List Entry) (t : Table) (g : Goal) → Lawful es → Ready es t → GoalHeld es g

@@ -1,4 +1,4 @@
--- What an answer `yes` proves.
+-- What the answer yes proves.
 use Rattle.std.specs.Global.{Vec}
 use Rattle.std.specs.Prelude.{ℕ, List}
 use Rattle.type_terms.specs.Terms.{Entry}
@@ -13,7 +13,7 @@ use Rattle.sessions.specs.Sessions.{IsSolvingOf}
 use Rattle.sessions.specs.Subjects.{IsOfText}
 use Rattle.sessions.specs.declared.answers.ProveAnswer.TheVariants.{Yes}
 
--- The answer is right, if it is yes: with the values that come with it the question's reference has a proof.
+-- The answer yes is right: with its values the query's trait reference has a proof.
 abbrev pub YesIsRight : Type 0
 YesIsRight =
     (d : Declarations) → IsOfText d → (n : ℕ) (q : Question) → IsQuestion d n q → (s : Solving) → IsSolvingOf d q.asker s → (limit depth : ℕ) (es : List Entry) (values : Vec GenericArgKind)

@@ -1,4 +1,4 @@
--- Questions whether a reference has a proof: how they are asked, outside coherence, and what is known of the answers.
+-- `prove` queries: how they are evaluated, outside coherence, and what is known of the answers.
 use Rattle.std.specs.Global.{Vec}
 use Rattle.std.specs.Prelude.{◌≡◌, ◌+◌, ◌⊎◌, ℕ, Bool, true, false, List, [], map, Option, Some, None, ◌∷◌}
 use Rattle.type_terms.specs.Label.{Label, Sort, of_type, of_const, canonical, bound}
@@ -47,7 +47,7 @@ use Rattle.sessions.specs.declared.answers.ProveAnswer.{ProveAnswer}
 use Rattle.sessions.specs.declared.answers.ProveAnswer.TheVariants.{Yes, Maybe, Unproved}
 
 -- ---- values
--- A type or a constant that a binder binds, or a canonical one: by terms in which such stand nothing is proved.
+-- A type or a constant that a binder binds, or a canonical one. Terms that hold one prove nothing.
 abbrev pub is_bound_term : Label → Bool
 is_bound_term (bound of_type k i) = true
 is_bound_term (bound of_const k i) = true
@@ -55,7 +55,7 @@ is_bound_term (canonical of_type i) = true
 is_bound_term (canonical of_const i) = true
 is_bound_term l = false
 
--- Yes with the values that the table gives the unknowns, or maybe, where something bound stands in the arguments with their values.
+-- Yes with the values that the table gives the variables, or maybe, if something bound occurs in the arguments with their values.
 abbrev pub AreReadOff : List Entry → Table → Trees → List GenericArgKind → List Entry → ProveAnswer → Type 0
 AreReadOff es t args us fs (Yes values) =
     (map (arg_trees fs) values.items ≡ map (λ u. resolved (content es t.values) (arg_trees es u)) us) × (some_node is_bound_term (resolved (content es t.values) args) ≡ false)
@@ -63,17 +63,17 @@ AreReadOff es t args us fs Maybe = some_node is_bound_term (resolved (content es
 AreReadOff es t args us fs Unproved = ⊥
 
 -- ---- the goal
--- It is asked outside coherence.
+-- It is evaluated outside coherence.
 abbrev pub asked_outside : GoalTrees → Asked
 asked_outside g = (PostAnalysis, canonical_form g)
 
--- What the question asks, under its where-clauses and all their supertraits in V.
+-- The goal of the query, under its where-clauses and all their supertraits in V.
 abbrev pub goal_asking : World → Question → GoalTrees
 goal_asking V q = goal_of (elaborate V (unbound_references q.clauses)) (unbound_reference q.asked)
 
 -- ---- answers
 module _ {Handler : Type 0} (handler : HandlerMeaning Handler) where
-  -- Some table gives the unknowns these values; with them nothing bound stands in the goal's predicate, and the goal has a proof, as has
+  -- Some table gives the variables these values. With them nothing bound occurs in the goal's predicate, and the goal has a proof, as has
   -- its instance by each solution of the table.
   pub record HasAnswerValues (w : handler.goals.World) (g : GoalTrees) (us values : List Trees) : Type 0 where
     pub entries : List Entry
@@ -84,14 +84,14 @@ module _ {Handler : Type 0} (handler : HandlerMeaning Handler) where
     pub proved : IsWithoutCanonical g → Lists.FactHasProof Fact (handler.goals.Rule w) (handler.goals.coinductive w) (fact_with_values (content entries table.values) g)
     pub solved : IsWithoutCanonical g → (s : Assignment) → Solves s (content entries table.values) → Lists.FactHasProof Fact (handler.goals.Rule w) (handler.goals.coinductive w) (fact_under s g)
 
-  -- The search refuses the goal, or gives an answer that the table of unknowns of these kinds refuses.
+  -- The search refuses the goal, or gives an answer that a table with variables of these kinds refuses.
   abbrev pub IsRefusedGoal : handler.goals.World → ℕ → List Sort → GoalTrees → Type 0
   IsRefusedGoal w depth ks g =
       let m = solver_meaning handler in
       (a : Option AnswerTrees) × IsFoundBySearch m w depth (asked_outside g) a × (left_by (table_trees [] (table_of ks)) g a ≡ None)
 
-  -- It gives an answer that is no definite yes, or plain recursion has none within the depth; or some table gives values with which
-  -- something bound stands in the goal's predicate.
+  -- The search gives an answer that is no definite yes, or plain recursion has none within the depth, or some table gives values with which
+  -- something bound occurs in the goal's predicate.
   abbrev pub IsUnsettledGoal : handler.goals.World → ℕ → GoalTrees → Type 0
   IsUnsettledGoal w depth g =
       let m = solver_meaning handler in
@@ -99,7 +99,7 @@ module _ {Handler : Type 0} (handler : HandlerMeaning Handler) where
       ⊎ ((a : AnswerTrees) × IsFoundBySearch m w depth (asked_outside g) (Some a) × (is_yes_answer frame_tables (Some a) ≡ false))
       ⊎ ((es : List Entry) × (t : Table) × Ready es t × (some_node is_bound_term (resolved (content es t.values) g.predicate) ≡ true))
 
-  -- What an answer says of a goal that was asked over the table of unknowns of these kinds.
+  -- What an answer says of a goal over the table with variables of these kinds.
   abbrev pub IsAnswered : handler.goals.World → ℕ → List Sort → GoalTrees → List Trees → List Entry → ProveAnswer → Type 0
   IsAnswered w depth ks g us es (Yes values) = HasAnswerValues w g us (map (arg_trees es) values.items)
   IsAnswered w depth ks g us es Unproved = IsRefusedGoal w depth ks g
@@ -116,16 +116,16 @@ SolverAdvances old new = Advances (λ (h : Solver) es. AreReadyDeclarations es h
 abbrev pub SolvesTheSame : SolverCx Solver → SolverCx Solver → Type 0
 SolvesTheSame old new = solving_of (entries_of new) new.handler.declarations ≡ solving_of (entries_of old) old.handler.declarations
 
--- The question's where-clauses have an argument for each parameter of their traits, over whatever terms it is lowered to.
+-- The query's where-clauses have an argument for each parameter of their traits, over any terms that the query is lowered to.
 abbrev pub ClausesApply : Items → Question → Type 0
 ClausesApply d q = (es : List Entry) (l : LoweredQuestion) → IsLowered es q l → AreApplied es d l.clauses.items
 
--- What the solver's answer says of a goal that was asked over the table of unknowns of these kinds.
+-- What the solver's answer says of a goal over the table with variables of these kinds.
 abbrev pub IsGoalAnswered : Solving → ℕ → List Sort → GoalTrees → List Trees → List Entry → ProveAnswer → Type 0
 IsGoalAnswered s depth ks g us es a =
     IsAnswered solver_by_view s depth ks g us es a
 
--- What it says of a question.
+-- What it says of a query.
 abbrev pub IsAnsweredInSearch : Solving → ℕ → Question → List Entry → ProveAnswer → Type 0
 IsAnsweredInSearch s depth q es a = IsGoalAnswered s depth (variable_kinds q) (goal_asking s.view q) (own_unknowns q) es a
 

@@ -1,4 +1,4 @@
--- Questions of a text without variables, as they are asked.
+-- Queries of a text without variables, as they are evaluated.
 use Rattle.std.specs.Prelude.{◌≡◌, ℕ, true, List, [], map, Ok}
 use Rattle.std.specs.List.{list_all}
 use Rattle.type_terms.specs.Proofs.{In}
@@ -24,51 +24,51 @@ use Rattle.sessions.specs.Clauses.{AddSupertraits}
 use Rattle.sessions.specs.Fitting.{sorts_in}
 use Rattle.sessions.specs.Goals.{goal_of, are_fixed, IsFormedQuestion}
 
--- Of open places placeholders alone stand in the references.
+-- The trait references hold no variables and parameters but placeholders.
 abbrev pub AreFixedReferences : List Reference → Type 0
 AreFixedReferences E = list_all (λ (c : Reference). are_fixed c.args) E ≡ true
 
--- A question as it is written, with where-clauses E: these are formed, and what it asks for is a formed question under all references
--- that are elaborated, whose terms are made as those of E are.
+-- A query as it is written, with where-clauses E. These are well-formed. Its trait reference is a well-formed query under all where-clauses
+-- that are elaborated and made as those of E are.
 pub record IsFormedAsWritten (V : World) (sorts : Sorts) (E : List Reference) (r : Reference) : Type 0 where
   pub clauses : AreFixedReferences E
   pub fit : (c : Reference) → In c E → FitsSorts V sorts c
   pub asked : (F : List Reference) → AreFixedReferences F → IsElaborated V (map erased_reference F) → IsFormedQuestion V sorts F r
 
--- So are the terms that a question without variables is lowered to, by what the crate that asks sees of a text without a fault.
+-- This holds for the terms that a query without variables is lowered to, by what its crate sees of a text without a fault.
 abbrev pub TextsQuestionsAreFormed : Type 0
 TextsQuestionsAreFormed =
     (bytes : List ℕ) (d : text.Declarations) → TextGives bytes (Ok d) → (n : ℕ) (q : text.Question) → IsQuestion d n q → q.variables ≡ []
     → (es : List Entry) (decls : Items) → AreSeen es decls d q.asker → (held : List Entry) (l : LoweredQuestion) → IsLowered held q l
     → IsFormedAsWritten (written es decls) (sorts_in decls) (references_in held l.clauses.items) (reference_in held l.asked)
 
--- ---- as it is asked
--- Where-clauses E with all their supertraits: they are formed, supertraits of them are among them, and up to lifetimes they add to E
--- supertraits alone.
+-- ---- as it is evaluated
+-- The where-clauses E with all their supertraits are well-formed, the supertraits of each are among them, and up to lifetimes they add
+-- nothing but supertraits to E.
 pub record AreFormedElaborated (V : World) (sorts : Sorts) (E : List Reference) : Type 0 where
   pub clauses : AreFixedReferences (elaborate V E)
   pub fit : (c : Reference) → In c (elaborate V E) → FitsSorts V sorts c
   pub elaborated : IsElaborated V (map erased_reference (elaborate V E))
   pub adds : AddSupertraits (erased_world V) (map erased_reference E) (map erased_reference (elaborate V E))
 
--- under these the reference is a formed question, if it has no variables
+-- Under these the trait reference is a well-formed query, if it has no variables.
 pub record IsFormedElaborated (variables : List text.Variable) (V : World) (sorts : Sorts) (E : List Reference) (r : Reference) : Type 0 where
   pub clauses : AreFormedElaborated V sorts E
   pub asked : variables ≡ [] → IsFormedQuestion V sorts (elaborate V E) r
 
--- So are the terms that a question is lowered to, by what the crate that asks sees of a text without a fault.
+-- This holds for the terms that a query is lowered to, by what its crate sees of a text without a fault.
 abbrev pub TextsQuestionsAreElaborated : Type 0
 TextsQuestionsAreElaborated =
     (bytes : List ℕ) (d : text.Declarations) → TextGives bytes (Ok d) → (n : ℕ) (q : text.Question) → IsQuestion d n q
     → (es : List Entry) (decls : Items) → AreSeen es decls d q.asker → (held : List Entry) (l : LoweredQuestion) → IsLowered held q l
     → IsFormedElaborated q.variables (written es decls) (sorts_in decls) (references_in held l.clauses.items) (reference_in held l.asked)
 
--- ---- the goal that asks it
--- references as where-clauses
+-- ---- the goal of the query
+-- Trait references as where-clauses.
 abbrev pub where_clauses : List TraitRef → List Clause
 where_clauses rs = map (λ (r : TraitRef). Trait (record { trait_ref = r })) rs
 
--- A goal that asks for a reference under references has the trees that these are together.
+-- A goal for a trait reference under trait references has the terms that these form together.
 abbrev pub ReferencesAreGoals : Type 0
 ReferencesAreGoals =
     (es : List Entry) (g : Goal) (rs : List TraitRef) (r : TraitRef) → g.param_env.items ≡ where_clauses rs → g.predicate.trait_ref ≡ r

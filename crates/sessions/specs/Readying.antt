@@ -5,6 +5,6 @@ use Rattle.declarations.specs.Held.{AreHeld}
 use Rattle.declarations.specs.Items.{Items}
 use Rattle.candidate_assembly.specs.Ready.{AreReadyDeclarations}
 
--- Where their terms are the interner's, they are ready.
+-- If their terms are the interner's, they are ready.
 abbrev pub AreReady : List Entry → Items → Type 0
 AreReady es decls = AreHeld es decls → AreReadyDeclarations es decls

@@ -26,14 +26,14 @@ use Rattle.sessions.specs.Subjects.{IsOfText}
 abbrev pub session_meaning : Meaning (SolverCx Solver) InputId (Option ResponseId) GoalFrame
 session_meaning = solver_meaning solver_by_view
 
--- Of this reference, asked alone in coherence within this depth: if it is left open, it is possible in crate c with view V, and if it is
--- refused, it is not.
+-- For this trait reference, evaluated alone in coherence within this depth: if it is left open, it is possible in crate c with view V. If
+-- it is refused, it is not.
 pub record IsToldPossible (s : Solving) (depth : ℕ) (V : World) (c : ℕ) (r : Reference) : Type 0 where
   pub left_open : IsLeftOpen solver_by_view s depth r
       → is_possible depth V c (erased_reference r) ≡ true
   pub refused : IsFoundBySearch session_meaning s depth (asked_alone r) None → is_possible depth V c (erased_reference r) ≡ false
 
--- So it is of bounded references with formed terms, by what a crate sees of a text without a fault.
+-- This holds for bounded trait references with well-formed terms, by what a crate sees of a text without a fault.
 abbrev pub RefusalsAreExact : Type 0
 RefusalsAreExact =
     (d : Declarations) → IsOfText d → (c : ℕ) (s : Solving) (of : IsSolvingOf d c s) (r : Reference) → HasFormedTerms (written of.entries of.declarations) (sorts_in of.declarations) r

@@ -1,4 +1,4 @@
--- What answers about later versions of a crate, and about the supertraits of its headers, promise.
+-- What the answers to `later` and `supers` promise.
 use Rattle.std.specs.Prelude.{◌≡◌, ◌≤◌, ◌<◌, ◌-◌, ℕ, true, false, IsTrue, List, map, take, Some, slice_get}
 use Rattle.type_terms.specs.Erased.{erased_reference, erased_impl}
 use Rattle.type_terms.specs.Trees.{Trees, Fits}
@@ -27,7 +27,7 @@ IsSectionOf d c k = slice_get d.sections k ≡ Some c
 abbrev pub MayBeAdded : Declarations → ℕ → NamedImpl → Type 0
 MayBeAdded d c i = Added (view_in d c) c (erased_impl i.item)
 
--- impl n of the section, counted from 1, is the first that a later version of c may not add
+-- Impl n of the section, counted from 1, is the first that a later version of c may not add.
 pub record IsFirstBreaking (d : Declarations) (c k n : ℕ) : Type 0 where
   pub counted : 1 ≤ n
   pub found : NamedImpl
@@ -39,13 +39,13 @@ abbrev pub IsLaterAnswer : Declarations → ℕ → ℕ → LaterAnswer → Type
 IsLaterAnswer d c k compatible = Every (MayBeAdded d c) (section_impls d k)
 IsLaterAnswer d c k (breaking n) = IsFirstBreaking d c k n
 
--- What such an impl of crate d leaves alone, in a set W of crates: it overlaps no impl that a crate that uses d has, or may write some
--- day; and none of its instances is known to a crate that d does not see.
+-- What such an impl of crate d does not affect, in a set W of crates. It overlaps no impl that a crate that uses d has, or may write some
+-- day. None of its instances is knowable in a crate that d does not see.
 pub record BreaksNoUser (W : World) (d : ℕ) (i : ImplDecl) : Type 0 where
   pub apart : (c : ℕ) → sees W c d ≡ true → (c ≡ d → ⊥) → (j : ImplDecl) → IsTrue (in_scope W c j.header) → IsTrue (keeps_orphan_rule W c j.header) → Overlaps i j → ⊥
   pub unknown : (c : ℕ) → sees W d c ≡ false → (A : Trees) → Fits A i.header.args → is_known W c (with_args A i.header) ≡ false
 
--- So it is of each impl that may be added by a view that the set holds, whatever numbers the set has for the view's.
+-- This holds for each impl that may be added by a view that the set holds, under any renumbering.
 abbrev pub AddedImplsBreakNoUser : World → List View → Type 0
 AddedImplsBreakNoUser W vs = (v : View) → HoldsView W v → (i : ImplDecl) → Added v.world v.asker i → BreaksNoUser W (asker_in_set v) (renumbered_impl v.numbers i)
 
@@ -54,15 +54,15 @@ pub data SupersAnswer : Type 0 where
   held : SupersAnswer
   missing undecided : (impl clause : ℕ) → SupersAnswer
 
--- the strict supertraits of an impl's header, as they are asked: as goals are made of declarations, each once, in the order of `elaborate`
+-- The strict supertraits of an impl's header, as they are evaluated: each once, in the order of `elaborate`.
 abbrev pub asked_supers : Declarations → ℕ → ImplDecl → List Reference
 asked_supers d c i = map erased_reference (supertraits (plainly_seen_from d c) (opaque_reference (unbound_reference i.header)))
 
--- the where-clauses that they may be proved from
+-- The where-clauses from which they may be proved.
 abbrev pub given_clauses : ImplDecl → List Reference
 given_clauses i = map (λ r. erased_reference (opaque_reference r)) i.clauses
 
--- Supertrait j, counted from 1, of the header of crate c's impl number k is the first for which no proof was found: those before it have
+-- Supertrait j, counted from 1, of the header of crate c's impl number k is the first for which no proof was found. Those before it have
 -- proofs, and it is not determinate.
 pub record StopsIn (limit : ℕ) (d : Declarations) (c k j : ℕ) : Type 0 where
   pub found : ImplDecl
@@ -75,12 +75,12 @@ pub record StopsIn (limit : ℕ) (d : Declarations) (c k j : ℕ) : Type 0 where
   pub before : Every (HasProof (view_in d c) (given_clauses found)) (take (j - 1) (asked_supers d c found))
   pub not_determinate : IsDeterminate limit (view_in d c) (given_clauses found) super → ⊥
 
--- Of crate c's impls number k is the first with such a supertrait.
+-- Number k is the first of crate c's impls with such a supertrait.
 pub record StopsAt (limit : ℕ) (d : Declarations) (c k j : ℕ) : Type 0 where
   pub first : (i : ImplDecl) → In i (view_in d c).impls → i.home ≡ c → i.name < k → SupersHold (view_in d c) i
   pub stops : StopsIn limit d c k j
 
--- `missing` and `undecided` promise one thing.
+-- `missing` and `undecided` promise the same.
 abbrev pub IsSupersAnswer : ℕ → Declarations → ℕ → SupersAnswer → Type 0
 IsSupersAnswer limit d c held = IsHeld (view_in d c) c
 IsSupersAnswer limit d c (missing k j) = StopsAt limit d c k j

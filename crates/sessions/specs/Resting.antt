@@ -13,7 +13,7 @@ abbrev pub Cached : Type 0
 Cached = List (KnownResult InputId (Option ResponseId))
 
 module _ {Handler : Type 0} (handler : HandlerMeaning Handler) where
-  -- No goal is being evaluated, a root goal has this depth, all handles are the interner's, and what the cache holds is justified.
+  -- No goal is being evaluated, a root goal has this depth, all handles are of the interner, and what the cache holds is justified.
   pub record AreAtRest (root_depth : ℕ) (cx : SolverCx Handler) (graph : SearchState) (cache : Cached) : Type 0 where
     pub empty : graph.current_depth ≡ 0
     pub depth : graph.root_depth ≡ root_depth

@@ -17,6 +17,6 @@ pub record IsInScope (d : Declarations) (i : NamedImpl) : Type 0 where
   pub header : IsTrue (in_scope (view_in d i.item.home) i.item.home (erased_reference i.item.header))
   pub clauses : (r : Reference) → In r i.item.clauses → IsTrue (in_scope (view_in d i.item.home) i.item.home (erased_reference r))
 
--- So it is of each impl of a text without a fault.
+-- This holds for each impl of a text without a fault.
 abbrev pub ImplsAreInScope : Type 0
 ImplsAreInScope = (d : Declarations) → IsOfText d → (i : NamedImpl) → In i (written_impls d) → IsInScope d i

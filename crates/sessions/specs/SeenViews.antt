@@ -1,4 +1,4 @@
--- What a session leaves behind.
+-- What a session leaves.
 use Rattle.std.specs.Prelude.{◌≡◌, ◌<◌, ℕ, length}
 use Rattle.declarations.specs.Items.{declared}
 use Rattle.text_definitions.specs.Declarations.{Declarations}
@@ -7,7 +7,7 @@ use Rattle.view_lowering.specs.Seen.{rules_seen_from}
 use Rattle.candidate_assembly.specs.Ready.{AreReadyDeclarations}
 use Rattle.sessions.specs.declared.seen_view.SeenView.{SeenView}
 
--- What crate c sees of the text: as it is written, with the sorts of its parameters, and as rules are read from it. It is ready for the
+-- What crate c sees of the text: as it is written, with the kinds of its parameters, and as rules are read from it. It is ready for the
 -- solver, over the terms of an interner with this limit.
 pub record IsViewOf (d : Declarations) (c handles : ℕ) (view : SeenView) : Type 0 where
   pub crate : view.crate_id.index ≡ c
@@ -18,6 +18,6 @@ pub record IsViewOf (d : Declarations) (c handles : ℕ) (view : SeenView) : Typ
   pub limit : view.interner.limit ≡ handles
   pub declared : c < length d.crates
 
--- It is what a session has left whose interner has room for so many handles: what its crate sees.
+-- What a session with this limit of handles has left: what its crate sees.
 abbrev pub IsLeftView : Declarations → ℕ → SeenView → Type 0
 IsLeftView d handles view = IsViewOf d view.crate_id.index handles view

@@ -28,7 +28,7 @@ pub record SolvesView (d : Declarations) (c : ℕ) (cx : SolverCx Solver) : Type
   pub rules : declared (entries_of cx) cx.handler.declarations ≡ rules_seen_from d c
   pub local : cx.handler.declarations.local ≡ c
 
--- The declarations that are solved by are what crate c sees of the text, with the sorts of its parameters.
+-- The declarations of the solver are what crate c sees of the text, with the kinds of its parameters.
 pub record IsSolvingOf (d : Declarations) (c : ℕ) (s : Solving) : Type 0 where
   pub entries : List Entry
   pub declarations : Items
@@ -36,7 +36,7 @@ pub record IsSolvingOf (d : Declarations) (c : ℕ) (s : Solving) : Type 0 where
   pub local : declarations.local ≡ c
   pub is : s ≡ solving_of entries declarations
 
--- The declarations are a text's, the crate is one of theirs, its view is what the solver solves by, and all is at rest.
+-- The declarations are a text's, the crate is one of theirs, its view is what the solver solves by, and everything is at rest.
 pub record IsSession (d : Declarations) (c depth : ℕ) (cx : SolverCx Solver) (graph : SearchState) (cache : Cached) : Type 0 where
   pub text : IsOfText d
   pub declared : c < length d.crates
@@ -44,12 +44,12 @@ pub record IsSession (d : Declarations) (c depth : ℕ) (cx : SolverCx Solver) (
   pub solving : IsSolvingOf d c (solving_of (entries_of cx) cx.handler.declarations)
   pub rest : SolverRests depth cx graph cache
 
--- The interner and the store hold as much at most as the session was given.
+-- The interner and the store hold at most as much as the session's limit.
 pub record HasLimits (handles : ℕ) (cx : SolverCx Solver) : Type 0 where
   pub terms : cx.interner.limit ≡ handles
   pub kept : limit_of cx.store ≡ handles
 
--- It is one, within the limits that it was given.
+-- It is a session, within its limits.
 pub record IsSessionWithin (d : Declarations) (c depth handles : ℕ) (cx : SolverCx Solver) (graph : SearchState) (cache : Cached) : Type 0 where
   pub session : IsSession d c depth cx graph cache
   pub limits : HasLimits handles cx

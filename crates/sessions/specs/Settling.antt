@@ -1,4 +1,4 @@
--- A question's goal is asked until its answer is settled: what each asking needs and keeps, and what the outcomes say.
+-- A query's goal is evaluated until its answer is definite: what each evaluation needs and preserves, and what the outcomes say.
 use Rattle.std.specs.Prelude.{◌≡◌, ◌⊎◌, false, List, Option, Some, None}
 use Rattle.type_terms.specs.Terms.{Keeps}
 use Rattle.infer_table.specs.Content.{Table, content, Ready, Grows}
@@ -32,7 +32,7 @@ module _ {Handler : Type 0} (handler : HandlerMeaning Handler) where
   abbrev pub m : Search.Meaning (SolverCx Handler) InputId (Option ResponseId) GoalFrame
   m = solver_meaning handler
 
-  -- the goal can be asked in the table: no search runs, the cache is justified, and all handles are the context's
+  -- The goal can be evaluated in the table: no search runs, the cache is justified, and all handles are the context's.
   pub record IsAskable (graph : SearchState) (ks : List (KnownResult InputId (Option ResponseId))) (c : SolverCx Handler) (t : Table) (g : Goal) : Type 0 where
     pub empty : graph.current_depth ≡ 0
     pub cache : AreJustified m c ks
@@ -40,8 +40,8 @@ module _ {Handler : Type 0} (handler : HandlerMeaning Handler) where
     pub table : Ready (entries_of c) t
     pub goal : GoalHeld (entries_of c) g
 
-  -- What askings keep: of the graph its depth, of the cache, the context and the table all that they had. Each solution of the table is
-  -- one of the table before, and no canonical variable has come into it.
+  -- What evaluations preserve: the graph's depth, and all that the cache, the context and the table had. Each solution of the table is one
+  -- of the table before, and no canonical variable has come into it.
   pub record HasAsked (graph : SearchState) (ks : List (KnownResult InputId (Option ResponseId))) (c : SolverCx Handler) (t : Table)
       (graph_left : SearchState) (ls : List (KnownResult InputId (Option ResponseId))) (d : SolverCx Handler) (u : Table) : Type 0 where
     pub depth : graph_left.root_depth ≡ graph.root_depth
@@ -65,7 +65,7 @@ module _ {Handler : Type 0} (handler : HandlerMeaning Handler) where
       (a : Option AnswerTrees) × IsFoundBySearch m (m.world c) graph.root_depth (asked_in PostAnalysis (entries_of c) t g) a
       × (left_by (table_trees (entries_of c) t) (goal_in (entries_of c) t g) a ≡ None)
 
-  -- It gives an answer that is no definite yes, or plain recursion has none within the depth.
+  -- The search gives an answer that is no definite yes, or plain recursion has none within the depth.
   abbrev pub IsUnsettled : SolverCx Handler → SearchState → Table → Goal → Type 0
   IsUnsettled c graph t g =
       IsNotPlainWithin m c graph (asked_in PostAnalysis (entries_of c) t g)

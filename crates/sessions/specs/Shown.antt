@@ -1,4 +1,4 @@
--- Steps that are a proof of a question's reference.
+-- Steps that are a proof of a query's trait reference.
 use Rattle.std.specs.Prelude.{◌≡◌, List, map}
 use Rattle.type_terms.specs.Erased.{erased_reference}
 use Rattle.type_terms.specs.Trees.{Trees}
@@ -13,18 +13,18 @@ use Rattle.text_definitions.specs.Declarations.{Declarations, Question}
 use Rattle.view_lowering.specs.QuestionVariables.{variable_kinds}
 use Rattle.sessions.specs.Promises.{view_in}
 
--- With values of their kinds for the question's variables the steps are a proof of its reference by the rules of V, the question's
+-- With values of their kinds for the query's variables, the steps are a proof of its trait reference by the rules of V, the query's
 -- where-clauses and what the steps assume.
 pub record AreProofBy (V : World) (q : Question) (es : List Entry) (ss : List Step) : Type 0 where
   pub values : List Trees
   pub fit : FitKinds (variable_kinds q) values
   pub proof : AreProofOf es V (map erased_reference q.clauses) (filled_reference (variable_kinds q) values (erased_reference q.asked)) ss
 
--- V is what the asking crate sees of the text: so the answer `yes` with these values is right, where the steps assume nothing.
+-- V is what the query's crate sees of the text. So the answer `yes` with these values is right, if the steps assume nothing.
 abbrev pub AreProofOfQuestion : Declarations → Question → List Entry → List Step → Type 0
 AreProofOfQuestion d q es ss = AreProofBy (view_in d q.asker) q es ss
 
--- The second reference is the first with the values of some table.
+-- The second trait reference is the first with the values of some table.
 pub record IsResolved (r x : Reference) : Type 0 where
   pub entries : List Entry
   pub table : Table
@@ -32,7 +32,7 @@ pub record IsResolved (r x : Reference) : Type 0 where
   pub trait : x.trait ≡ r.trait
   pub args : x.args ≡ resolved (content entries table.values) r.args
 
--- With the values of some table for what stands in r, the steps are a proof of it by the rules of V and the where-clauses E.
+-- With the values of some table for the variables of r, the steps are a proof of it by the rules of V and the where-clauses E.
 pub record IsShown (es : List Entry) (V : World) (E : List Reference) (r : Reference) (ss : List Step) : Type 0 where
   pub asked : Reference
   pub resolved : IsResolved r asked

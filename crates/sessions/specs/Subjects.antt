@@ -1,4 +1,4 @@
--- What a session asks about.
+-- What a session is about.
 use Rattle.std.specs.Prelude.{◌≡◌, ℕ, true, false, List, Ok, refl}
 use Rattle.std.specs.Coded.{Coded, code_by, coded_ℕ, coded×, coded_list}
 use Rattle.type_terms.specs.Terms.{Entry, entry_code, Keeps}
@@ -7,9 +7,9 @@ use Rattle.text_definitions.specs.Text.{TextGives}
 use Rattle.workspace.specs.Stored.{declarations_code}
 use Rattle.view_lowering.specs.Questions.{IsQuestion}
 
--- declarations, one of their crates by its number, and the limits: the depth, and how many terms of a kind, goals and answers there are at
--- most; the terms of the session's interner, in which its answers are read; how many goals and answers the session keeps; and how many
--- frames its graph has started
+-- The declarations, one of their crates by its number, and the limits: the depth, and how many terms of a kind, goals and answers there are
+-- at most. Then the terms of the session's interner, how many goals and answers the session stores, and how many frames its graph has
+-- started.
 pub record Subject : Type 0 where
   pub declarations : Declarations
   pub of_crate : ℕ
@@ -28,7 +28,7 @@ subject_code =
     (λ (d, (c, (n, (h, (es, (i, (j, k))))))). record { declarations = d; of_crate = c; depth = n; handles = h; terms = es; goals = i; answers = j; frames = k })
     (λ _. refl)
 
--- A call leaves what is asked about, and the limits, as they were; each handle keeps its term.
+-- A call does not change what the session is about, nor its limits. Each handle keeps its term.
 pub record StaysOn (old new : Subject) : Type 0 where
   pub declarations : new.declarations ≡ old.declarations
   pub of_crate : new.of_crate ≡ old.of_crate
@@ -36,21 +36,21 @@ pub record StaysOn (old new : Subject) : Type 0 where
   pub handles : new.handles ≡ old.handles
   pub terms : Keeps old.terms new.terms
 
--- some text declares them
+-- Some text declares them.
 abbrev pub IsOfText : Declarations → Type 0
 IsOfText d = (bytes : List ℕ) × TextGives bytes (Ok d)
 
--- question number n, counted from 1, is q, and q asks in crate c
+-- Query number n, counted from 1, is q, and its crate is c.
 pub record Asks (d : Declarations) (c n : ℕ) (q : Question) : Type 0 where
   pub question : IsQuestion d n q
   pub asker : q.asker ≡ c
 
--- ... and it is a `prove` question
+-- It is a `prove` query.
 pub record AsksProof (d : Declarations) (c n : ℕ) (q : Question) : Type 0 where
   pub asks : Asks d c n q
   pub proves : q.is_refute ≡ false
 
--- ... and it is a `refute` question
+-- It is a `refute` query.
 pub record AsksRefutation (d : Declarations) (c n : ℕ) (q : Question) : Type 0 where
   pub asks : Asks d c n q
   pub refutes : q.is_refute ≡ true

@@ -1,4 +1,4 @@
--- The supertraits of an impl's header, asked for one after the other. V is what the crate c sees, as it is written.
+-- The supertraits of an impl's header, evaluated one after the other. V is what the crate c sees, as it is written.
 use Rattle.std.specs.Prelude.{◌≡◌, ◌≤◌, ◌-◌, ℕ, List, [], ◌∷◌, map, take, Option, Some, None, slice_get}
 use Rattle.type_terms.specs.Proofs.{In, Every}
 use Rattle.type_terms.specs.Supers.{opaque_reference, SupersHold}
@@ -25,20 +25,20 @@ use Rattle.sessions.specs.declared.supertraits.HeaderAnswer.{HeaderAnswer}
 use Rattle.sessions.specs.declared.supertraits.HeaderAnswer.TheVariants.{Held, Missing, Undecided}
 use Rattle.sessions.specs.declared.supertraits.SupertraitGoals.{SupertraitGoals}
 
--- ---- what is asked
--- Where-clauses of an impl, with its parameters as placeholders.
+-- ---- the goals
+-- The where-clauses of an impl, with its parameters as placeholders.
 abbrev pub opaque_clauses : ImplDecl → List Reference
 opaque_clauses i = map opaque_reference i.clauses
 
--- The header and the where-clauses have, so read, an argument for each parameter of their traits, over whatever terms.
+-- The header and the where-clauses, read like this, have an argument for each parameter of their traits, over any terms.
 abbrev pub HasApplied : Items → Reference → List Reference → Type 0
 HasApplied d header clauses = (es : List Entry) (r : TraitRef) → In (reference_in es r) (opaque_reference header ∷ map opaque_reference clauses) → IsApplied es d r
 
--- So have those of each impl.
+-- The same for each impl.
 abbrev pub ImplsApply : Items → World → Type 0
 ImplsApply d V = (i : ImplDecl) → In i V.impls → HasApplied d i.header i.clauses
 
--- What is asked of an impl with this header and these where-clauses.
+-- The goals of an impl with this header and these where-clauses.
 pub record AreGoalsFor (V : World) (header : Reference) (where_clauses : List Reference) (es : List Entry) (goals : SupertraitGoals) : Type 0 where
   pub supertraits : references_in es goals.supertraits.items ≡ supertraits V (opaque_reference header)
   pub clauses : references_in es goals.clauses.items ≡ elaborate V (map opaque_reference where_clauses)
@@ -49,7 +49,7 @@ pub record AreGoalsFor (V : World) (header : Reference) (where_clauses : List Re
 abbrev pub HasNoOwn : World → ℕ → ℕ → Type 0
 HasNoOwn V c k = (i : ImplDecl) → In i V.impls → i.home ≡ c → i.name ≡ k → ⊥
 
--- c's impl of this number is the only one, and this is what is asked of it.
+-- c's impl with this number is the only one, and these are its goals.
 pub record AreOfImpl (V : World) (c k : ℕ) (es : List Entry) (goals : SupertraitGoals) : Type 0 where
   pub decl : ImplDecl
   pub stands : In decl V.impls
@@ -62,20 +62,20 @@ abbrev pub AreOfOwn : World → ℕ → ℕ → List Entry → Option Supertrait
 AreOfOwn V c k es None = HasNoOwn V c k
 AreOfOwn V c k es (Some goals) = AreOfImpl V c k es goals
 
--- ---- what is told
+-- ---- the answers
 abbrev pub outcome_of : ProveAnswer → Outcome
 outcome_of (Yes values) = Proved
 outcome_of IsUnproved = Unproved
 outcome_of IsMaybe = Maybe
 
--- So the solver answers a reference without unknowns under just these where-clauses.
+-- The solver's answer to a trait reference without variables, under just these where-clauses.
 pub record SolverTells (s : Solving) (depth : ℕ) (F : List Reference) (r : Reference) (o : Outcome) : Type 0 where
   pub entries : List Entry
   pub answer : ProveAnswer
   pub outcome : outcome_of answer ≡ o
   pub answered : IsGoalAnswered s depth [] (goal_of F r) [] entries answer
 
--- It proves those before place n, counted from 1, and so answers the one there.
+-- It proves those before number n, counted from 1, and this is its answer to that one.
 pub record IsFirstTold (s : Solving) (depth : ℕ) (F rs : List Reference) (n : ℕ) (o : Outcome) : Type 0 where
   pub counted : 1 ≤ n
   pub super : Reference
@@ -102,7 +102,7 @@ abbrev pub SolversImplsApply : Type 0
 SolversImplsApply =
     (d : text.Declarations) → IsOfText d → (c : ℕ) (es : List Entry) (decls : Items) → IsSolvingOf d c (solving_of es decls) → ImplsApply decls (written es decls)
 
--- What is told of the supertraits of an impl's header is right, where all that c sees is what the solver solves by.
+-- The answers to the supertraits of an impl's header are right, if the solver solves by all that c sees.
 abbrev pub SupertraitsAreTold : Type 0
 SupertraitsAreTold =
     (d : text.Declarations) → IsOfText d → (c : ℕ) (s : Solving) → IsSolvingOf d c s → (depth k : ℕ)

@@ -1,4 +1,4 @@
--- What a crate sees of a text is formed.
+-- What a crate sees of a text is well-formed.
 use Rattle.std.specs.Prelude.{List}
 use Rattle.type_terms.specs.Terms.{Entry}
 use Rattle.declarations.specs.Items.{Items, written}
@@ -6,7 +6,7 @@ use Rattle.view_lowering.specs.Ready.{OfTexts}
 use Rattle.solver_exactness.specs.FormedFacts.{IsFormedView}
 use Rattle.sessions.specs.Fitting.{sorts_in}
 
--- the declarations are formed, with the sorts of their parameters: each name is declared, and has the arguments that it takes
+-- The declarations are well-formed, with the kinds of their parameters: each name is declared, and has the arguments that it takes.
 abbrev pub AreFormedDeclarations : List Entry → Items → Type 0
 AreFormedDeclarations es d = IsFormedView (written es d) (sorts_in d)
 

@@ -1,56 +1,56 @@
-//! What a session answers.
+//! What a session answers: verdicts, and answers of queries and checks.
 
 use orphan_check::errors::OrphanCheckErr;
 use type_terms::ImplId;
 use type_terms::kinds::{GenericArgKind, Ty};
 
-/// The verdict on a crate.
+/// The verdict of a crate.
 #[derive(Drop)]
 pub enum Verdict {
-    /// Each impl of the crate keeps the orphan rule, and no two impls that it brings together may overlap.
+    /// Each impl of the crate keeps the orphan rule, and no two impls that it brings together overlap.
     Accepted,
     /// The first impl whose header breaks the orphan rule, and why it does.
     Orphan(ImplId, OrphanCheckErr<Ty>),
-    /// An impl of the crate, and one that it sees, which overlap.
+    /// Two impls that overlap: one of the crate, and one that it sees.
     Overlap(ImplId, ImplId),
 }
 
-/// The answer of a `prove` question.
+/// The answer of a `prove` query.
 #[derive(Drop)]
 pub enum ProveAnswer {
-    /// The reference has a proof, with these values for the question's variables, in their order. A variable without a value is its own.
+    /// The bound has a proof with these values for the query's variables, in their order. A variable without a value stands for itself.
     Yes(Vec<GenericArgKind>),
-    /// Neither is known.
+    /// The search does not know. An unambiguous query never gets this answer.
     Maybe,
-    /// The search found no proof; where each step has one way at most, there is none.
+    /// The search found no proof. If the query is unambiguous, there is none.
     Unproved,
 }
 
-/// The answer of a `refute` question.
+/// The answer of a `refute` query.
 #[derive(Clone, Copy, PartialEq, Eq)]
 pub enum RefuteAnswer {
-    /// Wherever the crate is linked, the reference has no proof, whatever its variables stand for.
+    /// The bound has no proof in any linked set with the crate, whatever its variables stand for.
     No,
-    /// It was not refused.
+    /// The bound was not refused. If it is bounded, it is possible in the crate.
     Open,
 }
 
-/// Whether the impls of a section make a later version of their crate.
+/// Whether a later version of a crate may add the impls of a section.
 #[derive(Clone, Copy, PartialEq, Eq)]
 pub enum LaterAnswer {
-    /// A later version of the crate may add each of them.
+    /// It may add each of them.
     Compatible,
-    /// It may not: the impl of this number of the section, from 1, is the first that it may not add.
+    /// It may not. The number is that of the first impl of the section that it may not add, counted from 1.
     Breaking(u32),
 }
 
-/// Whether the headers of a crate's impls have their supertraits proved.
+/// Whether each impl of a crate has the supertraits of its trait.
 #[derive(Clone, Copy, PartialEq, Eq)]
 pub enum SupersAnswer {
     /// Each supertrait of each header has a proof from the impl's where-clauses.
     Held,
-    /// No proof of this supertrait of this impl's header was found. Supertraits count from 1, as `supertraits` gives them.
+    /// The search found no proof of this supertrait of this impl's header. Supertraits count from 1, in the order of `supertraits`.
     Missing(ImplId, u32),
-    /// It is not settled whether this supertrait has one.
+    /// The search does not know whether this supertrait has a proof.
     Undecided(ImplId, u32),
 }

@@ -1,4 +1,4 @@
-//! Questions in a context of the solver.
+//! Queries, lowered into a solver's context.
 
 ghost use Rattle.std.specs.Prelude.{◌≡◌, IfOk, IfErr};
 ghost use Rattle.type_terms.specs.Growth.{FullAtLimit};
@@ -13,7 +13,7 @@ use type_terms::Fault;
 use view_lowering::{LoweredQuestion, lower_question};
 use workspace::Workspace;
 
-/// A context that has grown means what it meant, and all stays at rest in it. It grows where its interner does.
+/// A context that has grown means what it meant, and everything stays at rest in it. It grows where its interner does.
 pub(crate) fn rest_laws<H: GoalHandler>()
     ensures rest { (depth : _) (c d : _) (s : _) (ks : _) → AreAtRest H.meaning depth c s ks → Advances H.meaning.IsReady c d
         → AreAtRest H.meaning depth d s ks }
@@ -24,7 +24,7 @@ pub(crate) fn rest_laws<H: GoalHandler>()
     context_laws::<H>();
 }
 
-/// The question with a number, as terms of the context. Errors are those of `lower_question`.
+/// The query with this number, as terms of the context. Numbers count from 1. The errors are those of `lower_question`.
 pub fn lower_in<H: GoalHandler>(
     cx: &mut SolverCx<H>,
     workspace: &Workspace,

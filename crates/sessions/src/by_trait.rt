@@ -1,4 +1,5 @@
-//! The impls with which an impl may overlap: those of its trait that can match its header.
+//! The impls that may overlap with an impl: those of its trait whose headers can match. For `impl Show for Vec<u8>`,
+//! `impl<T> Show for Vec<T>` is one and `impl Show for u8` is none.
 
 ghost use Rattle.std.specs.Prelude.{◌≡◌, ◌≤◌, ◌+◌, ◌++◌, ◌∷◌, [], false, List, IfOk, OnOk, if◌then◌else◌};
 ghost use Rattle.type_terms.specs.Terms.{Entry, trees_at};
@@ -18,7 +19,7 @@ use term_folds::predicate::TraitRef;
 use type_terms::interner::Interner;
 use type_terms::{ImplId, TraitId};
 
-/// Whether an impl is of the crate that asks, and its self type is a parameter.
+/// Whether an impl is of the local crate and its self type is a parameter, as in `impl<T> Show for T`.
 fn is_own_blanket(cx: &Interner, declarations: &Declarations, def: &ImplDef) -> bool
     requires { ImplHeld cx.now.entries def.now }
     ensures { result ≡ false → DeclaresOwnBlanket cx.now.entries declarations.now.local def.now → ⊥ }
@@ -32,7 +33,7 @@ fn is_own_blanket(cx: &Interner, declarations: &Declarations, def: &ImplDef) -> 
     }
 }
 
-/// Whether the crate that asks writes an impl whose self type is a parameter. The numbers of impls are below `end`.
+/// Whether the local crate writes an impl whose self type is a parameter. The numbers of impls are below `end`.
 fn has_own_blanket(cx: &Interner, declarations: &Declarations, end: u32) -> bool
     requires held { AreHeld cx.now.entries declarations.now }
     requires numbered { IsAbove end declarations.now }
@@ -53,13 +54,13 @@ fn has_own_blanket(cx: &Interner, declarations: &Declarations, end: u32) -> bool
 
 /// The impls of each trait, by rising number.
 ///
-/// Only an impl whose self type is a parameter may overlap with any other of its trait, so nothing is listed where the crate that asks
-/// writes none.
+/// Only an impl whose self type is a parameter can overlap with any other of its trait. So nothing is listed unless the local crate writes
+/// one.
 pub(crate) struct ImplsByTrait {
     traits: HashMap<TraitId, Vec<ImplId>>,
 }
 
-// Written, so that what owns one drops it by one call at each way out, and not field by field.
+// Hand-written so that the prover sees one drop call: docs/PROVING.md#drop.
 impl Drop for ImplsByTrait {
     fn drop(self) {
         let ImplsByTrait { traits: _ } = self;
@@ -84,7 +85,7 @@ impl ImplsByTrait {
         }
     }
 
-    /// Puts an impl behind those of a trait.
+    /// Appends an impl to those of a trait.
     fn add(&mut self, alloc: Global, trait_id: TraitId, id: ImplId) -> Result<(), AllocError>
         ensures { OnOk result ((t : TraitId) → listed self.new t ≡ (if is_trait trait_id t then listed self.old t ++ id ∷ [] else listed self.old t)) }
     {
@@ -98,7 +99,7 @@ impl ImplsByTrait {
         Ok(())
     }
 
-    /// All impls of declarations, whose numbers are below `end`. The error is a refused request for memory.
+    /// All impls of these declarations, whose numbers are below `end`. Fails only if memory is refused.
     fn of_all(
         alloc: Global,
         declarations: &Declarations,
@@ -119,8 +120,8 @@ impl ImplsByTrait {
         Ok(impls)
     }
 
-    /// The impls of declarations, whose numbers are below `end`, if the crate that asks writes one whose self type is a parameter; else
-    /// none. The error is a refused request for memory.
+    /// All impls of these declarations, if the local crate writes one whose self type is a parameter, and otherwise none. The numbers of
+    /// impls are below `end`. Fails only if memory is refused.
     pub fn of_declarations(
         alloc: Global,
         cx: &Interner,
@@ -138,9 +139,11 @@ impl ImplsByTrait {
         ImplsByTrait::of_all(alloc, declarations, end)
     }
 
-    /// The impls that the crate that asks brings together with one of its own, and with which that may have a common instance, by rising
-    /// number: those of its trait that can match its header, or all of its trait where its self type is a parameter. There are none for
-    /// an impl of another crate. The error is a refused request for memory.
+    /// The impls that the local crate has to compare with one of its own, by rising number: those of the same trait that can match its
+    /// header, or all of that trait if its self type is a parameter.
+    ///
+    /// Each impl that it brings together with this one, and that has a common instance with it, is listed. For an impl of another crate the
+    /// list is empty. Fails only if memory is refused.
     pub fn partners_of(
         &self,
         alloc: Global,
@@ -171,7 +174,7 @@ impl ImplsByTrait {
     }
 }
 
-/// The impls that can match a reference, by rising number.
+/// The impls that can match a trait reference, by rising number.
 fn matching_impls(
     alloc: Global,
     cx: &Interner,

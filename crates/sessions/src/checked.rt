@@ -1,4 +1,4 @@
-//! The headers of a crate's impls, and the pairs that it brings together.
+//! The checks of a crate: the headers of its impls, and the pairs of impls that it brings together.
 
 ghost use Rattle.std.specs.Prelude.{◌≡◌, ◌≤◌, ◌+◌, ℕ, not, IfOk, IfErr, IfSome, Ok, None};
 ghost use Rattle.type_terms.specs.Terms.{Keeps};
@@ -29,8 +29,8 @@ use solver_context::{SolverCx, SolverGraph};
 use type_terms::kinds::Ty;
 use type_terms::{Fault, ImplId};
 
-/// The first impl of the crate that asks whose header breaks the orphan rule, by rising number, with the error; `None` where all keep
-/// it. The numbers of impls are below `end`. Errors are those of `first_orphan`.
+/// The first impl of the local crate whose header breaks the orphan rule, by rising number, with the reason, or `None` if all keep it. The
+/// numbers of impls are below `end`. The errors are those of `first_orphan`.
 pub(crate) fn first_broken_header(
     cx: &mut SolverCx<Solver>,
     end: u32,
@@ -50,8 +50,8 @@ pub(crate) fn first_broken_header(
     found
 }
 
-/// What the impls of two numbers have in common, where the crate that asks has to compare them; `None` where it has not, or their
-/// headers have no common instance. Errors are those of `impl_intersection`.
+/// What the impls with these numbers have in common. `None` if the local crate need not compare them, or if their headers have no common
+/// instance. The errors are those of `impl_intersection`.
 pub fn intersection_at(
     cx: &mut SolverCx<Solver>,
     later: ImplId,
@@ -77,10 +77,10 @@ pub fn intersection_at(
     found
 }
 
-/// Whether the impls of two numbers are a pair of the crate that asks that overlaps: their headers have a common instance, and none of
+/// Whether the impls with these numbers overlap: the local crate has to compare them, their headers have a common instance, and none of
 /// their where-clauses is impossible there.
 ///
-/// All stays at rest, after a fault too. The fault is a refusal of memory, or `Full`.
+/// Everything stays at rest, after a fault too. Fails with `Memory` if memory is refused, or with `Full` if a table is full.
 pub(crate) fn overlap_at(
     graph: &mut SearchGraph<SolverGraph<Solver>>,
     cache: &mut GlobalCache<SolverGraph<Solver>>,
@@ -108,7 +108,7 @@ pub(crate) fn overlap_at(
     Ok(is_overlap(refused))
 }
 
-/// Whether a pair whose headers have a common instance overlaps, where a where-clause of it was found impossible there, or none.
+/// Whether a pair with a common instance overlaps, given whether one of its where-clauses is impossible there.
 fn is_overlap(has_impossible_obligation: bool) -> bool
     ensures { result ≡ not has_impossible_obligation }
 {

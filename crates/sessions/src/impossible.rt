@@ -1,4 +1,4 @@
-//! One goal, asked alone.
+//! Whether one trait reference is impossible, evaluated alone in coherence.
 ghost use Rattle.std.specs.Prelude.{◌≡◌, IsTrue, true, false, IfOk, IfErr, Ok, Err};
 ghost use Rattle.type_terms.specs.Terms.{Keeps};
 ghost use Rattle.infer_table.specs.Content.{Table, Ready, Grows, place_in};
@@ -20,15 +20,16 @@ use solver_context::{GoalEvaluation, RootError, SolverCx, SolverGraph, evaluate_
 use term_folds::predicate::{TraitPredicate, TraitRef};
 use type_terms::Fault;
 
-/// Whether a reference is impossible: refused in coherence, asked alone over the table and without where-clauses.
+/// Whether a trait reference is impossible: the search refuses it in coherence, alone over the table and without where-clauses.
 ///
-/// Then it has no proof in any of the handler's worlds at any solution of the table. A conflict refuses nothing. The answer's values
-/// are taken back, so that the table is as before; the interner, the context's goals and answers and the cache may hold more.
+/// An impossible one has no proof in any of the handler's worlds, at any solution of the table. If it is not refused, the search has an
+/// answer that is no refusal, or plain recursion has none within the depth. A conflict refuses nothing. The values of the answer are taken
+/// back, so the table is as before. The interner, the cache, and the context's goals and answers may grow.
 ///
-/// `Memory` comes where memory is refused, or the table has no numbers for the goal's form or for its answer; `Full` only where a table
-/// of the context is at its limit.
+/// Fails with `Memory` if memory is refused, or if the table has no numbers for the goal's form or for its answer. Fails with `Full` only
+/// if a table of the context is at its limit.
 ///
-/// `SolverDelegateEvalExt::root_goal_may_hold_with_depth` of `rustc_next_trait_solver` asks so, and answers with the opposite.
+/// rustc: `SolverDelegateEvalExt::root_goal_may_hold_with_depth`, with the opposite answer.
 pub fn is_impossible<H: GoalHandler>(
     graph: &mut SearchGraph<SolverGraph<H>>,
     cache: &mut GlobalCache<SolverGraph<H>>,
@@ -52,11 +53,7 @@ pub fn is_impossible<H: GoalHandler>(
     ensures keeps { Search.Keeps (solver_meaning H.meaning) cx.old cx.new }
     ensures entries { Keeps cx.old.interner.entries cx.new.interner.entries }
     ensures same { table.new ≡ table.old }
-
-    // What is refused has no proof at any solution of the table.
     ensures impossible { IfOk result (λ refused. IsTrue refused → IsImpossible H.meaning cx.old table.old trait_ref) }
-
-    // What is not has an answer of the search, or plain recursion has none within the depth.
     ensures left_open { IfOk result (λ refused. refused ≡ false → SearchLeavesOpen H.meaning cx.old graph.old table.old trait_ref) }
     ensures full { IfErr result (ContextFullAtLimit cx.new) }
 {
@@ -64,8 +61,7 @@ pub fn is_impossible<H: GoalHandler>(
     is_refused(evaluated)
 }
 
-/// What becomes of a reference that is asked in coherence, alone over the table and without where-clauses. The values of its answer are
-/// taken back.
+/// Evaluates a trait reference in coherence, alone over the table and without where-clauses. The values of its answer are taken back.
 fn evaluate_alone<H: GoalHandler>(
     graph: &mut SearchGraph<SolverGraph<H>>,
     cache: &mut GlobalCache<SolverGraph<H>>,
@@ -101,14 +97,14 @@ fn evaluate_alone<H: GoalHandler>(
     evaluated
 }
 
-/// Puts the table back to where it stood before the goal was asked: no value of its answer stays.
+/// Rolls the table back to the snapshot: no value of the goal's answer stays.
 fn take_back(table: &mut InferCtxt, place: Snapshot)
     ensures { (before : Table) → place ≡ place_in before → Grows before table.old → table.new ≡ before }
 {
     table.roll_back(place);
 }
 
-/// Whether what became of a goal is that it has no solution: any answer leaves it open, and a conflict refuses nothing. A fault says
+/// Whether the evaluation says that the goal has no solution. Any answer leaves it open, a conflict refuses nothing, and a fault says
 /// nothing of the goal.
 fn is_refused(evaluated: Result<GoalEvaluation, RootError>) -> Result<bool, Fault>
     ensures refused { result ≡ Ok true → evaluated ≡ Err RootError.NoSolution }

@@ -1,4 +1,8 @@
-//! The impls that a later version of the crate that asks adds.
+//! The impls that a later version of the local crate adds, and whether it may add them.
+//!
+//! - `impl Show for Local` and `impl<T> Show for Vec<T>` may be added: no user can write an impl for `Vec<Theirs>`.
+//! - `impl<T> Show for T`, `impl<T> Show for &T` and `impl<T> Convert<T> for Local` may not: a user may write `impl Show for Theirs`,
+//!   `impl Show for &Theirs` or `impl Convert<Theirs> for Local`.
 
 ghost use Rattle.std.specs.Prelude.{◌≡◌, ◌≤◌, ◌||◌, List, length, map, IfOk, IfErr};
 ghost use Rattle.type_terms.specs.Laws.{InEveryLinkedSet};
@@ -36,8 +40,8 @@ use view_lowering::laws::later_impls_begin_declared;
 use view_lowering::lower_later;
 use workspace::Workspace;
 
-/// An impl that a later version of a crate may add, as the crate's view tells it, overlaps no impl that a user of the crate may write,
-/// and concludes nothing that is known to a crate which that one does not see.
+/// An impl that a later version of a crate may add, by the crate's own view, overlaps no impl that a user of the crate may write. It
+/// concludes nothing that is knowable in a crate that the changed crate does not see.
 pub fn added_impls_break_no_user()
     ensures { InEveryLinkedSet AddedImplsBreakNoUser }
 {
@@ -46,7 +50,7 @@ pub fn added_impls_break_no_user()
     later_impls_conclude_nothing_known();
 }
 
-/// Whether users may rely on what the trait is not implemented for: it is fundamental, or auto.
+/// Whether users may rely on the trait not being implemented: it is fundamental or auto.
 pub fn trait_is_relied_on(declarations: &Declarations, id: TraitId) -> bool
     ensures { (es : List Entry) → let V = declared es declarations.now in
         result ≡ (trait_is (λ x. x.is_fundamental) V id.index || trait_is (λ x. x.is_auto) V id.index) }
@@ -57,8 +61,8 @@ pub fn trait_is_relied_on(declarations: &Declarations, id: TraitId) -> bool
     }
 }
 
-/// Whether a later version of the crate that asks may add an impl with this header, which is read as it is declared: it keeps the
-/// orphan rule, its trait is neither fundamental nor auto, and its open walk meets no parameter.
+/// Whether a later version of the local crate may add an impl with this header: it keeps the orphan rule, its trait is neither fundamental
+/// nor auto, and its open walk meets no parameter. The header is read as it is declared.
 fn is_addable(cx: &Interner, declarations: &Declarations, header: TraitRef) -> bool
     requires { ReferenceHeld cx.now.entries header }
     ensures { let es = cx.now.entries in result ≡ is_addable (declared es declarations.now) declarations.now.local (erased_reference (reference_in es header)) }
@@ -69,7 +73,7 @@ fn is_addable(cx: &Interner, declarations: &Declarations, header: TraitRef) -> b
         && !trait_is_relied_on(declarations, header.def_id)
 }
 
-/// The first of the impls that a later version of the crate that asks may not add, counted from 1, if there is one.
+/// The first of these impls that a later version of the local crate may not add, counted from 1, if there is one.
 fn first_breaking(cx: &Interner, declarations: &Declarations, impls: &[ImplDef]) -> LaterAnswer
     requires held { Each (ImplHeld cx.now.entries) impls.now }
     requires few { length impls.now ≤ ENTRY_LIMIT }
@@ -83,7 +87,7 @@ fn first_breaking(cx: &Interner, declarations: &Declarations, impls: &[ImplDef])
     LaterAnswer::Compatible
 }
 
-/// The impls of the section with a number, as terms of the context. Errors are those of `lower_later`.
+/// The impls of the section with this number, as terms of the context. Sections count from 0. The errors are those of `lower_later`.
 pub fn added_impls(
     cx: &mut SolverCx<Solver>,
     workspace: &Workspace,
@@ -106,9 +110,9 @@ pub fn added_impls(
     impls
 }
 
-/// Whether the impls of the section with a number make a later version of the crate that asks.
+/// Whether a later version of the local crate may add the impls of the section with this number. Sections count from 0.
 ///
-/// All stays ready, after a fault too. The fault is a refusal of memory, or `Full`.
+/// Everything stays ready, after a fault too. Fails with `Memory` if memory is refused, or with `Full` if a table is full.
 pub(crate) fn later_answer(
     cx: &mut SolverCx<Solver>,
     workspace: &Workspace,

@@ -1,14 +1,13 @@
-//! Questions: a goal asked over a table of its own until its answer is settled, the values that its unknowns have then, and what is
-//! proved with them.
+//! Sessions: one crate of a text, lowered once, with its solver.
 //!
-//! The goals of a pair of impls, each asked alone in coherence: whether one of them is impossible.
+//! A [`Session`] has one interner, one store of goals and answers, one search graph and one cache for all its calls. What a call finds
+//! stays in the cache, and all of it is justified. Where a call promises something of its answer, earlier calls cannot change that. What a
+//! session leaves is a [`SeenView`], from which the session of another crate may begin.
 //!
-//! Sessions on the solver: a crate of a text, asked about.
-//!
-//! A [`Session`] lowers the view of its crate once, and keeps one interner, one store of goals and answers, one search graph and one
-//! cache for all its calls. What a call finds stays in the cache, justified, and never changes what a later call answers wherever its
-//! contract makes a promise.
-//! What it leaves is a [`SeenView`], with which the session of another crate may begin.
+//! - `check_crate`: does the crate keep the orphan rule, and do two impls overlap?
+//! - `check_supertraits`: does each of its impls have the supertraits of its trait?
+//! - `check_later`: may a later version add the impls of a section?
+//! - `prove`, `refute`: has `V<u8>: Show` a proof here, and is it certain that it has none in any linked set?
 #![tactic(auto)]
 
 mod answers;

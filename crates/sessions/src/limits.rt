@@ -1,14 +1,14 @@
-//! How deep a session asks, and how many terms it keeps.
+//! How deep a session searches, and how many terms it stores.
 
 ghost use Rattle.std.specs.Prelude.{◌≡◌, ◌≤◌, ◌↔◌, IsSome, IfSome};
 
-/// The limits of a session.
+/// The limits of a session. No call changes them.
 #[derive(Clone, Copy, PartialEq, Eq)]
 pub struct Limits {
-    /// The depth at which a root question is asked, from 1 to 255: the original's `recursion_limit`.
+    /// The depth limit of a query's goal, from 1 to 255. rustc: `recursion_limit`.
     pub depth: u32,
-    /// How many handles of each kind a session's interner holds at most, from 1 to 16,777,216; also how many goals, and how many answers,
-    /// it keeps.
+    /// How many handles of each kind the session's interner holds at most, from 1 to 16,777,216. As many goals, and as many answers, are
+    /// stored at most.
     pub handles: u32,
     ghost depth_positive: { 1 ≤ depth },
     ghost depth_small: { depth ≤ 255 },
@@ -17,7 +17,7 @@ pub struct Limits {
 }
 
 impl Limits {
-    /// The two limits, or none where one of them is out of its range.
+    /// These limits, or `None` if one of them is out of its range.
     pub fn new(depth: u32, handles: u32) -> Option<Limits>
         ensures in_range { IsSome result ↔ ((1 ≤ depth) × (depth ≤ 255) × (1 ≤ handles) × (handles ≤ 16777216)) }
         ensures depth { IfSome result (λ limits. limits.depth ≡ depth) }

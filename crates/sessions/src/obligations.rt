@@ -1,4 +1,4 @@
-//! All goals of a pair, asked one after the other.
+//! The where-clauses of a pair of impls, evaluated one after the other.
 ghost use Rattle.std.specs.Prelude.{◌≡◌, ◌⊎◌, IsTrue, false, IfOk, IfErr};
 ghost use Rattle.type_terms.specs.Proofs.{In};
 ghost use Rattle.type_terms.specs.Terms.{Keeps};
@@ -22,15 +22,16 @@ use solver_context::{SolverCx, SolverGraph};
 use term_folds::predicate::TraitRef;
 use type_terms::Fault;
 
-/// Whether one of the where-clauses of two impls is impossible where their headers are equal, each asked alone; so they do not overlap.
+/// Whether one of the where-clauses of two impls is impossible where their headers are equal, each evaluated alone. If so, the impls do not
+/// overlap.
 ///
-/// Those of the first impl are asked before those of the second one, and none after one that is impossible. What was found of the pair
-/// is as before; the interner, the context's goals and answers and the cache may hold more.
+/// The where-clauses of the first impl come before those of the second. None is evaluated after one that is impossible. What was found of
+/// the pair is as before. The interner, the cache, and the context's goals and answers may grow.
 ///
-/// `Memory` comes where memory is refused, or the table of the pair has no numbers for a goal's form or for its answer; `Full` only where
-/// a table of the context is at its limit.
+/// Fails with `Memory` if memory is refused, or if the table of the pair has no numbers for a goal's form or for its answer. Fails with
+/// `Full` only if a table of the context is at its limit.
 ///
-/// `impl_intersection_has_impossible_obligation` of the original.
+/// rustc: `impl_intersection_has_impossible_obligation`. Its second pass, all goals together with each other's values, is left out.
 pub fn has_impossible_obligation<H: GoalHandler>(
     graph: &mut SearchGraph<SolverGraph<H>>,
     cache: &mut GlobalCache<SolverGraph<H>>,
@@ -55,11 +56,11 @@ pub fn has_impossible_obligation<H: GoalHandler>(
     ensures entries { Keeps cx.old.interner.entries cx.new.interner.entries }
     ensures same { found.new ≡ found.old }
 
-    // If one is impossible, it has no proof at any solution of the table.
+    // One that is impossible has no proof at any solution of the table.
     ensures impossible { IfOk result (λ refused. IsTrue refused
         → (r : TraitRef) × (In r found.old.left.items ⊎ In r found.old.right.items) × IsImpossible H.meaning cx.old found.old.table r) }
 
-    // If none is, each has an answer of the search, or plain recursion has none within the depth.
+    // If none is, the search has an answer for each, or plain recursion has none within the depth.
     ensures left_open { IfOk result (λ refused. refused ≡ false
         → Each (SearchLeavesOpen H.meaning cx.old graph.old found.old.table) found.old.left.items
         × Each (SearchLeavesOpen H.meaning cx.old graph.old found.old.table) found.old.right.items) }
@@ -71,7 +72,7 @@ pub fn has_impossible_obligation<H: GoalHandler>(
     some_is_impossible(graph, cache, cx, &mut found.table, &found.right)
 }
 
-/// Whether one of the references is impossible, each asked alone over the table.
+/// Whether one of the trait references is impossible, each evaluated alone over the table.
 fn some_is_impossible<H: GoalHandler>(
     graph: &mut SearchGraph<SolverGraph<H>>,
     cache: &mut GlobalCache<SolverGraph<H>>,

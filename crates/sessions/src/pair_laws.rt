@@ -1,16 +1,15 @@
-//! Mathematics without running code: the goals of a pair of impls of a text, asked of the solver.
+//! The goals of a pair of impls of a text. These are laws, with no code to run.
 
 ghost use Rattle.sessions.specs.OpenPairs.{OpenPairGoalsArePossible};
 ghost use Rattle.sessions.specs.PairGoals.{PairGoalsAreFormed};
 
-/// The goals that are found of two impls of what a crate sees of a text without a fault are formed, as the table that is found resolves
-/// them: each name in their terms is of what the crate sees, and has the arguments that are declared, with their sorts.
+/// The goals of two impls that a crate sees in a text without a fault are well-formed, as the table of the pair resolves them. The crate
+/// sees each struct and trait that they name, with as many arguments as declared, of the declared kinds. Variables may occur in them.
 pub fn pair_goals_are_formed()
     ensures { PairGoalsAreFormed }
 {}
 
-/// Of a pair of impls of what a crate sees of a text without a fault, each goal that a search in coherence leaves open within a depth is
-/// possible, if it is bounded within it.
+/// If a search in coherence leaves a goal of such a pair open within a depth, and the goal is bounded within it, then the goal is possible.
 pub fn open_pair_goals_are_possible()
     ensures { OpenPairGoalsArePossible }
 {}

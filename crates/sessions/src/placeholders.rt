@@ -1,4 +1,4 @@
-//! Impls with placeholders in the place of their parameters.
+//! Impls with placeholders for their parameters.
 
 ghost use Rattle.std.specs.Prelude.{◌≡◌, ◌≤◌, ◌+◌, map, IfOk, IfErr};
 ghost use Rattle.type_terms.specs.Label.{placeholder};
@@ -21,7 +21,7 @@ use type_terms::interner::Interner;
 use type_terms::kinds::{ConstKind, GenericArgKind, GenericArgs, TyKind};
 use type_terms::region::{Region, RegionKind};
 
-/// The next number. The fault is `Memory`, where there is none.
+/// The next number. Fails with `Memory` if there is none.
 pub(crate) fn next_number(number: u32) -> Result<u32, Fault>
     ensures next { IfOk result (λ next. next ≡ number + 1) }
     ensures refused { IfErr result (λ fault. (fault ≡ Fault.Memory) × (MAX_INDEX ≤ number)) }
@@ -32,7 +32,8 @@ pub(crate) fn next_number(number: u32) -> Result<u32, Fault>
     }
 }
 
-/// The placeholder for a parameter, by its place from 0 among all parameters of its item, as a question has it for one of its own.
+/// The placeholder for a parameter, by its index from 0 among all parameters of its item. A query's own parameters have the same
+/// placeholders.
 fn placeholder_for_param(
     cx: &mut Interner,
     kind: GenericParamKind,
@@ -57,7 +58,8 @@ fn placeholder_for_param(
     }
 }
 
-/// The placeholders for an item's parameters, in order. The fault is `Memory`, also where there are no numbers for so many, or `Full`.
+/// The placeholders for an item's parameters, in order. Fails with `Memory` if memory is refused or there are no numbers for so many, or
+/// with `Full` if a table is full.
 fn placeholders_for_item(
     alloc: Global,
     cx: &mut Interner,
@@ -79,17 +81,17 @@ fn placeholders_for_item(
     cx.mk_args(placeholders)
 }
 
-/// The header and the where-clauses of an impl with placeholders for its parameters: each stands for itself.
+/// The header and the where-clauses of an impl, with placeholders for its parameters.
 #[derive(Drop)]
 pub(crate) struct OpaqueImpl {
-    /// The reference that the impl proves.
+    /// The trait reference that the impl concludes.
     pub header: TraitRef,
     /// The where-clauses as they are written.
     pub clauses: Vec<TraitRef>,
 }
 
-/// The impl with placeholders for its parameters: `V<!0>: Show` where `!0: Show` for `impl<T> Show for V<T> where T: Show`. The fault is
-/// a refusal of memory, or `Full`.
+/// The impl with placeholders for its parameters. For `impl<T> Show for V<T> where T: Show` it is `V<!0>: Show` where `!0: Show`. Fails
+/// with `Memory` if memory is refused, or with `Full` if a table is full.
 pub(crate) fn opaque_impl(
     alloc: Global,
     cx: &mut Interner,

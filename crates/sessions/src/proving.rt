@@ -1,4 +1,5 @@
-//! Questions whether a reference has a proof by what the asking crate sees.
+//! `prove` queries: has a trait reference a proof, by what the crate sees and by the query's where-clauses? For
+//! `prove in a <T> V<T>: Show where T: Show` the goal is `V<!0>: Show` under `!0: Show`, with the supertraits of the clause.
 
 ghost use Rattle.std.specs.Prelude.{◌≡◌, map, IfOk, IfErr};
 ghost use Rattle.type_terms.specs.Trees.{some_node};
@@ -63,7 +64,7 @@ fn where_clauses(alloc: Global, references: &[TraitRef]) -> Result<Vec<Clause>, 
         .collect(alloc)
 }
 
-/// Whether a bound type or a bound constant stands in the arguments.
+/// Whether a bound type or a bound constant occurs in the arguments.
 fn has_bound_terms(cx: &Interner, args: GenericArgs) -> bool
     requires { Has cx.now.entries args_lists args.0 }
     ensures { result ≡ some_node is_bound_term (trees_at cx.now.entries args.0) }
@@ -72,9 +73,9 @@ fn has_bound_terms(cx: &Interner, args: GenericArgs) -> bool
         || args.has_type_flags(cx, TypeFlags::HAS_CT_BOUND)
 }
 
-/// What is answered where the reference was proved: the values that the table gives the unknowns.
+/// The answer for a trait reference that was proved: the values that the table gives the variables.
 ///
-/// By values in which a type or a constant is bound nothing is proved: then neither is known.
+/// Values in which a type or a constant is bound prove nothing, so then the answer is `Maybe`.
 fn read_values(
     alloc: Global,
     cx: &mut Interner,
@@ -120,7 +121,7 @@ fn read_values_in<H: GoalHandler>(
     read
 }
 
-/// A table for the unknowns of a question, over the interner of a context. Errors are those of `question_table`.
+/// A table for the variables of a query, over the interner of a context. The errors are those of `question_table`.
 pub fn question_table_in<H: GoalHandler>(
     cx: &mut SolverCx<H>,
     unknowns: &[GenericArgKind],
@@ -137,9 +138,9 @@ pub fn question_table_in<H: GoalHandler>(
     table
 }
 
-/// Asks a question's goal over its table until its answer is settled, and reads the answer.
+/// Evaluates a query's goal over its table until the answer is definite, and reads the answer.
 ///
-/// All stays at rest, after a fault too. The fault is a refusal of memory, or `Full`.
+/// Everything stays at rest, after a fault too. Fails with `Memory` if memory is refused, or with `Full` if a table is full.
 fn ask_for<H: GoalHandler>(
     graph: &mut SearchGraph<SolverGraph<H>>,
     cache: &mut GlobalCache<SolverGraph<H>>,
@@ -173,7 +174,7 @@ fn ask_for<H: GoalHandler>(
     }
 }
 
-/// The references with their supertraits through all levels, over the interner of a solver's context.
+/// The trait references with their supertraits through all levels, over the interner of a solver's context. rustc: `elaborate`.
 pub fn elaborate_in(
     cx: &mut SolverCx<Solver>,
     references: &[TraitRef],
@@ -194,7 +195,7 @@ pub fn elaborate_in(
     elaborated
 }
 
-/// The goal that asks for a reference under where-clauses.
+/// The goal for a trait reference under these where-clauses.
 pub fn goal_under(alloc: Global, clauses: &[TraitRef], asked: TraitRef) -> Result<Goal, AllocError>
     ensures clauses { IfOk result (λ goal. goal.param_env.items ≡ where_clauses clauses.now) }
     ensures asked { IfOk result (λ goal. goal.predicate.trait_ref ≡ asked) }
@@ -205,9 +206,9 @@ pub fn goal_under(alloc: Global, clauses: &[TraitRef], asked: TraitRef) -> Resul
     })
 }
 
-/// Asks for a reference outside coherence, under just these where-clauses, over a new table with these unknowns.
+/// Evaluates a trait reference outside coherence, under just these where-clauses, over a new table with these variables.
 ///
-/// All stays at rest, after a fault too. The fault is a refusal of memory, or `Full`.
+/// Everything stays at rest, after a fault too. Fails with `Memory` if memory is refused, or with `Full` if a table is full.
 pub(crate) fn prove_under(
     graph: &mut SearchGraph<SolverGraph<Solver>>,
     cache: &mut GlobalCache<SolverGraph<Solver>>,
@@ -241,7 +242,7 @@ pub(crate) fn prove_under(
     ask_for(graph, cache, cx, &mut table, &goal, unknowns)
 }
 
-/// Asks a question whose terms are the context's outside coherence, under its where-clauses with all their supertraits.
+/// Evaluates a query of the context's terms outside coherence, under its where-clauses with all their supertraits.
 fn prove_lowered(
     graph: &mut SearchGraph<SolverGraph<Solver>>,
     cache: &mut GlobalCache<SolverGraph<Solver>>,
@@ -267,10 +268,10 @@ fn prove_lowered(
     prove_under(graph, cache, cx, &clauses, lowered.asked, &lowered.unknowns)
 }
 
-/// Asks the question with a number outside coherence: its reference under its where-clauses and their supertraits, over a new table with
-/// its variables.
+/// Answers the `prove` query with this number: its trait reference is evaluated outside coherence, under its where-clauses with all their
+/// supertraits, over a new table with its variables.
 ///
-/// All stays at rest, after a fault too. The fault is a refusal of memory, or `Full`.
+/// Everything stays at rest, after a fault too. Fails with `Memory` if memory is refused, or with `Full` if a table is full.
 pub(crate) fn prove_question(
     graph: &mut SearchGraph<SolverGraph<Solver>>,
     cache: &mut GlobalCache<SolverGraph<Solver>>,

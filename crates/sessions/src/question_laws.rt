@@ -1,5 +1,5 @@
-//! Mathematics without running code: questions of a text, asked of the solver. What the solver's exactness asks of declarations and of
-//! goals holds of what a crate sees of a text without a fault; so it answers questions without unknowns exactly.
+//! Queries of a text are answered exactly. These are laws, with no code to run: what the solver requires of declarations and goals holds
+//! for what a crate sees of a text without a fault.
 
 ghost use Rattle.std.specs.Prelude.{Option};
 ghost use Rattle.infer_table.specs.Responses.{AnswerTrees};
@@ -15,42 +15,42 @@ ghost use Rattle.sessions.specs.Questions.{TextsQuestionsAreFormed, TextsQuestio
 ghost use Rattle.sessions.specs.Refusals.{RefusalsAreExact};
 ghost use Rattle.sessions.specs.Views.{TextsAreFormed};
 
-/// Where declarations are formed, a goal in which nothing is bound, and whose terms have the sorts that are declared, fits them, and
-/// gives its structs lifetimes where their fields name them: so the solver decides it.
+/// If declarations are well-formed, a goal in which nothing is bound, and whose terms have the declared kinds, fits them and gives its
+/// structs the lifetimes that their fields name. So the solver decides it.
 pub fn sorts_tell_fits()
     ensures { SortsTellFits }
 {}
 
-/// What a crate sees of a text without a fault is formed: each name in its terms is of what it sees, and has the arguments that are
-/// declared, with their sorts.
+/// What a crate sees of a text without a fault is well-formed: it sees each name in its terms, and each has as many arguments as declared,
+/// of the declared kinds.
 pub fn texts_are_formed()
     ensures { TextsAreFormed }
 {}
 
-/// A question without variables of a text without a fault is lowered to terms that are formed by what the crate that asks sees of the
-/// text: under where-clauses that are elaborated it is a formed question. Its own where-clauses are formed as they are written.
+/// A query without variables of a text without a fault is lowered to terms that are well-formed by what its crate sees. Its where-clauses
+/// are well-formed as they are written. Under elaborated where-clauses it is a well-formed query.
 pub fn questions_are_formed()
     ensures { TextsQuestionsAreFormed }
 {}
 
-/// So it is of each question of such a text under its where-clauses with all their supertraits: these are formed, supertraits of them
-/// are among them, and they add supertraits alone. A question without variables is a formed question under them.
+/// The where-clauses of each query of such a text, with all their supertraits, are well-formed. The supertraits of each of them are among
+/// them, and they add nothing but supertraits. A query without variables is well-formed under them.
 pub fn questions_are_elaborated()
     ensures { TextsQuestionsAreElaborated }
 {}
 
-/// A goal that asks for a reference, and whose where-clauses are references, stands for the goal that their trees form.
+/// A goal for a trait reference under trait references as where-clauses stands for the goal that their terms form.
 pub fn references_are_goals()
     ensures { ReferencesAreGoals }
 {}
 
-/// A question without unknowns, whose terms are formed by declarations that are, is a goal that the solver answers exactly: it is
-/// decided, its placeholders stand for different places, and up to lifetimes it asks for the question's reference under its clauses.
+/// A query without variables whose terms are well-formed is a goal that the solver answers exactly. Its placeholders stand for different
+/// positions. Up to lifetimes it is the query's trait reference under the query's where-clauses.
 pub fn formed_questions_are_goals()
     ensures { FormedQuestionsAreGoals }
 {}
 
-/// A search of the solver's goals, and the handles by which it knows them and their answers.
+/// A search for the solver's goals, with the handles of the goals and of their answers.
 pub trait SolverSearch {
     ghost Context: { Type 0 };
 
@@ -63,32 +63,32 @@ pub trait SolverSearch {
     ghost handles: { Handles Context Input Result Frame Solving (GoalInMode frame_tables solver_goals) (Option AnswerTrees) };
 }
 
-/// By what a crate sees of a text without a fault, each answer that a search has to a question without unknowns is exact, if plain
-/// recursion within its depth comes to no other, as `evaluate_root_goal` says of its own. Outside coherence, where there is one way at
-/// most at each step of its short chains, it is a definite yes if the reference has a proof, and a refusal if it has none. In coherence
-/// a bounded reference is refused exactly if it is not possible in the crate.
+/// By what a crate sees of a text without a fault, each answer of a search to a query without variables is exact, if plain recursion within
+/// its depth comes to no other, as `evaluate_root_goal` says of its own.
+///
+/// - Outside coherence, for an unambiguous query: the answer is a definite yes if there is a proof, and a refusal if there is none.
+/// - In coherence, for a bounded one without where-clauses: it is refused exactly if it is not possible in the crate.
 pub fn questions_are_answered_exactly<S: SolverSearch>()
     ensures right { OfTexts (AreAnsweredRight S.handles) }
     ensures possible { OfTexts (AreToldPossible S.handles) }
 {}
 
-/// So it is of a question that is asked under its where-clauses with all their supertraits, by the clauses as they are written: if by
-/// these there is one way at most at each step, the answer is a definite yes where they prove the reference, and a refusal where they
-/// don't.
+/// The same holds for a query under its where-clauses with all their supertraits, by the clauses as they are written. If it is unambiguous
+/// by these, the answer is a definite yes if they prove it, and a refusal if they do not.
 pub fn questions_are_answered_as_written<S: SolverSearch>()
     ensures { OfTexts (AreAnsweredAsWritten S.handles) }
 {}
 
-/// A bounded reference whose terms are formed by what a crate sees of a text without a fault, asked alone in coherence, is refused
-/// exactly if it is not possible in the crate: if it is left open, it has an answer within the depth that is no refusal. Unknown lifetimes
-/// may stand in it.
+/// A bounded trait reference whose terms are well-formed by what a crate sees of a text without a fault, evaluated alone in coherence, is
+/// refused exactly if it is not possible in the crate. If it is left open, it has an answer within the depth that is no refusal. Lifetime
+/// variables may occur in it.
 pub fn refusals_are_exact()
     ensures { RefusalsAreExact }
 {}
 
-/// So the search of a session answers a decided reference: under where-clauses with all their supertraits, all of them formed by what a
-/// crate sees of a text without a fault, it has an answer within the depth, a definite yes if it has a proof by what the crate sees and
-/// the clauses as they are written, and a refusal if it has none. So is each decided question of such a text.
+/// The search of a session answers each unambiguous trait reference under elaborated where-clauses, if all are well-formed by what a crate
+/// sees of a text without a fault. It has an answer within the depth: a definite yes if there is a proof by what the crate sees and the
+/// clauses as they are written, and a refusal if there is none. The same holds for each unambiguous query of such a text.
 pub fn decided_are_answered()
     ensures references { DecidedAreAnswered }
     ensures questions { DecidedQuestionsAreAnswered }

@@ -1,4 +1,5 @@
-//! Questions whether a reference has a proof wherever the asking crate is linked.
+//! `refute` queries: is it certain that a trait reference has no proof in any linked set with the crate? For `refute in a V<?x>: Show` the
+//! goal is `V<?x>: Show` in coherence, where crates outside the view may have impls.
 
 ghost use Rattle.std.specs.Prelude.{◌≡◌, [], true, Ok, Err, OnOk, IfErr};
 ghost use Rattle.type_terms.specs.Made.{terms, is_made, is_in_range};
@@ -32,9 +33,9 @@ use type_terms::Fault;
 use view_lowering::LoweredQuestion;
 use workspace::Workspace;
 
-/// Asks in coherence, without where-clauses, for a reference over a table without values.
+/// Evaluates a trait reference in coherence, without where-clauses, over a table without values.
 ///
-/// A conflict refuses nothing. The fault is a refusal of memory, or `Full`.
+/// A conflict refuses nothing. Fails with `Memory` if memory is refused, or with `Full` if a table is full.
 fn ask_in_coherence<H: GoalHandler>(
     graph: &mut SearchGraph<SolverGraph<H>>,
     cache: &mut GlobalCache<SolverGraph<H>>,
@@ -51,7 +52,7 @@ fn ask_in_coherence<H: GoalHandler>(
     ensures keeps { Keeps cx.old.interner.entries cx.new.interner.entries }
     ensures limits { KeepsLimits cx.old cx.new }
 
-    // A reference that is refused has no proof, if it speaks of the table's variables alone.
+    // A trait reference that is refused has no proof, if it has variables of the table alone.
     ensures no { result ≡ Ok RefuteAnswer.No → let r = reference_in cx.old.interner.entries asked in HasNoCanonical r.args
         → AreKnown (variables_of table.old) r.args
         → HasNoProof (H.meaning.goals.handled (H.meaning.world cx.old.handler cx.old.interner.entries)) (goal_alone r) }
@@ -73,7 +74,7 @@ fn ask_in_coherence<H: GoalHandler>(
     answer_of(evaluated)
 }
 
-/// What is answered to a question that was asked in coherence: `No` where there is no solution, and else `Open`, after a conflict too.
+/// The answer for an evaluation in coherence: `No` if there is no solution, and `Open` otherwise, after a conflict too.
 fn answer_of(evaluated: Result<GoalEvaluation, RootError>) -> Result<RefuteAnswer, Fault>
     ensures no { result ≡ Ok RefuteAnswer.No → evaluated ≡ Err RootError.NoSolution }
     ensures open { result ≡ Ok RefuteAnswer.Open → IsNoRefusal evaluated }
@@ -87,7 +88,7 @@ fn answer_of(evaluated: Result<GoalEvaluation, RootError>) -> Result<RefuteAnswe
     }
 }
 
-/// Asks a question whose terms are the context's in coherence, over a new table.
+/// Evaluates a query of the context's terms in coherence, over a new table.
 fn refute_lowered<H: GoalHandler>(
     graph: &mut SearchGraph<SolverGraph<H>>,
     cache: &mut GlobalCache<SolverGraph<H>>,
@@ -115,9 +116,9 @@ fn refute_lowered<H: GoalHandler>(
     ask_in_coherence(graph, cache, cx, &mut table, lowered.asked)
 }
 
-/// Asks the question with a number in coherence: its reference, over a new table with its variables.
+/// Answers the `refute` query with this number: its trait reference is evaluated in coherence, over a new table with its variables.
 ///
-/// All stays at rest, after a fault too. The fault is a refusal of memory, or `Full`.
+/// Everything stays at rest, after a fault too. Fails with `Memory` if memory is refused, or with `Full` if a table is full.
 pub(crate) fn refute_question<H: GoalHandler>(
     graph: &mut SearchGraph<SolverGraph<H>>,
     cache: &mut GlobalCache<SolverGraph<H>>,
@@ -132,7 +133,7 @@ pub(crate) fn refute_question<H: GoalHandler>(
     ensures keeps { Keeps cx.old.interner.entries cx.new.interner.entries }
     ensures limits { KeepsLimits cx.old cx.new }
 
-    // The reference is made as an interner's terms are.
+    // The trait reference is made as an interner's terms are.
     ensures made { OnOk result ((q : Question) → IsQuestion workspace.now number q → is_made is_in_range terms (unbound_reference q.asked).args ≡ true) }
     ensures no { result ≡ Ok RefuteAnswer.No → (q : Question) → IsQuestion workspace.now number q → HasVariablesAlone q
         → HasNoProof (H.meaning.goals.handled (H.meaning.world cx.old.handler cx.old.interner.entries)) (goal_alone (unbound_reference q.asked)) }

@@ -1,4 +1,4 @@
-//! What a session leaves behind, for the session of a crate that sees more of the text.
+//! What a session leaves for the session of a crate that sees more of the text.
 
 ghost use Rattle.std.specs.Prelude.{◌≡◌, ◌<◌, ◌≤◌, ◌+◌, length, IfOk, Err};
 ghost use Rattle.type_terms.specs.declared.interner.TheConstants.{MAX_HANDLES};
@@ -16,14 +16,14 @@ use view_lowering::laws::impls_begin_declared;
 use view_lowering::{begins_with, lower_behind};
 use workspace::Workspace;
 
-/// A view is handed on while searches over its interner have started at most one frame for so many terms of a kind that it may hold.
-/// A frame makes some terms of its own, so what is handed on takes a small part of the room that the next session has.
+/// A view is passed on only while searches over its interner have started at most one frame for each 64 terms of the handle limit. A frame
+/// makes some terms of its own, so what is passed on takes a small part of the next session's room.
 const TERMS_FOR_A_FRAME: u32 = 64;
 
-/// What a crate of a text sees, lowered: what a session of the crate leaves behind (`Session::into_view`).
+/// What a crate of a text sees, lowered. `Session::into_view` leaves it.
 ///
-/// The session of a crate that sees all of it and more may begin with it, and lowers only what is new (`Session::behind`). With the view's
-/// own terms stay those that the session's questions made.
+/// The session of a crate that sees all of it and more may begin with it, and lowers only what is new (`Session::behind`). The terms that
+/// the earlier session made stay in its interner.
 pub struct SeenView {
     /// The crate that sees it.
     pub crate_id: CrateId,
@@ -34,7 +34,7 @@ pub struct SeenView {
     pub(crate) frames: u64,
 }
 
-// Written, so that what owns one drops it by one call at each way out, and not field by field.
+// Hand-written so that the prover sees one drop call: docs/PROVING.md#drop.
 impl Drop for SeenView {
     fn drop(self) {
         let SeenView {
@@ -47,7 +47,7 @@ impl Drop for SeenView {
 }
 
 impl SeenView {
-    /// What a crate sees, lowered into a new interner. Errors are those of `lower`.
+    /// What a crate sees, lowered into a new interner. The errors are those of `lower`.
     pub(crate) fn new(
         alloc: Global,
         workspace: &Workspace,
@@ -71,7 +71,7 @@ impl SeenView {
         })
     }
 
-    /// What a crate sees that begins with what is seen here: what is new is lowered behind it. Errors are those of `lower`.
+    /// What a crate sees that sees all of this first: only what is new is lowered. The errors are those of `lower`.
     fn grown(
         self,
         alloc: Global,
@@ -111,8 +111,8 @@ impl SeenView {
         })
     }
 
-    /// What another crate sees: grown where that begins with what is seen here and few frames were started, else lowered into a new
-    /// interner. Errors are those of `lower`.
+    /// What another crate sees. It grows from this one if that sees all of it first and few frames were started. Otherwise it is lowered
+    /// into a new interner. The errors are those of `lower`.
     pub(crate) fn handed_on(
         self,
         alloc: Global,

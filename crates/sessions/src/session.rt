@@ -1,4 +1,4 @@
-//! Sessions.
+//! Sessions: checks and queries of one crate.
 
 ghost use Rattle.std.specs.Prelude.{◌≡◌, ◌<◌, ◌≤◌, ◌+◌, ℕ, true, length, IfOk, IfErr, IfSome, IsOk, Ok, Err};
 ghost use Rattle.type_terms.specs.Failures.{SomeKindIsFull};
@@ -58,14 +58,16 @@ use type_terms::{CrateId, Fault, ImplId};
 use view_lowering::refutations_have_variables_alone;
 use workspace::Workspace;
 
-/// A crate of a text, to be asked about.
+/// A crate of a text, for checks and queries.
 ///
-/// A session sees the view of its crate alone: the crate and all that it uses, directly or through others, `core` included. It lowers
-/// the view when it is made, or what is new of it where it begins with what another session left. It can be asked again after any call,
-/// one that ended with a fault too: the terms, goals and answers that a call has made stay, and what the cache holds is justified. A fault
-/// is `Memory` where memory is refused, and where more variables or parameters are needed than there are numbers for (`MAX_INDEX`).
+/// A session sees the view of its crate alone: the crate, `core`, and all that it uses, directly or through others. It lowers the view when
+/// it is made, or only what is new if it begins with what another session left. It can be used after any call, also after a fault: the
+/// terms, goals and answers of each call stay, and what the cache holds is justified.
 ///
-/// Its parts are public for what asks more of its search: whoever uses them leaves them as they are between two calls.
+/// A fault is `Memory` if memory is refused, or if there are no numbers for so many variables or parameters (`MAX_INDEX`). It is `Full`
+/// only if a limit of the session is reached.
+///
+/// The fields are public so that `session_walks` can run the same search. Callers must keep the invariant `IsSessionWithin`.
 pub struct Session<'w> {
     pub workspace: &'w Workspace,
     pub crate_id: CrateId,
@@ -77,7 +79,7 @@ pub struct Session<'w> {
     pub frames_before: u64,
 }
 
-// Written, so that what owns one drops it by one call at each way out, and not field by field.
+// Hand-written so that the prover sees one drop call: docs/PROVING.md#drop.
 impl Drop for Session<'_> {
     fn drop(self) {
         let Session {
@@ -118,17 +120,17 @@ impl<'w> Model for Session<'w> {
 }
 
 impl<'w> Session<'w> {
-    /// A session on a crate of a text, by its number: its view is lowered.
+    /// A session for a crate of a text, by the crate's number. It lowers the crate's view.
     ///
-    /// The fault is `Memory` where memory is refused, and `Full` where the view needs more handles than the limit allows: so never where
-    /// that is above the number of terms that the view is made at most (`most_terms`), two for each part of a written type.
+    /// Fails with `Memory` if memory is refused, and with `Full` if the view needs more handles than the limit. A limit above `most_terms`
+    /// (two for each part of a written type, one for each trait reference) always suffices.
     pub fn new(
         alloc: Global,
         workspace: &'w Workspace,
         crate_id: CrateId,
         limits: Limits,
     ) -> Result<Self, Fault>
-        // A workspace is what `parse` made of a text.
+        // `parse` made the workspace from a text.
         requires parsed { IsOfText workspace.now }
         requires declared { crate_id.index < length workspace.now.crates }
         ensures declarations { IfOk result (λ session. session.declarations ≡ workspace.now) }
@@ -142,14 +144,14 @@ impl<'w> Session<'w> {
         Session::on_view(alloc, workspace, limits, view)
     }
 
-    /// A session on a crate of a text behind the session of another crate, by what that one left (`into_view`).
+    /// A session for a crate of a text that begins with the view that the session of another crate left (`into_view`).
     ///
-    /// Where what the crate sees begins with what the other one sees, only what is new is lowered; else, and where searches over the
-    /// view's interner have started many frames, the view is let go and all is lowered, as `new` does. The session answers as one that
-    /// `new` makes: each of its calls promises the same.
+    /// If what the crate sees begins with what the other one sees, only what is new is lowered. Otherwise, or if searches over the view's
+    /// interner have started many frames, the view is dropped and everything is lowered, as `new` does. Each call promises the same as of a
+    /// session that `new` makes.
     ///
-    /// The fault is `Memory` where memory is refused, and `Full` as for `new`, but that the terms which the view holds already count too:
-    /// so a table may be full sooner than in a new session, here and at a later call.
+    /// Fails with `Memory` if memory is refused, and with `Full` as `new` does, but the terms that the view holds count too. So a table may
+    /// be full sooner than in a new session, here and at a later call.
     pub fn behind(
         alloc: Global,
         workspace: &'w Workspace,
@@ -160,7 +162,7 @@ impl<'w> Session<'w> {
         requires parsed { IsOfText workspace.now }
         requires declared { crate_id.index < length workspace.now.crates }
 
-        // It was left by a session on the same text, with the same limit of handles.
+        // A session on the same text, with the same limit of handles, left it.
         requires view { IsViewOf workspace.now view.crate_id.index limits.handles view }
         ensures declarations { IfOk result (λ session. session.declarations ≡ workspace.now) }
         ensures of_crate { IfOk result (λ session. session.of_crate ≡ crate_id.index) }
@@ -173,8 +175,7 @@ impl<'w> Session<'w> {
         Session::on_view(alloc, workspace, limits, seen)
     }
 
-    /// A session on a crate of a text: behind that of another crate, where that one's view is at hand (`behind`), and else a new one
-    /// (`new`). Faults are those of either.
+    /// A session for a crate of a text: `behind` if there is a view of another crate, and `new` otherwise. The errors are those of either.
     pub fn on_crate(
         alloc: Global,
         workspace: &'w Workspace,
@@ -197,7 +198,7 @@ impl<'w> Session<'w> {
         }
     }
 
-    /// A session on the crate that sees the view. It takes no memory yet.
+    /// A session for the crate that sees the view. It takes no memory yet.
     fn on_view(
         alloc: Global,
         workspace: &'w Workspace,
@@ -230,8 +231,8 @@ impl<'w> Session<'w> {
         })
     }
 
-    /// What the session leaves for the session of another crate of the text: the view of its crate, with the terms that its calls made.
-    /// Goals, answers and what is cached are dropped.
+    /// What the session leaves for the session of another crate: the view of its crate, with the terms that its calls made. Goals, answers
+    /// and the cache are dropped.
     pub fn into_view(self) -> SeenView
         ensures view { IsViewOf self.entry.declarations self.entry.of_crate self.entry.handles result }
     {
@@ -256,23 +257,22 @@ impl<'w> Session<'w> {
         }
     }
 
-    /// The verdict on the crate: whether each impl that it writes keeps the orphan rule, and whether it brings two impls together that
-    /// overlap.
+    /// The verdict of the crate: whether each of its impls keeps the orphan rule, and whether it brings two impls together that overlap.
     ///
-    /// All headers are judged before any pair, by the numbers of their impls in the text. A pair overlaps if the two headers have a
-    /// common instance and none of the where-clauses is impossible there. The fault is `Memory` where memory is refused, or `Full` where
-    /// a table of the session is full.
+    /// All headers are checked before any pair, by the numbers of their impls in the text. Pairs come by the rising number of the crate's
+    /// impl. A pair overlaps if the headers have a common instance and none of the where-clauses is impossible there. For example
+    /// `impl<T> Show for T` and `impl Show for u8` overlap; with `where T: Debug` they do not, if `u8: Debug` is impossible.
     ///
-    /// In a set of linked crates that were all accepted, of one text or of several, no closed reference has proofs by two impls.
+    /// Fails with `Memory` if memory is refused, or with `Full` if a table of the session is full.
     ///
-    /// `coherent_trait` of `rustc_hir_analysis`, for all traits.
+    /// In a set of linked crates that were all accepted, of one text or of several, no concrete trait reference has proofs by two impls.
+    ///
+    /// rustc: `coherent_trait` of `rustc_hir_analysis`, for all traits.
     pub fn check_crate(&mut self) -> Result<Verdict, Fault>
         ensures one_impl { HeadlineHolds }
         ensures verdict { IfOk result (λ verdict. IsVerdictOf self.old.depth self.old.declarations self.old.of_crate (verdict_in self.new.terms verdict)) }
         ensures held { IfOk result (VerdictHeld self.new.terms) }
         ensures stays { StaysOn self.old self.new }
-
-        // `Full` comes only where a limit of the session is reached.
         ensures full { IfErr result (SessionFullAtLimit self.new) }
     {
         accepted_sets_have_one_impl();
@@ -286,7 +286,7 @@ impl<'w> Session<'w> {
         }
     }
 
-    /// How many impls the text has: their numbers are below it.
+    /// How many impls the text has. Their numbers are below it.
     fn impl_end(&self) -> u32
         ensures is { result ≡ length self.now.declarations.impls }
         ensures in_range { result ≤ MAX_INDEX + 1 }
@@ -310,8 +310,8 @@ impl<'w> Session<'w> {
         first_broken_header(&mut self.cx, end)
     }
 
-    /// A pair that the crate brings together and that overlaps, if there is one: that of the smallest number of an own impl, though
-    /// what is said of it holds of any. The numbers are below `end`.
+    /// A pair that the crate brings together and that overlaps, if there is one. The search returns the one whose own impl has the smallest
+    /// number, and the contract holds for any. The numbers are below `end`.
     fn first_overlap(&mut self, end: u32) -> Result<Option<(ImplId, ImplId)>, Fault>
         requires end { end ≡ length self.old.declarations.impls }
         requires in_range { end ≤ MAX_INDEX + 1 }
@@ -330,7 +330,7 @@ impl<'w> Session<'w> {
         Ok(None)
     }
 
-    /// The impls that the crate sees, by their traits and headers; their numbers are below `end`.
+    /// The impls that the crate sees, by their traits. Their numbers are below `end`.
     fn impls_by_trait(&self, end: u32) -> Result<ImplsByTrait, AllocError>
         requires end { end ≡ length self.now.declarations.impls }
         requires in_range { end ≤ MAX_INDEX + 1 }
@@ -345,8 +345,7 @@ impl<'w> Session<'w> {
         )
     }
 
-    /// The impls that the crate brings together with an impl of its own, and with which that may have a common instance, by rising number;
-    /// none for an impl of another crate.
+    /// The impls that the crate has to compare with an impl of its own, by rising number. For an impl of another crate there are none.
     fn partners_of(&self, impls: &ImplsByTrait, later: ImplId) -> Result<Vec<ImplId>, AllocError>
         requires { ListsSeen self.now impls.now }
         ensures { IfOk result (λ ids. HavePartnersSeen self.now later.index ids.items) }
@@ -359,7 +358,7 @@ impl<'w> Session<'w> {
         )
     }
 
-    /// An impl with which an impl of the crate overlaps, if there is one: that of the smallest number.
+    /// The impl with the smallest number that overlaps with this impl of the crate, if there is one.
     fn first_partner(
         &mut self,
         impls: &ImplsByTrait,
@@ -380,7 +379,7 @@ impl<'w> Session<'w> {
         Ok(None)
     }
 
-    /// Whether the impls of two numbers are a pair that the crate brings together and that overlaps.
+    /// Whether the crate brings the impls with these numbers together and they overlap.
     fn overlaps(&mut self, later: ImplId, earlier: ImplId) -> Result<bool, Fault>
         requires numbered { IsNumbered self.old.declarations }
         ensures judged { IfOk result (HasJudged self.old later.index earlier.index) }
@@ -396,7 +395,7 @@ impl<'w> Session<'w> {
         )
     }
 
-    /// The terms of the session, in which its answers are read.
+    /// The terms of the session. The handles of its answers are of this interner.
     pub fn interner(&self) -> &Interner
         ensures terms { result.now.entries ≡ self.now.terms }
         ensures limit { result.now.limit ≡ self.now.handles }
@@ -404,31 +403,31 @@ impl<'w> Session<'w> {
         &self.cx.interner
     }
 
-    /// How many frames this session has started since it was made, each run of a goal by itself, or the greatest `u64` if there were more.
+    /// How many frames this session has started since it was made, or the greatest `u64` if there were more. Each evaluation of a goal is
+    /// one frame.
     pub fn frames(&self) -> u64
         ensures { result ≡ self.now.frames }
     {
         self.graph.frames()
     }
 
-    /// Whether the impls of a section, by its number from 0, make a later version of this crate: each keeps the crate's orphan rule, its
-    /// trait is neither fundamental nor auto, and its open walk meets no parameter.
+    /// Whether a later version of this crate may add the impls of a section. Sections count from 0.
     ///
-    /// `Compatible` says that no crate that uses this one, seen or unseen, can have an impl that one of them overlaps, and that none of their
-    /// references that is known to such a crate gets a proof by one of them; `Breaking` names the first impl of which that is not so,
-    /// counted from 1. It says nothing of supertraits. The fault is `Memory` where memory is refused, or `Full` where a table of the session
-    /// is full.
+    /// An impl may be added if it keeps the crate's orphan rule, its trait is neither fundamental nor auto, and its open walk meets no
+    /// parameter. `Compatible` says that no crate that uses this one, seen or unseen, can have an impl that overlaps one of them. None of
+    /// their instances is knowable in a crate that this one does not see. `Breaking` names the first impl for which that does not hold,
+    /// counted from 1. Supertraits are not looked at: see `check_supertraits`.
+    ///
+    /// No goal is evaluated. Fails with `Memory` if memory is refused, or with `Full` if a table of the session is full.
     ///
     /// RFC 1105 (which changes are breaking) and RFC 2451.
     pub fn check_later(&mut self, section: u32) -> Result<LaterAnswer, Fault>
         requires { IsSectionOf self.old.declarations self.old.of_crate section }
 
-        // What a later version may add breaks no user, in whichever set of crates it comes.
+        // In each linked set, what a later version may add breaks no user.
         ensures users { InEveryLinkedSet AddedImplsBreakNoUser }
         ensures answer { IfOk result (λ a. IsLaterAnswer self.old.declarations self.old.of_crate section (later_of a)) }
         ensures stays { StaysOn self.old self.new }
-
-        // No goal is asked.
         ensures frames { self.new.frames ≡ self.old.frames }
         ensures full { result ≡ Err Fault.Full → SomeKindIsFull self.new.terms self.new.handles }
     {
@@ -455,12 +454,11 @@ impl<'w> Session<'w> {
         ensures one_impl { AnsweredSetsAreCoherent }
         ensures coherent { HeldTextsAreCoherent }
 
-        // In each linked set with a crate that was asked, what got `no` has no solution, and what got `yes` without where-clauses has a proof.
+        // In each linked set with a crate that answered, what got `no` has no solution, and what got `yes` without where-clauses has a
+        // proof.
         ensures everywhere { AnswersHoldEverywhere }
         ensures answer { IfOk result (λ a. IsSupersAnswer self.old.depth self.old.declarations self.old.of_crate (supers_of a)) }
         ensures stays { StaysOn self.old self.new }
-
-        // `Full` comes only where a limit of the session is reached.
         ensures full { IfErr result (SessionFullAtLimit self.new) }
     {
         answered_sets_are_linked();
@@ -478,7 +476,7 @@ impl<'w> Session<'w> {
         Ok(SupersAnswer::Held)
     }
 
-    /// How the supertraits of the header of the impl with a number are answered, if it is the crate's own.
+    /// How the supertraits of the header of the impl with this number are answered, if the impl is the crate's own.
     fn header_answer(&mut self, id: ImplId) -> Result<HeaderAnswer, Fault>
         ensures checked { IfOk result (IsCheckedAt self.old.depth self.old.declarations self.old.of_crate id.index) }
         ensures stays { StaysOn self.old self.new }
@@ -503,16 +501,14 @@ impl<'w> Session<'w> {
     pub fn prove(&mut self, number: u32) -> Result<ProveAnswer, Fault>
         requires { (q : Question) × AsksProof self.old.declarations self.old.of_crate number q }
 
-        // With the values of a yes there is a proof; a decided reference is answered yes, or unproved if it has no proof.
+        // With the values of `Yes` there is a proof. For an unambiguous query the answer is `Yes`, or `Unproved` if there is no proof.
         ensures answer { (q : Question) → AsksProof self.old.declarations self.old.of_crate number q
             → IfOk result (λ a. IsProved self.old.depth self.old.declarations q (answer_in self.new.terms a)) }
         ensures held { IfOk result (AnswerValuesHeld self.new.terms) }
         ensures stays { StaysOn self.old self.new }
 
-        // The frames are those of eight askings at most, after a fault too.
+        // The frames are those of at most eight evaluations, after a fault too.
         ensures frames { (q : Question) → AsksProof self.old.declarations self.old.of_crate number q → ProvesInFrames self.old q self.new }
-
-        // `Full` comes only where a limit of the session is reached.
         ensures full { IfErr result (SessionFullAtLimit self.new) }
     {
         clauses_apply();
@@ -527,13 +523,14 @@ impl<'w> Session<'w> {
         )
     }
 
-    /// Whether steps are a proof of the reference of a `prove` question of this crate, with values for its variables, as `Yes` gives
-    /// them: by what the crate sees of the text, the question's where-clauses, and what the steps assume. Questions count from 1.
+    /// Whether steps are a proof of the trait reference of a `prove` query of this crate: by what the crate sees, by the query's
+    /// where-clauses, and by what the steps assume. Queries count from 1.
     ///
-    /// The steps may come from anyone, and so may the values: `true` says that the last step concludes the reference with some values
-    /// of the variables' kinds. A step that is assumed is taken as one more where-clause; where none is, the reference has the proof
-    /// that `Yes` promises. `false` says nothing. No goal is asked. The fault is `Memory` where memory is refused, or `Full` where a
-    /// table of the session is full.
+    /// The steps and the values may come from anyone. `true` says that the steps prove the trait reference with some values of the
+    /// variables' kinds, which need not be the given ones. A step that is assumed counts as one more where-clause. If none is assumed, this
+    /// is the proof that `Yes` promises. `false` says nothing. No goal is evaluated.
+    ///
+    /// Fails with `Memory` if memory is refused, or with `Full` if a table of the session is full.
     pub fn is_proof_of(
         &mut self,
         number: u32,
@@ -552,24 +549,23 @@ impl<'w> Session<'w> {
         is_proof_of_question(&mut self.cx, self.workspace, number, values, steps)
     }
 
-    /// Whether the reference of a `refute` question of this crate is refused: it has no proof wherever the crate is linked, whatever its
-    /// variables stand for. Questions count from 1.
+    /// Whether the trait reference of a `refute` query of this crate is refused: it has no proof in any linked set with the crate, whatever
+    /// its variables stand for. Queries count from 1.
     ///
-    /// It is asked once, in coherence and without where-clauses. A reference without variables whose chains of premises are shorter than
-    /// the depth is refused exactly if it is not possible in the crate. The fault is `Memory` where memory is refused, or `Full` where a table
-    /// of the session is full.
+    /// It is evaluated once, in coherence and without where-clauses. If it has no variables, and its chains of premises are shorter than
+    /// the depth, it is refused exactly if it is not possible in the crate.
+    ///
+    /// Fails with `Memory` if memory is refused, or with `Full` if a table of the session is full.
     pub fn refute(&mut self, number: u32) -> Result<RefuteAnswer, Fault>
         requires { (q : Question) × AsksRefutation self.old.declarations self.old.of_crate number q }
 
-        // `No` is right of the reference in every linked set with the crate; and of a bounded one it is said exactly if it is not possible.
+        // `No` is right in every linked set with the crate. A bounded trait reference gets it exactly if it is not possible.
         ensures answer { (q : Question) → AsksRefutation self.old.declarations self.old.of_crate number q
             → IfOk result (λ a. IsRefutation self.old.depth self.old.declarations q (refutation_of a)) }
         ensures stays { StaysOn self.old self.new }
 
-        // The frames are those of one asking, after a fault too.
+        // The frames are those of one evaluation, after a fault too.
         ensures frames { (q : Question) → AsksRefutation self.old.declarations self.old.of_crate number q → RefutesInFrames self.old q self.new }
-
-        // `Full` comes only where a limit of the session is reached.
         ensures full { IfErr result (SessionFullAtLimit self.new) }
     {
         refutations_have_variables_alone();

@@ -1,4 +1,5 @@
-//! A goal, asked until its answer is settled.
+//! A goal, evaluated until its answer is definite. For `V<?x>: Show`, the first answer may be a yes with `?x = u8`. Then `V<u8>: Show` is
+//! evaluated, and a yes without values ends it.
 
 ghost use Rattle.std.specs.Prelude.{◌≡◌, ◌-◌, Ok, IfErr};
 ghost use Rattle.solver_context.specs.Shortages.{ContextFullAtLimit};
@@ -14,28 +15,28 @@ use search_graph::{GlobalCache, SearchGraph};
 use solver_context::{RootError, SolverCx, SolverGraph, evaluate_root_goal};
 use type_terms::Fault;
 
-/// How often a goal is asked at most: values of an answer may make the next one definite.
+/// How often a goal is evaluated at most. The values of one answer may make the next one definite.
 pub const MAX_ASKINGS: u32 = 8;
 
-/// What is known of a question's goal once its answer is settled.
+/// What is known of a query's goal at the end.
 #[derive(Clone, Copy)]
 pub enum Outcome {
-    /// It has a proof, with the values that the table has.
+    /// The goal has a proof, with the values that the table has.
     Proved,
-    /// It was refused when it was asked first.
+    /// The goal was refused when it was evaluated first.
     Unproved,
-    /// Neither is known.
+    /// The search does not know.
     Maybe,
 }
 
-/// What one asking comes to.
+/// What one evaluation comes to.
 #[derive(Clone, Copy)]
 enum Asking {
     /// A yes that changes nothing.
     Holds,
     /// A yes with values.
     Changes,
-    /// It is not known whether there is a solution.
+    /// The search does not know whether there is a solution.
     IsUnsure,
     /// There is no solution.
     IsRefused,
@@ -55,7 +56,7 @@ fn read(certainty: Certainty, has_changed: HasChanged) -> Asking
     }
 }
 
-/// Asks the goal once, outside coherence. The answer's values stay in the table.
+/// Evaluates the goal once, outside coherence. The answer's values stay in the table.
 fn ask_once<H: GoalHandler>(
     graph: &mut SearchGraph<SolverGraph<H>>,
     cache: &mut GlobalCache<SolverGraph<H>>,
@@ -83,8 +84,8 @@ fn ask_once<H: GoalHandler>(
     }
 }
 
-/// Asks a goal again whose last answer had values, as often as is left. What is refused now is not known to have no proof: the values
-/// need not be forced.
+/// Evaluates a goal again whose last answer had values, as often as is still allowed. A refusal now does not say that there is no proof,
+/// because the values need not be forced.
 fn ask_again<H: GoalHandler>(
     graph: &mut SearchGraph<SolverGraph<H>>,
     cache: &mut GlobalCache<SolverGraph<H>>,
@@ -111,17 +112,20 @@ fn ask_again<H: GoalHandler>(
     Ok(Outcome::Maybe)
 }
 
-/// Asks a question's goal over one table until its answer is settled: a yes with values is asked again, at most eight times in all.
+/// Evaluates a query's goal over one table until its answer is definite. After a yes with values it is evaluated again, at most eight times
+/// in all. The values stay in the table.
 ///
-/// The answers' values stay in the table. `Proved` comes with the first yes that changes nothing: then the goal has a proof at each
-/// solution of the table, if neither it nor the table held canonical variables. `Unproved` comes where the first asking is refused, and
-/// `Maybe` with an answer that is not sure, with a refusal after values, with a conflict, and after eight answers with values. Where it
-/// comes, the first answer was no definite yes, or plain recursion has none within the depth.
+/// - `Proved`: the last evaluation was a yes that changed nothing. Then the goal has a proof at each solution of the table, if neither it
+///   nor the table held canonical variables.
+/// - `Unproved`: the first evaluation was refused.
+/// - `Maybe`: an answer was ambiguous, a refusal came after values, there was a conflict, or all eight answers had values. Then the first
+///   answer was no definite yes, or plain recursion has none within the depth.
 ///
-/// `Memory` comes where memory is refused, or the table has no numbers for the goal's form or for its answer; `Full` only where a table
-/// of the context is at its limit. Whatever comes, the goal can be asked again, and each solution of the table is one that it had before.
+/// Fails with `Memory` if memory is refused, or if the table has no numbers for the goal's form or for its answer. Fails with `Full` only
+/// if a table of the context is at its limit. The goal can be evaluated again in each case, and each solution of the table is one that it
+/// had before.
 ///
-/// `evaluate_root_goal` in the loop of `rustc_trait_selection`'s `FulfillmentCtxt`, for one goal.
+/// rustc: `evaluate_root_goal` in the loop of `FulfillmentCtxt` of `rustc_trait_selection`, for one goal.
 pub fn ask_until_settled<H: GoalHandler>(
     graph: &mut SearchGraph<SolverGraph<H>>,
     cache: &mut GlobalCache<SolverGraph<H>>,

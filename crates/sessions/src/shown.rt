@@ -1,4 +1,4 @@
-//! Steps that are said to be a proof of a question's reference, checked.
+//! Steps that are given as a proof of a query's trait reference, checked.
 
 ghost use Rattle.std.specs.Prelude.{◌≡◌, true, map, IfOk};
 ghost use Rattle.type_terms.specs.Erased.{erased_reference};
@@ -31,7 +31,7 @@ use type_terms::interner::Interner;
 use type_terms::kinds::GenericArgKind;
 use workspace::Workspace;
 
-/// Equates an unknown with a value; where the value does not fit, all is left as it is.
+/// Equates a variable with a value. If the value does not fit, nothing changes.
 fn equate(
     cx: &mut Interner,
     table: &mut InferCtxt,
@@ -51,7 +51,7 @@ fn equate(
     }
 }
 
-/// Equates each unknown with its value, as far as these fit.
+/// Equates each variable with its value, as far as these fit.
 fn equate_all(
     cx: &mut Interner,
     table: &mut InferCtxt,
@@ -79,7 +79,7 @@ fn equate_all(
     Ok(())
 }
 
-/// A reference with the values of the table.
+/// A trait reference with the values of the table.
 fn resolve_reference(
     cx: &mut Interner,
     table: &mut InferCtxt,
@@ -126,7 +126,7 @@ fn resolve_reference_in(
     instance
 }
 
-/// Whether steps are a proof of a reference by the declarations of a solver's context (`is_proof_of`).
+/// Whether steps are a proof of a trait reference by the declarations of a solver's context (`is_proof_of`).
 fn is_proof_in(
     cx: &mut SolverCx<Solver>,
     clauses: &[TraitRef],
@@ -156,7 +156,7 @@ fn is_proof_in(
     found
 }
 
-/// Whether steps are a proof of a reference under just these where-clauses, with these values for its unknowns as far as they fit.
+/// Whether steps are a proof of a trait reference under just these where-clauses, with these values for its variables as far as they fit.
 fn is_proof_under(
     cx: &mut SolverCx<Solver>,
     clauses: &[TraitRef],
@@ -180,9 +180,9 @@ fn is_proof_under(
     is_proof_in(cx, clauses, instance, steps)
 }
 
-/// Whether steps are a proof of the reference of the question with a number, with these values for its variables as far as they fit.
+/// Whether steps are a proof of the trait reference of the query with this number, with these values for its variables as far as they fit.
 ///
-/// All stays ready, after a fault too. The fault is a refusal of memory, or `Full`.
+/// Everything stays ready, after a fault too. Fails with `Memory` if memory is refused, or with `Full` if a table is full.
 pub(crate) fn is_proof_of_question(
     cx: &mut SolverCx<Solver>,
     workspace: &Workspace,

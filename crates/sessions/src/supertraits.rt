@@ -1,4 +1,5 @@
-//! Whether the supertraits of an impl's header are proved from its where-clauses.
+//! Whether the supertraits of an impl's header have proofs from its where-clauses. For `trait Sub: Sup` and
+//! `impl<T> Sub for V<T> where T: Sub`, the goal is `V<!0>: Sup` under `!0: Sub` and `!0: Sup`.
 
 ghost use Rattle.std.specs.Prelude.{ℕ, IfOk, IfErr};
 ghost use Rattle.type_terms.specs.Terms.{Keeps};
@@ -33,8 +34,8 @@ use term_folds::predicate::TraitRef;
 use type_terms::interner::Interner;
 use type_terms::{Fault, ImplId};
 
-/// What is asked of an impl: the strict supertraits of its header, each once, under its where-clauses with all their supertraits. Its
-/// parameters stand in all of them as placeholders.
+/// The goals of an impl: the strict supertraits of its header, each once, under its where-clauses with all their supertraits. Its
+/// parameters are placeholders in all of them.
 #[derive(Drop)]
 pub struct SupertraitGoals {
     pub supertraits: Vec<TraitRef>,
@@ -48,11 +49,12 @@ pub(crate) enum HeaderAnswer {
     Held,
     /// Those before this one have proofs, and the search found none of this one.
     Missing(u32),
-    /// Those before this one have proofs, and of this one the search does not know.
+    /// Those before this one have proofs, and the search does not know about this one.
     Undecided(u32),
 }
 
-/// What is asked of an impl: the header is none of its where-clauses. The fault is a refusal of memory, or `Full`.
+/// The goals of an impl. The header is none of the where-clauses. Fails with `Memory` if memory is refused, or with `Full` if a table is
+/// full.
 fn goals_of(
     alloc: Global,
     cx: &mut Interner,
@@ -76,7 +78,8 @@ fn goals_of(
     })
 }
 
-/// What is asked of the impl with a number, if it is of the crate that asks. The fault is a refusal of memory, or `Full`.
+/// The goals of the impl with this number, if it is of the local crate. Fails with `Memory` if memory is refused, or with `Full` if a table
+/// is full.
 fn own_goals(
     alloc: Global,
     cx: &mut Interner,
@@ -116,9 +119,9 @@ pub fn own_goals_in(cx: &mut SolverCx<Solver>, id: ImplId) -> Result<Option<Supe
     goals
 }
 
-/// How a reference without unknowns is answered outside coherence, under just these where-clauses.
+/// Evaluates a trait reference without variables outside coherence, under just these where-clauses.
 ///
-/// All stays at rest, after a fault too. The fault is a refusal of memory, or `Full`.
+/// Everything stays at rest, after a fault too. Fails with `Memory` if memory is refused, or with `Full` if a table is full.
 fn ask_under(
     graph: &mut SearchGraph<SolverGraph<Solver>>,
     cache: &mut GlobalCache<SolverGraph<Solver>>,
@@ -144,9 +147,9 @@ fn ask_under(
     }
 }
 
-/// Asks for each supertrait in turn, up to the first that is not proved.
+/// Evaluates each supertrait in turn, up to the first that is not proved.
 ///
-/// All stays at rest, after a fault too. The fault is a refusal of memory, or `Full`.
+/// Everything stays at rest, after a fault too. Fails with `Memory` if memory is refused, or with `Full` if a table is full.
 fn first_unproved(
     graph: &mut SearchGraph<SolverGraph<Solver>>,
     cache: &mut GlobalCache<SolverGraph<Solver>>,
@@ -176,10 +179,10 @@ fn first_unproved(
     Ok(HeaderAnswer::Held)
 }
 
-/// How the supertraits of the header of the impl with a number are answered, if it is of the crate that asks; those of another impl are
-/// not asked for.
+/// How the supertraits of the header of the impl with this number are answered, if it is of the local crate. Those of another impl are not
+/// evaluated.
 ///
-/// All stays at rest, after a fault too. The fault is a refusal of memory, or `Full`.
+/// Everything stays at rest, after a fault too. Fails with `Memory` if memory is refused, or with `Full` if a table is full.
 pub(crate) fn header_answer_at(
     graph: &mut SearchGraph<SolverGraph<Solver>>,
     cache: &mut GlobalCache<SolverGraph<Solver>>,

@@ -1,4 +1,4 @@
-//! The table of a question.
+//! The table of a query.
 
 ghost use Rattle.std.specs.Prelude.{◌≡◌, ◌∷◌, ◌++◌, [], List, map, IfOk, OnOk};
 ghost use Rattle.type_terms.specs.Label.{Sort};
@@ -13,7 +13,7 @@ use type_terms::Fault;
 use type_terms::interner::Interner;
 use type_terms::kinds::GenericArgKind;
 
-/// One more unknown, of the kind of this one. The fault is `Memory` also where there are no numbers for it.
+/// Adds one variable of the same kind as this one. Fails with `Memory` also if there is no number for it.
 fn add_unknown(cx: &mut Interner, table: &mut InferCtxt, like: GenericArgKind) -> Result<(), Fault>
     requires { Ready cx.old.entries table.old }
     ensures ready { Ready cx.new.entries table.new }
@@ -34,10 +34,10 @@ fn add_unknown(cx: &mut Interner, table: &mut InferCtxt, like: GenericArgKind) -
     Ok(())
 }
 
-/// A table for a question with these unknowns: it has as many of each kind, so that those of the question are its own.
+/// A table for a query with these variables. It has as many of each kind, so the query's variables are its own.
 ///
-/// `Full` comes only where some kind of term has reached its limit, `Memory` where memory is refused or that many unknowns have no
-/// numbers.
+/// Fails with `Memory` if memory is refused or that many variables have no numbers, and with `Full` only if some kind of term has reached
+/// its limit.
 pub fn question_table(
     alloc: Global,
     cx: &mut Interner,

@@ -1,4 +1,4 @@
-//! Mathematics without running code: the crates of a text without a fault, as a set of linked crates.
+//! The crates of a text without a fault, as a linked set. These are laws, with no code to run.
 
 ghost use Rattle.sessions.specs.AnsweredSets.{AnsweredSetsAreCoherent, AnsweredSetsAreLinked, AnsweredSetsInAnyOrder, TextsObeyTheirRules};
 ghost use Rattle.sessions.specs.CoherentTexts.{AcceptedTextsAreCoherent, HeldTextsAreCoherent};
@@ -29,30 +29,30 @@ pub fn crates_of_two_texts_are_a_set()
     ensures { CratesOfTwoTextsAreASet }
 {}
 
-/// The crates of a text without a fault are a joined set, with the views that their answers are about, where all keep the orphan rule:
-/// of what makes them linked crates, the supertraits of headers alone are left.
+/// The crates of a text without a fault are a joined set, with the views that their answers are about, if all headers keep the orphan rule.
+/// To be a linked set they lack only the supertraits of headers.
 pub fn texts_are_joined()
     ensures { TextsAreJoined }
 {}
 
-/// A text lists the auto traits of each `dyn` in the order in which it declares them.
+/// A text lists the auto traits of each `dyn` in the order in which it declares them, each once.
 pub fn texts_list_in_order()
     ensures { TextsListInOrder }
 {}
 
-/// In a text whose crates are all accepted, and in which the supertraits of headers are proved, no closed reference has proofs by two
-/// impls, and answers hold of the text as a whole.
+/// If all crates of a text are accepted, and the supertraits of headers have proofs, then no concrete trait reference has proofs by two
+/// impls, and the answers hold for the text as a whole.
 pub fn accepted_texts_are_coherent()
     ensures { AcceptedTextsAreCoherent }
 {}
 
-/// So it is where each crate proves the supertraits of its headers by what it sees and their where-clauses, as
+/// The same holds if each crate proves the supertraits of its headers from what it sees and the impls' where-clauses, as
 /// `Session::check_supertraits` finds it.
 pub fn held_texts_are_coherent()
     ensures { HeldTextsAreCoherent }
 {}
 
-/// The header and the where-clauses of each impl of a text without a fault, of those that later versions add too, name only what the
+/// The header and the where-clauses of each impl of a text without a fault, also of impls that later versions add, name only what the
 /// impl's crate sees.
 pub fn impls_are_in_scope()
     ensures { ImplsAreInScope }

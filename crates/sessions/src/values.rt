@@ -1,4 +1,4 @@
-//! The values of a question's unknowns.
+//! The values of a query's variables.
 
 ghost use Rattle.std.specs.Prelude.{◌≡◌, map, IfOk};
 ghost use Rattle.type_terms.specs.Kinds.{ArgsHeld, arg_trees};
@@ -12,10 +12,10 @@ use type_terms::Fault;
 use type_terms::interner::Interner;
 use type_terms::kinds::GenericArgKind;
 
-/// What each of these stands for: with each unknown that has a value replaced by it, and so on in the values. An unknown without a
-/// value is its own.
+/// What each of these variables stands for in the table. Variables inside a value are resolved too. A variable without a value stands for
+/// itself.
 ///
-/// `Full` comes only where some kind of term has reached its limit, `Memory` where memory is refused.
+/// Fails with `Memory` if memory is refused, and with `Full` only if some kind of term has reached its limit.
 pub fn values_of(
     alloc: Global,
     cx: &mut Interner,

@@ -23,7 +23,7 @@ use view_lowering::{
 };
 use workspace::Workspace;
 
-/// What a crate sees of a text without a fault is ready for the solver, where its terms are an interner's.
+/// What a crate sees of a text without a fault is ready for the solver, if its terms are an interner's.
 pub fn declarations_are_ready()
     ensures { OfTexts AreReady }
 {
@@ -33,13 +33,13 @@ pub fn declarations_are_ready()
     bounds_are_applied();
 }
 
-/// Where numbers are places, as `Workspace::crates` says of those of a text, the impls that a crate sees have numbers of their own, below
-/// the number of all impls of the text.
+/// If numbers are indices, as `Workspace::crates` says of those of a text, the impls that a crate sees have numbers of their own, below the
+/// number of all impls of the text.
 pub fn impls_are_numbered()
     ensures { ImplsAreNumbered }
 {}
 
-/// The declarations that a crate of a text sees, ready for the solver. Errors are those of `lower`.
+/// The declarations that a crate of a text sees, ready for the solver. The errors are those of `lower`.
 pub(crate) fn lower_view(
     alloc: Global,
     cx: &mut Interner,
