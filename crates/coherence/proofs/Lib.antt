@@ -29,3 +29,4 @@ pub mod AcceptedTexts
 pub mod Told
 pub mod SourceLines
 pub mod FullTables
+pub mod Asking

@@ -10,3 +10,4 @@ pub mod Groups
 pub mod KeptLines
 pub mod LineByLine
 pub mod LineSources
+pub mod Asking

@@ -1,6 +1,10 @@
-//! Checks of crates, and answers to questions, from bytes to bytes.
+//! Checks of crates, and answers to questions, from bytes to bytes, and of a text that is read once and asked at run time.
+//!
+//! What a caller names of the crates below is passed on from here.
 #![tactic(auto)]
 
+mod ask_fault;
+mod asker;
 mod coherent;
 mod depths;
 mod groups;
@@ -12,10 +16,20 @@ mod status;
 mod streams;
 mod text_run;
 
+pub use answer_lines::print_type;
+pub use ask_fault::AskFault;
+pub use asker::Asker;
 pub use coherent::{accepted_lines_tell, held_lines_tell};
 pub use depths::parse_depth;
+pub use name_resolution::FaultKind;
 pub use output_lines::OutputLines;
 pub use outputs::{Output, answer};
-pub use sessions::Limits;
+pub use sessions::{
+    LaterAnswer, Limits, OrphanCheckErr, ProveAnswer, RefuteAnswer, SeenView, Session,
+    SupersAnswer, UncoveredTyParams, Verdict,
+};
 pub use status::{RunFault, Status};
+pub use text_reader::{TextError, TextFault, parse};
 pub use text_run::run;
+pub use type_terms::{CrateId, Fault, ImplId};
+pub use workspace::Workspace;

@@ -1,0 +1,154 @@
+-- A text that is asked at run time: what is kept goes over to the text with one more question, and back.
+use Rattle.std.proofs.Common.{◌≡◌, ℕ, ◌+◌, ◌-◌, ◌<◌, ◌≤◌, List, [], ◌∷◌, ◌++◌, length, take, Option, Some, None, Result, Ok, Err, refl, sym, ap, ◌∙◌, subst, length-append, arith, Vec, Global}
+use Rattle.std.specs.Prelude.{IfOk, IfErr, IfSome, IsErrAnd, map, slice_get}
+use Rattle.std.proofs.Math.Seq.{take-append_seam}
+use Rattle.std.proofs.lemmas.List.{length-map}
+use Rattle.std.proofs.lemmas.Option.{same_Some}
+use Rattle.text_definitions.specs.Declarations.{Declarations, Question}
+use Rattle.text_definitions.specs.Text.{TextGives, fits, text_limit}
+use Rattle.type_terms.specs.declared.CrateId.{CrateId}
+use Rattle.text_reader.specs.Behind.{FitsBehind, LinesBehindTexts, behind}
+use Rattle.text_reader.specs.Queries.{IsQueryLine}
+use Rattle.text_reader.specs.declared.query_line.QueryLine.{QueryLine}
+use Rattle.workspace.specs.Numbered.{IsFew}
+use Rattle.workspace.specs.Tables.{declared, with_question}
+use Rattle.workspace.specs.Unasked.{without_last_question}
+use Rattle.workspace.specs.Views.{asked_of, asker_of, crate_of, question_of}
+use Rattle.workspace.specs.declared.declared.Asked.{Asked}
+use Rattle.workspace.specs.declared.declared.QuestionEntry.{QuestionEntry}
+use Rattle.workspace.specs.declared.tables.Tables.{Tables}
+use Rattle.sessions.specs.SeenViews.{IsViewOf, IsLeftView}
+use Rattle.sessions.specs.Subjects.{IsOfText}
+use Rattle.sessions.specs.declared.seen_view.SeenView.{SeenView}
+use Rattle.coherence.specs.Asking.{AskedText, IsAnswerBehind, IsAskFault, IsLastLine, IsQueryBehind, IsShortage, Serves, of_run_fault}
+use Rattle.coherence.specs.Groups.{IsAskedIn}
+use Rattle.coherence.specs.KeptLines.{HasLine, IsLineOf}
+use Rattle.coherence.specs.LineByLine.{IsAnswerOf, of_question, IsLineAt, line_count}
+use Rattle.coherence.specs.declared.ask_fault.AskFault.{AskFault}
+use Rattle.coherence.specs.declared.ask_fault.AskFault.TheVariants as faults
+use Rattle.coherence.specs.declared.status.RunFault.{RunFault}
+use Rattle.coherence.specs.declared.status.RunFault.TheVariants as run_faults
+
+-- ---- the view of a crate, which no question is of
+view-asked : (d : Declarations) (q : Question) (c handles : ℕ) (v : SeenView) → IsViewOf d c handles v → IsViewOf (with_question d q) c handles v
+view-asked d q c handles v h = record {
+  crate = h.crate;
+  seen = record { written = h.seen.written; structs = h.seen.structs; traits = h.seen.traits; impls = h.seen.impls };
+  rules = h.rules;
+  local = h.local;
+  ready = h.ready;
+  limit = h.limit;
+  declared = h.declared;
+}
+
+view-unasked : (d : Declarations) (q : Question) (c handles : ℕ) (v : SeenView) → IsViewOf (with_question d q) c handles v → IsViewOf d c handles v
+view-unasked d q c handles v h = record {
+  crate = h.crate;
+  seen = record { written = h.seen.written; structs = h.seen.structs; traits = h.seen.traits; impls = h.seen.impls };
+  rules = h.rules;
+  local = h.local;
+  ready = h.ready;
+  limit = h.limit;
+  declared = h.declared;
+}
+
+pub left-asked : (d : Declarations) (q : Question) (handles : ℕ) (o : Option SeenView) → IfSome o (IsLeftView d handles) → IfSome o (IsLeftView (with_question d q) handles)
+left-asked d q handles None h = tt
+left-asked d q handles (Some v) h = view-asked d q v.crate_id.index handles v h
+
+pub left-unasked : (d : Declarations) (q : Question) (handles : ℕ) (o : Option SeenView) → IfSome o (IsLeftView (with_question d q) handles) → IfSome o (IsLeftView d handles)
+left-unasked d q handles None h = tt
+left-unasked d q handles (Some v) h = view-unasked d q v.crate_id.index handles v h
+
+-- ---- the question
+last-there : {A : Type 0} (xs : List A) (x : A) → slice_get (xs ++ x ∷ []) (length xs) ≡ Some x
+last-there [] x = refl
+last-there (y ∷ ys) x = last-there ys x
+
+pub taken-out : (d : Declarations) (q : Question) → without_last_question (with_question d q) ≡ d
+taken-out d q =
+    let n : length (d.questions ++ q ∷ []) - 1 ≡ length d.questions = omega (arith, length-append d.questions (q ∷ [])) in
+    ap (λ (qs : List Question). record d { questions = qs }) (ap (λ m. take m (d.questions ++ q ∷ [])) n ∙ take-append_seam d.questions (q ∷ []))
+
+pub asked-last : (d : Declarations) (q : QuestionEntry) (c k : ℕ) → k ≡ length d.questions → c ≡ asker_of q.asked_how → IsAskedIn (with_question d (question_of q)) c k
+asked-last d q c k place asker = (question_of q, rw place (last-there d.questions (question_of q)), sym asker)
+
+pub as-many : (d : Declarations) (asks : List Asked) → map asked_of asks ≡ map (λ (q : Question). (q.is_refute, q.asker)) d.questions → length asks ≡ length d.questions
+as-many d asks e = sym (length-map asks asked_of) ∙ ap length e ∙ length-map d.questions (λ (q : Question). (q.is_refute, q.asker))
+
+pub few-questions : (d : Declarations) (q : Question) (k : ℕ) → IsFew (with_question d q) k → length d.questions + 1 < k
+few-questions d q k few = omega (arith, few.few_questions, length-append d.questions (q ∷ []))
+
+-- the line of the last question
+pub line-of-last : (limit : ℕ) (d : Declarations) (q : Question) (k : ℕ) (text : List ℕ) → k ≡ length d.questions → IsLineOf limit (with_question d q) k text → IsAnswerBehind limit d q text
+line-of-last limit d q k text place h =
+    let here : slice_get (d.questions ++ q ∷ []) k ≡ Some q = ap (slice_get (d.questions ++ q ∷ [])) place ∙ last-there d.questions q in
+    let same : h.0 ≡ q = same_Some h.0 q (sym h.1 ∙ here) in
+    subst (λ n. HasLine limit (with_question d q) (n + 1) q text) place (subst (λ x. HasLine limit (with_question d q) (k + 1) x text) same h.2)
+
+pub last-of-output : (limit : ℕ) (d : Declarations) (q : Question) (text : List ℕ) → IsAnswerBehind limit d q text
+    → IsLineAt limit (Ok (with_question d q)) (line_count (Ok (with_question d q)) - 1) text
+last-of-output limit d q text h =
+    let e = with_question d q in
+    let place : length e.crates - 1 + length e.checks + length d.questions ≡ line_count (Ok e) - 1 = omega (arith, length-append d.questions (q ∷ [])) in
+    (h.0, subst (λ n. IsAnswerOf limit e n h.0) place (of_question (length d.questions) q h.0 (last-there d.questions q) h.1), h.2)
+
+-- ---- what a line asks
+pub text-short : (bytes : List ℕ) (d : Declarations) → TextGives bytes (Ok d) → length bytes ≤ text_limit
+text-short bytes d (fits _ h g) = h
+
+pub length-fits : (d : Declarations) (n handles : ℕ) (view : Option SeenView) → Serves d n handles view → n ≤ text_limit
+length-fits d n handles view s = let (bytes, t, len) = s.text in omega (arith, len, text-short bytes d t)
+
+pub served : (d : Declarations) (n handles : ℕ) (view : Option SeenView) → Serves d n handles view → IsOfText d
+served d n handles view s = (s.text.0, s.text.1)
+
+pub parsed-behind : LinesBehindTexts → (d : Declarations) (n handles : ℕ) (view : Option SeenView) → Serves d n handles view → (line : List ℕ) (q : QuestionEntry)
+    → IsQueryBehind d n line q → IsOfText (with_question d (question_of q))
+parsed-behind laws d n handles view s line q h =
+    let (bytes, t, len) = s.text in
+    (behind bytes line, (laws bytes line d t h.alone (subst (λ k. k + 1 + length line ≤ text_limit) (sym len) h.room)).0 (with_question d (question_of q)) h.gives)
+
+pub last-line : LinesBehindTexts → (limit : ℕ) (d : Declarations) (n : ℕ) (line : List ℕ) (q : QuestionEntry) → IsQueryBehind d n line q → (r : Result (Vec ℕ Global) AskFault)
+    → IfOk r (λ text. IsAnswerBehind limit d (question_of q) text.items)
+    → (bytes : List ℕ) → TextGives bytes (Ok d) → FitsBehind bytes line → IfOk r (λ text. IsLastLine limit (behind bytes line) text.items)
+last-line laws limit d n line q asks (Ok text) h bytes t room =
+    let e = with_question d (question_of q) in
+    (e, (laws bytes line d t asks.alone room).0 e asks.gives, last-of-output limit d (question_of q) text.items h)
+last-line laws limit d n line q asks (Err e) h bytes t room = tt
+
+-- what was read of the line, of the same declarations
+pub query-at : (d e : Declarations) (line : List ℕ) (q x : QueryLine) → d ≡ e → q ≡ x → IsQueryLine d line q → IsQueryLine e line x
+query-at d e line q x same is h = subst (λ (y : Declarations). IsQueryLine y line x) same (subst (IsQueryLine d line) is h)
+
+pub same-asked : (d e : Declarations) (n k : ℕ) (a : AskedText) → e ≡ d → record { declarations = d; text_length = n; depth = k } ≡ a → record { declarations = e; text_length = n; depth = k } ≡ a
+same-asked d e n k a same is = ap (λ (x : Declarations). as-asked x) same ∙ is
+  where
+    as-asked : Declarations → AskedText
+    as-asked x = record { declarations = x; text_length = n; depth = k }
+
+-- ---- faults
+shortage-is : (d : Declarations) (n : ℕ) (line : List ℕ) (e : AskFault) → IsShortage e → IsAskFault d n line e
+shortage-is d n line faults.Memory h = tt
+shortage-is d n line faults.Full h = tt
+shortage-is d n line _ h = absurd h
+
+pub shortages-are : {X : Type 0} (d : Declarations) (n : ℕ) (line : List ℕ) (r : Result X AskFault) → IfErr r IsShortage → IfErr r (IsAskFault d n line)
+shortages-are d n line (Ok x) h = tt
+shortages-are d n line (Err e) h = shortage-is d n line e h
+
+-- one that a refused call hands on
+pub handed-shortage : {X : Type 0} (r : Result X AskFault) (f : AskFault) → IsErrAnd r (λ y. y ≡ f) → IsShortage f → IfErr r IsShortage
+handed-shortage (Ok x) f h s = tt
+handed-shortage (Err y) f h s = subst IsShortage (sym h) s
+
+pub of-run-is : (f : RunFault) → IsShortage (of_run_fault f)
+of-run-is run_faults.Full = tt
+of-run-is run_faults.Memory = tt
+of-run-is run_faults.Read = tt
+of-run-is run_faults.Write = tt
+
+-- ---- a crate of a name
+pub named-there : (t : Tables) (d : Declarations) (o : Option CrateId) → declared t ≡ d → IfSome o (λ c. c.index < length t.crates.items) → IfSome o (λ c. c.index < length d.crates)
+named-there t d None e h = tt
+named-there t d (Some c) e h = subst (λ (x : Declarations). c.index < length x.crates) e (omega (arith, h, length-map t.crates.items crate_of))

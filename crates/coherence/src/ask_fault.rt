@@ -1,0 +1,52 @@
+//! Why a line has no answer.
+
+ghost use Rattle.std.specs.Prelude.{◌≡◌};
+ghost use Rattle.coherence.specs.declared.ask_fault.AskFault.TheVariants.{Memory};
+
+use crate::status::RunFault;
+use name_resolution::FaultKind;
+use std::alloc::AllocError;
+
+/// Why a line that is asked behind a text has no answer.
+#[derive(Clone, Copy, Debug, PartialEq, Eq, thiserror::Error)]
+pub enum AskFault {
+    /// The line has this fault: of all that apply the one with the smallest number.
+    #[error("the line has a fault")]
+    Line(FaultKind),
+    /// The line has no fault and asks nothing: it is empty, a comment, a declaration or a check.
+    #[error("the line asks nothing")]
+    NotAQuery,
+    /// A byte in it ends a line.
+    #[error("these are several lines")]
+    SeveralLines,
+    /// The text and the line together are longer than texts may be.
+    #[error("the text has no room for the line")]
+    TooLong,
+    /// A request for memory was refused, or there were no numbers for so many variables.
+    #[error("out of memory")]
+    Memory,
+    /// A table of terms, of goals or of answers was full.
+    #[error("a table is full")]
+    Full,
+}
+
+impl From<AllocError> for AskFault {
+    ghost from_gives = { λ _ fault. fault ≡ Memory };
+
+    fn from(_refused: AllocError) -> AskFault {
+        AskFault::Memory
+    }
+}
+
+impl From<RunFault> for AskFault {
+    ghost use Rattle.coherence.specs.Asking.{of_run_fault};
+
+    ghost from_gives = { λ fault ask_fault. ask_fault ≡ of_run_fault fault };
+
+    fn from(fault: RunFault) -> AskFault {
+        match fault {
+            RunFault::Full => AskFault::Full,
+            RunFault::Memory | RunFault::Read | RunFault::Write => AskFault::Memory,
+        }
+    }
+}
