@@ -15,31 +15,31 @@ use Rattle.text_definitions.specs.Declarations.{Declarations, NamedImpl, Check, 
 use Rattle.sessions.specs.Promises.{view_in}
 use Rattle.coherence.specs.Lines.{crate_text, number_in_crate}
 
--- ---- the supertraits of a header that a check asks for
+-- ---- the supertraits of a header that a check evaluates
 
--- The trees of a header as they are asked: each parameter stands for itself, a lifetime too, and other lifetimes are erased.
+-- The terms of a header as they are evaluated: each parameter stands for itself, a lifetime too, and other lifetimes are erased.
 abbrev pub asked_header : Trees → Trees
 asked_header none = none
 asked_header (tree (param s i) c o) = tree (placeholder s i) (asked_header c) (asked_header o)
 asked_header (tree l c o) = tree (erase_label l) (asked_header c) (asked_header o)
 
--- The references `left` and their supertraits in V, as they come up, n at most. The first one is the next; the supertraits that its trait is
--- declared with go before the others, the last of them first, but for those that came up before or are left already. For `S: A1 + B1`, with
--- `A1: A2`, they are S, B1, A1, A2.
+-- The trait references `left` and their supertraits in V, in the order in which they come up, at most n. The first one is the next. The
+-- supertraits that its trait is declared with go before the others, the last of them first, without those that came up before or are left
+-- already. For `S: A1 + B1`, with `A1: A2`, they are S, B1, A1, A2.
 abbrev pub supers_in_turn : ℕ → World → List Reference → List Reference → List Reference
 supers_in_turn (suc n) V before (r ∷ left) =
     r ∷ supers_in_turn n V (r ∷ before) (fold (λ rs s. if list_any (same_reference s) (r ∷ before ++ rs) then rs else s ∷ rs) left (written_supertraits V r))
 supers_in_turn _ V before _ = []
 
--- The strict supertraits of an impl's header, each once, in that order; two of them may be one up to lifetimes. There are no more steps than
--- paths of written bounds.
+-- The strict supertraits of an impl's header, each once, in that order. Two of them may be one up to lifetimes. There are no more steps
+-- than paths of written bounds.
 abbrev pub header_supers : World → ImplDecl → List Reference
 header_supers V i =
     let h : Reference = record { trait = i.header.trait; args = asked_header i.header.args } in
     map erased_reference (drop 1 (supers_in_turn (length (elaborated V (h ∷ []))) V [] (h ∷ [])))
 
--- Number k of the text's impls is the first of crate c's with a supertrait of its header for which no proof was found, and supertrait j, from
--- 0, is the first such: those before have proofs from the impl's where-clauses, and it is not determinate.
+-- Number k of the text's impls is the first of crate c's with a supertrait of its header for which no proof was found. Supertrait j,
+-- counted from 0, is the first such one. Those before it have proofs from the impl's where-clauses, and it is not determinate.
 pub record StopsWith (limit : ℕ) (d : Declarations) (c k j : ℕ) : Type 0 where
   pub earlier : (n : ℕ) (i : NamedImpl) → n < k → slice_get d.impls n ≡ Some i → i.item.home ≡ c → SupersHold (view_in d c) (erased_impl i.item)
   pub found : NamedImpl
@@ -50,8 +50,8 @@ pub record StopsWith (limit : ℕ) (d : Declarations) (c k j : ℕ) : Type 0 whe
   pub before : Every (HasProof (view_in d c) (map opaque_reference (erased_impl found.item).clauses)) (take j (header_supers (view_in d c) found.item))
   pub not_determinate : IsDeterminate limit (view_in d c) (map opaque_reference (erased_impl found.item).clauses) super → ⊥
 
--- Of section k a later version of crate c may add all impls, or number n, from 0, is the first that it may not. The supertraits of the crate's
--- headers are held, or a check stopped, and then both words promise one thing.
+-- A later version of crate c may add all impls of section k, or number n, counted from 0, is the first that it may not add. The supertraits
+-- of the crate's headers have proofs, or a check stopped, and then both words promise the same.
 pub data CheckAnswer (limit : ℕ) (d : Declarations) : Check → List ℕ → Type 0 where
   says_compatible : (k c : ℕ) → Every (λ i. Added (view_in d c) c (erased_impl i.item)) (section_impls d k)
       → CheckAnswer limit d (of_later k c) (codes "later " ++ crate_text d c ++ codes ": compatible")

@@ -21,8 +21,8 @@ use Rattle.sessions.specs.Promises.{view_in}
 use Rattle.coherence.specs.Lines.{crate_text, number_in_crate}
 
 -- ---- an orphan
--- The arguments that the orphan rule looks at, in order: it looks through a reference, and through a fundamental struct of another crate
--- (RFC 1023). Of `Box<V<u8>>, bool` it looks at `V<u8>` and `bool`.
+-- The arguments that the orphan rule looks at, in order. It looks through a reference, and through a fundamental struct of another crate
+-- (RFC 1023). For `Box<V<u8>>, bool` it looks at `V<u8>` and `bool`.
 abbrev pub types_met : World → ℕ → Trees → List Trees
 types_met V c none = []
 types_met V c (tree (ref _) k o) = types_met V c k ++ types_met V c o
@@ -34,8 +34,8 @@ types_met V c (tree l k o) = tree l k none ∷ types_met V c o
 abbrev pub impl_type_text : Declarations → ℕ → Trees → List ℕ
 impl_type_text d k t = final_text (printed_trees d (map (λ p. p.0) (option_map_or (λ i. i.params) (slice_get d.impls k) [])) [] (opaque t))
 
--- Why crate c may not write the impl, whose header breaks the orphan rule: no type that the rule looks at is open, and none is local; or
--- this is the first open one, and this the first local one, if there is one, which then comes behind. With a foreign Show and a local B,
+-- Why crate c may not write the impl, whose header breaks the orphan rule. Either no type that the rule looks at is a parameter, and none
+-- is local. Or this is the first parameter, and this is the first local type after it, if there is one. With a foreign Show and a local B,
 -- `impl<T> Show<B> for Box<T>` has `uncovered T before B`.
 abbrev pub orphan_reason : Declarations → ℕ → ImplDecl → List ℕ
 orphan_reason d c i =
@@ -48,21 +48,21 @@ orphan_reason d c i =
 abbrev pub first_orphan : World → ℕ → Option ImplDecl
 first_orphan V c = find (λ i. (i.home == c) && not (keeps_orphan_rule V c i.header)) V.impls
 
--- No linked set with the view has a closed common instance of the pair with proofs of both lists of where-clauses; nor has the view
--- alone, by proofs that hold the supertraits of all that they conclude. The view is named since there are views that no linked set
--- holds: `trait Sup; trait Sub: Sup; impl Sub for u8`.
+-- No linked set with the view has a concrete common instance of the pair with proofs of both lists of where-clauses. Nor has the view alone
+-- one, by proofs that hold the supertraits of all that they conclude. The view is named because no linked set holds some views:
+-- `trait Sup; trait Sub: Sup; impl Sub for u8`.
 abbrev pub NoConflict : World → ℕ → ImplDecl → ImplDecl → Type 0
 NoConflict V c i j =
     ClausesNeverMeet (HasElaboratedProof V []) i j × InEverySetWith V c (λ W ρ. ClausesNeverMeet (HasProof W []) (renumbered_impl ρ i) (renumbered_impl ρ j))
 
--- The pair has a common instance; and a where-clause that is one reference r at each common instance is possible, if r is bounded.
+-- The pair has a common instance. A where-clause that is one trait reference r at each common instance is possible, if r is bounded.
 abbrev pub ReallyOverlap : ℕ → World → ℕ → ImplDecl → ImplDecl → Type 0
 ReallyOverlap limit V c i j =
     CommonInstance i j × ((k r : Reference)
     → (In k i.clauses × ((m : CommonInstance i j) → with_args m.left k ≡ r)) ⊎ (In k j.clauses × ((m : CommonInstance i j) → with_args m.right k ≡ r))
     → is_bounded limit V c r ≡ true → is_possible limit V c r ≡ true)
 
--- What stands behind `crate N: `, and what it promises. All headers are judged before any pair that the crate brings together.
+-- What comes after `crate N: `, and what it promises. All headers are judged before any pair that the crate brings together.
 pub data CrateAnswer (limit : ℕ) (d : Declarations) (c : ℕ) : List ℕ → Type 0 where
   is_accepted : first_orphan (view_in d c) c ≡ None → ((i j : ImplDecl) → IsPair (view_in d c) c i j → NoConflict (view_in d c) c i j)
       → CrateAnswer limit d c (codes "accepted")

@@ -2,7 +2,7 @@
 use Rattle.std.specs.Prelude.{◌≡◌, ℕ, ◌≤◌, List, length}
 use Rattle.std.specs.Str.Parse.{AllDigits, digits_value}
 
--- one to three decimal digits that write n, as `007` writes 7; a depth is 1 at least and 255 at most
+-- One to three decimal digits that write n, as `007` writes 7. A depth is at least 1 and at most 255.
 pub record IsDepthWord (word : List ℕ) (n : ℕ) : Type 0 where
   pub some_digit : 1 ≤ length word
   pub few_digits : length word ≤ 3

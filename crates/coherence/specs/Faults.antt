@@ -1,4 +1,4 @@
--- What a run answers where a session wants something, and when that is `Full`.
+-- The fault of a run if a session has one, and when it is `Full`.
 use Rattle.std.specs.Prelude.{◌≡◌}
 use Rattle.type_terms.specs.declared.Fault.{Fault}
 use Rattle.type_terms.specs.declared.Fault.TheVariants as wants
@@ -11,6 +11,6 @@ abbrev pub of_fault : Fault → RunFault
 of_fault wants.Memory = faults.Memory
 of_fault wants.Full = faults.Full
 
--- A fault is `Full` only where the session is at a limit that it was given.
+-- A fault is `Full` only if the session is at one of its limits.
 abbrev pub IsFullAtLimit : Subject → RunFault → Type 0
 IsFullAtLimit s fault = fault ≡ faults.Full → IsAtLimit s

@@ -1,32 +1,32 @@
--- What a text asks and has checked, by the crates that it is of and by its places.
+-- The checks and queries of a text, grouped by their crates, by their indices.
 use Rattle.std.specs.Prelude.{◌≡◌, ℕ, ◌<◌, List, length, Some, slice_get}
 use Rattle.text_definitions.specs.Declarations.{Declarations, Check, of_later, of_supers, Question}
 use Rattle.coherence.specs.declared.groups.Group.{Group}
 
--- the crate that is checked
+-- The crate that is checked.
 abbrev pub checked_crate : Check → ℕ
 checked_crate (of_later k c) = c
 checked_crate (of_supers c) = c
 
--- the check at place k is of crate c
+-- The check at index k is of crate c.
 abbrev pub IsCheckedIn : Declarations → ℕ → ℕ → Type 0
 IsCheckedIn d c k = (x : Check) × (slice_get d.checks k ≡ Some x) × (checked_crate x ≡ c)
 
--- the question at place k asks in crate c
+-- The query at index k is of crate c.
 abbrev pub IsAskedIn : Declarations → ℕ → ℕ → Type 0
 IsAskedIn d c k = (q : Question) × (slice_get d.questions k ≡ Some q) × (q.asker ≡ c)
 
--- these are the places at which Of holds, of the first n
+-- These are the indices below n at which Of holds.
 pub record ArePlacesWhere (n : ℕ) (Of : ℕ → Type 0) (places : List ℕ) : Type 0 where
   pub only : (i k : ℕ) → slice_get places i ≡ Some k → Of k
   pub all : (k : ℕ) → k < n → Of k → (i : ℕ) × (slice_get places i ≡ Some k)
 
--- of the first m checks and the first n questions, these are crate c's
+-- Of the first m checks and the first n queries, these are crate c's.
 pub record IsGroup (m n : ℕ) (d : Declarations) (c : ℕ) (g : Group) : Type 0 where
   pub checks : ArePlacesWhere m (IsCheckedIn d c) g.checks.items
   pub questions : ArePlacesWhere n (IsAskedIn d c) g.questions.items
 
--- a group for each crate, of the first m checks and the first n questions
+-- A group for each crate, of the first m checks and the first n queries.
 pub record AreGroups (m n : ℕ) (d : Declarations) (groups : List Group) : Type 0 where
   pub for_each : length groups ≡ length d.crates
   pub are : (c : ℕ) (g : Group) → slice_get groups c ≡ Some g → IsGroup m n d c g

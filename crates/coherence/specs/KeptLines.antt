@@ -1,4 +1,4 @@
--- Lines that are kept: words of the crate's own functions.
+-- Lines that are stored: definitions for the crate's own functions.
 use Rattle.std.specs.Prelude.{◌≡◌, ℕ, ◌+◌, ◌<◌, List, length, Some, slice_get}
 use Rattle.text_definitions.specs.Declarations.{Declarations, Check, Question}
 use Rattle.text_definitions.specs.Output.{Answer, output_text}
@@ -8,17 +8,17 @@ use Rattle.coherence.specs.Lines.{IsCheckLine, IsQuestionLine}
 use Rattle.coherence.specs.declared.kept.KeptLine.{KeptLine}
 use Rattle.coherence.specs.declared.kept.KeptLines.{KeptLines}
 
--- the impls that a verdict names are there
+-- The impls that a verdict names exist.
 abbrev pub NamesImpls : Declarations → Verdict → Type 0
 NamesImpls d accepted = Unit {0}
 NamesImpls d (orphan k e) = k < length d.impls
 NamesImpls d (overlap k j) = (k < length d.impls) × (j < length d.impls)
 
--- ---- the line of question q, which has number n, is this text
+-- ---- the line of query q, which has number n, is this text
 abbrev pub HasLine : ℕ → Declarations → ℕ → Question → List ℕ → Type 0
 HasLine limit d n q text = (l : Answer) × IsQuestionLine limit d n q l × (text ≡ output_text l)
 
--- that of the question at place n, counted from 0
+-- The same for the query at index n, counted from 0.
 abbrev pub IsLineOf : ℕ → Declarations → ℕ → List ℕ → Type 0
 IsLineOf limit d n text = (q : Question) × (slice_get d.questions n ≡ Some q) × HasLine limit d (n + 1) q text
 
@@ -26,24 +26,24 @@ IsLineOf limit d n text = (q : Question) × (slice_get d.questions n ≡ Some q)
 abbrev pub HasCheckLine : ℕ → Declarations → Check → List ℕ → Type 0
 HasCheckLine limit d x text = (l : Answer) × IsCheckLine limit d x l × (text ≡ output_text l)
 
--- that of the check at place n, counted from 0
+-- The same for the check at index n, counted from 0.
 abbrev pub IsCheckLineOf : ℕ → Declarations → ℕ → List ℕ → Type 0
 IsCheckLineOf limit d n text = (x : Check) × (slice_get d.checks n ≡ Some x) × HasCheckLine limit d x text
 
--- ---- lines that are kept
+-- ---- lines that are stored
 abbrev pub IsKeptLine : (ℕ → List ℕ → Type 0) → List KeptLine → ℕ → Type 0
 IsKeptLine Line lines n = (l : KeptLine) × (slice_get lines n ≡ Some l) × Line n l.text.items
 
--- the line that is kept at place n
+-- The line that is stored at index n.
 abbrev pub HasKeptLineAt : List KeptLine → ℕ → List ℕ → Type 0
 HasKeptLineAt lines n text = (l : KeptLine) × (slice_get lines n ≡ Some l) × (text ≡ l.text.items)
 
--- There is room for m lines, and those of the first c crates are kept.
+-- There is room for m lines, and those of the first c crates are stored.
 pub record KeepsEach (m : ℕ) (Of : ℕ → ℕ → Type 0) (Line : ℕ → List ℕ → Type 0) (c : ℕ) (lines : List KeptLine) : Type 0 where
   pub for_each : length lines ≡ m
   pub are : (b n : ℕ) → b < c → Of b n → IsKeptLine Line lines n
 
--- So it is of checks, and of questions.
+-- The same for checks, and for queries.
 abbrev pub KeepsChecks : ℕ → Declarations → ℕ → List KeptLine → Type 0
 KeepsChecks limit d c lines = KeepsEach (length d.checks) (IsCheckedIn d) (IsCheckLineOf limit d) c lines
 

@@ -10,7 +10,7 @@ use Rattle.coherence.specs.Lines.{verdict_line, IsCheckLine, IsQuestionLine}
 use Rattle.coherence.specs.declared.status.Status.{Status}
 use Rattle.coherence.specs.declared.status.Status.TheVariants as statuses
 
--- how many lines there are for what a text gives: declarations, or its first fault
+-- How many lines there are for what a text gives: declarations, or its first fault.
 abbrev pub line_count : Result Declarations (ℕ × ℕ) → ℕ
 line_count (Ok d) = length d.crates - 1 + length d.checks + length d.questions
 line_count (Err f) = 1
@@ -19,28 +19,28 @@ abbrev pub status_of : Result Declarations (ℕ × ℕ) → Status
 status_of (Ok d) = statuses.Done
 status_of (Err f) = statuses.TextFault
 
--- Line n for these declarations, counted from 0, is right: that of a crate but `core`; behind those, of a check; and behind those, of a
--- question.
+-- Line n for these declarations, counted from 0, is right. Lines of the crates but `core` come first, then those of checks, and then those
+-- of queries.
 pub data IsAnswerOf (limit : ℕ) (d : Declarations) : ℕ → Answer → Type 0 where
   of_crate : (n : ℕ) (v : Verdict) → n < length d.crates - 1 → IsVerdictOf limit d (n + 1) v → IsAnswerOf limit d n (verdict_line d (n + 1) v)
   of_check : (n : ℕ) (x : Check) (l : Answer) → slice_get d.checks n ≡ Some x → IsCheckLine limit d x l → IsAnswerOf limit d (length d.crates - 1 + n) l
   of_question : (n : ℕ) (q : Question) (l : Answer) → slice_get d.questions n ≡ Some q → IsQuestionLine limit d (n + 1) q l
       → IsAnswerOf limit d (length d.crates - 1 + length d.checks + n) l
 
--- ... and for what a text gives: the fault's is alone
+-- The same for what a text gives. The line of a fault is the only one.
 abbrev pub IsAnswerAt : ℕ → Result Declarations (ℕ × ℕ) → ℕ → Answer → Type 0
 IsAnswerAt limit (Ok d) n l = IsAnswerOf limit d n l
 IsAnswerAt limit (Err f) n l = (n ≡ 0) × (l ≡ fault f.0 f.1)
 
--- line n as text
+-- Line n as text.
 abbrev pub IsLineAt : ℕ → Result Declarations (ℕ × ℕ) → ℕ → List ℕ → Type 0
 IsLineAt limit t n text = (l : Answer) × IsAnswerAt limit t n l × (text ≡ output_text l)
 
--- that of a crate
+-- The line of a crate.
 abbrev pub IsVerdictLine : ℕ → Declarations → ℕ → List ℕ → Type 0
 IsVerdictLine limit d c text = (v : Verdict) × IsVerdictOf limit d c v × (text ≡ output_text (verdict_line d c v))
 
--- Of so many lines the next is given, and counted; or none is left, or none could be made.
+-- The next of `count` lines is given, and counted. Or none is left, or none could be made.
 abbrev pub CountsLine : {A E : Type 0} → ℕ → ℕ → ℕ → Result (Option A) E → Type 0
 CountsLine count old new (Ok (Some line)) = (old < count) × (new ≡ old + 1)
 CountsLine count old new (Ok None) = (old ≡ count) × (new ≡ old)
@@ -73,6 +73,6 @@ pub record IsAfterFault (old new : OutputProgress) : Type 0 where
   pub given : new.given ≡ old.given
   pub has_failed : new.has_failed ≡ true
 
--- all lines were given, or one could not be made
+-- All lines were given, or one could not be made.
 abbrev pub HasNoMore : OutputProgress → Type 0
 HasNoMore p = (p.given ≡ line_count p.text) ⊎ (p.has_failed ≡ true)

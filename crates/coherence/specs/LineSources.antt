@@ -23,14 +23,14 @@ lines_given g = g.faults + g.crates + g.checks + g.questions
 abbrev pub IsNoneGiven : LineCounts → Type 0
 IsNoneGiven g = (g.faults ≡ 0) × (g.crates ≡ 0) × (g.checks ≡ 0) × (g.questions ≡ 0)
 
--- at most that of the fault
+-- At most the line of the fault was given.
 pub record IsGivenOfFault (g : LineCounts) : Type 0 where
   pub faults : g.faults ≤ 1
   pub crates : g.crates ≡ 0
   pub checks : g.checks ≡ 0
   pub questions : g.questions ≡ 0
 
--- Those of crates come first, then those of checks, and then those of questions.
+-- Those of crates come first, then those of checks, and then those of queries.
 pub record IsGivenInOrder (d : Declarations) (g : LineCounts) : Type 0 where
   pub faults : g.faults ≡ 0
   pub crates : g.crates ≤ length d.crates - 1
@@ -39,12 +39,13 @@ pub record IsGivenInOrder (d : Declarations) (g : LineCounts) : Type 0 where
   pub after_crates : 0 < g.checks + g.questions → g.crates ≡ length d.crates - 1
   pub after_checks : 0 < g.questions → g.checks ≡ length d.checks
 
--- a place for the line of each check and of each question
+-- There is room for the line of each check and of each query.
 pub record HasRoom (d : Declarations) (lines : KeptLines) : Type 0 where
   pub checks : length lines.checks.items ≡ length d.checks
   pub questions : length lines.questions.items ≡ length d.questions
 
--- n crates have their lines, and what is asked of them, and of `core`, is answered; what is lowered, if anything is, is a crate's view
+-- n crates have their lines, and their checks and queries, and those of `core`, are answered. What is lowered, if anything is, is a crate's
+-- view.
 pub record KeepsAnswers (limit handles n : ℕ) (a : TextAnswers) : Type 0 where
   pub parsed : IsOfText a.workspace
   pub numbered : IsNumbered a.workspace
@@ -53,7 +54,7 @@ pub record KeepsAnswers (limit handles n : ℕ) (a : TextAnswers) : Type 0 where
   pub kept : KeepsLines limit a.workspace (n + 1) a.kept
   pub view : IfSome a.view (IsLeftView a.workspace handles)
 
--- So the lines that are left are made: where one could not be, only what was given is known.
+-- The lines that are left can be made. If one could not be made, only what was given is known.
 abbrev pub HoldsLines : (limit handles : ℕ) → Bool → LineCounts → LineSource → Type 0
 HoldsLines limit handles has_failed g (Fault f) = IsGivenOfFault g
 HoldsLines limit handles has_failed g (Answers a) = IsGivenInOrder a.workspace g × (has_failed ≡ false → KeepsAnswers limit handles g.crates a)

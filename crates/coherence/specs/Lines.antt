@@ -1,4 +1,4 @@
--- The lines of the answer as data, which the functions of this crate make of what a session answers; `Told` says what a run writes.
+-- The lines of the output as data, which the functions of this crate make of what a session answers. `Told` says what a run writes.
 use Rattle.std.specs.Prelude.{◌≡◌, ℕ, suc, true, false, List, [], take, count_by, slice_get, ◌==◌}
 use Rattle.std.specs.Option.{option_map, option_map_or}
 use Rattle.type_terms.specs.Trees.{Trees}
@@ -17,15 +17,15 @@ use Rattle.sessions.specs.Verdicts as verdicts
 abbrev pub crate_text : Declarations → ℕ → List ℕ
 crate_text d c = option_map_or (λ n. n.text) (slice_get d.crates c) []
 
--- the crate of impl number k
+-- The crate of impl number k.
 abbrev pub impl_home : Declarations → ℕ → ℕ
 impl_home d k = option_map_or (λ i. i.item.home) (slice_get d.impls k) core
 
--- its number among those of its crate, from 1
+-- Its number among those of its crate, from 1.
 abbrev pub number_in_crate : Declarations → ℕ → ℕ
 number_in_crate d k = count_by (λ i. i.item.home == impl_home d k) (take (suc k) d.impls)
 
--- a type of its header, in which an unknown has the name of the parameter that it stands for
+-- A type of its header. A variable has the name of the parameter that it stands for.
 abbrev pub header_text : Declarations → ℕ → Trees → List ℕ
 header_text d k t = type_text (header_names d (option_map_or (λ i. i.params) (slice_get d.impls k) [])) t
 
@@ -38,7 +38,7 @@ verdict_line d c verdicts.accepted = accepted (crate_text d c)
 verdict_line d c (verdicts.orphan k e) = orphan_line d c k e
 verdict_line d c (verdicts.overlap k j) = overlap (crate_text d c) (number_in_crate d k) (crate_text d (impl_home d j)) (number_in_crate d j)
 
--- ---- the line of what is checked
+-- ---- the line of a check
 abbrev pub later_line : Declarations → ℕ → releases.LaterAnswer → Answer
 later_line d c releases.compatible = compatible (crate_text d c)
 later_line d c (releases.breaking n) = breaking (crate_text d c) n
@@ -48,12 +48,12 @@ supers_line d c releases.held = held (crate_text d c)
 supers_line d c (releases.missing k j) = missing (crate_text d c) (number_in_crate d k) j
 supers_line d c (releases.undecided k j) = undecided (crate_text d c) (number_in_crate d k) j
 
--- with an answer that is right
+-- The same, with an answer that is right.
 pub data IsCheckLine (limit : ℕ) (d : Declarations) : Check → Answer → Type 0 where
   of_version : (k c : ℕ) (a : releases.LaterAnswer) → IsLaterAnswer d c k a → IsCheckLine limit d (of_later k c) (later_line d c a)
   of_headers : (c : ℕ) (a : releases.SupersAnswer) → IsSupersAnswer limit d c a → IsCheckLine limit d (of_supers c) (supers_line d c a)
 
--- ---- the line of a question, by its number from 1
+-- ---- the line of a query, by its number from 1
 abbrev pub prove_line : Declarations → ℕ → Question → answers.ProveAnswer → Answer
 prove_line d n q (answers.yes values) = yes n (answer_values d q values)
 prove_line d n q answers.maybe = maybe n
@@ -63,7 +63,7 @@ abbrev pub refute_line : ℕ → answers.RefuteAnswer → Answer
 refute_line n answers.no = no n
 refute_line n answers.unrefuted = unrefuted n
 
--- with an answer that is right
+-- The same, with an answer that is right.
 pub data IsQuestionLine (limit : ℕ) (d : Declarations) (n : ℕ) (q : Question) : Answer → Type 0 where
   of_prove : (a : answers.ProveAnswer) → q.is_refute ≡ false → IsProved limit d q a → IsQuestionLine limit d n q (prove_line d n q a)
   of_refute : (a : answers.RefuteAnswer) → q.is_refute ≡ true → IsRefutation limit d q a → IsQuestionLine limit d n q (refute_line n a)

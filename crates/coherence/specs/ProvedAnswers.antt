@@ -1,5 +1,5 @@
--- The text of the line of each question, without its end, with what it promises; and what answers tell of a coherent text as a whole. A
--- question's variables are its unknowns, ks are their kinds, and ts values for them. All is without lifetimes.
+-- The text of the line of each query, without its end, with what it promises, and what answers say of a coherent text as a whole. The
+-- query's variables are inference variables, ks are their kinds, and ts are values for them. Everything is without lifetimes.
 use Rattle.std.specs.Prelude.{◌≡◌, ℕ, true, false, IsTrue, List, [], ◌++◌, map, filter, unwrap_or, codes}
 use Rattle.std.specs.Fmt.{decimal}
 use Rattle.std.specs.List.{slice_get, AllZip, zip}
@@ -19,7 +19,7 @@ use Rattle.sessions.specs.JoinedTexts.{text_world}
 use Rattle.sessions.specs.OwnValues.{HasNoParameter, SpeakOfOwn}
 use Rattle.sessions.specs.Promises.{view_in}
 
--- The values in place of the unknowns: number i of a sort has value i of that sort, and an unknown without a value stays.
+-- The values put in for the variables. Number i of a kind has value i of that kind, and a variable without a value stays.
 abbrev pub with_values : List (Sort × Trees) → Trees → Trees
 with_values vs none = none
 with_values vs (tree (infer s i) c o) = unwrap_or (slice_get (map (λ v. v.1) (filter (λ v. is_sort v.0 s) vs)) i) (leaf (infer s i)) +++ with_values vs o
@@ -28,7 +28,7 @@ with_values vs (tree l c o) = tree l (with_values vs c) (with_values vs o)
 abbrev pub reference_with : List Sort → List Trees → Reference → Reference
 reference_with ks ts r = record { trait = r.trait; args = with_values (zip ks ts) r.args }
 
--- There are closed values with which H holds of the reference.
+-- There are concrete values with which H holds for the trait reference.
 abbrev pub SolvedBy : (Reference → Type 0) → List Sort → Reference → Type 0
 SolvedBy H ks r = (ts : List Trees) × AllZip IsA ks ts × Every (λ t. IsTrue (is_closed t)) ts × H (reference_with ks ts r)
 
@@ -40,16 +40,16 @@ YesTells d c ks E r ts =
     AllZip IsA ks ts × HasProof (view_in d c) E (reference_with ks ts r) × (HoldUnknownsAlone ts → SolvedBy (HasProof (view_in d c) E) ks r)
     × SpeakOfOwn (view_in d c) E r ts
 
--- What `no` tells in crate c: no closed values give the reference a proof by what the crate sees alone, with the supertraits of all that the proof
--- concludes, nor in a linked set with the crate. Of a bounded reference it is said exactly if the reference is not possible.
+-- What `no` says in crate c. No concrete values give the trait reference a proof by what the crate sees alone, with the supertraits of all
+-- that the proof concludes, nor in a linked set with the crate. A bounded trait reference gets this answer exactly if it is not possible.
 abbrev pub NoTells : ℕ → Declarations → ℕ → List Sort → Reference → Type 0
 NoTells limit d c ks r =
     (SolvedBy (HasElaboratedProof (view_in d c) []) ks r → ⊥)
     × InEverySetWith (view_in d c) c (λ W ρ. SolvedBy (HasProof W []) ks (renumbered_reference ρ r) → ⊥)
     × (is_bounded limit (view_in d c) c r ≡ true → is_possible limit (view_in d c) c r ≡ false)
 
--- The line of question number n, from 1. Of an unambiguous reference `unproved` says that it has no proof, and `maybe` is never said; of a
--- bounded one `open` says that it is possible.
+-- The line of query number n, counted from 1. For an unambiguous trait reference `unproved` says that it has no proof, and `maybe` is never
+-- the answer. For a bounded one `open` says that it is possible.
 pub data QuestionAnswer (limit : ℕ) (d : Declarations) (n : ℕ) (q : Question) : List ℕ → Type 0 where
   says_yes : (ts : List Trees) → YesTells d q.asker (map (λ v. v.kind) q.variables) (map erased_reference q.clauses) (erased_reference q.asked) ts
       → q.is_refute ≡ false → QuestionAnswer limit d n q (codes "prove " ++ decimal n ++ codes ": yes" ++ yes_values_text d q ts)
@@ -63,9 +63,9 @@ pub data QuestionAnswer (limit : ℕ) (d : Declarations) (n : ℕ) (q : Question
       → is_possible limit (view_in d q.asker) q.asker (erased_reference q.asked) ≡ true)
       → q.is_refute ≡ true → QuestionAnswer limit d n q (codes "refute " ++ decimal n ++ codes ": open")
 
--- What holds of the text as a whole, and not by what one of its crates sees.
+-- What holds for the text as a whole, and not only by what one of its crates sees.
 pub record TextHolds (limit : ℕ) (d : Declarations) : Type 0 where
-  -- no closed reference has proofs by two impls
+  -- no concrete trait reference has proofs by two impls
   pub one_impl : (r : Reference) → IsTrue (is_closed r.args) → (n k : ℕ) → HasProofByImpl (text_world d) [] r n → HasProofByImpl (text_world d) [] r k → n ≡ k
   -- what is answered `no` in some crate has no solution
   pub no_holds : (c : ℕ) (ks : List Sort) (r : Reference) → NoTells limit d c ks r → SolvedBy (HasProof (text_world d) []) ks r → ⊥

@@ -1,4 +1,4 @@
--- What a run writes: a line for each thing that a text is told about, with what the line promises.
+-- What a run writes: one line for each topic of a text, with what the line promises.
 use Rattle.std.specs.Prelude.{◌≡◌, ℕ, ◌-◌, ◌<◌, ◌⊎◌, List, [], ◌∷◌, ◌++◌, length, map, take, Option, Some, Result, Ok, Err, slice_get, codes}
 use Rattle.std.specs.Fmt.{decimal}
 use Rattle.std.specs.List.{flat_map, range_with_len, enumerate_from, AllZip}
@@ -16,14 +16,14 @@ use Rattle.coherence.specs.ProvedAnswers.{QuestionAnswer, TextHolds}
 use Rattle.coherence.specs.Streams.{AppendsPrefix}
 use Rattle.coherence.specs.declared.status.Status.{Status}
 
--- What a line is about: a fault of the text, by its line and its number; a crate; a check; or a question with its number, from 1.
+-- What a line is about: a fault of the text, by its line and its number; a crate; a check; or a query with its number, counted from 1.
 pub data LineTopic : Type 0 where
   fault_topic : ℕ × ℕ → LineTopic
   crate_topic : Declarations → ℕ → LineTopic
   check_topic : Declarations → Check → LineTopic
   question_topic : Declarations → ℕ × Question → LineTopic
 
--- Of a text: its first fault alone; or each crate but `core`, then each later version and each check of supertraits, then each question.
+-- The topics of a text: its first fault alone, or each crate but `core`, then each check (`later` or `supers`), then each query.
 abbrev pub topics : Result Declarations (ℕ × ℕ) → List LineTopic
 topics (Err f) = fault_topic f ∷ []
 topics (Ok d) =
@@ -60,7 +60,7 @@ abbrev pub TellsSome : ℕ → List ℕ → Option (List ℕ) → Option (List �
 TellsSome limit bytes old new = Keeps old new ⊎ ((text : List ℕ) × BeginsToldText limit bytes text × AppendsPrefix old new text)
 
 -- ---- what the lines of a text's crates say of the text as a whole
--- Of the lines for declarations this is the one about the topic.
+-- This is the line about the topic, among the lines for these declarations.
 abbrev pub IsLineAbout : Declarations → List (List ℕ) → LineTopic → List ℕ → Type 0
 IsLineAbout d ls x l = (n : ℕ) × (slice_get (topics (Ok d)) n ≡ Some x) × (slice_get ls n ≡ Some l)
 
@@ -68,17 +68,17 @@ IsLineAbout d ls x l = (n : ℕ) × (slice_get (topics (Ok d)) n ≡ Some x) × 
 abbrev pub AllSayAccepted : Declarations → List (List ℕ) → Type 0
 AllSayAccepted d ls = (c : ℕ) → core < c → c < length d.crates → IsLineAbout d ls (crate_topic d c) (line_of_crate d c (codes "accepted"))
 
--- Each crate but `core` is asked about its supertraits, and the line says `held`.
+-- Each crate but `core` has a check of its supertraits, whose line says `held`.
 abbrev pub AllSayHeld : Declarations → List (List ℕ) → Type 0
 AllSayHeld d ls =
     (c : ℕ) → core < c → c < length d.crates → IsLineAbout d ls (check_topic d (of_supers c)) (codes "supers " ++ crate_text d c ++ codes ": held")
 
--- The supertraits of headers are proved in the text as a whole.
+-- The supertraits of headers have proofs in the text as a whole.
 abbrev pub SupertraitsStand : Declarations → List (List ℕ) → Type 0
 SupertraitsStand d ls = HeadersHaveSupertraits (text_world d)
 
--- Where all say `accepted`, and P holds, the text is coherent as a whole: no closed reference has proofs by two impls, and the lines of
--- its questions hold of all its crates together.
+-- If all lines say `accepted`, and P holds, the text is coherent as a whole: no concrete trait reference has proofs by two impls, and the
+-- lines of its queries hold for all its crates together.
 abbrev pub AcceptedTextsHold : (Declarations → List (List ℕ) → Type 0) → Type 0
 AcceptedTextsHold P =
     (limit : ℕ) (bytes : List ℕ) (d : Declarations) (ls : List (List ℕ)) → TextSays bytes (Ok d) → AllZip (TellsTopic limit) (topics (Ok d)) ls → AllSayAccepted d ls → P d ls

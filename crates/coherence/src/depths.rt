@@ -1,11 +1,11 @@
-//! How deep a run asks.
+//! The depth limit of a run.
 
 ghost use Rattle.std.specs.Prelude.{◌≡◌, ◌↔◌, ℕ, Some};
 ghost use Rattle.coherence.specs.Depths.{IsDepthWord};
 
-/// The depth limit that a word writes, from 1 to 255: one to three decimal digits, and none for any other word.
+/// The depth limit that a word writes, from 1 to 255, in one to three decimal digits. `None` for any other word.
 ///
-/// `007` is 7; `0`, `256`, `0008` and the empty word are none.
+/// `007` is 7. `0`, `256`, `0008` and the empty word give `None`.
 pub fn parse_depth(word: &[u8]) -> Option<u32>
     ensures { (n : ℕ) → (result ≡ Some n) ↔ IsDepthWord word.now n }
 {

@@ -1,4 +1,4 @@
-//! What a text asks and has checked, by the crates that it is of.
+//! The checks and queries of a text, grouped by their crates.
 
 ghost use Rattle.std.specs.Prelude.{◌+◌, ◌<◌, length, IfOk, OnOk};
 ghost use Rattle.workspace.specs.Numbered.{IsNumbered, IsFew};
@@ -8,19 +8,19 @@ use std::alloc::{AllocError, Global};
 use type_terms::CrateId;
 use workspace::{Asked, Check, ENTRY_LIMIT, Workspace};
 
-/// What is of one crate, by places in the text.
+/// The checks and queries of one crate, by their indices in the text.
 #[derive(Drop)]
 pub struct Group {
     /// The checks of its later versions and of its supertraits.
     pub checks: Vec<usize>,
-    /// The questions that ask in it.
+    /// Its queries.
     pub questions: Vec<u32>,
 }
 
 impl Group {
     ghost use Rattle.std.specs.Prelude.{◌≡◌, ◌==◌, ◌&&◌, length};
 
-    /// Whether nothing is checked of the crate, and no question asks in it.
+    /// Whether the crate has no checks and no queries.
     pub fn is_empty(&self) -> bool
         ensures { result ≡ ((length self.now.checks.items == 0) && (length self.now.questions.items == 0)) }
     {
@@ -28,7 +28,7 @@ impl Group {
     }
 }
 
-/// The crate of which a place of the text has something checked.
+/// The crate of the check at this index.
 fn checked_at(workspace: &Workspace, place: usize) -> CrateId
     requires { place < length workspace.now.checks }
     ensures { IsCheckedIn workspace.now result.index place }
@@ -39,7 +39,7 @@ fn checked_at(workspace: &Workspace, place: usize) -> CrateId
     }
 }
 
-/// The crate in which the question at a place of the text asks.
+/// The crate of the query at this index.
 fn asker_at(workspace: &Workspace, place: usize) -> CrateId
     requires { place < length workspace.now.questions }
     ensures { IsAskedIn workspace.now result.index place }
@@ -50,7 +50,7 @@ fn asker_at(workspace: &Workspace, place: usize) -> CrateId
     }
 }
 
-/// A group for each crate, with nothing in it yet.
+/// One empty group for each crate.
 fn no_groups(alloc: Global, workspace: &Workspace) -> Result<Vec<Group>, AllocError>
     ensures { IfOk result (λ groups. AreGroups 0 0 workspace.now groups.items) }
 {
@@ -64,7 +64,7 @@ fn no_groups(alloc: Global, workspace: &Workspace) -> Result<Vec<Group>, AllocEr
     Ok(groups)
 }
 
-/// Adds the check at a place to the group of its crate.
+/// Adds the check at this index to the group of its crate.
 fn add_check(workspace: &Workspace, groups: &mut Vec<Group>, place: usize) -> Result<(), AllocError>
     requires numbered { IsNumbered workspace.now }
     requires there { place < length workspace.now.checks }
@@ -76,7 +76,7 @@ fn add_check(workspace: &Workspace, groups: &mut Vec<Group>, place: usize) -> Re
     Ok(())
 }
 
-/// Adds the question at a place to the group of its crate, behind all checks.
+/// Adds the query at this index to the group of its crate, after all checks.
 fn add_question(
     workspace: &Workspace,
     groups: &mut Vec<Group>,
@@ -93,7 +93,7 @@ fn add_question(
     Ok(())
 }
 
-/// The checks of each crate, in their order.
+/// The checks of each crate, in the order of the text.
 fn checks_by_crate(alloc: Global, workspace: &Workspace) -> Result<Vec<Group>, AllocError>
     requires { IsNumbered workspace.now }
     ensures { IfOk result (λ groups. AreGroups (length workspace.now.checks) 0 workspace.now groups.items) }
@@ -105,7 +105,7 @@ fn checks_by_crate(alloc: Global, workspace: &Workspace) -> Result<Vec<Group>, A
     Ok(groups)
 }
 
-/// The checks and the questions of each crate, in their order.
+/// The checks and the queries of each crate, in the order of the text. Fails only if memory is refused.
 pub fn groups_by_crate(alloc: Global, workspace: &Workspace) -> Result<Vec<Group>, AllocError>
     requires numbered { IsNumbered workspace.now }
     requires few { IsFew workspace.now ENTRY_LIMIT }

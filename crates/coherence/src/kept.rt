@@ -1,4 +1,5 @@
-//! The lines of checks and of questions, kept until all crates are judged.
+//! The lines of checks and of queries, stored until all crates have their lines. The lines of crates come first in the output, and one
+//! session makes all lines of its crate.
 
 ghost use Rattle.std.specs.Prelude.{◌≡◌, ◌≢◌, ◌+◌, ◌<◌, ◌≤◌, ℕ, length, IfOk, IfErr, IfSome, OnOk};
 ghost use Rattle.workspace.specs.Numbered.{IsNumbered, IsFew};
@@ -15,20 +16,20 @@ use sessions::Session;
 use std::alloc::{AllocError, Global};
 use workspace::{ENTRY_LIMIT, Workspace};
 
-/// A line as text, with its end; empty before it is known.
+/// A line as text, with its line end. It is empty before it is known.
 #[derive(Drop)]
 pub struct KeptLine {
     pub text: Vec<u8>,
 }
 
-/// The lines of all checks and of all questions, each at its place.
+/// The lines of all checks and of all queries, each at its index.
 #[derive(Drop)]
 pub struct KeptLines {
     pub checks: Vec<KeptLine>,
     pub questions: Vec<KeptLine>,
 }
 
-/// So many lines that are not known yet.
+/// As many lines, none of them known yet.
 fn empty_lines(alloc: Global, count: usize) -> Result<Vec<KeptLine>, AllocError>
     ensures { IfOk result (λ lines. length lines.items ≡ count) }
 {
@@ -50,7 +51,7 @@ fn copy_line(alloc: Global, line: &KeptLine) -> Result<Vec<u8>, AllocError>
     Ok(text)
 }
 
-/// The line at a place, which is counted up; none behind the last.
+/// The line at this index, which is counted up. After the last line there is none.
 pub fn next_line(
     alloc: Global,
     lines: &[KeptLine],
@@ -69,7 +70,7 @@ pub fn next_line(
     Ok(Some(text))
 }
 
-/// Room for a line of each check and of each question.
+/// Room for a line of each check and of each query. Fails only if memory is refused.
 pub fn no_lines(alloc: Global, workspace: &Workspace) -> Result<KeptLines, AllocError>
     ensures { (limit : ℕ) → IfOk result (λ lines. KeepsLines limit workspace.now 0 lines) }
 {
@@ -78,7 +79,7 @@ pub fn no_lines(alloc: Global, workspace: &Workspace) -> Result<KeptLines, Alloc
     Ok(KeptLines { checks, questions })
 }
 
-/// Makes the checks of the session's crate, and keeps their lines.
+/// Makes the checks of the session's crate, and stores their lines.
 fn keep_checks(
     alloc: Global,
     session: &mut Session<'_>,
@@ -103,7 +104,7 @@ fn keep_checks(
     Ok(())
 }
 
-/// Answers the questions of the session's crate, and keeps their lines.
+/// Answers the queries of the session's crate, and stores their lines.
 fn keep_questions(
     alloc: Global,
     session: &mut Session<'_>,
@@ -129,7 +130,8 @@ fn keep_questions(
     Ok(())
 }
 
-/// Makes the checks of the session's crate and answers its questions, and keeps their lines.
+/// Makes the checks of the session's crate, answers its queries, and stores their lines. Fails with `Memory`, or with `Full` only if the
+/// session is at a limit.
 pub fn keep_answers(
     alloc: Global,
     session: &mut Session<'_>,

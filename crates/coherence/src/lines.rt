@@ -1,4 +1,4 @@
-//! The lines of crates, of checks and of questions.
+//! The lines of crates, of checks and of queries.
 
 ghost use Rattle.std.specs.Prelude.{◌≡◌, ◌≢◌, ◌<◌, length, map, IfOk, IfErr, IfSome};
 ghost use Rattle.std.specs.Option.{option_map};
@@ -33,7 +33,7 @@ use type_terms::kinds::{GenericArgKind, Ty};
 use type_terms::{CrateId, ImplId};
 use workspace::{Asked, Check, ENTRY_LIMIT, Workspace};
 
-/// An impl's number among those of its crate, from 1.
+/// The number of an impl among those of its crate, from 1.
 fn number_in_crate(workspace: &Workspace, id: ImplId) -> u32
     requires { id.index < length workspace.now.impls }
     ensures { result ≡ number_in_crate workspace.now id.index }
@@ -52,7 +52,7 @@ fn owner_name(workspace: &Workspace, id: ImplId) -> &[u8]
     workspace.crate_name(owner)
 }
 
-/// A type of an impl's header as text, in which an unknown has the name of the parameter that it stands for.
+/// A type of an impl's header as text. A variable has the name of the parameter that it stands for.
 fn header_text(
     alloc: Global,
     cx: &Interner,
@@ -93,7 +93,7 @@ fn print_uncovered<'a>(
     )
 }
 
-/// The line of a crate with an impl whose header has a parameter before its first local type.
+/// The line of a crate with an impl whose header has a parameter before its first local type, such as `impl<T> Foreign<Local> for T`.
 fn uncovered_line(
     alloc: Global,
     cx: &Interner,
@@ -149,8 +149,8 @@ fn orphan_line(
     }
 }
 
-/// The text of a crate's line, with its end: accepted, an orphan impl with the reason, or two impls that overlap, both by their numbers in
-/// their crates. The error is a refused request for memory.
+/// The line of a crate, with its line end: accepted, an orphan impl with the reason, or two impls that overlap, by their numbers in their
+/// crates. Fails only if memory is refused.
 pub fn verdict_line(
     alloc: Global,
     cx: &Interner,
@@ -180,7 +180,7 @@ pub fn verdict_line(
     }
 }
 
-/// The line of a question that is proved, with the values of its variables. Questions count from 1.
+/// The line of a query that is proved, with the values of its variables. Queries count from 1.
 fn yes_line(
     alloc: Global,
     cx: &Interner,
@@ -235,7 +235,7 @@ fn later_line(
     Ok(line)
 }
 
-/// The line about the supertraits of the session's crate.
+/// The line for the supertraits of the session's crate.
 fn supers_line(
     alloc: Global,
     session: &mut Session<'_>,
@@ -282,7 +282,8 @@ fn supers_line(
     Ok(line)
 }
 
-/// The line of what is checked of the session's crate, by its place in the text.
+/// The line of a check of the session's crate, by its index in the text. Fails with `Memory`, or with `Full` only if the session is at a
+/// limit.
 pub fn check_line(
     alloc: Global,
     session: &mut Session<'_>,
@@ -307,7 +308,7 @@ pub fn check_line(
     Ok(line)
 }
 
-/// The line of a `prove` question of the session's crate. Questions count from 1.
+/// The line of a `prove` query of the session's crate. Queries count from 1.
 fn prove_line(
     alloc: Global,
     session: &mut Session<'_>,
@@ -335,7 +336,7 @@ fn prove_line(
     Ok(line)
 }
 
-/// The line of a `refute` question of the session's crate. Questions count from 1.
+/// The line of a `refute` query of the session's crate. Queries count from 1.
 fn refute_line(
     alloc: Global,
     session: &mut Session<'_>,
@@ -359,7 +360,8 @@ fn refute_line(
     Ok(line)
 }
 
-/// The line of a question of the session's crate, by its place in the text.
+/// The line of a query of the session's crate, by its index in the text. Fails with `Memory`, or with `Full` only if the session is at a
+/// limit.
 pub fn question_line(
     alloc: Global,
     session: &mut Session<'_>,

@@ -26,7 +26,7 @@ use text_reader::{TextError, TextFault, parse};
 use type_terms::{CrateId, Fault};
 use workspace::{ENTRY_LIMIT, Workspace};
 
-/// The crate at a place of the text.
+/// The crate at this index of the text.
 fn crate_at(workspace: &Workspace, place: usize) -> CrateId
     requires { place < length workspace.now.crates }
     ensures { result.index ≡ place }
@@ -42,7 +42,7 @@ fn crates_with_lines(workspace: &Workspace) -> usize
     workspace.crates().len() - 1
 }
 
-/// Judges the session's crate, and keeps the lines of its checks and questions.
+/// Judges the session's crate, and stores the lines of its checks and queries.
 fn judge_by(
     alloc: Global,
     session: &mut Session<'_>,
@@ -72,8 +72,8 @@ fn judge_by(
     Ok(line)
 }
 
-/// The line of a crate; keeps the lines of its checks and questions: by one session, which sees the crate's view. The session is made
-/// behind the view that is kept, and leaves its own.
+/// Makes the line of a crate, and stores the lines of its checks and queries. One session makes them all. It begins with the view that is
+/// stored, and leaves its own.
 fn judge_crate(
     alloc: Global,
     workspace: &Workspace,
@@ -102,7 +102,7 @@ fn judge_crate(
     Ok(line)
 }
 
-/// Keeps the lines of what is checked of `core`, and of questions that ask in it. It has no line of its own.
+/// Stores the lines of the checks and queries of `core`, which has no line of its own.
 fn answer_core(
     alloc: Global,
     workspace: &Workspace,
@@ -126,8 +126,8 @@ fn answer_core(
     keep_answers(alloc, &mut session, workspace, group, lines)
 }
 
-/// What a text without a fault declares and asks, and what of it is of each crate; the lines that are kept until all crates are judged; and
-/// what the session of the crate that was judged last has lowered.
+/// What a text without a fault declares and queries, with the checks and queries of each crate, the lines stored so far, and what the last
+/// session lowered.
 #[derive(Drop)]
 struct TextAnswers {
     workspace: Workspace,
@@ -152,7 +152,7 @@ struct LineCounts {
     questions: usize,
 }
 
-/// What is needed for the lines of a text without a fault, with what is asked of `core` answered.
+/// What is needed for the lines of a text without a fault. The checks and queries of `core` are answered.
 fn text_answers(
     alloc: Global,
     workspace: Workspace,
@@ -176,7 +176,7 @@ fn text_answers(
     })
 }
 
-/// The line of the crate behind so many others that have lines of their own.
+/// The line of the crate after this many others with lines of their own.
 fn crate_line(
     alloc: Global,
     limits: Limits,
@@ -231,7 +231,7 @@ fn next_of_fault(
     Ok(Some(line))
 }
 
-/// The next line that is kept, once all crates are judged: that of a check, and behind these that of a question.
+/// The next stored line, after all crates have theirs: those of the checks first, then those of the queries.
 fn next_kept(
     alloc: Global,
     answers: &TextAnswers,
@@ -301,7 +301,7 @@ fn next_of(
     }
 }
 
-/// The source of the lines of a text: it is read whole.
+/// What the lines of a text are made of. The text is read whole.
 fn line_source(alloc: Global, text: &[u8], limits: Limits) -> Result<LineSource, RunFault>
     ensures text { IfOk result (λ source. TextGives text.now (text_of source)) }
     ensures holds { (given : LineCounts) → IsNoneGiven given → IfOk result (HoldsLines limits.depth limits.handles false given) }
@@ -315,10 +315,10 @@ fn line_source(alloc: Global, text: &[u8], limits: Limits) -> Result<LineSource,
     }
 }
 
-/// The output for a text in memory, line by line: the line of its first fault, or a line for each crate but `core`, then one for each
-/// later version and each check of supertraits, and then one for each question.
+/// The output for a text in memory, line by line. It is the line of the text's first fault. Without a fault it is a line for each crate but
+/// `core`, then one for each check (`later` or `supers`), and then one for each query.
 ///
-/// Each crate is judged, and asked all that is asked of it, when its line is.
+/// A crate is judged, and its checks and queries are answered, when its line is made.
 #[derive(Drop)]
 pub struct OutputLines {
     alloc: Global,
@@ -342,7 +342,8 @@ impl Model for OutputLines {
 }
 
 impl OutputLines {
-    /// The lines of the output for a text. It is read whole, and what it asks of `core` is answered.
+    /// Reads the text whole, and answers the checks and queries of `core`. No line is given yet. Fails with `Memory`, or with `Full` if a
+    /// table is full.
     pub fn new(alloc: Global, text: &[u8], limits: Limits) -> Result<Self, RunFault>
         ensures text { IfOk result (λ lines. TextGives text.now lines.text) }
         ensures depth { IfOk result (λ lines. lines.depth ≡ limits.depth) }
@@ -377,7 +378,8 @@ impl OutputLines {
         }
     }
 
-    /// The next line, with its end; or a refused request for memory, or that a table of terms was full, after which there are no more.
+    /// The next line, with its line end, or `None` after the last. A line that cannot be made is a fault, `Memory` or `Full`, and no line
+    /// comes after it.
     pub fn next(&mut self) -> Option<Result<Vec<u8>, RunFault>>
         ensures line { IfSome result (λ next. IfOk next (λ line. IsLineAt self.old.depth self.old.text self.old.given line.items)) }
         ensures given { IfSome result (λ next. OnOk next (IsAfterLine self.old self.new)) }

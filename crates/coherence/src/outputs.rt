@@ -1,4 +1,4 @@
-//! From a text in memory to its output in memory: nothing is read, and nothing is written.
+//! From a text in memory to its output in memory. No stream is read or written.
 
 ghost use Rattle.std.specs.Prelude.{◌≡◌, ◌⊎◌, IfOk, IfErr};
 ghost use Rattle.coherence.specs.Told.{IsToldText};
@@ -11,16 +11,16 @@ use std::alloc::Global;
 /// The output for a text.
 #[derive(Drop)]
 pub struct Output {
-    /// Its lines, each with its end.
+    /// Its lines, each with its line end.
     pub text: Vec<u8>,
     /// Whether they are answers, or the line of the text's first fault.
     pub status: Status,
 }
 
-/// The output for a text: the line of its first fault, or a line for each crate but `core`, then one for each later version and each
-/// check of supertraits, and then one for each question.
+/// The output for a text. It is the line of the text's first fault. Without a fault it is a line for each crate but `core`, then one for
+/// each check (`later` or `supers`), and then one for each query.
 ///
-/// The error is a refused request for memory, or a table of terms that was full. A text of more than 1,048,576 bytes has a fault.
+/// Fails with `Memory` if memory is refused, or with `Full` if a table is full. A text of more than 1,048,576 bytes has a fault.
 pub fn answer(alloc: Global, text: &[u8], limits: Limits) -> Result<Output, RunFault>
     ensures whole { IfOk result (λ output. IsToldText limits.depth text.now output.status output.text.items) }
     ensures fault { IfErr result (λ fault. (fault ≡ RunFault.Memory) ⊎ (fault ≡ RunFault.Full)) }
@@ -31,7 +31,7 @@ pub fn answer(alloc: Global, text: &[u8], limits: Limits) -> Result<Output, RunF
             text: lines,
             status,
         }),
-        // A vector takes a line wherever memory is given.
+        // A vector takes each line unless memory is refused.
         Err(RunFault::Write) => Err(RunFault::Memory),
         Err(fault) => Err(fault),
     }

@@ -9,19 +9,19 @@ use type_terms::Fault;
 /// What a run wrote.
 #[derive(Clone, Copy, PartialEq, Eq)]
 pub enum Status {
-    /// A line for each crate but `core`, then one for each later version and each check of supertraits, and then one for each question.
+    /// A line for each crate but `core`, then one for each check (`later` or `supers`), and then one for each query.
     Done,
     /// The line of the text's first fault, alone.
     TextFault,
 }
 
-/// Why a run stopped: what it wrote before is a prefix of its answer.
+/// Why a run stopped. What it wrote before is a prefix of its answer.
 #[derive(Clone, Copy, Debug, PartialEq, Eq, thiserror::Error)]
 pub enum RunFault {
-    /// The reader answered an error, whatever its kind. Nothing was written.
+    /// The reader returned an error of any kind. Nothing was written.
     #[error("the text could not be read")]
     Read,
-    /// The writer answered an error, whatever its kind, or took no byte.
+    /// The writer returned an error of any kind, or took no byte.
     #[error("an answer could not be written")]
     Write,
     /// A request for memory was refused, or there were no numbers for so many variables.

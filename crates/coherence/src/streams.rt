@@ -1,4 +1,4 @@
-//! The text that comes in, and lines that go out.
+//! The streams of a run: the text that is read, and the lines that are written.
 
 ghost use Rattle.std.specs.Prelude.{◌≡◌, ◌≤◌, ◌<◌, ◌⊎◌, length, take, IfOk, IfErr, IfSome, OnOk};
 ghost use Rattle.std.specs.Io.KnownBytes.{Appends};
@@ -8,12 +8,12 @@ use crate::status::RunFault;
 use std::alloc::Global;
 use std::io::{Read, Write};
 
-/// How many bytes are read at most: one more than a text may have, so that a longer one is seen to be too long.
+/// How many bytes are read at most: one more than a text may have, so that a text that is too long can be detected.
 pub const READ_LIMIT: usize = 1_048_577;
 
-/// What a reader gives, as far as a text may go and one byte further.
+/// What a reader gives, up to `READ_LIMIT` bytes.
 ///
-/// Any error of the reader ends it, also one after which another call might succeed.
+/// Each error of the reader ends the run with `Read`, also one after which another call might succeed.
 pub fn read_text<R: Read>(alloc: Global, reader: &mut R) -> Result<Vec<u8>, RunFault>
     ensures text { IfOk result (λ text. IfSome (R.remaining reader.old) (λ bytes. text.items ≡ take READ_LIMIT bytes)) }
     ensures bounded { ConsumesAtMost (R.remaining reader.old) (R.remaining reader.new) READ_LIMIT }
@@ -36,7 +36,7 @@ pub fn read_text<R: Read>(alloc: Global, reader: &mut R) -> Result<Vec<u8>, RunF
 
 /// Writes all of a text, by as many calls of the writer as it takes.
 ///
-/// An error of the writer, or a call that takes no byte, is a fault: what was written before is a prefix of the text.
+/// An error of the writer, or a call that takes no byte, is the fault `Write`. What was written before is a prefix of the text.
 pub fn write_text<W: Write>(writer: &mut W, text: &[u8]) -> Result<(), RunFault>
     ensures whole { OnOk result (Appends (W.contents writer.old) (W.contents writer.new) text.now) }
     ensures prefix { AppendsPrefix (W.contents writer.old) (W.contents writer.new) text.now }

@@ -1,4 +1,4 @@
-//! From bytes to bytes.
+//! A run: from the bytes of a reader to the bytes of a writer.
 
 ghost use Rattle.std.specs.Prelude.{◌≡◌, ◌≢◌, IfOk, IfErr, IfSome, OnErr};
 ghost use Rattle.std.specs.Io.KnownBytes.{Keeps};
@@ -32,11 +32,10 @@ pub fn answer_text<W: Write>(
     Ok(lines.status())
 }
 
-/// Reads a text, and writes its output: the line of its first fault, or a line for each crate but `core`, then one for each later
-/// version and each check of supertraits, and then one for each question, each as it is ready.
+/// Reads a text, and writes its output, each line when it is ready. The output is the line of the text's first fault. Without a fault it is
+/// a line for each crate but `core`, then one for each check (`later` or `supers`), and then one for each query.
 ///
-/// No more than 1,048,577 bytes are read, which is one more than a text may have. A line is written by as many calls of the
-/// writer as it takes; what was written before a `RunFault` is a prefix of the output.
+/// At most 1,048,577 bytes are read, one more than a text may have. What was written before a `RunFault` is a prefix of the output.
 pub fn run<R: Read, W: Write>(
     alloc: Global,
     reader: &mut R,
@@ -46,15 +45,15 @@ pub fn run<R: Read, W: Write>(
     // What is written is the output for all that the reader holds.
     ensures whole { IfOk result
         (λ status. IfSome (R.remaining reader.old) (λ bytes. TellsAll limits.depth bytes status (W.contents writer.old) (W.contents writer.new))) }
-    // Where it stops before, a prefix of that has been written.
+    // If the run stops before, a prefix of the output has been written.
     ensures prefix { OnErr result (IfSome (R.remaining reader.old) (λ bytes. TellsSome limits.depth bytes (W.contents writer.old) (W.contents writer.new))) }
-    // Where reading fails, nothing has been written.
+    // If reading fails, nothing has been written.
     ensures unread { IfErr result (λ fault. fault ≡ RunFault.Read → Keeps (W.contents writer.old) (W.contents writer.new)) }
-    // Where the line of each crate says `accepted`, and the supertraits of headers are proved, the text is coherent as a whole.
+    // If the line of each crate says `accepted`, and the supertraits of headers have proofs, the text is coherent as a whole.
     ensures coherent { AcceptedTextsHold SupertraitsStand }
-    // So it is where each crate has a line `supers N: held` too, and then nothing is assumed of supertraits.
+    // The same holds if each crate also has a line `supers N: held`. Then nothing is assumed of supertraits.
     ensures held { AcceptedTextsHold AllSayHeld }
-    // So much is read at most, whatever comes.
+    // No more is read in any case.
     ensures bounded { ConsumesAtMost (R.remaining reader.old) (R.remaining reader.new) READ_LIMIT }
 {
     accepted_lines_tell();
