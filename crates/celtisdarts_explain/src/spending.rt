@@ -40,16 +40,17 @@ impl Spending {
         self.explaining = self.explaining.saturating_add(frames);
     }
 
-    /// Whether explanations took as much as they may: what the answers took, and what is free.
+    /// Whether explanations took as much as they may: twice what the answers took, and what is free.
     fn is_over(&self) -> bool
-        ensures { result ≡ false → self.now.explaining ≤ self.now.answering + FREE }
+        ensures { result ≡ false → self.now.explaining ≤ self.now.answering + self.now.answering + FREE }
     {
-        self.explaining > self.answering.saturating_add(FREE)
+        let twice = self.answering.saturating_add(self.answering);
+        self.explaining > twice.saturating_add(FREE)
     }
 
     /// How it stands with a question that is to be explained next: it is explained only where those before took no more than they may.
     pub(crate) fn next(&mut self) -> Next
-        ensures { result ≡ Next.Explained → self.old.explaining ≤ self.old.answering + FREE }
+        ensures { result ≡ Next.Explained → self.old.explaining ≤ self.old.answering + self.old.answering + FREE }
     {
         if !self.is_over() {
             return Next::Explained;

@@ -22,6 +22,8 @@ enum Doubt {
     Depth,
     /// The search met a limit, and it is not seen that it was that of the depth.
     Limits,
+    /// The search met a limit, and the walk took what it may before it was seen which.
+    Either,
     /// A goal needs itself.
     Cycle,
     /// More than one candidate is left.
@@ -125,6 +127,8 @@ fn doubt_of(story: &Story<'_>, leaf: usize) -> Doubt {
         Doubt::Cycle
     } else if overflows(story) && story.is_cut(leaf) {
         Doubt::Depth
+    } else if overflows(story) && story.is_left_out(leaf) {
+        Doubt::Either
     } else if overflows(story) {
         Doubt::Limits
     } else if story.candidates(leaf).len() > 1 {
@@ -139,7 +143,7 @@ fn doubt_of(story: &Story<'_>, leaf: usize) -> Doubt {
 /// The code.
 fn code_of(doubt: Doubt) -> ErrCode {
     match doubt {
-        Doubt::Depth | Doubt::Limits | Doubt::Cycle => ErrCode::E0275,
+        Doubt::Depth | Doubt::Limits | Doubt::Either | Doubt::Cycle => ErrCode::E0275,
         Doubt::Ways | Doubt::Open | Doubt::Other => ErrCode::E0283,
     }
 }
@@ -147,7 +151,10 @@ fn code_of(doubt: Doubt) -> ErrCode {
 /// The message.
 fn message_of<'s>(story: &'s Story<'_>, doubt: Doubt, leaf: usize) -> Sentence<'s> {
     let (template, place) = match doubt {
-        Doubt::Depth | Doubt::Limits => ("overflow evaluating the requirement `{}`", 0),
+        Doubt::Depth | Doubt::Limits | Doubt::Either => (
+            "overflow evaluating the requirement `{}`",
+            0,
+        ),
         Doubt::Cycle => ("overflow evaluating the requirement `{}`", leaf),
         Doubt::Ways | Doubt::Open | Doubt::Other => (
             "type annotations needed: cannot satisfy `{}`",
@@ -166,6 +173,10 @@ fn said_at<'s>(story: &'s Story<'_>, doubt: Doubt, leaf: usize, depth: u32) -> S
             Piece::Number(depth as usize),
         ),
         Doubt::Limits => plain("not settled within the limits of the search"),
+        Doubt::Either => with_one(
+            "not settled within the depth limit {} and 65,536 nested goals",
+            Piece::Number(depth as usize),
+        ),
         Doubt::Cycle => with_one(
             "`{}` needs itself: such a cycle proves nothing and refuses nothing",
             reference,
@@ -235,7 +246,7 @@ fn tell_doubt(story: &Story<'_>, doubt: Doubt, leaf: usize, depth: u32, telling:
         Doubt::Ways => tell_ways(story, leaf, telling),
         Doubt::Depth => tell_deeper(depth, telling),
         Doubt::Limits => telling.help(plain(GIVEN_UP)),
-        Doubt::Cycle | Doubt::Open | Doubt::Other => {}
+        Doubt::Either | Doubt::Cycle | Doubt::Open | Doubt::Other => {}
     }
 }
 

@@ -151,7 +151,9 @@ fn tell_where(spoken: &Spoken, is_impl: bool, telling: &mut Telling) {
 /// What is said of the goal that failed by its place among the others: that the goals that it asks are not shown, or that it needs itself.
 fn standing_said<'s>(story: &'s Story<'_>, leaf: usize) -> Option<Sentence<'s>> {
     match story.standing(leaf) {
-        Standing::Cut => Some(plain("the goals that this one asks are not shown")),
+        Standing::Cut | Standing::Unwalked => {
+            Some(plain("the goals that this one asks are not shown"))
+        }
         Standing::Cycle(_) => Some(with_one(
             "`{}` needs itself: such a cycle proves nothing",
             story.reference(leaf),

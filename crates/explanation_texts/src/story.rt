@@ -165,9 +165,19 @@ impl Story<'_> {
         matches!(self.standing(place), Standing::Cycle(_))
     }
 
-    /// Whether a goal is deeper, or one more, than is shown.
+    /// Whether a goal is as deep as goals are looked at, or the walk ended there though it took no more than it may: then it is in a chain
+    /// that is longer than is shown.
     pub(crate) fn is_cut(&self, place: usize) -> bool {
-        self.standing(place) == Standing::Cut
+        match self.standing(place) {
+            Standing::Cut => true,
+            Standing::Unwalked => !self.walk.is_spent(),
+            Standing::Opened | Standing::Same(_) | Standing::Cycle(_) => false,
+        }
+    }
+
+    /// Whether the walk took what it may before the candidates of a goal.
+    pub(crate) fn is_left_out(&self, place: usize) -> bool {
+        self.standing(place) == Standing::Unwalked && self.walk.is_spent()
     }
 
     /// Whether all candidates of a goal were looked at.

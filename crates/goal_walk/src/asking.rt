@@ -49,7 +49,7 @@ pub(crate) fn result_of<H: GoalHandler>(
 }
 
 /// How a result of the search answers its goal.
-fn answer_in<H: GoalHandler>(
+pub(crate) fn answer_in<H: GoalHandler>(
     cx: &SolverCx<H>,
     found: Option<Option<ResponseId>>,
 ) -> Result<Answer, Fault>
@@ -68,7 +68,7 @@ fn answer_in<H: GoalHandler>(
 }
 
 /// How the search answers the goal with a number.
-pub(crate) fn answer_to<H: GoalHandler>(
+fn answer_to<H: GoalHandler>(
     graph: &mut SearchGraph<SolverGraph<H>>,
     cache: &mut GlobalCache<SolverGraph<H>>,
     cx: &mut SolverCx<H>,
@@ -81,6 +81,25 @@ pub(crate) fn answer_to<H: GoalHandler>(
 {
     let found = result_of(graph, cache, cx, input)?;
     answer_in(cx, found)
+}
+
+/// The same, where it was not asked in the course of the walk before.
+fn answer_once<H: GoalHandler>(
+    graph: &mut SearchGraph<SolverGraph<H>>,
+    cache: &mut GlobalCache<SolverGraph<H>>,
+    cx: &mut SolverCx<H>,
+    walk: &GoalWalk,
+    input: InputId,
+) -> Result<Answer, Fault>
+    requires askable { WalkIsAskable H.meaning graph.old cache.old cx.old }
+    requires input { IsInput H.meaning.IsReady cx.old input }
+    ensures again { WalkIsAskable H.meaning graph.new cache.new cx.new }
+    ensures asked { WalkHasAsked H.meaning graph.old cx.old graph.new cx.new }
+{
+    match walk.effort.answer(input) {
+        Some(answer) => Ok(answer),
+        None => answer_to(graph, cache, cx, input),
+    }
 }
 
 /// A goal that was met.
@@ -119,7 +138,10 @@ pub(crate) fn meet_goal<H: GoalHandler>(
         values,
     } = asked;
     let reference = resolved.predicate.trait_ref;
-    let answer = answer_to(graph, cache, cx, input)?;
+    let levels = cx.interner.depth(reference.args);
+    walk.begin(graph.frames(), levels);
+    let answer = answer_once(graph, cache, cx, walk, input)?;
+    walk.count(graph.frames());
     let is_coinductive = cx.handler.trait_is_coinductive(reference.def_id);
     let place = walk.meet(cx.alloc, input, reference, answer, is_coinductive, depth)?;
     Ok(Met {

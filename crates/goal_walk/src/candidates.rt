@@ -8,7 +8,8 @@ ghost use Rattle.solver_context.specs.Contexts.{IsReady, Advances};
 ghost use Rattle.goal_walk.specs.Frames.{IsWalked};
 ghost use Rattle.goal_walk.specs.Walking.{GoalsHeld, WalkIsAskable, WalkHasAsked};
 
-use crate::asking::result_of;
+use crate::asking::{answer_in, result_of};
+use crate::effort::Effort;
 use crate::frames::{FrameWalk, Turn};
 use crate::nodes::GoalWalk;
 use crate::opening::open_candidate;
@@ -21,12 +22,13 @@ use type_terms::Fault;
 use type_terms::kinds::GenericArgKind;
 
 /// Goes on with the open candidate of a frame, up to its end: each goal that it asks has the answer of the search. `None` where the
-/// search gives no answer.
+/// search gives no answer, or more frames were started than may be.
 fn run_candidate<H: GoalHandler>(
     graph: &mut SearchGraph<SolverGraph<H>>,
     cache: &mut GlobalCache<SolverGraph<H>>,
     cx: &mut SolverCx<H>,
     frame: FrameWalk,
+    effort: &mut Effort,
 ) -> Result<Option<FrameWalk>, Fault>
     requires askable { WalkIsAskable H.meaning graph.old cache.old cx.old }
     requires walked { IsWalked H.meaning cx.old frame }
@@ -36,9 +38,14 @@ fn run_candidate<H: GoalHandler>(
 {
     let mut walk = frame;
     while let Turn::Ask(input) = walk.turn() {
+        if graph.frames() > effort.last_frame() {
+            return Ok(None);
+        }
         let Some(answer) = result_of(graph, cache, cx, input)? else {
             return Ok(None);
         };
+        let told = answer_in(cx, Some(answer))?;
+        effort.note_answer(input, told)?;
         walk = walk.hear(cx, input, answer)?;
     }
     Ok(Some(walk))
@@ -50,6 +57,7 @@ fn try_candidate<H: GoalHandler>(
     cache: &mut GlobalCache<SolverGraph<H>>,
     cx: &mut SolverCx<H>,
     frame: FrameWalk,
+    effort: &mut Effort,
 ) -> Result<Option<FrameWalk>, Fault>
     requires askable { WalkIsAskable H.meaning graph.old cache.old cx.old }
     requires walked { IsWalked H.meaning cx.old frame }
@@ -58,7 +66,7 @@ fn try_candidate<H: GoalHandler>(
     ensures walked { IfOk result (λ o. IfSome o (IsWalked H.meaning cx.new)) }
 {
     match frame.enter(cx)? {
-        Some(entered) => run_candidate(graph, cache, cx, entered),
+        Some(entered) => run_candidate(graph, cache, cx, entered, effort),
         None => Ok(None),
     }
 }
@@ -97,7 +105,8 @@ pub(crate) struct Tried {
     pub(crate) opened: Option<Vec<Goal>>,
 }
 
-/// Tries the next candidate of a frame, and opens it over the table of the one who asks. `None` where the search gives no answer.
+/// Tries the next candidate of a frame, and opens it over the table of the one who asks. `None` where the search gives no answer, or more
+/// frames were started than may be.
 pub(crate) fn try_next<H: GoalHandler>(
     graph: &mut SearchGraph<SolverGraph<H>>,
     cache: &mut GlobalCache<SolverGraph<H>>,
@@ -105,6 +114,7 @@ pub(crate) fn try_next<H: GoalHandler>(
     table: &mut InferCtxt,
     values: &[GenericArgKind],
     frame: FrameWalk,
+    effort: &mut Effort,
 ) -> Result<Option<Tried>, Fault>
     requires askable { WalkIsAskable H.meaning graph.old cache.old cx.old }
     requires walked { IsWalked H.meaning cx.old frame }
@@ -119,7 +129,7 @@ pub(crate) fn try_next<H: GoalHandler>(
 {
     context_laws::<H>();
     let opened = open_next(cx, table, values, &frame)?;
-    let tried = try_candidate(graph, cache, cx, frame)?;
+    let tried = try_candidate(graph, cache, cx, frame, effort)?;
     match tried {
         Some(frame) => Ok(Some(Tried { frame, opened })),
         None => Ok(None),
@@ -155,10 +165,12 @@ pub(crate) fn told_candidate(
     })
 }
 
-/// Whether no more candidates of the goal at a place are walked, when its frame wants this. If all were looked at, it is noted.
-pub(crate) fn is_over(walk: &mut GoalWalk, place: usize, turn: Turn) -> bool
+/// Whether no more candidates of the goal at a place are walked, when its frame wants this, and the searches have started so many frames. If
+/// all were looked at, it is noted.
+pub(crate) fn is_over(walk: &mut GoalWalk, place: usize, turn: Turn, frames: u64) -> bool
     ensures { walk.new.references ≡ walk.old.references }
 {
+    walk.count(frames);
     if walk.is_told(place) {
         return true;
     }

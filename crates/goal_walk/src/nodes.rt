@@ -2,6 +2,7 @@
 
 ghost use Rattle.std.specs.Prelude.{◌≡◌, [], ◌∷◌, ◌++◌, ◌⊎◌};
 
+use crate::effort::Effort;
 use evaluation::{CandidateSource, Certainty, MaybeCause};
 use goal_frames::store::InputId;
 use std::alloc::Global;
@@ -39,8 +40,10 @@ pub enum Standing {
     Same(usize),
     /// The same goal is the one at this place, and this one is asked in the course of it.
     Cycle(usize),
-    /// The goal is deeper, or one more, than is shown.
+    /// The goal is deeper than is shown.
     Cut,
+    /// The walk ended before its candidates: as many goals as are opened were, or it took what it may.
+    Unwalked,
 }
 
 /// A candidate whose header fits, with the goals that it asks, up to the first that is refused.
@@ -74,6 +77,7 @@ pub struct GoalWalk {
     /// The reference of the goal at each place, as the table resolved it when it was met.
     pub references: Vec<TraitRef>,
     pub nodes: Vec<Node>,
+    pub(crate) effort: Effort,
 }
 
 // Written, so that what owns one drops it by one call at each way out, and not field by field.
@@ -107,6 +111,7 @@ impl Drop for GoalWalk {
         let GoalWalk {
             references: _,
             nodes: _,
+            effort: _,
         } = self;
     }
 }
@@ -132,7 +137,32 @@ impl GoalWalk {
         GoalWalk {
             references: Vec::new(alloc),
             nodes: Vec::new(alloc),
+            effort: Effort::none(alloc),
         }
+    }
+
+    /// Whether the walk took what it may, so that no further goal is opened.
+    pub fn is_spent(&self) -> bool {
+        self.effort.is_spent()
+    }
+
+    /// With how many frames of the searches no further goal is asked.
+    pub(crate) fn last_frame(&self) -> u64 {
+        self.effort.last_frame()
+    }
+
+    /// Notes that a goal with types of so many levels is asked next, when the searches have started so many frames.
+    pub(crate) fn begin(&mut self, frames: u64, levels: u32)
+        ensures { self.new.references ≡ self.old.references }
+    {
+        self.effort.begin(frames, levels);
+    }
+
+    /// Counts what the walk took, when the searches have started so many frames.
+    pub(crate) fn count(&mut self, frames: u64)
+        ensures { self.new.references ≡ self.old.references }
+    {
+        self.effort.count(frames);
     }
 
     /// The goal at a place.
@@ -183,8 +213,10 @@ impl GoalWalk {
             }
             Some(place) => (Standing::Same(place), self.is_founded(place)),
             None => {
-                if depth == 0 || self.nodes.len() >= GOAL_LIMIT {
+                if depth == 0 {
                     (Standing::Cut, true)
+                } else if self.nodes.len() >= GOAL_LIMIT || self.is_spent() {
+                    (Standing::Unwalked, true)
                 } else {
                     (Standing::Opened, false)
                 }
@@ -221,12 +253,17 @@ impl GoalWalk {
         Ok(place)
     }
 
-    /// Ends the walk of the goal at a place.
-    pub(crate) fn close(&mut self, place: usize)
+    /// Ends the walk of the goal at a place, when the searches have started so many frames.
+    pub(crate) fn close(&mut self, place: usize, frames: u64)
         ensures { self.new.references ≡ self.old.references }
     {
+        self.effort.count(frames);
+        let is_spent = self.is_spent();
         if let Some(node) = self.nodes.get_mut(place) {
             node.is_open = false;
+            if is_spent && node.candidates.is_empty() {
+                node.standing = Standing::Unwalked;
+            }
         }
     }
 
@@ -270,8 +307,11 @@ impl GoalWalk {
         Ok(())
     }
 
-    /// Whether no more candidates of the goal at a place have to be looked at.
+    /// Whether no more candidates of the goal at a place are looked at: they need not be, or the walk took what it may.
     pub(crate) fn is_told(&self, place: usize) -> bool {
+        if self.is_spent() {
+            return true;
+        }
         match self.nodes.get(place) {
             Some(node) => node.answer == Answer::Nothing || node.is_founded,
             None => true,

@@ -10,6 +10,7 @@ use infer_table::infer_ctxt::InferCtxt;
 use search_graph::{GlobalCache, SearchGraph};
 use solver_context::{GoalEvaluation, RootError, SolverCx, SolverGraph, evaluate_root_goal};
 use type_terms::Fault;
+use type_terms::visitable_ext::TypeVisitableExt;
 
 /// How often a goal is asked at most.
 const MAX_ASKINGS: u32 = 8;
@@ -49,7 +50,7 @@ fn ask_once<H: GoalHandler>(
 }
 
 /// Puts the values that the search gives a goal into the table: it is asked until an answer brings none, eight times at most. A goal that
-/// is refused, or of which nothing is known, leaves the table as it is.
+/// is refused, or of which nothing is known, leaves the table as it is; one in which no unknown stands is not asked.
 pub fn settle<H: GoalHandler>(
     graph: &mut SearchGraph<SolverGraph<H>>,
     cache: &mut GlobalCache<SolverGraph<H>>,
@@ -66,6 +67,9 @@ pub fn settle<H: GoalHandler>(
     ensures table { Ready cx.new.interner.entries table.new }
     ensures grows { Grows table.old table.new }
 {
+    if !goal.predicate.trait_ref.args.has_infer(&cx.interner) {
+        return Ok(());
+    }
     for _asking in 0..MAX_ASKINGS {
         if !ask_once(graph, cache, cx, table, mode, goal)? {
             return Ok(());

@@ -67,7 +67,7 @@ pub fn walk_goal<H: GoalHandler>(
     walk_candidates(
         graph, cache, cx, table, walk, mode, input, &values, place, below,
     )?;
-    walk.close(place);
+    walk.close(place, graph.frames());
     Ok(place)
 }
 
@@ -94,7 +94,7 @@ fn walk_candidates<H: GoalHandler>(
     let mut frame = FrameWalk::begin(cx, input)?;
     for _candidate in 0..CANDIDATE_LIMIT {
         let turn = frame.turn();
-        if is_over(walk, place, turn) {
+        if is_over(walk, place, turn, graph.frames()) {
             return Ok(());
         }
         let visited = visit_candidate(
@@ -130,7 +130,7 @@ fn visit_candidate<H: GoalHandler>(
     ensures frame { IfOk result (λ o. IfSome o (IsWalked H.meaning cx.new)) }
 {
     let before = table.snapshot();
-    let tried = try_next(graph, cache, cx, table, values, frame)?;
+    let tried = try_next(graph, cache, cx, table, values, frame, &mut walk.effort)?;
     let Some(tried) = tried else {
         take_back(table, before);
         return Ok(None);
@@ -169,6 +169,9 @@ fn walk_telling<H: GoalHandler>(
         goals,
     } = told;
     let premises = walk_premises(graph, cache, cx, table, walk, mode, &goals, depth)?;
+    let Some(premises) = premises else {
+        return Ok(());
+    };
     let candidate = CandidateNode {
         source,
         certainty,
@@ -177,7 +180,7 @@ fn walk_telling<H: GoalHandler>(
     walk.note_candidate(place, candidate)
 }
 
-/// Walks the goals that a candidate asks, up to the first that is refused.
+/// Walks the goals that a candidate asks, up to the first that is refused. `None` where the walk took what it may before the last of them.
 #[cycle(walk)]
 fn walk_premises<H: GoalHandler>(
     graph: &mut SearchGraph<SolverGraph<H>>,
@@ -188,7 +191,7 @@ fn walk_premises<H: GoalHandler>(
     mode: TypingMode,
     goals: &[Goal],
     depth: u32,
-) -> Result<Vec<usize>, Fault>
+) -> Result<Option<Vec<usize>>, Fault>
     requires walkable { IsWalkable H.meaning graph.old cache.old cx.old table.old walk.old.references.items }
     requires goals { GoalsHeld cx.old.interner.entries goals.now }
     ensures again { IsWalkable H.meaning graph.new cache.new cx.new table.new walk.new.references.items }
@@ -196,12 +199,15 @@ fn walk_premises<H: GoalHandler>(
 {
     let mut premises = Vec::new(cx.alloc);
     for goal in goals {
+        if graph.frames() > walk.last_frame() {
+            return Ok(None);
+        }
         settle(graph, cache, cx, table, mode, goal)?;
         let premise = walk_goal(graph, cache, cx, table, walk, mode, goal, depth)?;
         premises.push(premise)?;
         if walk.is_refused(premise) {
-            return Ok(premises);
+            return Ok(Some(premises));
         }
     }
-    Ok(premises)
+    Ok(Some(premises))
 }

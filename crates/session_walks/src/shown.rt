@@ -45,6 +45,7 @@ fn opened_at(walk: &GoalWalk, place: usize) -> usize {
             Standing::Cycle(above) => above,
             Standing::Opened => place,
             Standing::Cut => place,
+            Standing::Unwalked => place,
         },
         None => place,
     }

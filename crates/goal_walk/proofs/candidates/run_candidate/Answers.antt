@@ -55,3 +55,11 @@ returns-in_err-walk-clause-again g c =
     let k = c.hear.ensures.keeps in
     askable-later h c.result_of.new.graph c.result_of.new.cache c.result_of.new.cx c.hear.new.cx k c.hear.ensures.ready
     (justified-later (m h) c.result_of.new.cx c.hear.new.cx c.result_of.new.cache k c.result_of.ensures.again.cache) c.result_of.ensures.again
+
+pub returns-in_err-told-clause-asked : goal.returns-in_err-told-clause-asked
+returns-in_err-told-clause-asked g c =
+    asked-further g.H.GoalHandler.meaning c.args.graph.now c.loop-input.graph c.result_of.new.graph c.args.cx.now c.loop-input.cx c.result_of.new.cx c.loop-input.invariant.asked c.result_of.ensures.asked
+
+pub returns-in_err-note_answer-clause-asked : goal.returns-in_err-note_answer-clause-asked
+returns-in_err-note_answer-clause-asked g c =
+    asked-further g.H.GoalHandler.meaning c.args.graph.now c.loop-input.graph c.result_of.new.graph c.args.cx.now c.loop-input.cx c.result_of.new.cx c.loop-input.invariant.asked c.result_of.ensures.asked

@@ -31,3 +31,9 @@ loop-asking-preserved g c = record {
 pub returns-then-not-branch-clause-asked : goal.returns-then-not-branch-clause-asked
 returns-then-not-branch-clause-asked g c =
     asked-further g.H.GoalHandler.meaning c.args.graph.now c.loop-asking.graph c.ask_once.new.graph c.args.cx.now c.loop-asking.cx c.ask_once.new.cx c.loop-asking.invariant.asked c.ask_once.ensures.asked
+
+pub returns-then-not-has_infer-clause-asked : goal.returns-then-not-has_infer-clause-asked
+returns-then-not-has_infer-clause-asked g c = asked-none g.H.GoalHandler.meaning c.args.graph.now c.args.cx.now
+
+pub returns-then-not-has_infer-clause-grows : goal.returns-then-not-has_infer-clause-grows
+returns-then-not-has_infer-clause-grows g c = grows-refl c.args.table.now
