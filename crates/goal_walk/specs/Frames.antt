@@ -1,4 +1,4 @@
--- Frames that are walked outside a search.
+-- Frames that run outside a search.
 use Rattle.std.specs.Prelude.{◌≡◌, List, ◌∷◌, Option}
 use Rattle.search_graph.specs.Meaning.{IsRequest, request_of, is_open, finished}
 use Rattle.search_graph.specs.declared.delegate.Reply.{Reply}
@@ -10,7 +10,7 @@ use Rattle.solver_context.specs.declared.context.SolverCx.{SolverCx}
 use Rattle.goal_walk.specs.declared.frames.FrameWalk.{FrameWalk}
 
 module _ {Handler : Type 0} (handler : HandlerMeaning Handler) where
-  -- The frame of some goal has had replies that were due, and makes this request; one of its candidates is open, or none, and so many are
+  -- The frame of some goal has had replies that were due, and makes this request; one of its candidates is open, or none, and this many are
   -- finished.
   pub record IsWalked (c : SolverCx Handler) (w : FrameWalk) : Type 0 where
     pub goal : Asked

@@ -1,4 +1,4 @@
--- What a walk needs, and what it keeps.
+-- What a trace needs, and what it preserves.
 use Rattle.std.specs.Prelude.{◌≡◌, List, Option}
 use Rattle.type_terms.specs.Terms.{Entry, Has, Keeps, args_lists}
 use Rattle.term_folds.specs.declared.predicate.TraitRef.{TraitRef}
@@ -19,34 +19,34 @@ use Rattle.solver_context.specs.declared.context.SolverCx.{SolverCx}
 abbrev pub KnownAnswers : Type 0
 KnownAnswers = List (KnownResult InputId (Option ResponseId))
 
--- The references' arguments are the interner's.
+-- The trait references' arguments are the interner's.
 abbrev pub ReferencesHeld : List Entry → List TraitRef → Type 0
 ReferencesHeld es rs = Every (λ (r : TraitRef). Has es args_lists r.args.0) rs
 
--- So are the goals.
+-- The goals are the interner's.
 abbrev pub GoalsHeld : List Entry → List Goal → Type 0
 GoalsHeld es gs = Every (GoalHeld es) gs
 
 module _ {Handler : Type 0} (handler : HandlerMeaning Handler) where
-  -- A search can be asked: none runs, the cache is justified, and all handles are the interner's.
+  -- A search can run: none is running, the cache is justified, and all handles are the interner's.
   pub record WalkIsAskable (graph : SearchState) (ks : KnownAnswers) (c : SolverCx Handler) : Type 0 where
     pub empty : graph.current_depth ≡ 0
     pub cache : AreJustified (solver_meaning handler) c ks
     pub ready : IsReady handler.IsReady c
 
-  -- What asking keeps: the depth of the graph, and of the context all that it had.
+  -- What a search preserves: the depth of the graph, and all that the context had.
   pub record WalkHasAsked (graph : SearchState) (c : SolverCx Handler) (graph_left : SearchState) (d : SolverCx Handler) : Type 0 where
     pub depth : graph_left.root_depth ≡ graph.root_depth
     pub keeps : Search.Keeps (solver_meaning handler) c d
     pub entries : Keeps (entries_of c) (entries_of d)
 
-  -- Goals of a table can be walked.
+  -- Goals over a table can be traced.
   pub record IsWalkable (graph : SearchState) (ks : KnownAnswers) (c : SolverCx Handler) (t : Table) (rs : List TraitRef) : Type 0 where
     pub askable : WalkIsAskable graph ks c
     pub table : Ready (entries_of c) t
     pub references : ReferencesHeld (entries_of c) rs
 
-  -- What a walk keeps: what asking does, and of the table all that it had.
+  -- What a trace preserves: what a search does, and all that the table had.
   pub record HasWalked (graph : SearchState) (c : SolverCx Handler) (t : Table) (graph_left : SearchState) (d : SolverCx Handler) (u : Table) : Type 0 where
     pub asked : WalkHasAsked graph c graph_left d
     pub grows : Grows t u

@@ -16,7 +16,7 @@ use solver_context::{Asked, SolverCx, SolverGraph, ask, context_laws};
 use type_terms::Fault;
 use type_terms::kinds::GenericArgKind;
 
-/// What a search came to; `None` where it gave no result.
+/// What a search came to. `None` if it gave no result.
 fn read_result(
     found: Result<Option<ResponseId>, GraphFault>,
 ) -> Result<Option<Option<ResponseId>>, Fault>
@@ -31,7 +31,7 @@ fn read_result(
     }
 }
 
-/// The result of the search for the goal with a number; `None` where the search gives none, since it met a conflict.
+/// The result of the search for the goal with this number. `None` if the search gives none because of a conflict.
 pub(crate) fn result_of<H: GoalHandler>(
     graph: &mut SearchGraph<SolverGraph<H>>,
     cache: &mut GlobalCache<SolverGraph<H>>,
@@ -67,7 +67,7 @@ pub(crate) fn answer_in<H: GoalHandler>(
     }
 }
 
-/// How the search answers the goal with a number.
+/// How the search answers the goal with this number.
 fn answer_to<H: GoalHandler>(
     graph: &mut SearchGraph<SolverGraph<H>>,
     cache: &mut GlobalCache<SolverGraph<H>>,
@@ -102,17 +102,17 @@ fn answer_once<H: GoalHandler>(
     }
 }
 
-/// A goal that was met.
+/// A goal that a trace met.
 pub(crate) struct Met {
-    /// Its place in the walk.
+    /// Its index in the trace.
     pub(crate) place: usize,
     /// The number of its canonical form.
     pub(crate) input: InputId,
-    /// What stands for the variables of the form.
+    /// The values of the form's variables.
     pub(crate) values: Vec<GenericArgKind>,
 }
 
-/// Adds a goal of a table to a walk, with the answer of the search.
+/// Adds a goal over a table to a trace, with the answer of the search.
 pub(crate) fn meet_goal<H: GoalHandler>(
     graph: &mut SearchGraph<SolverGraph<H>>,
     cache: &mut GlobalCache<SolverGraph<H>>,

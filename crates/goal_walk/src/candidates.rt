@@ -1,4 +1,4 @@
-//! Candidates, one after the other.
+//! The candidates of a goal, one after the other.
 
 ghost use Rattle.std.specs.Prelude.{◌≡◌, List, IfOk, IfSome};
 ghost use Rattle.type_terms.specs.Kinds.{ArgsHeld};
@@ -71,8 +71,7 @@ fn try_candidate<H: GoalHandler>(
     }
 }
 
-/// Opens the candidate that a frame is to enter over the table of the one who asks, and answers the goals that it asks; none where it
-/// does not fit.
+/// Opens the candidate that a frame is to enter over the table of the parent goal, and returns its nested goals. `None` if it does not fit.
 fn open_next<H: GoalHandler>(
     cx: &mut SolverCx<H>,
     table: &mut InferCtxt,
@@ -99,9 +98,9 @@ fn open_next<H: GoalHandler>(
 
 /// A candidate that was tried.
 pub(crate) struct Tried {
-    /// The frame, in which the candidate is to be finished.
+    /// The frame in which the candidate is to be finished.
     pub(crate) frame: FrameWalk,
-    /// The goals that it asks; none where it does not fit.
+    /// Its nested goals. `None` if it does not fit.
     pub(crate) opened: Option<Vec<Goal>>,
 }
 
@@ -136,15 +135,15 @@ pub(crate) fn try_next<H: GoalHandler>(
     }
 }
 
-/// A candidate that tells why its goal is answered so.
+/// A candidate that explains the answer of its goal.
 pub(crate) struct Telling {
     pub(crate) source: CandidateSource,
     pub(crate) certainty: Option<Certainty>,
-    /// The goals that it asks.
+    /// Its nested goals.
     pub(crate) goals: Vec<Goal>,
 }
 
-/// The candidate with the goals that it asks, if it tells why the goal at a place is answered so; none where it does not fit.
+/// The candidate with its nested goals, if it explains the answer of the goal at this index. `None` if it does not fit.
 pub(crate) fn told_candidate(
     walk: &GoalWalk,
     frame: &FrameWalk,

@@ -33,7 +33,7 @@ pub(crate) struct Effort {
     answers: Vec<(InputId, Answer)>,
 }
 
-// Written, so that what owns one drops it by one call at each way out, and not field by field.
+// Hand-written so that the prover sees one drop call: docs/PROVING.md#drop.
 impl Drop for Effort {
     fn drop(self) {
         let Effort {

@@ -1,4 +1,4 @@
-//! A goal's frame, walked step by step outside a search.
+//! The frame of a goal, run step by step outside a search.
 
 ghost use Rattle.std.specs.Prelude.{◌≡◌, ◌<◌, IfOk, IfSome};
 ghost use Rattle.evaluation.specs.Readings.{SpecHeld};
@@ -24,7 +24,7 @@ pub(crate) struct FrameWalk {
     candidates: Candidates,
 }
 
-// Written, so that what owns one drops it by one call at each way out, and not field by field.
+// Hand-written so that the prover sees one drop call: docs/PROVING.md#drop.
 impl Drop for FrameWalk {
     fn drop(self) {
         let FrameWalk {
@@ -35,21 +35,21 @@ impl Drop for FrameWalk {
     }
 }
 
-/// What a frame wants next.
+/// What a frame needs next.
 #[derive(Clone, Copy)]
 pub(crate) enum Turn {
     /// The answer to the goal with this number.
     Ask(InputId),
-    /// That its next candidate is tried.
+    /// Its next candidate is tried.
     Enter,
-    /// That the open candidate is finished.
+    /// The open candidate is finished.
     Finish,
-    /// Nothing more: all its candidates were considered.
+    /// Nothing more. All its candidates were considered.
     End,
 }
 
 impl FrameWalk {
-    /// The frame of the goal with a number, which has been begun.
+    /// The frame of the goal with this number, which has been begun.
     pub(crate) fn begin<H: GoalHandler>(
         cx: &mut SolverCx<H>,
         input: InputId,
@@ -69,7 +69,7 @@ impl FrameWalk {
         })
     }
 
-    /// What the frame wants next.
+    /// What the frame needs next.
     pub(crate) fn turn(&self) -> Turn
         ensures asks { (i : InputId) → result ≡ Turn.Ask i → (k : PathKind) × (self.now.request ≡ Requested.Evaluate i k) }
         ensures enters { result ≡ Turn.Enter → self.now.request ≡ Requested.EnterCandidate }
@@ -93,12 +93,12 @@ impl FrameWalk {
         self.frame.candidate()
     }
 
-    /// What the candidate that is to be finished came to.
+    /// The response of the candidate that is to be finished.
     pub(crate) fn outcome(&self) -> Option<(CandidateSource, Option<Certainty>)> {
         self.frame.outcome()
     }
 
-    /// Goes on with the answer to the goal that was asked.
+    /// Goes on with the answer to the nested goal.
     pub(crate) fn hear<H: GoalHandler>(
         self,
         cx: &mut SolverCx<H>,
@@ -127,7 +127,7 @@ impl FrameWalk {
         })
     }
 
-    /// Enters the next candidate. `None` says that one is open, or that there is none to be entered.
+    /// Enters the next candidate. `None` if one is open, or if there is none to enter.
     pub(crate) fn enter<H: GoalHandler>(
         self,
         cx: &mut SolverCx<H>,
@@ -157,7 +157,7 @@ impl FrameWalk {
         }))
     }
 
-    /// Finishes the open candidate. `None` says that none is open, or that it asks still.
+    /// Finishes the open candidate. `None` if none is open, or if it still has nested goals.
     pub(crate) fn finish<H: GoalHandler>(
         self,
         cx: &mut SolverCx<H>,

@@ -1,4 +1,4 @@
-//! What a walk finds: goals, each with its answer and the candidates that tell why it is answered so.
+//! What a trace finds: goals, each with its answer and the candidates that explain it.
 
 ghost use Rattle.std.specs.Prelude.{◌≡◌, [], ◌∷◌, ◌++◌, ◌⊎◌};
 
@@ -21,9 +21,9 @@ pub const CANDIDATE_LIMIT: usize = 256;
 /// How a search answers a goal.
 #[derive(Clone, Copy, PartialEq, Eq)]
 pub enum Answer {
-    /// It holds, maybe with values for its unknowns.
+    /// It holds, maybe with values for its variables.
     Yes,
-    /// It is not known.
+    /// The search does not know.
     Maybe(MaybeCause),
     /// It is refused.
     Refused,
@@ -31,14 +31,14 @@ pub enum Answer {
     Nothing,
 }
 
-/// Whether the candidates of a goal are shown.
+/// Whether the candidates of a goal are displayed.
 #[derive(Clone, Copy, PartialEq, Eq)]
 pub enum Standing {
     /// They are.
     Opened,
-    /// They are shown at this place, where the same goal stands.
+    /// They are displayed at this index, where the same goal occurs.
     Same(usize),
-    /// The same goal is the one at this place, and this one is asked in the course of it.
+    /// The same goal is the one at this index, and this one is a nested goal of it, directly or through others.
     Cycle(usize),
     /// The goal is deeper than is shown.
     Cut,
@@ -46,12 +46,12 @@ pub enum Standing {
     Unwalked,
 }
 
-/// A candidate whose header fits, with the goals that it asks, up to the first that is refused.
+/// A candidate whose header fits, with its nested goals up to the first that is refused.
 pub struct CandidateNode {
     pub source: CandidateSource,
-    /// How sure its response is; none if it was refused.
+    /// The certainty of its response. `None` if it was refused.
     pub certainty: Option<Certainty>,
-    /// The places of the goals.
+    /// The indices of its nested goals.
     pub premises: Vec<usize>,
 }
 
@@ -60,27 +60,27 @@ pub struct Node {
     input: InputId,
     pub answer: Answer,
     pub standing: Standing,
-    /// Whether its trait holds of a reference that needs nothing but itself.
+    /// Whether its trait is coinductive: a goal holds if it needs nothing but itself.
     pub is_coinductive: bool,
-    /// Whether the goals that it asks are being walked.
+    /// Whether its nested goals are being traced.
     is_open: bool,
-    /// Whether a proof of it is shown: no goal in it needs itself but by coinductive steps alone. Of goals that hold.
+    /// Whether the trace has a proof of it: no goal in it needs itself, except by coinductive steps alone. Only for goals that hold.
     pub is_founded: bool,
     /// Whether all its candidates were looked at.
     pub is_whole: bool,
-    /// The candidates that tell why it is answered so; of a goal that holds, one that proves it.
+    /// The candidates that explain its answer. For a goal that holds, one that proves it.
     pub candidates: Vec<CandidateNode>,
 }
 
-/// The goals that were walked. Each has its place, in the order in which they were met.
+/// The goals of a trace. Each has an index, in the order in which they were met.
 pub struct GoalWalk {
-    /// The reference of the goal at each place, as the table resolved it when it was met.
+    /// The trait reference of the goal at each index, as the table resolved it when the goal was met.
     pub references: Vec<TraitRef>,
     pub nodes: Vec<Node>,
     pub(crate) effort: Effort,
 }
 
-// Written, so that what owns one drops it by one call at each way out, and not field by field.
+// Hand-written so that the prover sees one drop call: docs/PROVING.md#drop.
 impl Drop for CandidateNode {
     fn drop(self) {
         let CandidateNode {
@@ -116,7 +116,7 @@ impl Drop for GoalWalk {
     }
 }
 
-/// Whether a candidate tells why the goal is answered so.
+/// Whether a candidate of this certainty explains this answer.
 pub(crate) fn is_telling(answer: Answer, certainty: Option<Certainty>) -> bool {
     match (answer, certainty) {
         (Answer::Yes, Some(Certainty::Yes)) => true,
@@ -129,7 +129,7 @@ pub(crate) fn is_telling(answer: Answer, certainty: Option<Certainty>) -> bool {
 }
 
 impl GoalWalk {
-    /// Nothing was walked yet.
+    /// A trace without goals.
     pub fn new(alloc: Global) -> GoalWalk
         ensures references { result.references.items ≡ [] }
         ensures nodes { result.nodes.items ≡ [] }
@@ -165,12 +165,12 @@ impl GoalWalk {
         self.effort.count(frames);
     }
 
-    /// The goal at a place.
+    /// The goal at this index.
     pub fn node(&self, place: usize) -> Option<&Node> {
         self.nodes.get(place)
     }
 
-    /// Where the same goal stands with its candidates.
+    /// The index at which the same goal has its candidates.
     fn earlier(&self, input: InputId) -> Option<usize> {
         for (place, node) in self.nodes.iter().enumerate() {
             if node.input == input && node.standing == Standing::Opened {
@@ -180,7 +180,7 @@ impl GoalWalk {
         None
     }
 
-    /// Whether the goal at a place, and all that are open behind it, are of coinductive traits.
+    /// Whether the goal at this index, and all open goals after it, are of coinductive traits.
     fn is_coinductive_from(&self, place: usize) -> bool {
         for (other, node) in self.nodes.iter().enumerate() {
             if other >= place && node.is_open && !node.is_coinductive {
@@ -197,7 +197,7 @@ impl GoalWalk {
         }
     }
 
-    /// Whether the goal at a place holds, and a proof of it is shown.
+    /// Whether the goal at this index holds, and the trace has a proof of it.
     pub fn is_founded(&self, place: usize) -> bool {
         match self.nodes.get(place) {
             Some(node) => node.is_founded,
@@ -205,7 +205,7 @@ impl GoalWalk {
         }
     }
 
-    /// How a goal that is met now stands to those that were met, and whether a proof of it is shown or taken for granted.
+    /// How a goal that is met now relates to those that were met, and whether a proof of it is displayed or assumed.
     fn standing(&self, input: InputId, depth: u32) -> (Standing, bool) {
         match self.earlier(input) {
             Some(place) if self.is_open(place) => {
@@ -224,7 +224,7 @@ impl GoalWalk {
         }
     }
 
-    /// Adds a goal that is met now, and answers its place.
+    /// Adds a goal that is met now, and returns its index.
     pub(crate) fn meet(
         &mut self,
         alloc: Global,
@@ -267,7 +267,7 @@ impl GoalWalk {
         }
     }
 
-    /// Notes that all candidates of the goal at a place were looked at.
+    /// Notes that all candidates of the goal at this index were looked at.
     pub(crate) fn note_whole(&mut self, place: usize)
         ensures { self.new.references ≡ self.old.references }
     {
@@ -276,7 +276,7 @@ impl GoalWalk {
         }
     }
 
-    /// Whether each goal that a candidate asks has a proof that is shown or taken for granted.
+    /// Whether each nested goal of a candidate has a proof that is displayed or assumed.
     fn are_founded(&self, premises: &[usize]) -> bool {
         for place in premises {
             if !self.is_founded(*place) {
@@ -286,7 +286,7 @@ impl GoalWalk {
         true
     }
 
-    /// Adds a candidate that tells why the goal at a place is answered so. Of a goal that holds only one that proves it is kept.
+    /// Adds a candidate that explains the answer of the goal at this index. For a goal that holds, only one that proves it is stored.
     pub(crate) fn note_candidate(
         &mut self,
         place: usize,
@@ -318,7 +318,7 @@ impl GoalWalk {
         }
     }
 
-    /// Whether a candidate with this certainty tells why the goal at a place is answered so.
+    /// Whether a candidate of this certainty explains the answer of the goal at this index.
     pub(crate) fn tells(&self, place: usize, certainty: Option<Certainty>) -> bool {
         match self.nodes.get(place) {
             Some(node) => { is_telling(node.answer, certainty) && self.nodes.len() < NAME_LIMIT }
@@ -326,7 +326,7 @@ impl GoalWalk {
         }
     }
 
-    /// Whether the goal at a place is one whose candidates are shown.
+    /// Whether the candidates of the goal at this index are displayed.
     pub(crate) fn is_opened(&self, place: usize) -> bool {
         match self.nodes.get(place) {
             Some(node) => node.standing == Standing::Opened,
@@ -334,7 +334,7 @@ impl GoalWalk {
         }
     }
 
-    /// Whether the goal at a place is refused.
+    /// Whether the goal at this index is refused.
     pub(crate) fn is_refused(&self, place: usize) -> bool {
         match self.nodes.get(place) {
             Some(node) => node.answer == Answer::Refused,

@@ -1,4 +1,4 @@
-//! A candidate, opened over the table of the one who asks.
+//! A candidate, opened over the table of the parent goal.
 
 ghost use Rattle.type_terms.specs.Growth.{Grew};
 ghost use Rattle.std.specs.Prelude.{IfOk, IfSome};
@@ -21,7 +21,7 @@ use type_terms::Fault;
 use type_terms::interner::Interner;
 use type_terms::kinds::GenericArgKind;
 
-/// The term with the values in the place of its canonical variables.
+/// The term with these values for its canonical variables.
 fn fill(
     alloc: Global,
     cx: &mut Interner,
@@ -36,7 +36,7 @@ fn fill(
     term.fold_with(alloc, cx, &CanonicalInstantiator { values })
 }
 
-/// Makes the sides of an equation equal, with the values in the place of variables, and answers whether that can be.
+/// Equates the sides of an equation, with these values for variables. Returns whether that is possible.
 fn equate(
     alloc: Global,
     cx: &mut Interner,
@@ -60,7 +60,7 @@ fn equate(
     }
 }
 
-/// The same of each equation in turn, up to the first that cannot hold.
+/// Equates each pair in turn, up to the first that cannot be equal.
 fn equate_all(
     alloc: Global,
     cx: &mut Interner,
@@ -83,7 +83,7 @@ fn equate_all(
     Ok(true)
 }
 
-/// What stands for the variables of a candidate's terms: these values for the goal's, and behind them new unknowns for its own.
+/// The values of the variables in a candidate's terms: these for the goal's variables, and after them new variables for its own.
 fn values_of(
     alloc: Global,
     cx: &mut Interner,
@@ -104,7 +104,7 @@ fn values_of(
     Ok(all)
 }
 
-/// The goals with the values in the place of variables, in order.
+/// The goals with these values for their variables, in order.
 fn fill_goals(
     alloc: Global,
     cx: &mut Interner,
@@ -124,10 +124,10 @@ fn fill_goals(
     Ok(filled)
 }
 
-/// Makes the equations of a candidate hold over a table in which these values stand for its goal's variables, and answers the goals that
-/// it asks; none where its equations cannot hold.
+/// Makes the equations of a candidate hold over a table in which these values stand for its goal's variables, and returns its nested goals.
+/// `None` if the equations cannot hold.
 ///
-/// The table has new unknowns for the candidate's own variables afterwards. Constraints on lifetimes are not recorded.
+/// Afterwards the table has new variables for the candidate's own ones. Constraints on lifetimes are not recorded.
 pub(crate) fn open_candidate(
     alloc: Global,
     cx: &mut Interner,

@@ -1,4 +1,4 @@
-//! A goal of a table, asked until its answer brings no values.
+//! A goal over a table, evaluated until its answer brings no values.
 
 ghost use Rattle.infer_table.specs.Content.{Ready, Grows};
 ghost use Rattle.infer_table.specs.Goals.{GoalHeld};
@@ -12,10 +12,10 @@ use solver_context::{GoalEvaluation, RootError, SolverCx, SolverGraph, evaluate_
 use type_terms::Fault;
 use type_terms::visitable_ext::TypeVisitableExt;
 
-/// How often a goal is asked at most.
+/// How often a goal is evaluated at most.
 const MAX_ASKINGS: u32 = 8;
 
-/// Whether a goal is to be asked again, by what it came to: its answer brought values.
+/// Whether the goal is to be evaluated again: its answer brought values.
 fn brings_values(evaluated: Result<GoalEvaluation, RootError>) -> Result<bool, Fault> {
     match evaluated {
         Ok(evaluation) => match evaluation.has_changed {
@@ -28,7 +28,7 @@ fn brings_values(evaluated: Result<GoalEvaluation, RootError>) -> Result<bool, F
     }
 }
 
-/// Asks a goal once, and puts its answer into the table; whether that brought values.
+/// Evaluates a goal once, and puts its answer into the table. Returns whether that brought values.
 fn ask_once<H: GoalHandler>(
     graph: &mut SearchGraph<SolverGraph<H>>,
     cache: &mut GlobalCache<SolverGraph<H>>,

@@ -1,4 +1,4 @@
-//! Goals, and the goals that their candidates ask.
+//! Traces of goals and of their nested goals.
 
 ghost use Rattle.std.specs.Prelude.{◌≡◌, IfOk, IfSome};
 ghost use Rattle.type_terms.specs.Kinds.{ArgsHeld};
@@ -23,18 +23,19 @@ use solver_context::{SolverCx, SolverGraph};
 use type_terms::Fault;
 use type_terms::kinds::GenericArgKind;
 
-/// Puts the table back to where it stood before a candidate was opened.
+/// Rolls the table back to the snapshot: no value of an opened candidate stays.
 fn take_back(table: &mut InferCtxt, place: Snapshot)
     ensures { (before : Table) → place ≡ place_in before → Grows before table.old → table.new ≡ before }
 {
     table.roll_back(place);
 }
 
-/// Walks a goal of a table, and answers its place: how the search answers it, the candidates that tell why, and the goals that these
-/// ask, no deeper than this depth.
+/// Traces a goal over a table, at most this deep, and returns its index: the answer of the search, the candidates that explain it, and
+/// their nested goals.
 ///
-/// The table is as before, but for what the search has no part in; the interner, the context's goals and answers and the cache may hold
-/// more. `Memory` comes where memory is refused, `Full` where a table is full.
+/// What the search reads of the table is as before. The interner, the cache, and the context's goals and answers may grow. No answer
+/// changes: the search can be used after it, also after a fault. Fails with `Memory` if memory is refused, or with `Full` if a table is
+/// full.
 #[cycle(walk)]
 pub fn walk_goal<H: GoalHandler>(
     graph: &mut SearchGraph<SolverGraph<H>>,
@@ -71,7 +72,7 @@ pub fn walk_goal<H: GoalHandler>(
     Ok(place)
 }
 
-/// Walks the candidates of a goal, as many as are looked at.
+/// Traces the candidates of a goal, as many as are looked at.
 #[cycle(walk)]
 fn walk_candidates<H: GoalHandler>(
     graph: &mut SearchGraph<SolverGraph<H>>,
@@ -108,7 +109,7 @@ fn walk_candidates<H: GoalHandler>(
     Ok(())
 }
 
-/// Walks the next candidate of a goal, if it tells why the goal is answered so. `None` where the search gives no answer.
+/// Traces the next candidate of a goal, if it explains the goal's answer. `None` if the search gives no answer.
 #[cycle(walk)]
 fn visit_candidate<H: GoalHandler>(
     graph: &mut SearchGraph<SolverGraph<H>>,
@@ -142,7 +143,7 @@ fn visit_candidate<H: GoalHandler>(
     frame.finish(cx)
 }
 
-/// Walks the goals that a candidate asks, and notes it, if it tells why the goal is answered so.
+/// Traces the nested goals of a candidate, and notes the candidate if it explains the goal's answer.
 #[cycle(walk)]
 fn walk_telling<H: GoalHandler>(
     graph: &mut SearchGraph<SolverGraph<H>>,
