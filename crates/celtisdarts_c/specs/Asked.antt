@@ -1,0 +1,54 @@
+-- What is asked behind a handle: the text that was read there, if one was.
+use Rattle.std.specs.Prelude.{◌≡◌, ◌≤◌, ℕ, List, length, Some, Ok, slice_get}
+use Rattle.std.specs.Option.{option_map}
+use Rattle.name_resolution.specs.FaultNumbers.{fault_number}
+use Rattle.text_definitions.specs.Text.{TextGives}
+use Rattle.text_reader.specs.Behind.{FitsBehind, behind}
+use Rattle.coherence.specs.Asking.{AskedText, IsAskFault, IsLastLine}
+use Rattle.coherence.specs.LineByLine.{IsVerdictLine}
+use Rattle.coherence.specs.declared.ask_fault.AskFault.{AskFault}
+use Rattle.coherence.specs.declared.ask_fault.AskFault.TheVariants as faults
+use Rattle.celtisdarts_c.specs.declared.slot.Slot.{Slot}
+
+-- P holds of what is asked there
+abbrev pub IfAsked : Slot → (AskedText → Type 0) → Type 0
+IfAsked slot P = (a : AskedText) × (slot.asker ≡ Some a) × P a
+
+-- this text was read, to be asked at this depth
+abbrev pub HasRead : ℕ → List ℕ → Slot → Type 0
+HasRead depth text slot = IfAsked slot (λ a. TextGives text (Ok a.declarations) × (a.text_length ≡ length text) × (a.depth ≡ depth))
+
+-- the name of the crate of this number; that of `core` is 0
+abbrev pub IsCrateName : Slot → ℕ → List ℕ → Type 0
+IsCrateName slot number name = IfAsked slot (λ a. option_map (λ c. c.text) (slice_get a.declarations.crates number) ≡ Some name)
+
+-- its line
+abbrev pub IsCrateLine : Slot → ℕ → List ℕ → Type 0
+IsCrateLine slot number line = IfAsked slot (λ a. IsVerdictLine a.depth a.declarations number line)
+
+-- it has no crate of this number
+abbrev pub HasNoCrate : Slot → ℕ → Type 0
+HasNoCrate slot number = IfAsked slot (λ a. length a.declarations.crates ≤ number)
+
+-- The answer to a line that asks: the last line of the output for a text that gives the same declarations, with this line behind it.
+abbrev pub IsAnswer : Slot → List ℕ → List ℕ → Type 0
+IsAnswer slot line answer =
+    IfAsked slot (λ a. (text : List ℕ) → TextGives text (Ok a.declarations) → FitsBehind text line → IsLastLine a.depth (behind text line) answer)
+
+-- ---- why a line has no answer
+abbrev pub fault_word : AskFault → ℕ
+fault_word (faults.Line k) = 1
+fault_word faults.Memory = 3
+fault_word faults.Full = 4
+fault_word faults.NotAQuery = 6
+fault_word faults.SeveralLines = 7
+fault_word faults.TooLong = 8
+
+-- it is the line's own fault only where it has this number
+abbrev pub TellsNumber : ℕ → AskFault → Type 0
+TellsNumber n (faults.Line k) = n ≡ fault_number k
+TellsNumber n _ = Unit {0}
+
+-- There is a reason, which the word and the number tell.
+abbrev pub IsUnanswered : Slot → List ℕ → ℕ → ℕ → Type 0
+IsUnanswered slot line word number = IfAsked slot (λ a. (f : AskFault) × IsAskFault a line f × (word ≡ fault_word f) × TellsNumber number f)

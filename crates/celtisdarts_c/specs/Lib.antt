@@ -1,0 +1,4 @@
+pub mod Told
+pub mod Outputs
+pub mod Asked
+pub mod Handles

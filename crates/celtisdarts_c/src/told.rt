@@ -1,0 +1,18 @@
+//! Texts that are written into a caller's buffer.
+
+ghost use Rattle.std.specs.Prelude.{◌≡◌, length, true, false};
+ghost use Rattle.celtisdarts_c.specs.Told.{IsAtFront, IsTooShort};
+
+/// Writes a text to the front of a buffer, if it fits, and tells whether it does; and how long it is.
+pub fn tell(text: &[u8], buffer: &mut [u8], needed: &mut usize) -> bool
+    ensures told { result ≡ true → IsAtFront text.now buffer.new needed.new }
+    ensures short { result ≡ false → IsTooShort text.now buffer.old needed.new }
+{
+    *needed = text.len();
+    if buffer.len() < text.len() {
+        return false;
+    }
+    let (front, _) = buffer.split_at_mut(text.len());
+    front.copy_from_slice(text);
+    true
+}
