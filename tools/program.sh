@@ -1,18 +1,28 @@
-# Of which sources a program is. Read by ./celtisdarts, ./test and tools/release, which say in `here` where the repository is.
+# Of which sources a program is. Read by ./celtisdarts, ./test, tools/release and tools/library, which say in `here` where the
+# repository is.
 #
 # There are two programs: celtisdarts, and celtisdarts_explain, which says why as well. All here speaks of one of them, which is
-# celtisdarts until `of_program` says another.
+# celtisdarts until `of_program` says another. It may also be the library for C, which is no program but an archive: tools/library
+# makes it, and what is noted of it is noted in the same way.
 #
 # Beside a proved program, in NAME.proved, stand three lines: `program` with the sum of its bytes, `sources` with the sum of what
 # it was built from, and `toolchain` with what `rt version` printed then. Sums are those of sha256sum.
 # shellcheck shell=sh disable=SC2034,SC2154
 programs="celtisdarts celtisdarts_explain"
+library=celtisdarts_c
 
 # of_program NAME: from here on it is about this one
 of_program() {
     of=$1
-    built="$here/crates/$of/out/$of"
-    released="$here/release/$of"
+    artifact=$of
+    [ "$of" != "$library" ] || artifact=libceltisdarts.a
+    built="$here/crates/$of/out/$artifact"
+    released="$here/release/$artifact"
+}
+
+# Whether the file is there, and one that runs, if it is a program's.
+is_there() {
+    if [ "$of" = "$library" ]; then [ -f "$1" ]; else [ -x "$1" ]; fi
 }
 
 of_program celtisdarts
@@ -78,7 +88,7 @@ has_note() {
 # Whether the program that was built here is there, and of these sources. Where nothing was noted of it, as after `rt run` and
 # `rt ci`, times tell: no source is newer.
 is_current() {
-    [ -x "$built" ] || return 1
+    is_there "$built" || return 1
     if has_note; then
         is_of_these_sources
         return

@@ -165,8 +165,18 @@ def program(name: str) -> str:
     return str(TOP / "release" / name)
 
 
+def library() -> Path:
+    """The archive of the library for C that was built here; where none was, that of release/, if it is of today's sources."""
+    found = TOP / "crates/celtisdarts_c/out/libceltisdarts.a"
+    if found.is_file():
+        return found
+    if not is_released("celtisdarts_c"):
+        raise Missing("no libceltisdarts.a is built here, and none of today's sources is released: tools/library")
+    return TOP / "release/libceltisdarts.a"
+
+
 def is_released(name: str) -> bool:
-    script = '. "$here/tools/program.sh" && of_program "$1" && [ -x "$released" ] && is_noted "$released" && is_of_these_sources'
+    script = '. "$here/tools/program.sh" && of_program "$1" && is_there "$released" && is_noted "$released" && is_of_these_sources'
     return run(["sh", "-c", script, "sh", name], env={**os.environ, "here": str(TOP)}).status == 0
 
 

@@ -154,7 +154,7 @@ class Script(Cases):
         self.built, self.released = self.at / "crates/celtisdarts/out/celtisdarts", self.at / "release/celtisdarts"
         self.source, self.calls = self.at / "crates/type_terms/src/laws.rt", room / "calls"
         (self.at / "tools").mkdir(parents=True)
-        for name in ("celtisdarts", "crates.txt", "tools/program.sh", "tools/release"):
+        for name in ("celtisdarts", "crates.txt", "tools/program.sh", "tools/release", "tools/library"):
             shutil.copy2(TOP / name, self.at / name)
         shutil.copytree(TOP / "tools" / "command", self.at / "tools" / "command")
         for folder in (TOP / "crates").iterdir():
@@ -181,7 +181,7 @@ class Script(Cases):
         shutil.copy(program("celtisdarts"), self.built)
 
     def drop_programs(self) -> None:
-        for name in ("celtisdarts", "celtisdarts_explain"):
+        for name in ("celtisdarts", "celtisdarts_explain", "celtisdarts_c"):
             shutil.rmtree(self.at / "crates" / name / "out", ignore_errors=True)
 
     def called(self) -> list[str]:
@@ -440,6 +440,44 @@ def try_release(script: Script, env: dict[str, str]) -> None:
     try_without_rt(script, env)
 
 
+def try_library(script: Script, env: dict[str, str]) -> None:
+    """The library for C, which tools/library puts together of two archives, and when the gate refuses it."""
+    script.what, release = "the library", Release(script)
+    script.drop_programs()
+    for name in ("c", "glue"):
+        (script.room / name).mkdir()
+    (script.room / "glue/heap.pic.o").write_text("the toolchain's own")
+    run(["ar", "rcD", "../c/liblibc_c.a", "heap.pic.o"], cwd=script.room / "glue")
+    archive = script.released.with_name("libceltisdarts.a")
+
+    def made(name: str, status: int, calls: int) -> None:
+        """A call that puts it into release/, with so many calls of rt that prove it."""
+        script.called()
+        script.last = run([script.at / "tools/library", "--release"], env=script.env)
+        script.expect(name, (script.last.status, script.called().count("celtisdarts_c lib")) == (status, calls))
+
+    release.checked("none", "0 passed, 0 failed")
+    env["FAILS"] = "celtisdarts_c lib"
+    made("not proved", 1, 1)
+    env["FAILS"], env["EDITS"] = "", "celtisdarts_c lib"
+    made("a source that changes meanwhile", 1, 1)
+    env["EDITS"] = ""
+    script.expect("none that is released", not archive.exists())
+    made("made", 0, 1)
+    script.expect("made of two archives", run(["ar", "t", archive]).output.split() == [b"one.o", b"heap.pic.o"])
+    made("made already", 0, 0)
+    release.checked("of what was built", "1 passed, 0 failed")
+    change_back = script.change_source()
+    release.checked("a source that changed, not compared", "0 passed, 0 failed")
+    change_back()
+    archive.write_bytes(archive.read_bytes() + b"\n")
+    release.checked("of bytes that are not noted", "0 passed, 1 failed")
+    made("made again", 0, 0)
+    script.drop_programs()
+    release.checked("with nothing built, not compared", "0 passed, 1 failed")
+    shutil.rmtree(archive.parent)
+
+
 def try_at_once(script: Script, lanes: ThreadPoolExecutor, env: dict[str, str]) -> None:
     """Two calls, two builds, and a call beside a build."""
     script.what = "at once"
@@ -511,7 +549,7 @@ def try_script(script: Script, is_compiled: bool) -> None:
     with ThreadPoolExecutor() as lanes:
         parts: list[Callable[[Script], None]] = [
             try_built, try_unbuilt, try_messages, partial(try_build, env=env), partial(try_release, env=env),
-            partial(try_at_once, lanes=lanes, env=env), partial(try_ended, env=env),
+            partial(try_library, env=env), partial(try_at_once, lanes=lanes, env=env), partial(try_ended, env=env),
         ]
         for part in parts:
             script.tally.go_through(partial(part, script))
