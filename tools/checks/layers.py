@@ -13,7 +13,7 @@ from typing import Iterator, NamedTuple, Optional, Sequence
 from .common import TOP
 
 OWNER = re.compile(r"(pub )?(?:impl|trait)\b")
-FUNCTION = re.compile(r"( *)(pub(?:\(crate\))? )?(?:final )?(?:const )?fn (\w+)")
+FUNCTION = re.compile(r"( *)(pub(?:\(crate\))? )?(?:final )?(?:const )?(?:extern \"C\" )?fn (\w+)")
 TYPE = re.compile(r"pub (?:struct|enum|trait) (\w+)")
 CLAUSE = re.compile(r" *(ensures|requires) (?:(\w+) )?\{")
 GHOST = re.compile(r" *(?:pub )?ghost (?!use\b)(\w+)")

@@ -1,0 +1,107 @@
+/* Each request for memory of each call refused in turn: the call says so, and made again it is answered as ever.
+ *
+ * It is linked with -Wl,--wrap=malloc,--wrap=realloc, so that the library's requests come through here. It writes what is wrong, and ends with
+ * 1 where something is, or where no request was refused. */
+#include "celtisdarts.h"
+#include <stdio.h>
+#include <stdlib.h>
+#include <string.h>
+
+void *__real_malloc(size_t size);
+void *__real_realloc(void *block, size_t size);
+
+/* The request of this number is refused; at 0, none. */
+static unsigned long refused_one = 0;
+static unsigned long requests = 0;
+
+static int is_refused(void) {
+    requests++;
+    return requests == refused_one;
+}
+
+void *__wrap_malloc(size_t size) {
+    return is_refused() ? NULL : __real_malloc(size);
+}
+
+void *__wrap_realloc(void *block, size_t size) {
+    return is_refused() ? NULL : __real_realloc(block, size);
+}
+
+static const char TEXT[] = "crate base\ntrait Show\nimpl Show for u8\ncrate a uses base\nstruct V<T>(T)\nimpl<T> Show for V<T> where T: Show\n"
+                           "impl<T> Show for V<T>\n";
+static const char LINE[] = "prove in a fn(V<u8>): Fn<?x>";
+static celtisdarts_handle handle;
+static uint8_t buffer[256];
+static size_t needed;
+
+static uint32_t reads(void) {
+    uint32_t line, number;
+    return celtisdarts_read(&handle, (const uint8_t *)TEXT, strlen(TEXT), 8, &line, &number);
+}
+
+static uint32_t names(void) {
+    return celtisdarts_name(&handle, 2, buffer, sizeof buffer, &needed);
+}
+
+static uint32_t checks(void) {
+    return celtisdarts_check(&handle, 2, buffer, sizeof buffer, &needed);
+}
+
+static uint32_t asks(void) {
+    uint32_t number;
+    return celtisdarts_ask(&handle, (const uint8_t *)LINE, strlen(LINE), buffer, sizeof buffer, &needed, &number);
+}
+
+static uint32_t runs(void) {
+    return celtisdarts_run((const uint8_t *)TEXT, strlen(TEXT), 8, buffer, sizeof buffer, &needed);
+}
+
+static int is_answered(const char *what, uint32_t word, const char *answer) {
+    if (word == CELTISDARTS_DONE && needed == strlen(answer) && memcmp(buffer, answer, needed) == 0) return 1;
+    printf("%s: word %u, `%.*s`\n", what, (unsigned)word, (int)needed, (const char *)buffer);
+    return 0;
+}
+
+/* Makes the call with each of its requests refused, until it has none of that number: it says so, or does without. Behind each such call it is
+ * made as ever. */
+static int tries(const char *what, uint32_t (*call)(void), const char *answer) {
+    unsigned long number = 0, told = 0;
+    do {
+        number++;
+        needed = 0;
+        requests = 0;
+        refused_one = number;
+        uint32_t word = call();
+        refused_one = 0;
+        unsigned long asked = requests;
+        if (word == CELTISDARTS_MEMORY) told++;
+        else if (!is_answered(what, word, answer)) return 1;
+        needed = 0;
+        if (!is_answered(what, call(), answer)) return 1;
+        requests = asked;
+    } while (requests >= number);
+    printf("%s: %lu requests, %lu calls that say that one was refused\n", what, number - 1, told);
+    return told == 0;
+}
+
+static int opens_refused(void) {
+    void *at = NULL;
+    requests = 0;
+    refused_one = 1;
+    uint32_t word = celtisdarts_new(&at);
+    refused_one = 0;
+    if (word != CELTISDARTS_MEMORY || at != NULL) printf("a handle: word %u\n", (unsigned)word);
+    return word != CELTISDARTS_MEMORY || at != NULL;
+}
+
+int main(void) {
+    int wrong = opens_refused();
+    if (celtisdarts_new(&handle.at) != CELTISDARTS_DONE) return 1;
+    wrong |= tries("a text is read", reads, "");
+    wrong |= tries("a crate is named", names, "a");
+    wrong |= tries("a crate is checked", checks, "crate a: overlap impl 2 with a 1\n");
+    wrong |= tries("a line is asked", asks, "prove 1: yes ?x = (V<u8>,)\n");
+    celtisdarts_close(handle);
+    wrong |= tries("a text is answered", runs, "crate base: accepted\ncrate a: overlap impl 2 with a 1\n");
+    return wrong;
+}

@@ -1,0 +1,594 @@
+"""Asks a proved trait solver and coherence checker in process.
+
+    import celtisdarts
+
+    workspace = celtisdarts.Workspace("crate base\\ntrait Show\\nimpl Show for u8\\n")
+    session = workspace.session("base")
+    print(session.check_crate(), session.prove("u8: Show"), session.prove("fn(u8): Fn<?x>"))    # accepted yes yes ?x = (u8,)
+
+A text of crates is read once, as a `Workspace`, and then asked at run time, by a `Session` for a crate. `run` answers a whole text in one
+call. The language of texts and the meaning of each answer stand in docs/FORMAT.md of the repository.
+
+It loads a shared object: that which the variable CELTISDARTS_LIB names, or libceltisdarts.so beside this file. That is made of the archive
+of release/ by
+
+    python3 celtisdarts.py --make [ARCHIVE [SHARED_OBJECT]]
+
+which takes a C compiler under the name `cc`. The answers are proved, up to the functions that the library exports for C; what is here is
+tested and not proved.
+"""
+from __future__ import annotations
+
+import argparse
+import ctypes
+import functools
+import os
+import subprocess
+import sys
+import tempfile
+import threading
+from ctypes import POINTER, byref, c_char, c_char_p, c_size_t, c_uint32, c_void_p
+from dataclasses import dataclass
+from pathlib import Path
+from typing import Any, Callable, Iterator, Optional, Sequence, TypeVar, Union
+
+T = TypeVar("T")
+
+HERE = Path(__file__).resolve().parent
+
+# The depth up to which a call runs on the caller's thread: it takes 1.1 MiB of stack there.
+DEFAULT_DEPTH = 128
+# The stack on which a deeper call runs, in bytes. At depth 255 it takes some 2 MiB.
+DEEP_STACK = 8 << 20
+# How long a buffer for an answer is at first. A longer answer is asked for once more, in a longer one.
+FIRST_ROOM = 1024
+
+# ---- what is answered; each is printed as the program prints it
+
+
+@dataclass(frozen=True)
+class Accepted:
+    """Every header keeps the orphan rule, and no two impls that the crate brings together overlap."""
+
+    def __str__(self) -> str:
+        return "accepted"
+
+
+@dataclass(frozen=True)
+class Orphan:
+    """The header of this impl of the crate breaks the orphan rule: a parameter comes before the first local type, or, where there is none,
+    no type of it is local. Impls count from 1."""
+
+    number: int
+    param: Optional[str] = None
+    before: Optional[str] = None
+
+    def __str__(self) -> str:
+        reason = "nonlocal" if self.param is None else f"uncovered {self.param}"
+        return f"orphan impl {self.number} {reason}" + (f" before {self.before}" if self.before else "")
+
+
+@dataclass(frozen=True)
+class Overlap:
+    """This impl of the crate and that one of another, or of the same, apply to one type."""
+
+    number: int
+    other_crate: str
+    other_number: int
+
+    def __str__(self) -> str:
+        return f"overlap impl {self.number} with {self.other_crate} {self.other_number}"
+
+
+@dataclass(frozen=True)
+class Yes:
+    """The reference has a proof, with these values for its variables, by their names; one without a value is not listed."""
+
+    values: dict[str, str]
+
+    def __str__(self) -> str:
+        values = ", ".join(f"?{variable} = {value}" for variable, value in self.values.items())
+        return f"yes {values}".rstrip()
+
+
+@dataclass(frozen=True)
+class Maybe:
+    """Whether it has a proof is not settled."""
+
+    def __str__(self) -> str:
+        return "maybe"
+
+
+@dataclass(frozen=True)
+class Unproved:
+    """No proof was found."""
+
+    def __str__(self) -> str:
+        return "unproved"
+
+
+@dataclass(frozen=True)
+class No:
+    """No crate that may be linked can give the reference a proof."""
+
+    def __str__(self) -> str:
+        return "no"
+
+
+@dataclass(frozen=True)
+class Open:
+    """Whether one can is not settled."""
+
+    def __str__(self) -> str:
+        return "open"
+
+
+@dataclass(frozen=True)
+class Compatible:
+    """The impls of a section `later` may be added."""
+
+    def __str__(self) -> str:
+        return "compatible"
+
+
+@dataclass(frozen=True)
+class Breaking:
+    """The impl of that number in the section is the first that may not."""
+
+    number: int
+
+    def __str__(self) -> str:
+        return f"breaking impl {self.number}"
+
+
+@dataclass(frozen=True)
+class Held:
+    """Each supertrait of the crate's impl headers has a proof."""
+
+    def __str__(self) -> str:
+        return "held"
+
+
+@dataclass(frozen=True)
+class Missing:
+    """Of this supertrait of this impl's header no proof was found."""
+
+    number: int
+    clause: int
+
+    def __str__(self) -> str:
+        return f"missing impl {self.number} clause {self.clause}"
+
+
+@dataclass(frozen=True)
+class Undecided:
+    """Of this supertrait of this impl's header that is not settled."""
+
+    number: int
+    clause: int
+
+    def __str__(self) -> str:
+        return f"undecided impl {self.number} clause {self.clause}"
+
+
+Verdict = Union[Accepted, Orphan, Overlap]
+ProveAnswer = Union[Yes, Maybe, Unproved]
+RefuteAnswer = Union[No, Open]
+LaterAnswer = Union[Compatible, Breaking]
+SupersAnswer = Union[Held, Missing, Undecided]
+Answer = Union[Verdict, ProveAnswer, RefuteAnswer, LaterAnswer, SupersAnswer]
+
+
+@dataclass(frozen=True)
+class Line:
+    """A line of an output: its first word, `crate`, `later`, `supers`, `prove` or `refute`; the crate's name or the query's number, which
+    counts from 1 over the text; and the answer."""
+
+    topic: str
+    of: str
+    answer: Answer
+
+    def __str__(self) -> str:
+        return f"{self.topic} {self.of}: {self.answer}"
+
+
+# ---- why there is no answer
+
+FAULTS = (
+    "a byte of 128 or more",
+    "the line is not in the grammar",
+    "an item before any crate line, or a struct or a trait in a section",
+    "a declared name is taken",
+    "a name or a lifetime is not known",
+    "the crate does not see the item",
+    "the name of another kind of item, or other arguments than the item takes",
+    "a parameter of the impl is not in its header",
+    "a trait's bounds use its own name",
+    "an auto trait with parameters or bounds",
+    "an impl of an auto trait for a type that is no struct of the crate",
+    "an impl of a trait that only built-in rules give",
+    "a variable outside the asked reference, or of two kinds",
+    "parameters in a refute line",
+    "a dyn whose bounds are not a principal trait, auto traits and a lifetime",
+    "a limit is passed",
+)
+
+
+class CeltisdartsError(Exception):
+    """Why a call has no answer. After it the value that was called can be called again."""
+
+
+class TextFault(CeltisdartsError):
+    """The text has a fault: in its first faulty line, counted from 1, the one with the smallest number, from 1 to 16."""
+
+    def __init__(self, line: int, number: int) -> None:
+        super().__init__(f"line {line}: fault {number}: {FAULTS[number - 1]}")
+        self.line, self.number = line, number
+
+
+class QuestionFault(CeltisdartsError):
+    """The question has a fault, from 1 to 16."""
+
+    def __init__(self, number: int) -> None:
+        super().__init__(f"the question has fault {number}: {FAULTS[number - 1]}")
+        self.number = number
+
+
+class NotAQuery(CeltisdartsError):
+    """The line has no fault, but asks nothing: it is a declaration, a check, a comment or empty."""
+
+
+class SeveralLines(CeltisdartsError):
+    """The question holds a line feed."""
+
+
+class TooLong(CeltisdartsError):
+    """Text and question together are longer than a text may be, 1,048,576 bytes."""
+
+
+class NoSuchCrate(CeltisdartsError):
+    """The text declares no crate of that name."""
+
+
+class OutOfMemory(CeltisdartsError):
+    """A request for memory was refused, or no thread could be started."""
+
+
+class TableFull(CeltisdartsError):
+    """A table of terms, of goals or of answers was full."""
+
+
+# ---- the library's calls
+
+DONE, FAULT, TOO_SHORT, NO_CRATE = 0, 1, 5, 9
+REFUSALS: dict[int, tuple[type[CeltisdartsError], str]] = {
+    3: (OutOfMemory, "out of memory"),
+    4: (TableFull, "a table is full"),
+    6: (NotAQuery, "the line asks nothing"),
+    7: (SeveralLines, "the question holds a line feed"),
+    8: (TooLong, "text and question are longer than 1,048,576 bytes"),
+    9: (NoSuchCrate, "the text declares no such crate"),
+}
+
+
+def refusal(word: int) -> CeltisdartsError:
+    """Why a call ended with this word, which is not that of a fault."""
+    kind, message = REFUSALS[word]
+    return kind(message)
+
+
+class Handle(ctypes.Structure):
+    """A place for a text, behind a pointer that the library made."""
+
+    _fields_ = [("at", c_void_p)]
+
+
+READ = c_char_p
+WRITTEN = POINTER(c_char)
+# As the library defines them, which a test of bindings/rust compares.
+CALLS: dict[str, tuple[list[Any], Any]] = {
+    "celtisdarts_run": ([READ, c_size_t, c_uint32, WRITTEN, c_size_t, POINTER(c_size_t)], c_uint32),
+    "celtisdarts_new": ([POINTER(c_void_p)], c_uint32),
+    "celtisdarts_close": ([Handle], None),
+    "celtisdarts_read": ([POINTER(Handle), READ, c_size_t, c_uint32, POINTER(c_uint32), POINTER(c_uint32)], c_uint32),
+    "celtisdarts_name": ([POINTER(Handle), c_uint32, WRITTEN, c_size_t, POINTER(c_size_t)], c_uint32),
+    "celtisdarts_check": ([POINTER(Handle), c_uint32, WRITTEN, c_size_t, POINTER(c_size_t)], c_uint32),
+    "celtisdarts_ask": ([POINTER(Handle), READ, c_size_t, WRITTEN, c_size_t, POINTER(c_size_t), POINTER(c_uint32)], c_uint32),
+}
+
+
+@functools.lru_cache(maxsize=None)
+def library() -> ctypes.CDLL:
+    """The shared object, loaded at the first call."""
+    path = os.environ.get("CELTISDARTS_LIB") or str(HERE / "libceltisdarts.so")
+    if not os.path.isfile(path):
+        raise ImportError(f"there is no {path}: `python3 {HERE / 'celtisdarts.py'} --make` makes it, or CELTISDARTS_LIB names another")
+    found = ctypes.CDLL(path)
+    for name, (params, result) in CALLS.items():
+        call = getattr(found, name)
+        call.argtypes, call.restype = params, result
+    return found
+
+
+def make(archive: Path, shared: Path) -> None:
+    """Makes the shared object of the archive. It offers the library's calls alone."""
+    with tempfile.NamedTemporaryFile("w", suffix=".map") as offered:
+        offered.write("{ global: celtisdarts_*; local: *; };\n")
+        offered.flush()
+        words = ["cc", "-shared", "-o", str(shared), f"-Wl,--version-script={offered.name}"]
+        subprocess.run([*words, "-Wl,--whole-archive", str(archive), "-Wl,--no-whole-archive"], check=True)
+
+
+Buffer = Any  # an array of c_char
+
+
+class Room:
+    """A buffer for what a call writes, which grows."""
+
+    def __init__(self, size: int = FIRST_ROOM) -> None:
+        self.buffer: Buffer = ctypes.create_string_buffer(size)
+
+    def written(self, call: Callable[[Buffer, c_size_t, Any], int]) -> tuple[int, str]:
+        """Makes a call that writes into the buffer; once more where it was too short, since a call that ends so changes nothing. Returns its
+        word and what it wrote."""
+        needed = c_size_t(0)
+        word = call(self.buffer, c_size_t(len(self.buffer)), byref(needed))
+        while word == TOO_SHORT:
+            self.buffer = ctypes.create_string_buffer(needed.value)
+            word = call(self.buffer, c_size_t(len(self.buffer)), byref(needed))
+        return word, ctypes.string_at(self.buffer, needed.value).decode("ascii")
+
+
+STACKS = threading.Lock()
+
+
+def on_stack(depth: int, call: Callable[[], T]) -> T:
+    """Makes a call that searches to this depth, on a stack that is large enough."""
+    if depth <= DEFAULT_DEPTH:
+        return call()
+    ended: list[Any] = []
+
+    def deep() -> None:
+        try:
+            ended.append((call(), None))
+        except BaseException as error:  # it is raised by the thread that waits
+            ended.append((None, error))
+
+    thread = threading.Thread(target=deep)
+    with STACKS:
+        before = threading.stack_size(DEEP_STACK)
+        try:
+            thread.start()
+        except RuntimeError as error:
+            raise OutOfMemory("no thread could be started") from error
+        finally:
+            threading.stack_size(before)
+    thread.join()
+    answer, error = ended[0]
+    if error is not None:
+        raise error
+    return answer  # type: ignore[no-any-return]
+
+
+def to_bytes(text: Union[str, bytes]) -> bytes:
+    # (A byte of 128 or more is a fault of the line, whatever it is.)
+    return text.encode("utf-8", "surrogateescape") if isinstance(text, str) else bytes(text)
+
+
+def as_depth(depth: int) -> int:
+    if not 1 <= depth <= 255:
+        raise ValueError(f"a depth is from 1 to 255, and not {depth}")
+    return depth
+
+
+# ---- lines that are read back
+
+
+def numbers(text: str, words: Sequence[str]) -> list[int]:
+    """The numbers of a text `WORD NUMBER WORD NUMBER ..` with these words."""
+    found = text.split(" ")
+    if found[::2] != list(words):
+        raise ValueError(f"no line of answers: {text}")
+    return [int(it) for it in found[1::2]]
+
+
+def values(text: str) -> dict[str, str]:
+    """Values, as `?x = V<u8, ?1>, ?y = fn(u8) -> u8`: the commas inside a type stand in its brackets."""
+    parts, depth, begin = [], 0, 0
+    for place, sign in enumerate(text):
+        if sign in "<([":
+            depth += 1
+        elif sign in ")]" or sign == ">" and text[place - 1] != "-":
+            depth -= 1
+        elif sign == "," and depth == 0:
+            parts.append(text[begin:place])
+            begin = place + 2
+    pairs = [it.partition(" = ") for it in [*parts, text[begin:]] if it]
+    return {variable[1:]: value for variable, _, value in pairs}
+
+
+PLAIN: dict[str, Answer] = {str(it): it for it in (Accepted(), Maybe(), Unproved(), No(), Open(), Compatible(), Held())}
+
+
+def read_answer(text: str) -> Answer:
+    word, _, rest = text.partition(" ")
+    if text in PLAIN:
+        return PLAIN[text]
+    if word == "yes":
+        return Yes(values(rest))
+    if word == "orphan":
+        _, number, reason = rest.split(" ", 2)
+        param, _, before = reason.partition(" ")[2].partition(" before ")
+        return Orphan(int(number), param or None, before or None)
+    if word == "overlap":
+        head, _, other = rest.partition(" with ")
+        name, _, other_number = other.partition(" ")
+        return Overlap(numbers(head, ["impl"])[0], name, int(other_number))
+    if word == "breaking":
+        return Breaking(numbers(rest, ["impl"])[0])
+    number, clause = numbers(rest, ["impl", "clause"])
+    return {"missing": Missing, "undecided": Undecided}[word](number, clause)
+
+
+def read_line(text: str) -> Line:
+    head, _, answer = text.rstrip("\n").partition(": ")
+    topic, _, of = head.partition(" ")
+    return Line(topic, of, read_answer(answer))
+
+
+# ---- whole texts
+
+
+@dataclass(frozen=True)
+class Output:
+    """All that a text is told: the lines as they were written, each with its end."""
+
+    text: str
+
+    def lines(self) -> Iterator[Line]:
+        """The lines in their order: of each crate, then of each line `later` or `supers`, and then of each query."""
+        return map(read_line, self.text.splitlines())
+
+
+def run(text: Union[str, bytes], depth: int = DEFAULT_DEPTH) -> Output:
+    """Judges all crates of a text and answers all its queries, to this depth.
+
+    Raises TextFault, OutOfMemory, TableFull, and ValueError where the depth is not from 1 to 255.
+    """
+    source, limit = to_bytes(text), as_depth(depth)
+    # A guess, so that a second call is rare: a line of answers for each line.
+    room = Room(64 * (source.count(b"\n") + 1))
+    word, written = on_stack(limit, lambda: room.written(lambda at, size, needed: library().celtisdarts_run(source, len(source), limit, at, size, needed)))
+    if word == FAULT:
+        line, _, number = written.rstrip("\n")[len("line "):].partition(": fault ")
+        raise TextFault(int(line), int(number))
+    if word != DONE:
+        raise refusal(word)
+    return Output(written)
+
+
+# ---- texts that are asked
+
+
+class Asker:
+    """A text that the library has read, to be asked by one call at a time."""
+
+    def __init__(self, text: bytes, depth: int) -> None:
+        self.handle, self.depth, self.room, self.lock = Handle(), depth, Room(), threading.Lock()
+        at = c_void_p()
+        word = library().celtisdarts_new(byref(at))
+        if word != DONE:
+            raise refusal(word)
+        self.handle.at = at.value
+        line, number = c_uint32(0), c_uint32(0)
+        word = library().celtisdarts_read(self.handle, text, len(text), depth, byref(line), byref(number))
+        if word == FAULT:
+            raise TextFault(line.value, number.value)
+        if word != DONE:
+            raise refusal(word)
+
+    def call(self, call: Callable[[Buffer, c_size_t, Any], int]) -> tuple[int, str]:
+        """Makes a call that writes. (A call lets other threads run: the lock keeps these from the handle.)"""
+        with self.lock:
+            return on_stack(self.depth, lambda: self.room.written(call))
+
+    def name(self, number: int) -> Optional[str]:
+        word, name = self.call(lambda at, size, needed: library().celtisdarts_name(self.handle, number, at, size, needed))
+        if word == NO_CRATE:
+            return None
+        if word != DONE:
+            raise refusal(word)
+        return name
+
+    def check(self, number: int) -> str:
+        word, line = self.call(lambda at, size, needed: library().celtisdarts_check(self.handle, number, at, size, needed))
+        if word != DONE:
+            raise refusal(word)
+        return line
+
+    def ask(self, line: bytes) -> str:
+        fault = c_uint32(0)
+        word, answer = self.call(lambda at, size, needed: library().celtisdarts_ask(self.handle, line, len(line), at, size, needed, byref(fault)))
+        if word == FAULT:
+            raise QuestionFault(fault.value)
+        if word != DONE:
+            raise refusal(word)
+        return answer
+
+    def __del__(self) -> None:
+        if self.handle.at:
+            library().celtisdarts_close(self.handle)
+
+
+class Workspace:
+    """A text of crates that was read, to be asked to a depth from 1 to 255.
+
+    Raises TextFault, with the text's first faulty line, OutOfMemory, and ValueError where the depth is another. A call at a depth of more
+    than 128 runs on a thread of its own, with 8 MiB of stack.
+    """
+
+    def __init__(self, text: Union[str, bytes], depth: int = DEFAULT_DEPTH) -> None:
+        self.text, self.depth = to_bytes(text), as_depth(depth)
+        asker = Asker(self.text, self.depth)
+        self.all_crates: list[str] = []
+        while (name := asker.name(len(self.all_crates))) is not None:
+            self.all_crates.append(name)
+
+    @property
+    def crates(self) -> list[str]:
+        """The names of the crates that the text declares, in their order; `core`, which each text has, is not among them."""
+        return self.all_crates[1:]
+
+    def session(self, name: str) -> Session:
+        """A session for a crate of the text, or for `core`. The text is read again for it. Raises NoSuchCrate and OutOfMemory."""
+        if name not in self.all_crates:
+            raise refusal(NO_CRATE)
+        return Session(self, name)
+
+
+class Session:
+    """Asks in one crate of a text. What is found is kept for later questions.
+
+    After any call, one that raised an error too, it can be asked again, and answers as before. Threads may share it: one call is made at a
+    time.
+    """
+
+    def __init__(self, workspace: Workspace, name: str) -> None:
+        self.crate_name = name
+        self.number = workspace.all_crates.index(name)
+        self.asker = Asker(workspace.text, workspace.depth)
+
+    def check_crate(self) -> Verdict:
+        """Whether the crate is coherent with those that it uses. Raises OutOfMemory and TableFull."""
+        return read_line(self.asker.check(self.number)).answer  # type: ignore[return-value]
+
+    def prove(self, question: str) -> ProveAnswer:
+        """Whether a reference has a proof by the rules that the crate sees.
+
+        The question is what stands behind `prove in NAME` in a text: `[params] type: bound [where]`. Raises QuestionFault, SeveralLines,
+        TooLong, OutOfMemory and TableFull.
+        """
+        return self.ask(f"prove in {self.crate_name} {question}")  # type: ignore[return-value]
+
+    def refute(self, question: str) -> RefuteAnswer:
+        """Whether no crate that may be linked with this one can give a reference a proof. The question is what stands behind `refute in
+        NAME` in a text: `type: bound`. Raises what `prove` raises."""
+        return self.ask(f"refute in {self.crate_name} {question}")  # type: ignore[return-value]
+
+    def ask(self, line: Union[str, bytes]) -> Union[ProveAnswer, RefuteAnswer]:
+        """The answer to a whole query line, which may ask in another crate of the text: what the program `celtisdarts` answers last to the
+        text with this line behind it. Raises what `prove` raises, and NotAQuery."""
+        return read_line(self.asker.ask(to_bytes(line))).answer  # type: ignore[return-value]
+
+
+def main(words: Sequence[str]) -> None:
+    reader = argparse.ArgumentParser(description="Makes the shared object that this module loads.")
+    reader.add_argument("--make", action="store_true", required=True)
+    reader.add_argument("archive", nargs="?", type=Path, default=HERE.parents[1] / "release/libceltisdarts.a")
+    reader.add_argument("shared", nargs="?", type=Path, default=HERE / "libceltisdarts.so")
+    given = reader.parse_args(words)
+    make(given.archive, given.shared)
+
+
+if __name__ == "__main__":
+    main(sys.argv[1:])

@@ -1,0 +1,27 @@
+//! Asks a proved trait solver and coherence checker in process.
+//!
+//! A text of crates with their structs, traits and impls is read once, as a [`Workspace`], and then asked at run time, by a [`Session`] for a
+//! crate: whether the crate is coherent, whether a reference has a proof, and whether one can have none. [`run`] answers a whole text in one
+//! call. The language of texts and the meaning of each answer stand in `docs/FORMAT.md` of the repository, and what the answers promise in
+//! `docs/PROMISES.md`.
+//!
+//! The answers are proved, up to the functions that the library exports for C. What is here is tested and not proved: that calls are declared
+//! as the library defines them, that lines are read back right, and that stacks are large enough.
+#![deny(missing_docs, unsafe_code)]
+
+mod answers;
+mod depth;
+mod error;
+mod output;
+mod reading;
+mod sys;
+mod workspace;
+
+pub use answers::{
+    Answer, LaterAnswer, Line, OrphanReason, ProveAnswer, RefuteAnswer, SupersAnswer, Value,
+    Verdict,
+};
+pub use depth::Depth;
+pub use error::{Error, FaultKind};
+pub use output::{run, Output};
+pub use workspace::{Session, Workspace};

@@ -1,0 +1,223 @@
+//! The library's calls: all that is `unsafe` here.
+//!
+//! What each call promises is proved where it is defined, in `crates/celtisdarts_c`. That it is declared here as it is there is compared by
+//! a test (`tests/declarations.rs`).
+#![allow(unsafe_code)]
+
+use crate::error::{Error, FaultKind};
+use std::mem::ManuallyDrop;
+use std::ptr::{self, NonNull};
+
+// The words with which a call ends; what they say stands in `crates/celtisdarts_c/src/lib.rt`.
+const DONE: u32 = 0;
+const FAULT: u32 = 1;
+const TOO_SHORT: u32 = 5;
+
+/// What is asked, behind a pointer that the library made. (The allocator that stands beside it there takes no bytes.)
+#[repr(C)]
+struct Handle {
+    at: NonNull<u8>,
+}
+
+// The library's `&[u8]` is a pointer and a length here, and its `Global` is no parameter.
+extern "C" {
+    fn celtisdarts_run(
+        text: *const u8,
+        text_length: usize,
+        depth: u32,
+        buffer: *mut u8,
+        room: usize,
+        needed: &mut usize,
+    ) -> u32;
+    fn celtisdarts_new(at: &mut *mut u8) -> u32;
+    fn celtisdarts_close(handle: Handle);
+    fn celtisdarts_read(
+        handle: &mut Handle,
+        text: *const u8,
+        text_length: usize,
+        depth: u32,
+        line: &mut u32,
+        number: &mut u32,
+    ) -> u32;
+    fn celtisdarts_name(
+        handle: &mut Handle,
+        number: u32,
+        buffer: *mut u8,
+        room: usize,
+        needed: &mut usize,
+    ) -> u32;
+    fn celtisdarts_check(
+        handle: &mut Handle,
+        number: u32,
+        buffer: *mut u8,
+        room: usize,
+        needed: &mut usize,
+    ) -> u32;
+    fn celtisdarts_ask(
+        handle: &mut Handle,
+        line: *const u8,
+        line_length: usize,
+        buffer: *mut u8,
+        room: usize,
+        needed: &mut usize,
+        number: &mut u32,
+    ) -> u32;
+}
+
+/// The error of a call that ended with this word, which is not that of a fault.
+fn error_of(word: u32) -> Error {
+    match word {
+        3 => Error::Memory,
+        4 => Error::Full,
+        6 => Error::NotAQuery,
+        7 => Error::SeveralLines,
+        8 => Error::TooLong,
+        9 => Error::NoSuchCrate,
+        _ => unreachable!("the call ends with no word {word}"),
+    }
+}
+
+fn fault_kind(number: u32) -> FaultKind {
+    FaultKind::of(number).expect("the number of a fault")
+}
+
+/// Makes a call that writes into the buffer; once more where the buffer was too short, since a call that ends so changes nothing. Returns the
+/// word of the last call.
+fn into_buffer(
+    buffer: &mut Vec<u8>,
+    mut call: impl FnMut(*mut u8, usize, &mut usize) -> u32,
+) -> u32 {
+    // All that was allocated is room.
+    buffer.resize(buffer.capacity(), 0);
+    let mut needed = 0;
+    let mut word = call(buffer.as_mut_ptr(), buffer.len(), &mut needed);
+    while word == TOO_SHORT {
+        buffer.resize(needed, 0);
+        word = call(buffer.as_mut_ptr(), buffer.len(), &mut needed);
+    }
+    buffer.truncate(needed);
+    word
+}
+
+/// Writes the output for a text into the buffer, and tells whether it is answers; else it is the line of the text's first fault. The error is
+/// `Memory` or `Full`.
+pub(crate) fn run(text: &[u8], depth: u8, buffer: &mut Vec<u8>) -> Result<bool, Error> {
+    let word = into_buffer(buffer, |at, room, needed| {
+        // SAFETY: the declaration is the library's. `text` and the buffer are two blocks of so many bytes, which are borrowed here.
+        unsafe {
+            celtisdarts_run(
+                text.as_ptr(),
+                text.len(),
+                u32::from(depth),
+                at,
+                room,
+                needed,
+            )
+        }
+    });
+    match word {
+        DONE => Ok(true),
+        FAULT => Ok(false),
+        word => Err(error_of(word)),
+    }
+}
+
+/// A text that the library has read, to be asked by one call at a time.
+pub(crate) struct Asker {
+    handle: ManuallyDrop<Handle>,
+}
+
+// SAFETY: that what stands behind a handle may move is proved in `crates/celtisdarts_c/src/crossing.rt`. It is plain data in blocks of
+// `malloc`, which any thread may free, and no two values share a block. Each call takes it by `&mut`, so one thread at a time asks it.
+unsafe impl Send for Asker {}
+
+impl Asker {
+    /// Reads a text. The error is `Text` or `Memory`.
+    pub(crate) fn read(text: &[u8], depth: u8) -> Result<Asker, Error> {
+        let mut at = ptr::null_mut();
+        // SAFETY: the declaration is the library's, and `at` may be written.
+        let word = unsafe { celtisdarts_new(&mut at) };
+        if word != DONE {
+            return Err(error_of(word));
+        }
+        let at = NonNull::new(at).expect("a call that is done writes its handle");
+        let mut asker = Asker {
+            handle: ManuallyDrop::new(Handle { at }),
+        };
+        let (mut line, mut number) = (0, 0);
+        // SAFETY: the declaration is the library's. The handle is what `celtisdarts_new` wrote, and `text` is a block of so many bytes.
+        let word = unsafe {
+            celtisdarts_read(
+                &mut asker.handle,
+                text.as_ptr(),
+                text.len(),
+                u32::from(depth),
+                &mut line,
+                &mut number,
+            )
+        };
+        match word {
+            DONE => Ok(asker),
+            FAULT => Err(Error::Text {
+                line,
+                kind: fault_kind(number),
+            }),
+            word => Err(error_of(word)),
+        }
+    }
+
+    /// Writes the name of a crate into the buffer; `core` is number 0. The error is `NoSuchCrate` or `Memory`.
+    pub(crate) fn name(&mut self, number: u32, buffer: &mut Vec<u8>) -> Result<(), Error> {
+        let word = into_buffer(buffer, |at, room, needed| {
+            // SAFETY: the declaration is the library's, the handle is open, and the buffer is a block of so many bytes.
+            unsafe { celtisdarts_name(&mut self.handle, number, at, room, needed) }
+        });
+        match word {
+            DONE => Ok(()),
+            word => Err(error_of(word)),
+        }
+    }
+
+    /// Writes the line of a crate into the buffer. The error is `NoSuchCrate`, `Memory` or `Full`.
+    pub(crate) fn check(&mut self, number: u32, buffer: &mut Vec<u8>) -> Result<(), Error> {
+        let word = into_buffer(buffer, |at, room, needed| {
+            // SAFETY: the declaration is the library's, the handle is open, and the buffer is a block of so many bytes.
+            unsafe { celtisdarts_check(&mut self.handle, number, at, room, needed) }
+        });
+        match word {
+            DONE => Ok(()),
+            word => Err(error_of(word)),
+        }
+    }
+
+    /// Writes the answer to a query line into the buffer. The error is any but `Text` and `NoSuchCrate`.
+    pub(crate) fn ask(&mut self, line: &[u8], buffer: &mut Vec<u8>) -> Result<(), Error> {
+        let mut number = 0;
+        let word = into_buffer(buffer, |at, room, needed| {
+            // SAFETY: the declaration is the library's, the handle is open, and line and buffer are two blocks of so many bytes.
+            unsafe {
+                celtisdarts_ask(
+                    &mut self.handle,
+                    line.as_ptr(),
+                    line.len(),
+                    at,
+                    room,
+                    needed,
+                    &mut number,
+                )
+            }
+        });
+        match word {
+            DONE => Ok(()),
+            FAULT => Err(Error::Question(fault_kind(number))),
+            word => Err(error_of(word)),
+        }
+    }
+}
+
+impl Drop for Asker {
+    fn drop(&mut self) {
+        // SAFETY: the declaration is the library's. The handle is open, and nobody has it after this.
+        unsafe { celtisdarts_close(ManuallyDrop::take(&mut self.handle)) }
+    }
+}

@@ -1,0 +1,177 @@
+//! Texts that are read, and what is asked of them.
+
+use crate::answers::{Answer, Line, ProveAnswer, RefuteAnswer, Verdict};
+use crate::depth::Depth;
+use crate::error::Error;
+use crate::reading;
+use crate::sys::Asker;
+use std::fmt;
+
+/// How long a buffer for an answer is at first. A longer answer is asked for once more, in a longer one.
+const FIRST_ROOM: usize = 1024;
+
+/// A text of crates that was read: its first fault, if it had one, was told.
+///
+/// Its language is described in `docs/FORMAT.md`. It holds the text and no more, so it may be shared by threads; who asks makes a
+/// [`Session`].
+///
+/// ```
+/// use celtisdarts::{Depth, Workspace};
+///
+/// let workspace = Workspace::parse("crate base\ntrait Show\nimpl Show for u8\n", Depth::default())?;
+/// assert_eq!(workspace.crates(), ["base"]);
+/// # Ok::<(), celtisdarts::Error>(())
+/// ```
+#[derive(Clone, Debug, PartialEq, Eq)]
+pub struct Workspace {
+    text: Box<[u8]>,
+    depth: Depth,
+    /// The names of the crates, that of `core` first.
+    crates: Vec<String>,
+}
+
+impl Workspace {
+    /// Reads a text, to be asked to this depth. The error is [`Error::Text`], with the text's first faulty line, or [`Error::Memory`].
+    pub fn parse(text: impl AsRef<[u8]>, depth: Depth) -> Result<Workspace, Error> {
+        let text = text.as_ref();
+        let mut asker = Asker::read(text, depth.levels())?;
+        let mut name = Vec::with_capacity(FIRST_ROOM);
+        let mut crates = Vec::new();
+        for number in 0.. {
+            match asker.name(number, &mut name) {
+                Ok(()) => crates.push(ascii(&name).to_string()),
+                Err(Error::NoSuchCrate) => break,
+                Err(error) => return Err(error),
+            }
+        }
+        Ok(Workspace {
+            text: text.into(),
+            depth,
+            crates,
+        })
+    }
+
+    /// The names of the crates that the text declares, in their order; `core`, which each text has, is not among them.
+    pub fn crates(&self) -> &[String] {
+        &self.crates[1..]
+    }
+
+    /// The depth at which it is asked.
+    pub fn depth(&self) -> Depth {
+        self.depth
+    }
+
+    /// A session for a crate of the text, or for `core`. The text is read again for it, which takes some 5 µs a line.
+    ///
+    /// The error is [`Error::NoSuchCrate`] or [`Error::Memory`].
+    pub fn session<'w>(&'w self, name: &str) -> Result<Session<'w>, Error> {
+        let number = self
+            .crates
+            .iter()
+            .position(|it| it == name)
+            .ok_or(Error::NoSuchCrate)?;
+        Ok(Session {
+            asker: Asker::read(&self.text, self.depth.levels())?,
+            workspace: self,
+            number,
+            buffer: Vec::with_capacity(FIRST_ROOM),
+        })
+    }
+}
+
+/// What the library wrote: bytes below 128.
+pub(crate) fn ascii(bytes: &[u8]) -> &str {
+    std::str::from_utf8(bytes).expect("the library writes ASCII")
+}
+
+/// Asks in one crate of a text. What is found is kept for later questions.
+///
+/// After any call, one that ended with an error too, it can be asked again, and answers as before. It may be moved to another thread. One
+/// call is made at a time.
+///
+/// ```
+/// use celtisdarts::{Depth, ProveAnswer, RefuteAnswer, Verdict, Workspace};
+///
+/// let text = "crate base\ntrait Show\nimpl Show for u8\ncrate a uses base\nstruct V<T>(T)\nimpl<T> Show for V<T> where T: Show\n";
+/// let workspace = Workspace::parse(text, Depth::default())?;
+/// let mut session = workspace.session("a")?;
+/// assert_eq!(session.check_crate()?, Verdict::Accepted);
+/// assert_eq!(session.prove("V<V<u8>>: Show")?, ProveAnswer::Yes(vec![]));
+/// assert_eq!(session.prove("V<bool>: Show")?, ProveAnswer::Unproved);
+/// assert_eq!(session.prove("fn(u8): Fn<?x>")?.to_string(), "yes ?x = (u8,)");
+/// assert_eq!(session.refute("bool: Show")?, RefuteAnswer::Open);
+/// # Ok::<(), celtisdarts::Error>(())
+/// ```
+pub struct Session<'w> {
+    asker: Asker,
+    workspace: &'w Workspace,
+    /// The crate's place among those of the text.
+    number: usize,
+    buffer: Vec<u8>,
+}
+
+impl<'w> Session<'w> {
+    /// The crate that it asks in.
+    pub fn crate_name(&self) -> &'w str {
+        &self.workspace.crates[self.number]
+    }
+
+    /// Makes a call of the library, on a stack that is large enough, and reads the line that it writes.
+    fn call(
+        &mut self,
+        call: impl FnOnce(&mut Asker, &mut Vec<u8>) -> Result<(), Error> + Send,
+    ) -> Result<Line, Error> {
+        let (asker, buffer) = (&mut self.asker, &mut self.buffer);
+        let called = self.workspace.depth.with_stack(|| call(asker, buffer));
+        called.unwrap_or(Err(Error::Memory))?;
+        Ok(reading::line(ascii(&self.buffer).trim_end()).expect("a line of answers"))
+    }
+
+    /// Whether the crate is coherent with those that it uses. The error is [`Error::Memory`] or [`Error::Full`].
+    pub fn check_crate(&mut self) -> Result<Verdict, Error> {
+        let number = self.number as u32;
+        match self.call(|asker, buffer| asker.check(number, buffer))? {
+            Line::Crate(_, verdict) => Ok(verdict),
+            _ => unreachable!("the line of a crate"),
+        }
+    }
+
+    /// Whether a reference has a proof by the rules that the crate sees.
+    ///
+    /// The question is what stands behind `prove in NAME` in a text: `[params] type: bound [where]`. The error is [`Error::Question`] where
+    /// that is faulty, [`Error::SeveralLines`], [`Error::TooLong`], [`Error::Memory`] or [`Error::Full`].
+    pub fn prove(&mut self, question: &str) -> Result<ProveAnswer, Error> {
+        match self.ask(&format!("prove in {} {question}", self.crate_name()))? {
+            Answer::Prove(answer) => Ok(answer),
+            Answer::Refute(_) => unreachable!("the line begins with `prove`"),
+        }
+    }
+
+    /// Whether no crate that may be linked with this one can give a reference a proof. The question is what stands behind `refute in
+    /// NAME` in a text: `type: bound`. Errors are those of [`Session::prove`].
+    pub fn refute(&mut self, question: &str) -> Result<RefuteAnswer, Error> {
+        match self.ask(&format!("refute in {} {question}", self.crate_name()))? {
+            Answer::Refute(answer) => Ok(answer),
+            Answer::Prove(_) => unreachable!("the line begins with `refute`"),
+        }
+    }
+
+    /// The answer to a whole query line, which may ask in another crate of the text, at the price of a change of crates.
+    ///
+    /// It is what the program `celtisdarts` answers last to the text with this line behind it. Errors are those of [`Session::prove`], and
+    /// [`Error::NotAQuery`].
+    pub fn ask(&mut self, line: &str) -> Result<Answer, Error> {
+        match self.call(|asker, buffer| asker.ask(line.as_bytes(), buffer))? {
+            Line::Query(_, answer) => Ok(answer),
+            _ => unreachable!("the line of a query"),
+        }
+    }
+}
+
+impl fmt::Debug for Session<'_> {
+    fn fmt(&self, f: &mut fmt::Formatter<'_>) -> fmt::Result {
+        f.debug_struct("Session")
+            .field("crate_name", &self.crate_name())
+            .finish_non_exhaustive()
+    }
+}

@@ -1,0 +1,241 @@
+//! The calls that are declared in `src/sys.rs`, in `bindings/c/celtisdarts.h` and in `bindings/python/celtisdarts.py` are those that the library
+//! defines: nothing else compares them.
+
+use std::collections::BTreeMap;
+use std::fs;
+use std::path::{Path, PathBuf};
+
+/// A parameter or a result, as it crosses to C.
+#[derive(Clone, Debug, PartialEq, Eq)]
+enum Crossing {
+    U32,
+    Size,
+    /// A pointer to bytes that are read.
+    Read,
+    /// A pointer to bytes that are written.
+    Written,
+    /// A pointer to a place that is written: of a number, a size, a pointer or a handle.
+    U32Place,
+    SizePlace,
+    PointerPlace,
+    HandlePlace,
+    Handle,
+    Nothing,
+}
+
+use Crossing::*;
+
+/// The calls by their names: the parameters, and behind them the result.
+type Calls = BTreeMap<String, Vec<Crossing>>;
+
+fn top() -> PathBuf {
+    Path::new(env!("CARGO_MANIFEST_DIR")).join("../..")
+}
+
+fn read(path: &str) -> String {
+    let path = top().join(path);
+    fs::read_to_string(&path).unwrap_or_else(|error| panic!("{}: {error}", path.display()))
+}
+
+/// What stands in parentheses behind the name, and what stands behind them up to one of these ends.
+fn signature<'a>(text: &'a str, ends: &[char]) -> (&'a str, &'a str, &'a str) {
+    let (name, rest) = text.split_once('(').unwrap();
+    let (inside, rest) = rest.split_once(')').unwrap();
+    let (result, _) = rest.split_once(ends).unwrap();
+    (name.trim(), inside, result.trim())
+}
+
+fn words(text: &str) -> String {
+    text.split_whitespace().collect::<Vec<_>>().join(" ")
+}
+
+/// What a parameter of the library is in C: a slice is a pointer and a length, and an allocator takes no place.
+fn of_library(ty: &str) -> Vec<Crossing> {
+    match ty {
+        "Global" => vec![],
+        "&[u8]" => vec![Read, Size],
+        "&mut [u8]" => vec![Written, Size],
+        "u32" => vec![U32],
+        "&mut usize" => vec![SizePlace],
+        "&mut *mut u8" => vec![PointerPlace],
+        "&mut Handle" => vec![HandlePlace],
+        "&mut u32" => vec![U32Place],
+        "Handle" => vec![Handle],
+        _ => panic!("a parameter `{ty}` of the library"),
+    }
+}
+
+fn of_rust(ty: &str) -> Vec<Crossing> {
+    match ty {
+        "*const u8" => vec![Read],
+        "*mut u8" => vec![Written],
+        "usize" => vec![Size],
+        "u32" => vec![U32],
+        "&mut usize" => vec![SizePlace],
+        "&mut *mut u8" => vec![PointerPlace],
+        "&mut Handle" => vec![HandlePlace],
+        "&mut u32" => vec![U32Place],
+        "Handle" => vec![Handle],
+        _ => panic!("a parameter `{ty}` in src/sys.rs"),
+    }
+}
+
+fn of_c(ty: &str) -> Vec<Crossing> {
+    match ty {
+        "const uint8_t *" => vec![Read],
+        "uint8_t *" => vec![Written],
+        "size_t" => vec![Size],
+        "uint32_t" => vec![U32],
+        "size_t *" => vec![SizePlace],
+        "void **" => vec![PointerPlace],
+        "celtisdarts_handle *" => vec![HandlePlace],
+        "uint32_t *" => vec![U32Place],
+        "celtisdarts_handle" => vec![Handle],
+        _ => panic!("a parameter `{ty}` in celtisdarts.h"),
+    }
+}
+
+fn of_python(ty: &str) -> Vec<Crossing> {
+    match ty {
+        "READ" => vec![Read],
+        "WRITTEN" => vec![Written],
+        "c_size_t" => vec![Size],
+        "c_uint32" => vec![U32],
+        "POINTER(c_size_t)" => vec![SizePlace],
+        "POINTER(c_void_p)" => vec![PointerPlace],
+        "POINTER(Handle)" => vec![HandlePlace],
+        "POINTER(c_uint32)" => vec![U32Place],
+        "Handle" => vec![Handle],
+        "None" => vec![Nothing],
+        _ => panic!("a type `{ty}` in celtisdarts.py"),
+    }
+}
+
+/// Signatures `NAME(name: TYPE, ..) -> RESULT` as Rust and Rattle write them.
+fn rust_signature(text: &str, of: fn(&str) -> Vec<Crossing>) -> (String, Vec<Crossing>) {
+    let (name, inside, result) = signature(text, &['\n', ';']);
+    let params = inside.split(',').map(words).filter(|it| !it.is_empty());
+    let mut crossings: Vec<Crossing> = params
+        .flat_map(|it| of(it.split_once(": ").unwrap().1))
+        .collect();
+    match words(result).as_str() {
+        "" | "{" => crossings.push(Nothing),
+        "-> u32" | "-> u32 {" => crossings.push(U32),
+        other => panic!("{name} returns `{other}`"),
+    }
+    (name.to_string(), crossings)
+}
+
+/// Those that the library defines.
+fn library() -> Calls {
+    let mut calls = Calls::new();
+    for file in fs::read_dir(top().join("crates/celtisdarts_c/src")).unwrap() {
+        let text = fs::read_to_string(file.unwrap().path()).unwrap();
+        let exports = text.split("#[unsafe(no_mangle)]\npub extern \"C\" fn ");
+        calls.extend(exports.skip(1).map(|it| rust_signature(it, of_library)));
+    }
+    calls
+}
+
+fn rust() -> Calls {
+    let text = read("bindings/rust/src/sys.rs");
+    let (_, block) = text.split_once("extern \"C\" {\n").unwrap();
+    let (block, _) = block.split_once("\n}\n").unwrap();
+    block
+        .split("fn ")
+        .skip(1)
+        .map(|it| rust_signature(it, of_rust))
+        .collect()
+}
+
+fn c() -> Calls {
+    let text = read("bindings/c/celtisdarts.h");
+    let declared = text
+        .split('\n')
+        .filter(|line| line.contains(" celtisdarts_") && line.ends_with(");"));
+    let one = |line: &str| {
+        let (head, inside, _) = signature(line, &[';']);
+        let (result, name) = head.split_once(' ').unwrap();
+        let of_param = |param: &str| {
+            let param = param.trim();
+            let end = param.rfind([' ', '*']).unwrap() + 1;
+            of_c(param[..end].trim())
+        };
+        let mut crossings: Vec<Crossing> = inside.split(',').flat_map(of_param).collect();
+        crossings.push(if result == "void" {
+            Nothing
+        } else {
+            of_c(result).remove(0)
+        });
+        (name.to_string(), crossings)
+    };
+    declared.map(one).collect()
+}
+
+fn python() -> Calls {
+    let text = read("bindings/python/celtisdarts.py");
+    let (_, block) = text.split_once("CALLS: ").unwrap();
+    let (block, _) = block.split_once("\n}\n").unwrap();
+    let lines = block
+        .lines()
+        .skip(1)
+        .map(str::trim)
+        .filter(|it| !it.is_empty());
+    let one = |line: &str| {
+        let (name, rest) = line.trim_start_matches('"').split_once("\": ([").unwrap();
+        let (inside, rest) = rest.split_once("], ").unwrap();
+        let result = rest.trim_end_matches("),");
+        let params = inside.split(", ").filter(|it| !it.is_empty());
+        (
+            name.to_string(),
+            params.chain([result]).flat_map(of_python).collect(),
+        )
+    };
+    lines.map(one).collect()
+}
+
+#[test]
+fn calls_are_declared_as_the_library_defines_them() {
+    let library = library();
+    assert!(library.contains_key("celtisdarts_run"));
+    assert_eq!(rust(), library);
+    assert_eq!(c(), library);
+    assert_eq!(python(), library);
+}
+
+/// The fields of a struct as the library has them, in their order.
+fn fields(text: &str, head: &str) -> Vec<String> {
+    let (_, body) = text
+        .split_once(head)
+        .unwrap_or_else(|| panic!("no `{head}`"));
+    let (body, _) = body.split_once("\n}").unwrap();
+    let lines = body
+        .lines()
+        .map(str::trim)
+        .filter(|line| !line.is_empty() && !line.starts_with("//") && !line.contains("ghost "));
+    lines
+        .map(|line| {
+            line.trim_start_matches("pub(crate) ")
+                .trim_start_matches("pub ")
+                .trim_end_matches(',')
+                .to_string()
+        })
+        .collect()
+}
+
+#[test]
+fn the_handle_is_declared_as_the_library_defines_it() {
+    let handle = fields(
+        &read("crates/celtisdarts_c/src/handle.rt"),
+        "pub struct Handle {\n",
+    );
+    // (A `Global` takes no bytes.)
+    assert_eq!(handle, ["at: *mut u8", "alloc: Global"]);
+    assert_eq!(
+        fields(&read("bindings/rust/src/sys.rs"), "struct Handle {\n"),
+        ["at: NonNull<u8>"]
+    );
+    assert!(read("bindings/c/celtisdarts.h")
+        .contains("typedef struct {\n    void *at;\n} celtisdarts_handle;\n"));
+    assert!(read("bindings/python/celtisdarts.py").contains("_fields_ = [(\"at\", c_void_p)]\n"));
+}
