@@ -167,7 +167,7 @@ def try_help(tally: Tally) -> None:
         ended = run([word])
         is_good = ended.status == 0 and ended.said == "" and ended.output.startswith("usage: ./celtisdarts [DEPTH] [OPTION ..] [FILE ..]\n")
         tally.expect(word, is_good, ended)
-    for option in ("--explain", "--json", "--color", "--check", "--with", "--file", "--build", "--version", "--help", "--"):
+    for option in ("--explain", "--json", "--color", "--check", "--ask", "--with", "--file", "--build", "--version", "--help", "--"):
         tally.expect(f"help on {option}", f"\n  {option} " in run(["--help"]).output, "it is not listed")
 
 

@@ -1,0 +1,130 @@
+"""./celtisdarts --ask: lines of standard input, answered one by one behind a text.
+
+Each query of an example, asked so, has the answer of the example; and forms, faults, mistakes and a terminal are tried.
+"""
+from __future__ import annotations
+
+import argparse
+import os
+import re
+import tempfile
+from pathlib import Path
+
+from .common import Tally, examples
+from .options import HELP_OFFERED, Ended, at_terminal, run
+
+TEXT = "crate base\ntrait Show\nimpl Show for u8\ncrate a uses base\nstruct V<T>(T)\nimpl<T> Show for V<T> where T: Show\nprove in a u8: Show"
+
+# The line, and what is answered where the call names no crate, and where it names a.
+FORMS = [
+    ("prove in a V<V<u8>>: Show", "prove 2: yes", "prove 2: yes"),
+    ("  prove   in   base   u8: Show  ", "prove 2: yes", "prove 2: yes"),
+    ("refute in a bool: Fn<()>", "refute 2: no", "refute 2: no"),
+    ("prove in a <T> V<T>: Show where T: Show", "prove 2: yes", "prove 2: yes"),
+    ("prove in base V<u8>: Show", "fault 6", "fault 6"),
+    ("prove V<bool>: Show", "fault 2", "prove 2: unproved"),
+    ("refute V<bool>: Show", "fault 2", "refute 2: open"),
+    ("fn(u8): Fn<?x>", "asks nothing", "prove 2: yes ?x = (u8,)"),
+    ("?x: Show", "asks nothing", "prove 2: maybe"),
+    ("<T> V<T>: Show where T: Show", "asks nothing", "prove 2: yes"),
+    ("W: Show", "asks nothing", "fault 5"),
+    ("*: Show", "asks nothing", "fault 2"),
+    ("\x80: Show", "asks nothing", "fault 1"),
+    ("prove", "fault 2", "fault 2"),
+    ("struct W", "asks nothing", "asks nothing"),
+    ("crate b", "asks nothing", "asks nothing"),
+    ("supers in a", "asks nothing", "asks nothing"),
+]
+
+
+def number_free(line: str) -> str:
+    return re.sub(r"^(prove|refute) \d+: ", r"\1: ", line)
+
+
+def try_examples(tally: Tally) -> None:
+    """The queries of examples that have some, behind the whole text."""
+    asked = 0
+    for example in examples():
+        queries = [line for line in example.text.decode("latin-1").split("\n") if line.startswith(("prove ", "refute "))]
+        if example.status or not queries or asked > 60:
+            continue
+        asked += len(queries)
+        wanted = [line for line in example.expected().decode().splitlines() if line.startswith(("prove ", "refute "))]
+        ended = run([example.depths[-1], "--ask", str(example.folder / "input.txt")], "\n".join(queries))
+        found = [number_free(line) for line in ended.output.splitlines()]
+        tally.expect(example.name, (ended.status, found, ended.said) == (0, [number_free(line) for line in wanted], ""), f"found: {ended}")
+    tally.expect("so many queries", asked > 60, f"{asked} alone")
+
+
+def try_forms(tally: Tally, room: Path) -> None:
+    lines = "".join(f"{line}\n" for line, _, _ in FORMS)
+    for words, place in ((["--ask", "text.txt"], 1), (["--ask", "text.txt", "a"], 2), (["128", "text.txt", "a", "--ask"], 2)):
+        ended = run(words, lines, room)
+        for row, found in zip(FORMS, ended.output.splitlines()):
+            tally.expect(f"{words}, `{row[0]}`", found == row[place], f"found: {found}")
+        tally.expect(f"{words}, a line each", ended.status == 0 and ended.output.count("\n") == len(FORMS) and ended.said == "", f"found: {ended}")
+    ended = run(["--ask", "text.txt", "a"], "\n// a comment\n   \nu8: Show", room)
+    tally.expect("no statement, and no end", ended.is_like(0, "prove 2: yes\n"), f"found: {ended}")
+    ended = run(["--ask", "text.txt", "a"], "", room)
+    tally.expect("no line", ended.is_like(0, ""), f"found: {ended}")
+    told = run(["--ask", "text.txt"], "?\n", room).output
+    tally.expect("the forms", "prove in CRATE " in told and "refute in CRATE " in told and "in the crate" not in told, told)
+    told = run(["--ask", "text.txt", "a"], "?\n", room).output
+    tally.expect("the forms with a crate", "TYPE: TRAIT alone: in the crate a\n" in told, told)
+    ended = run(["--with", "text.txt", "--ask", "behind.txt", "b"], "V<u8>: Show\n", room)
+    tally.expect("a text of two files", ended.is_like(0, "prove 2: yes\n"), f"found: {ended}")
+
+
+def try_reasons(tally: Tally, room: Path) -> None:
+    ended = run(["--explain", "--ask", "text.txt", "a"], "V<u8>: Show\nW: Show\n", room)
+    rows = ended.output.splitlines()
+    wanted = ["prove 2: yes", "note: `V<u8>: Show` holds", " --> text.txt:8:12", "8 | prove in a V<u8>: Show", "  = proof: V<u8>: Show    impl at line 6", "fault 5",
+              "error: a name is not known", " --> text.txt:8:12", "8 | prove in a W: Show"]
+    tally.expect("with reasons, in their order", [row for row in rows if row in wanted] == wanted and ended.status == 0, f"found: {ended}")
+    tally.expect("with reasons, of these lines alone", not any(row.startswith(("crate", "prove 1")) for row in rows), f"found: {ended}")
+    ended = run(["--explain", "--color", "always", "--file", "name", "--ask", "text.txt", "a"], "V<u8>: Show\n", room)
+    tally.expect("with colours", ended.output.startswith("prove 2: yes\n\x1b[") and "name:8:12\n" in ended.output, f"found: {ended}")
+
+
+def refused(room: Path, words: str) -> Ended:
+    return run(words.split(), "u8: Show\n", room)
+
+
+def try_mistakes(tally: Tally, room: Path) -> None:
+    for words, said in {
+            "--ask": "`--ask` needs a text: name a file",
+            "--ask -": "`--ask` reads lines from standard input, and takes its text from a file",
+            "--with - --ask text.txt": "`--ask` reads lines from standard input, and takes its text from a file",
+            "--ask text.txt a b": "`--ask` takes one text and one crate, and here are 3 words",
+            "--ask --check text.txt": "`--ask` answers line by line: `--json` and `--check` are of whole texts",
+            "--ask --explain --json text.txt": "`--ask` answers line by line: `--json` and `--check` are of whole texts",
+    }.items():
+        ended = refused(room, words)
+        tally.expect(f"'{words}'", ended.is_like(2, "", f"celtisdarts: {said}{HELP_OFFERED}"), f"found: {ended}")
+    for words, said in {"--ask nosuch": "nosuch: no such file", "--ask .": ".: is a folder", "--with nosuch --ask text.txt": "nosuch: no such file"}.items():
+        ended = refused(room, words)
+        tally.expect(f"'{words}'", ended.is_like(3, "", f"celtisdarts: {said}\n"), f"found: {ended}")
+    ended = refused(room, "--ask fault.txt a")
+    tally.expect("a text with a fault", ended.is_like(1, "line 3: fault 2\n"), f"found: {ended}")
+    ended = refused(room, "--ask text.txt b")
+    tally.expect("a crate that is not there", ended.is_like(0, "fault 5\n"), f"found: {ended}")
+    reader, writer = os.pipe()
+    os.close(reader)
+    ended = run(["--ask", "text.txt", "a"], "u8: Show\n" * 20, room, stdout=writer)
+    os.close(writer)
+    tally.expect("a pipe without a reader", ended.is_like(3, ""), f"found: {ended}")
+
+
+def try_terminal(tally: Tally, room: Path) -> None:
+    status, shown = at_terminal(["--ask", "text.txt", "a"], ("stdin", "stdout", "stderr"), cwd=room, typed=b"u8: Show\n\x04")
+    tally.expect("a terminal", status == 0 and "`?` lists what can be asked" in shown and "> prove 2: yes\n> " in shown, f"found: {shown!r}")
+
+
+def check(tally: Tally, _: argparse.Namespace) -> None:
+    with tempfile.TemporaryDirectory() as folder:
+        room = Path(folder)
+        for name, text in (("text.txt", TEXT), ("behind.txt", "crate b uses a\n"), ("fault.txt", "crate a\n\nstruct\n")):
+            (room / name).write_text(text)
+        try_examples(tally)
+        for part in (try_forms, try_reasons, try_mistakes, try_terminal):
+            part(tally, room)

@@ -1,0 +1,127 @@
+# Answers the lines of standard input, each at once, as if it stood behind the text. Read by ./celtisdarts, behind answers.sh.
+#
+# Each line is a run of the program, on the text and the line. That takes as long as the text does, 7 to 35 ms for those of crates of
+# crates.io, which nobody who types waits for; it needs no more than the program, and reasons (--explain) come in the same way. Who asks by
+# thousands uses bindings/, which read the text once.
+# shellcheck shell=sh disable=SC2154
+
+print_forms() {
+    cat << 'END_OF_FORMS'
+prove in CRATE TYPE: TRAIT     whether the crate sees a proof: yes, maybe or unproved; `?x` in TYPE and TRAIT is a variable
+.. <T> T: TRAIT where T: OTHER   with parameters behind the crate's name, and with where-clauses
+refute in CRATE TYPE: TRAIT    whether no crate that may be linked can give one: no or open
+END_OF_FORMS
+    if [ -n "$asker" ]; then
+        printf '%s\n' "prove .., refute .., or TYPE: TRAIT alone: in the crate $asker"
+    fi
+    printf '%s\n' "// ..                          a comment; \`?\` lists this, and Ctrl-D ends"
+}
+
+# make_query WORD ..: the query that the line with these words writes, as it stands in a text. None where it asks nothing.
+make_query() {
+    query=$line
+    case $1:$2:$asker in
+        prove:in:* | refute:in:* | prove:*: | refute:*:) ;;
+        *:) query= ;;
+        crate:* | struct:* | trait:* | impl:* | later:* | supers:* | auto:* | fundamental:*) query= ;;
+        prove:* | refute:*) query="$1 in $asker ${line#"$1" }" ;;
+        *) query="prove in $asker $line" ;;
+    esac
+}
+
+# Prints what is answered to the query: the last line, with what is said of it.
+print_answer() {
+    case $status in
+        0) awk '/^(prove|refute) [0-9]+: / { count = 0 } { lines[count++] = $0 } END { for (at = 0; at < count; at++) print lines[at] }' "$room/answer" ;;
+        1) sed '1s/^line [0-9]*: //' "$room/answer" ;;
+        *) echo "no answer: memory or a table ran out" ;;
+    esac
+}
+
+# answer_line WORD ..: answers the line with these words
+answer_line() {
+    case $#:$1 in
+        0:* | *://*) return ;;
+        "1:?")
+            print_forms 2> /dev/null || end_output
+            return
+            ;;
+    esac
+    make_query "$@"
+    if [ -z "$query" ]; then
+        echo "asks nothing" 2> /dev/null || end_output
+        return
+    fi
+    { cat "$room/asked" && printf '%s\n' "$query"; } > "$room/text" || exit 3
+    run_program "$room/text"
+    print_answer 2> /dev/null || end_output
+}
+
+# run_program FILE: what the program answers to the file, in `answer`
+run_program() {
+    if [ -n "$explains" ]; then
+        "$program" "$depth" --color "$color" --file "$title" < "$1" > "$room/answer" &
+    else
+        "$program" "$depth" < "$1" > "$room/answer" &
+    fi
+    await
+}
+
+# Keeps the text, as whole lines, behind those of --with. Ends the call where it is none that can be asked.
+keep_asked() {
+    for word do
+        shift
+        case $word in
+            with:* | "text:$named") set -- "$@" "$word" ;;
+        esac
+    done
+    keep_texts "$@"
+    title=$(name_of "${title:-$file}")
+    [ -f "$room/texts/1" ] || {
+        say "$label: ${reason:-could not be read or kept}"
+        exit 3
+    }
+    mv "$room/texts/1" "$room/asked"
+    [ -z "$(tail -c 1 "$room/asked")" ] || echo >> "$room/asked"
+    run_program "$room/asked"
+    case $status in
+        0) ;;
+        1)
+            cat "$room/answer"
+            exit 1
+            ;;
+        *)
+            say "$label: no answer: memory or a table ran out"
+            exit 3
+            ;;
+    esac
+}
+
+# answer_lines WORD ..: answers the lines of standard input, behind the text that is `named`, where `asker` may be the crate
+answer_lines() {
+    if [ -n "$explains" ]; then
+        of_program celtisdarts_explain
+        choose_colors
+    fi
+    find_program || {
+        say "\`--ask\` needs a proved program, and there is none of these sources: ./celtisdarts --build makes it"
+        exit 3
+    }
+    keep_asked "$@"
+    prompt=
+    if [ -t 0 ] && [ -t 1 ]; then
+        prompt="> "
+        echo "\`?\` lists what can be asked, and Ctrl-D ends."
+    fi
+    printf '%s' "$prompt"
+    while read -r line || [ -n "$line" ]; do
+        set -f
+        # (The words of the line, without their spaces.)
+        # shellcheck disable=SC2086
+        answer_line $line
+        set +f
+        printf '%s' "$prompt"
+    done
+    [ -z "$prompt" ] || echo
+    exit 0
+}
