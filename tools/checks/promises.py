@@ -17,7 +17,7 @@ Each function with a contract that other crates may call, and each public type o
 trait has one. `--write` makes a page for each crate of these comments, with the names of clauses and definitions: docs/layers/NAME.md. Since
 they are made of the sources they are not committed.
 
-README.md has at most 140 lines, and docs/PROMISES.md at most 300. A link in any document leads to a file or a folder of the
+README.md has at most 140 lines, and docs/PROMISES.md at most 320. A link in any document leads to a file or a folder of the
 repository, and to a heading of the document where it names one. A path in backticks that begins with `crates/` or the name of
 another folder of the repository is there, unless a part of it is in capitals, as NAME. A check that is named there, as `tools/check
 NAME`, is one.
@@ -40,7 +40,7 @@ from .layers import FUNCTION, OWNER, contract_of, owners_of
 from .runner import ALL, GROUPS
 
 PROMISES = "docs/PROMISES.md"
-MOST_LINES = {"README.md": 140, PROMISES: 300}
+MOST_LINES = {"README.md": 140, PROMISES: 320}
 LAYERS = "docs/layers"
 FOLDERS = "benches|crates|docs|examples|tools"
 NO_SOURCE = ("out", "target")
