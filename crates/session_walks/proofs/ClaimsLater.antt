@@ -1,15 +1,11 @@
 -- What is claimed of a walk, while a session goes on.
 use Rattle.std.proofs.Common.{◌≡◌, ℕ, Bool, true, false, List, [], ◌∷◌, ◌++◌, Option, Some, sym, ◌∙◌, subst}
-use Rattle.std.specs.List.{AllZip, slice_get}
-use Rattle.type_terms.specs.Rules as rule
+use Rattle.std.specs.List.{slice_get}
 use Rattle.type_terms.specs.Proofs.{HasProof}
 use Rattle.type_terms.specs.Terms.{Entry, Keeps}
 use Rattle.type_terms.specs.Worlds.{World, Reference}
 use Rattle.term_folds.specs.declared.predicate.TraitRef.{TraitRef}
 use Rattle.text_definitions.specs.Declarations.{Declarations}
-use Rattle.declarations.specs.Applied.{TraitRefsHeld}
-use Rattle.declarations.specs.Held.{ReferenceHeld}
-use Rattle.declarations.specs.Items.{reference_in}
 use Rattle.declarations.specs.Merges.{Each}
 use Rattle.declarations.proofs.Growth.{reference-same}
 use Rattle.orphan_check.specs.declared.errors.Conflict.{Conflict}
@@ -20,11 +16,13 @@ use Rattle.proof_checker.specs.Steps.{term_of, terms_of}
 use Rattle.proof_checker.proofs.Later.{term-same, terms-same}
 use Rattle.sessions.specs.Promises.{view_in}
 use Rattle.sessions.specs.Subjects.{Subject, StaysOn}
-use Rattle.session_walks.specs.Claims.{AreClaims, ClaimsHold, IsUnseenAt, UnseenHold}
+use Rattle.session_walks.specs.Adding.{MayAdd}
+use Rattle.session_walks.specs.Claims.{AddersHold, ClaimsHold, IsUnseenAt, MayAddAt, UnseenHold}
 use Rattle.session_walks.specs.Refusals.{HoldsAt, IsRefusedAt, IsRefusedGoal}
 use Rattle.session_walks.specs.Rules.{AreChecked, IsRuleAt, MayApplyAt, HasNoImplAt, HasNoImpl, HasNoRowAt, HasNoRow, MayHaveRule}
 use Rattle.session_walks.specs.Unseen.{IsUnseen}
 use Rattle.session_walks.specs.declared.walks.CheckedCandidates.{CheckedCandidates}
+use Rattle.session_walks.specs.declared.adding.Adder.{Adder}
 use Rattle.session_walks.specs.declared.claims.Claims.{Claims}
 use Rattle.session_walks.proofs.RuleCandidates.{there-held, all-held, each-put}
 
@@ -87,6 +85,9 @@ module _ (es now : List Entry) (k : Keeps es now) (V : World) (c : ℕ) (w : Goa
   unseen-later : (x : ℕ × Option Conflict) → IsUnseenAt es V c rs x → IsUnseenAt now V c rs x
   unseen-later x i = (i.0, i.1, subst (λ (r : Reference). IsUnseen V c r x.1) (sym (reference-same es now k i.0 (there-held es rs x.0 i.0 held i.1))) i.2)
 
+  adder-later : (x : ℕ × Adder) → MayAddAt es V c rs x → MayAddAt now V c rs x
+  adder-later x i = (i.0, i.1, subst (λ (r : Reference). MayAdd V c r x.1) (sym (reference-same es now k i.0 (there-held es rs x.0 i.0 held i.1))) i.2)
+
   no-impl-later : HasNoImplAt es V rs 0 → HasNoImplAt now V rs 0
   no-impl-later x = (x.0, x.1, subst (HasNoImpl V) (same 0 x.0 x.1) x.2)
 
@@ -113,6 +114,9 @@ module _ (s t : Subject) (on : StaysOn s t) (w : GoalWalk) (held : ReferencesHel
   pub unseen-on : (xs : List (ℕ × Option Conflict)) → UnseenHold s w xs → UnseenHold t w xs
   unseen-on xs h = moved (λ d k. Each (IsUnseenAt t.terms (view_in d k) k w.references.items) xs) (each-map _ _ (unseen-later s.terms t.terms on.terms V s.of_crate w held) xs h)
 
+  pub adders-on : (xs : List (ℕ × Adder)) → AddersHold s w xs → AddersHold t w xs
+  adders-on xs h = moved (λ d k. Each (MayAddAt t.terms (view_in d k) k w.references.items) xs) (each-map _ _ (adder-later s.terms t.terms on.terms V s.of_crate w held) xs h)
+
   pub no-impl-on : HasNoImplAt s.terms V w.references.items 0 → HasNoImplAt t.terms (view_in t.declarations t.of_crate) w.references.items 0
   no-impl-on h = moved (λ d k. HasNoImplAt t.terms (view_in d k) w.references.items 0) (no-impl-later s.terms t.terms on.terms V s.of_crate w held h)
 
@@ -126,6 +130,7 @@ module _ (s t : Subject) (on : StaysOn s t) (w : GoalWalk) (held : ReferencesHel
     refused = refused-on x.refused.items h.refused;
     held = holds-on x.held.items h.held;
     unseen = unseen-on x.unseen.items h.unseen;
+    adders = adders-on x.adders.items h.adders;
     no_impl = λ e. no-impl-on (h.no_impl e);
     no_built_in_rule = λ e. no-row-on (h.no_built_in_rule e);
   }
@@ -141,14 +146,15 @@ not-both b e f = absurd (never (sym e ∙ f))
     never g = cc
 
 pub of-candidates : (s : Subject) (w : GoalWalk) (x : Claims) → AreChecked s.terms (view_in s.declarations s.of_crate) w x.candidates → x.refused.items ≡ [] → x.held.items ≡ [] → x.unseen.items ≡ []
-    → x.no_impl ≡ false → x.no_built_in_rule ≡ false → ClaimsHold s w x
-of-candidates s w x h a b d e f = record {
+    → x.adders.items ≡ [] → x.no_impl ≡ false → x.no_built_in_rule ≡ false → ClaimsHold s w x
+of-candidates s w x h a b d q e f = record {
   candidates = h;
   refused = none-held _ _ a;
   held = none-held _ _ b;
   unseen = none-held _ _ d;
-  no_impl = λ q. not-both _ e q;
-  no_built_in_rule = λ q. not-both _ f q;
+  adders = none-held _ _ q;
+  no_impl = λ y. not-both _ e y;
+  no_built_in_rule = λ y. not-both _ f y;
 }
 
 -- no candidates at all
@@ -157,3 +163,6 @@ no-candidates es V w x a b = record { rules = none-held _ _ a; chances = none-he
 
 pub one-more : (s : Subject) (w : GoalWalk) (xs : List (ℕ × Option Conflict)) (x : ℕ × Option Conflict) → UnseenHold s w xs → IsUnseenAt s.terms (view_in s.declarations s.of_crate) s.of_crate w.references.items x → UnseenHold s w (xs ++ x ∷ [])
 one-more s w xs x h p = each-put (IsUnseenAt s.terms (view_in s.declarations s.of_crate) s.of_crate w.references.items) xs x h p
+
+pub one-adder : (s : Subject) (w : GoalWalk) (xs : List (ℕ × Adder)) (x : ℕ × Adder) → AddersHold s w xs → MayAddAt s.terms (view_in s.declarations s.of_crate) s.of_crate w.references.items x → AddersHold s w (xs ++ x ∷ [])
+one-adder s w xs x h p = each-put (MayAddAt s.terms (view_in s.declarations s.of_crate) s.of_crate w.references.items) xs x h p

@@ -10,14 +10,20 @@ use Rattle.orphan_check.specs.declared.errors.Conflict.{Conflict}
 use Rattle.goal_walk.specs.declared.nodes.GoalWalk.{GoalWalk}
 use Rattle.sessions.specs.Promises.{view_in}
 use Rattle.sessions.specs.Subjects.{Subject}
+use Rattle.session_walks.specs.Adding.{MayAdd}
 use Rattle.session_walks.specs.Refusals.{HoldsAt, IsRefusedAt}
 use Rattle.session_walks.specs.Rules.{AreChecked, HasNoImplAt, HasNoRowAt}
 use Rattle.session_walks.specs.Unseen.{IsUnseen}
+use Rattle.session_walks.specs.declared.adding.Adder.{Adder}
 use Rattle.session_walks.specs.declared.claims.Claims.{Claims}
 
 -- Which unseen crates may have an impl for the goal at a place of rs.
 abbrev pub IsUnseenAt : List Entry → World → ℕ → List TraitRef → ℕ × Option Conflict → Type 0
 IsUnseenAt es V c rs x = (r : TraitRef) × (slice_get rs x.0 ≡ Some r) × IsUnseen V c (reference_in es r) x.1
+
+-- Who may write an impl for the goal at a place of rs.
+abbrev pub MayAddAt : List Entry → World → ℕ → List TraitRef → ℕ × Adder → Type 0
+MayAddAt es V c rs x = (r : TraitRef) × (slice_get rs x.0 ≡ Some r) × MayAdd V c (reference_in es r) x.1
 
 -- Each claim is true of what crate c sees, V.
 pub record AreClaims (es : List Entry) (V : World) (c : ℕ) (w : GoalWalk) (x : Claims) : Type 0 where
@@ -25,6 +31,7 @@ pub record AreClaims (es : List Entry) (V : World) (c : ℕ) (w : GoalWalk) (x :
   pub refused : Each (IsRefusedAt es V c w.references.items) x.refused.items
   pub held : Each (HoldsAt es V w.references.items) x.held.items
   pub unseen : Each (IsUnseenAt es V c w.references.items) x.unseen.items
+  pub adders : Each (MayAddAt es V c w.references.items) x.adders.items
   pub no_impl : x.no_impl ≡ true → HasNoImplAt es V w.references.items 0
   pub no_built_in_rule : x.no_built_in_rule ≡ true → HasNoRowAt es V w.references.items 0
 
@@ -35,3 +42,7 @@ ClaimsHold s w x = AreClaims s.terms (view_in s.declarations s.of_crate) s.of_cr
 -- So it is said of goals which unseen crates may have impls for them.
 abbrev pub UnseenHold : Subject → GoalWalk → List (ℕ × Option Conflict) → Type 0
 UnseenHold s w xs = Each (IsUnseenAt s.terms (view_in s.declarations s.of_crate) s.of_crate w.references.items) xs
+
+-- And so who may write impls for them.
+abbrev pub AddersHold : Subject → GoalWalk → List (ℕ × Adder) → Type 0
+AddersHold s w xs = Each (MayAddAt s.terms (view_in s.declarations s.of_crate) s.of_crate w.references.items) xs

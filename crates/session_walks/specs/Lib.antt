@@ -1,3 +1,4 @@
+pub mod Adding
 pub mod Causes
 pub mod Claims
 pub mod Refusals

@@ -1,14 +1,20 @@
 //! What is claimed of walks: all that may be said of their goals and candidates as checked.
 
-ghost use Rattle.std.specs.Prelude.{◌≡◌, [], false, IfOk};
+ghost use Rattle.std.specs.Prelude.{◌≡◌, [], false, IfOk, Some};
+ghost use Rattle.std.specs.List.{slice_get};
+ghost use Rattle.declarations.specs.Held.{ReferenceHeld};
+ghost use Rattle.declarations.specs.Items.{reference_in};
 ghost use Rattle.goal_walk.specs.declared.nodes.GoalWalk.{GoalWalk};
+ghost use Rattle.sessions.specs.Promises.{view_in};
 ghost use Rattle.sessions.specs.Subjects.{StaysOn, Subject};
-ghost use Rattle.session_walks.specs.Claims.{ClaimsHold, UnseenHold};
+ghost use Rattle.session_walks.specs.Claims.{AddersHold, ClaimsHold, UnseenHold};
+ghost use Rattle.session_walks.specs.Unseen.{IsUnseen};
 ghost use Rattle.session_walks.specs.Walked.{PairWalkHeld, WalkHeld};
 
+use crate::adding::{Adder, find_adder};
 use crate::fitting::{no_built_in_rule_fits, no_impl_fits};
 use crate::holding::held_goals;
-use crate::places::reference_at;
+use crate::places::{TOLD_LIMIT, reference_at};
 use crate::refusals::refused_goals;
 use crate::rules::checked_candidates;
 use crate::unseen::unseen_crates;
@@ -16,7 +22,8 @@ use crate::walks::{CheckedCandidates, PairWalk};
 use goal_walk::GoalWalk;
 use orphan_check::errors::Conflict;
 use sessions::Session;
-use std::alloc::{AllocError, Global};
+use std::alloc::Global;
+use term_folds::predicate::TraitRef;
 use type_terms::Fault;
 
 /// What is claimed of a walk, each of it checked. What is not claimed may be so too.
@@ -31,6 +38,8 @@ pub struct Claims {
     pub held: Vec<usize>,
     /// Which crates that are not seen may have an impl for a goal; none where all impls for it are known.
     pub unseen: Vec<(usize, Option<Conflict>)>,
+    /// Who may write an impl for a goal.
+    pub adders: Vec<(usize, Adder)>,
     /// Whether no impl has a rule for the goal at place 0.
     pub no_impl: bool,
     /// Whether no built-in rule concludes the goal at place 0.
@@ -45,6 +54,7 @@ impl Drop for Claims {
             refused: _,
             held: _,
             unseen: _,
+            adders: _,
             no_impl: _,
             no_built_in_rule: _,
         } = self;
@@ -57,6 +67,7 @@ fn of_candidates(alloc: Global, candidates: CheckedCandidates) -> Claims
     ensures refused { result.refused.items ≡ [] }
     ensures held { result.held.items ≡ [] }
     ensures unseen { result.unseen.items ≡ [] }
+    ensures adders { result.adders.items ≡ [] }
     ensures no_impl { result.no_impl ≡ false }
     ensures no_built_in_rule { result.no_built_in_rule ≡ false }
 {
@@ -65,6 +76,7 @@ fn of_candidates(alloc: Global, candidates: CheckedCandidates) -> Claims
         refused: Vec::new(alloc),
         held: Vec::new(alloc),
         unseen: Vec::new(alloc),
+        adders: Vec::new(alloc),
         no_impl: false,
         no_built_in_rule: false,
     }
@@ -94,43 +106,74 @@ pub fn question_claims(session: &mut Session<'_>, walk: &GoalWalk) -> Result<Cla
     Ok(of_candidates(session.cx.alloc, candidates))
 }
 
-/// Adds which unseen crates may have an impl for the goal at a place, if the walk has that place.
+/// Adds who may write an impl for the goal at a place, if it is known that someone may.
+fn push_adder(
+    session: &Session<'_>,
+    walk: &GoalWalk,
+    place: usize,
+    reference: TraitRef,
+    found: Option<Conflict>,
+    adders: &mut Vec<(usize, Adder)>,
+) -> Result<(), Fault>
+    requires held { ReferenceHeld session.now.terms reference }
+    requires there { slice_get walk.now.references.items place ≡ Some reference }
+    requires unseen { IsUnseen (view_in session.now.declarations session.now.of_crate) session.now.of_crate
+        (reference_in session.now.terms reference) found }
+    requires adders { AddersHold session.now walk.now adders.old.items }
+    ensures { AddersHold session.now walk.now adders.new.items }
+{
+    let Some(conflict) = found else {
+        return Ok(());
+    };
+    if let Some(adder) = find_adder(session, reference, conflict) {
+        adders.push((place, adder))?;
+    }
+    Ok(())
+}
+
+/// Adds which unseen crates may have an impl for the goal at a place, and who may write one, if the walk has that place.
 fn push_unseen(
     session: &Session<'_>,
     walk: &GoalWalk,
     place: usize,
     unseen: &mut Vec<(usize, Option<Conflict>)>,
+    adders: &mut Vec<(usize, Adder)>,
 ) -> Result<(), Fault>
     requires walked { WalkHeld session.now.terms walk.now }
     requires unseen { UnseenHold session.now walk.now unseen.old.items }
-    ensures { UnseenHold session.now walk.now unseen.new.items }
+    requires adders { AddersHold session.now walk.now adders.old.items }
+    ensures unseen { UnseenHold session.now walk.now unseen.new.items }
+    ensures adders { AddersHold session.now walk.now adders.new.items }
 {
     if let Some(reference) = reference_at(&walk.references, place) {
         let found = unseen_crates(session, reference)?;
         unseen.push((place, found))?;
+        push_adder(session, walk, place, reference, found, adders)?;
     }
     Ok(())
 }
 
-/// Adds it for goals at several places.
-fn push_unseen_of(
+/// Adds it for all goals, but for those behind so many that it is not told.
+fn push_all_unseen(
     session: &Session<'_>,
     walk: &GoalWalk,
-    places: &[usize],
     unseen: &mut Vec<(usize, Option<Conflict>)>,
+    adders: &mut Vec<(usize, Adder)>,
 ) -> Result<(), Fault>
     requires walked { WalkHeld session.now.terms walk.now }
     requires unseen { UnseenHold session.now walk.now unseen.old.items }
-    ensures { UnseenHold session.now walk.now unseen.new.items }
+    requires adders { AddersHold session.now walk.now adders.old.items }
+    ensures unseen { UnseenHold session.now walk.now unseen.new.items }
+    ensures adders { AddersHold session.now walk.now adders.new.items }
 {
-    for place in places {
-        push_unseen(session, walk, *place, unseen)?;
+    for place in 0..walk.nodes.len().min(TOLD_LIMIT) {
+        push_unseen(session, walk, place, unseen, adders)?;
     }
     Ok(())
 }
 
-/// What is claimed of the walk of a `refute` question: which of its candidates are rules, or may apply; which goals are refused; and of the goal
-/// at place 0, that nothing fits, and which unseen crates may have an impl.
+/// What is claimed of the walk of a `refute` question: which of its candidates are rules, or may apply; which goals are refused, which hold, which
+/// unseen crates may have an impl for them and who may write one; and of the goal at place 0, that nothing fits.
 ///
 /// The fault is `Memory` where memory is refused, or `Full` where a table of the session is full.
 pub fn refutation_claims(session: &mut Session<'_>, walk: &GoalWalk) -> Result<Claims, Fault>
@@ -141,15 +184,18 @@ pub fn refutation_claims(session: &mut Session<'_>, walk: &GoalWalk) -> Result<C
 {
     let no_impl = no_impl_fits(session, walk, 0)?;
     let refused = refused_goals(session, walk)?;
+    let held = held_goals(session, walk)?;
     let mut claims = question_claims(session, walk)?;
     claims.no_impl = no_impl;
     claims.refused = refused;
+    claims.held = held;
     claims.no_built_in_rule = no_built_in_rule_fits(session, walk, 0);
-    push_unseen(session, walk, 0, &mut claims.unseen)?;
+    push_all_unseen(session, walk, &mut claims.unseen, &mut claims.adders)?;
     Ok(claims)
 }
 
-/// What is claimed of the walk of two impls: which where-clauses hold, and which unseen crates may have an impl for one.
+/// What is claimed of the walk of two impls: which candidates are rules, or may apply, which goals hold, which unseen crates may have an impl
+/// for one, and who may write one.
 ///
 /// The fault is `Memory` where memory is refused, or `Full` where a table of the session is full.
 pub fn pair_claims(session: &mut Session<'_>, pair: &PairWalk) -> Result<Claims, Fault>
@@ -158,9 +204,9 @@ pub fn pair_claims(session: &mut Session<'_>, pair: &PairWalk) -> Result<Claims,
     ensures held { PairWalkHeld session.new.terms pair.now }
     ensures stays { StaysOn session.old session.new }
 {
-    let mut claims = no_claims(session.cx.alloc);
-    claims.held = held_goals(session, &pair.walk)?;
-    push_unseen_of(session, &pair.walk, &pair.left, &mut claims.unseen)?;
-    push_unseen_of(session, &pair.walk, &pair.right, &mut claims.unseen)?;
+    let held = held_goals(session, &pair.walk)?;
+    let mut claims = question_claims(session, &pair.walk)?;
+    claims.held = held;
+    push_all_unseen(session, &pair.walk, &mut claims.unseen, &mut claims.adders)?;
     Ok(claims)
 }

@@ -15,10 +15,12 @@ ghost use Rattle.sessions.specs.Subjects.{StaysOn};
 ghost use Rattle.session_walks.specs.Refusals.{HoldsAt};
 ghost use Rattle.session_walks.specs.Walked.{WalkHeld};
 
-use crate::places::{is_answered, push_if, reference_at};
+use crate::alone::is_held_alone_at;
+use crate::places::{TOLD_LIMIT, is_answered, push_if, reference_at};
 use crate::shown::shown_steps;
 use crate::steps::steps_in;
 use candidate_assembly::solver::Solver;
+use evaluation::MaybeCause;
 use goal_walk::{Answer, GoalWalk};
 use infer_table::infer_ctxt::InferCtxt;
 use proof_checker::checker::is_proof_of;
@@ -56,7 +58,7 @@ fn assumes_nothing(steps: &[Step]) -> bool
 }
 
 /// Whether steps are a proof of a reference by the declarations of a context, with nothing taken for granted.
-fn is_proved_by(
+pub(crate) fn is_proved_by(
     cx: &mut SolverCx<Solver>,
     reference: TraitRef,
     steps: &[Step],
@@ -116,10 +118,26 @@ fn is_held_at(session: &mut Session<'_>, walk: &GoalWalk, place: usize) -> Resul
     holds_at(&mut session.cx, walk, place)
 }
 
+/// The same, where the walk is one in coherence too: a goal that is not settled there is asked alone.
+fn is_held(session: &mut Session<'_>, walk: &GoalWalk, place: usize) -> Result<bool, Fault>
+    requires { WalkHeld session.old.terms walk.now }
+    ensures holds { IfOk result (λ b. b ≡ true
+        → HoldsAt session.old.terms (view_in session.old.declarations session.old.of_crate) walk.now.references.items place) }
+    ensures held { WalkHeld session.new.terms walk.now }
+    ensures stays { StaysOn session.old session.new }
+{
+    if place < TOLD_LIMIT && is_answered(walk, place, Answer::Maybe(MaybeCause::Ambiguity)) {
+        is_held_alone_at(session, walk, place)
+    } else {
+        is_held_at(session, walk, place)
+    }
+}
+
 /// Which goals of a walk have a proof without where-clauses by what the session's crate sees, by their places. Unknowns stand for themselves.
 ///
-/// Of those that the walk shows as proved the steps are checked. One that is not named may have a proof too, as where it needs a where-clause
-/// or a rule that is not checked. The fault is `Memory` where memory is refused, or `Full` where a table of the session is full.
+/// Of those that the walk shows as proved the steps are checked; one that is not settled, as in coherence where other crates may have impls,
+/// is asked once more outside it, and the steps of that walk are checked. One that is not named may have a proof too, as where it needs a
+/// where-clause or a rule that is not checked. The fault is `Memory` where memory is refused, or `Full` where a table of the session is full.
 pub fn held_goals(session: &mut Session<'_>, walk: &GoalWalk) -> Result<Vec<usize>, Fault>
     requires { WalkHeld session.old.terms walk.now }
     ensures holds { IfOk result (λ ps. Each
@@ -129,7 +147,7 @@ pub fn held_goals(session: &mut Session<'_>, walk: &GoalWalk) -> Result<Vec<usiz
 {
     let mut found = Vec::new(session.cx.alloc);
     for place in 0..walk.nodes.len() {
-        let holds = is_held_at(session, walk, place)?;
+        let holds = is_held(session, walk, place)?;
         push_if(&mut found, place, holds)?;
     }
     Ok(found)

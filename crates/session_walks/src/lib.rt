@@ -3,9 +3,12 @@
 //! What a walk shows is how the search answers each goal, and no more is proved of it than that its terms are the session's. But the
 //! steps of a proof that it finds go through the checker (`Session::is_proof_of`), so what is shown as checked is a proof; and so do
 //! candidates (`checked_candidates`), and what two overlapping impls have in common. That no impl fits a goal is told by heads and by
-//! equations (`no_impl_fits`), and that no built-in rule does is looked up (`no_built_in_rule_fits`).
+//! equations (`no_impl_fits`), and that no built-in rule does is looked up (`no_built_in_rule_fits`). Who may write an impl that is not seen is
+//! told by the orphan rule and the trait (`Adder`).
 #![tactic(auto)]
 
+mod adding;
+mod alone;
 mod apart;
 mod breaking;
 mod claims;
@@ -27,6 +30,7 @@ mod unseen;
 mod walking;
 mod walks;
 
+pub use adding::Adder;
 pub use breaking::BreakingCause;
 pub use claims::{Claims, no_claims, pair_claims, question_claims, refutation_claims};
 pub use explained::{

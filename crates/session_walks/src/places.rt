@@ -6,6 +6,9 @@ use goal_walk::{Answer, GoalWalk};
 use std::alloc::AllocError;
 use term_folds::predicate::TraitRef;
 
+/// Of how many goals of a walk it is told, at most, whether they hold though they are not settled, and who may write impls for them.
+pub(crate) const TOLD_LIMIT: usize = 64;
+
 /// The reference at a place, if there is one.
 pub(crate) fn reference_at(references: &[TraitRef], place: usize) -> Option<TraitRef>
     ensures { IfSome result (λ r. slice_get references.now place ≡ Some r) }

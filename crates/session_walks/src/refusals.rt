@@ -26,7 +26,7 @@ use term_folds::predicate::TraitRef;
 use type_terms::Fault;
 
 /// A table in which the numbers of a goal's unknowns are taken, over the interner of a context.
-fn goal_table_in(cx: &mut SolverCx<Solver>) -> Result<InferCtxt, Fault>
+pub(crate) fn goal_table_in(cx: &mut SolverCx<Solver>) -> Result<InferCtxt, Fault>
     requires { SolverIsReady cx.old }
     ensures advances { SolverAdvances cx.old cx.new }
     ensures ready { IfOk result (Ready cx.new.interner.entries) }

@@ -12,4 +12,4 @@ returns-clause-claims c =
     of-candidates t c.args.walk.now c.of_candidates.result
     (subst (AreChecked t.terms (view_in t.declarations t.of_crate) c.args.walk.now) (sym e.candidates)
     (checked-on s t c.checked_candidates.ensures.stays c.args.walk.now c.requires c.in_ok-candidates.candidates c.in_ok-candidates.ensures.checked))
-    e.refused e.held e.unseen e.no_impl e.no_built_in_rule
+    e.refused e.held e.unseen e.adders e.no_impl e.no_built_in_rule

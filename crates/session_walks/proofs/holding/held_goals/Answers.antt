@@ -20,8 +20,8 @@ loop-place-preserved c =
     let now = c.loop-place.session in
     let P = HoldsAt c.args.session.now.terms (view_in c.args.session.now.declarations c.args.session.now.of_crate) c.args.walk.now.references.items in
     record {
-      stays = stays-further s now c.is_held_at.new.session c.loop-place.invariant.stays c.is_held_at.ensures.stays;
-      held = c.is_held_at.ensures.held;
+      stays = stays-further s now c.is_held.new.session c.loop-place.invariant.stays c.is_held.ensures.stays;
+      held = c.is_held.ensures.held;
       holds =
           subst (Each P) (sym c.in_ok-push_if.ensures)
           (put-if P c.loop-place.found.items _ _ c.loop-place.invariant.holds
