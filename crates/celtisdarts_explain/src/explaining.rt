@@ -70,7 +70,7 @@ fn explain_verdict(
 }
 
 /// The impls that the session's crate sees.
-fn seen_impls(
+pub(crate) fn seen_impls(
     alloc: Global,
     workspace: &Workspace,
     session: &Session<'_>,

@@ -6,13 +6,14 @@ ghost use Rattle.sessions.specs.Subjects.{StaysOn};
 ghost use Rattle.session_walks.specs.Claims.{ClaimsHold};
 ghost use Rattle.session_walks.specs.Walked.{PairWalkHeld};
 
+use crate::explaining::seen_impls;
 use answer_lines::ShownNames;
-use diagnostics::{Diagnostic, ErrCode, Level};
+use diagnostics::{Diagnostic, ErrCode, Level, Span};
 use explanation_texts::{
-    Piece, Sentence, Spoken, Story, Telling, Texts, conflict_said, impl_line, plain, speak, tell,
-    with_one, with_two,
+    Asking, Piece, Sentence, Spoken, Story, Telling, Texts, impl_line, plain, speak, tell,
+    tell_clause, with_four, with_one, with_three, with_two,
 };
-use session_walks::{Answer, Claims, PairWalk, explain_overlap, impl_header, pair_claims};
+use session_walks::{Claims, PairWalk, explain_overlap, impl_header, pair_claims};
 use sessions::Session;
 use std::alloc::{AllocError, Global};
 use type_terms::{Fault, ImplId};
@@ -38,6 +39,10 @@ struct Conflicting<'w> {
     clauses: Vec<Clause>,
     /// The header of the earlier impl, where the crate sees it.
     header: Option<Spoken>,
+    /// The depth limit with which the where-clauses were asked.
+    depth: u32,
+    /// The impls that the crate sees.
+    seen: Vec<ImplId>,
 }
 
 // Written, so that what owns one drops it by one call at each way out, and not field by field.
@@ -51,6 +56,8 @@ impl Drop for Conflicting<'_> {
             story: _,
             clauses: _,
             header: _,
+            depth: _,
+            seen: _,
         } = self;
     }
 }
@@ -133,33 +140,37 @@ fn tell_pair<'w>(
         story,
         clauses,
         header,
+        depth: session.limits.depth,
+        seen: seen_impls(alloc, texts.workspace, session)?,
     })
 }
 
-/// Why a where-clause does not keep the impls apart.
-fn clause_said<'s>(story: &'s Story<'_>, clause: Clause) -> Sentence<'s> {
-    let reference = story.reference(clause.place);
-    if story.is_held(clause.place) {
-        return with_one("`{}` holds", reference);
-    }
-    if story.answer(clause.place) == Answer::Yes {
-        return with_one("`{}` holds, not checked", reference);
-    }
-    match (story.unseen(clause.place), story.spoken(clause.place)) {
-        (Some(Some(conflict)), Some(spoken)) => conflict_said(spoken, conflict),
-        _ => with_one("`{}` is not refused", reference),
+/// Where a where-clause stands; nowhere in an impl of `core`.
+fn span_of(texts: Texts<'_>, clause: Clause) -> Span {
+    let none = Span {
+        line: 0,
+        start: 0,
+        end: 0,
+    };
+    match impl_line(texts, clause.id) {
+        Some(line) => line.clause(clause.number).unwrap_or(none),
+        None => none,
     }
 }
 
 /// Tells why a where-clause does not keep the impls apart, with its place.
-fn tell_clause(story: &Story<'_>, clause: Clause, telling: &mut Telling) {
-    telling.note(clause_said(story, clause));
-    let Some(found) = impl_line(story.texts, clause.id) else {
-        return;
+fn tell_one(
+    found: &Conflicting<'_>,
+    clause: Clause,
+    telling: &mut Telling,
+) -> Result<(), AllocError> {
+    let asking = Asking {
+        span: span_of(found.story.texts, clause),
+        depth: found.depth,
+        seen: &found.seen,
+        supertrait: None,
     };
-    if let Some(span) = found.clause(clause.number) {
-        telling.mark_child(span);
-    }
+    tell_clause(&found.story, clause.place, asking, telling)
 }
 
 /// What is said of an impl of `core`, which has no line.
@@ -195,20 +206,46 @@ fn tell_headers(found: &Conflicting<'_>, telling: &mut Telling) {
     }
 }
 
+/// The message, with the lines of the impls: an impl of `core` has none.
+fn message_of<'s>(found: &'s Conflicting<'_>) -> Sentence<'s> {
+    let bound = found.common.bound_piece();
+    let subject = found.common.subject_piece();
+    let later = impl_line(found.story.texts, found.later);
+    let earlier = impl_line(found.story.texts, found.earlier);
+    match (later, earlier) {
+        (Some(later), Some(earlier)) => with_four(
+            "conflicting implementations of trait `{}` for type `{}`: lines {} and {}",
+            [
+                bound,
+                subject,
+                Piece::Number(earlier.line as usize),
+                Piece::Number(later.line as usize),
+            ],
+        ),
+        (Some(later), None) => with_three(
+            "conflicting implementations of trait `{}` for type `{}`: line {}",
+            bound,
+            subject,
+            Piece::Number(later.line as usize),
+        ),
+        _ => with_two(
+            "conflicting implementations of trait `{}` for type `{}`",
+            bound,
+            subject,
+        ),
+    }
+}
+
 /// What is said of the overlap.
 fn diagnose(alloc: Global, found: &Conflicting<'_>) -> Result<Diagnostic, AllocError> {
-    let message = with_two(
-        "conflicting implementations of trait `{}` for type `{}`",
-        found.common.bound_piece(),
-        found.common.subject_piece(),
-    );
+    let message = message_of(found);
     let mut telling = Telling::begin(alloc, Level::Error, Some(ErrCode::E0119), message);
     tell_headers(found, &mut telling);
     if !found.is_checked {
         telling.note(plain("that both headers have this instance is not checked"));
     }
     for clause in &found.clauses {
-        tell_clause(&found.story, *clause, &mut telling);
+        tell_one(found, *clause, &mut telling)?;
     }
     telling.finish()
 }

@@ -220,7 +220,7 @@ fn tell_refutation(
     let span = question.span();
     match answer {
         RefuteAnswer::No => refuted(alloc, &story, span),
-        RefuteAnswer::Open => left_open(alloc, &story, span),
+        RefuteAnswer::Open => left_open(alloc, &story, question.asking()),
     }
 }
 

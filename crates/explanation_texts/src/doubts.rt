@@ -226,7 +226,7 @@ fn deeper(depth: u32) -> Option<u32>
 }
 
 /// Tells to ask with a greater depth limit, where there is one.
-fn tell_deeper(depth: u32, telling: &mut Telling) {
+pub(crate) fn tell_deeper(depth: u32, telling: &mut Telling) {
     if let Some(other) = deeper(depth) {
         telling.help(with_two(
             "ask with a greater depth limit: `{}` in place of `{}`",
@@ -240,12 +240,17 @@ fn tell_deeper(depth: u32, telling: &mut Telling) {
 const GIVEN_UP: &str =
     "a search is given up after 65,536 nested goals: a smaller depth limit may settle it";
 
+/// Tells what may help where the search may have been given up.
+pub(crate) fn tell_given_up(telling: &mut Telling) {
+    telling.help(plain(GIVEN_UP));
+}
+
 /// Tells what follows from why the goal is not settled.
 fn tell_doubt(story: &Story<'_>, doubt: Doubt, leaf: usize, depth: u32, telling: &mut Telling) {
     match doubt {
         Doubt::Ways => tell_ways(story, leaf, telling),
         Doubt::Depth => tell_deeper(depth, telling),
-        Doubt::Limits => telling.help(plain(GIVEN_UP)),
+        Doubt::Limits => tell_given_up(telling),
         Doubt::Either | Doubt::Cycle | Doubt::Open | Doubt::Other => {}
     }
 }

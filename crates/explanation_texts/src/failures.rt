@@ -46,7 +46,7 @@ fn failing_path(alloc: Global, story: &Story<'_>) -> Result<Vec<usize>, AllocErr
 }
 
 /// Whether an impl is of a trait.
-fn is_of_trait(texts: Texts<'_>, id: ImplId, of_trait: TraitId) -> bool {
+pub(crate) fn is_of_trait(texts: Texts<'_>, id: ImplId, of_trait: TraitId) -> bool {
     match texts.workspace.impls().get(id.index as usize) {
         Some(entry) => entry.header.trait_id == of_trait,
         None => false,
@@ -54,7 +54,7 @@ fn is_of_trait(texts: Texts<'_>, id: ImplId, of_trait: TraitId) -> bool {
 }
 
 /// Whether a trait has parameters.
-fn has_params(texts: Texts<'_>, id: TraitId) -> bool {
+pub(crate) fn has_params(texts: Texts<'_>, id: TraitId) -> bool {
     match texts.workspace.traits().get(id.index as usize) {
         Some(entry) => !entry.params.is_empty(),
         None => false,

@@ -1,42 +1,15 @@
 //! What is said of a question that was answered open.
 
-use crate::items::{Texts, trait_home, trait_name};
-use crate::sentences::{Piece, Sentence, plain, with_four, with_one, with_two};
+use crate::failures::Asking;
+use crate::reasons::{Reason, is_left, open_path, reason_of, tell_limit, tell_path};
+use crate::sentences::{Sentence, plain, with_one};
 use crate::sources::source_piece;
-use crate::spoken::Spoken;
 use crate::story::Story;
 use crate::telling::Telling;
-use diagnostics::{Diagnostic, LIST_LIMIT, Level, Span};
-use evaluation::{CandidateSource, Certainty};
+use diagnostics::{Diagnostic, LIST_LIMIT, Level};
+use evaluation::Certainty;
 use goal_walk::{Answer, CandidateNode};
-use orphan_check::errors::Conflict;
 use std::alloc::{AllocError, Global};
-
-/// Which crate that is not seen may add which impl.
-fn unseen_said<'s>(texts: Texts<'s>, spoken: &'s Spoken, conflict: Conflict) -> Sentence<'s> {
-    let bound = spoken.bound_piece();
-    let subject = spoken.subject_piece();
-    match conflict {
-        Conflict::Upstream => {
-            let name = Piece::Name(trait_name(texts, spoken.trait_id));
-            let home = Piece::Name(trait_home(texts, spoken.trait_id));
-            with_four(
-                "upstream crates may add a new impl of trait `{}` for type `{}` in future versions (`{}` is of crate `{}`)",
-                [bound, subject, name, home],
-            )
-        }
-        Conflict::Downstream => with_two(
-            "downstream crates may implement trait `{}` for type `{}` (any crate that uses this one)",
-            bound,
-            subject,
-        ),
-    }
-}
-
-/// Whether a candidate is seen, and applies, or may.
-fn is_left(candidate: &CandidateNode) -> bool {
-    candidate.certainty.is_some() && candidate.source != CandidateSource::CoherenceUnknowable
-}
 
 /// What is said of a candidate that may apply: this, and where it was not checked, that too.
 pub(crate) fn chance(may_apply: bool) -> &'static str {
@@ -84,22 +57,26 @@ fn tell_ways(story: &Story<'_>, telling: &mut Telling) {
     }
 }
 
-/// Tells which crate that is not seen may add which impl, where one may.
-fn tell_unseen(story: &Story<'_>, telling: &mut Telling) {
-    if let (Some(Some(conflict)), Some(spoken)) = (story.unseen(0), story.spoken(0)) {
-        telling.note(unseen_said(story.texts, spoken, conflict));
-    }
-}
-
-/// What is said of a question that was answered open, at a span.
-pub fn left_open(alloc: Global, story: &Story<'_>, span: Span) -> Result<Diagnostic, AllocError> {
+/// What is said of a question that was answered open.
+pub fn left_open(
+    alloc: Global,
+    story: &Story<'_>,
+    asking: Asking<'_>,
+) -> Result<Diagnostic, AllocError> {
     let message = with_one(
         "`{}` holds, or some crate could make it hold",
         story.reference(0),
     );
+    let path = open_path(alloc, story, 0)?;
     let mut telling = Telling::begin(alloc, Level::Note, None, message);
-    telling.mark(span, plain(""));
-    tell_unseen(story, &mut telling);
-    tell_ways(story, &mut telling);
+    telling.mark(asking.span, plain(""));
+    let mut reason = reason_of(story, 0);
+    if path.len() > 1 || !matches!(reason, Reason::Open) {
+        reason = tell_path(story, &path, asking, &mut telling);
+    }
+    if !story.is_held(0) {
+        tell_ways(story, &mut telling);
+    }
+    tell_limit(reason, asking.depth, &mut telling);
     telling.finish()
 }

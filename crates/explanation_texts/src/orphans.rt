@@ -4,18 +4,19 @@ ghost use Rattle.std.specs.Prelude.{IfSome};
 ghost use Rattle.type_terms.specs.Terms.{Has, types};
 ghost use Rattle.orphan_check.specs.Held.{ErrorHeld, LeavesHeld, TypeHeld};
 
-use crate::items::{Texts, crate_name, impl_line, trait_home};
+use crate::failures::has_params;
+use crate::items::{Texts, crate_name, impl_line, name_of, trait_home};
 use crate::sentences::{Piece, Sentence, plain, with_one, with_two};
 use crate::telling::Telling;
 use crate::words::type_text;
 use answer_lines::HeaderNames;
-use diagnostics::{Diagnostic, ErrCode, LIST_LIMIT, Level};
+use diagnostics::{Diagnostic, ErrCode, LIST_LIMIT, Level, on_line};
 use orphan_check::errors::{IsFirstInputType, OrphanCheckErr, UncoveredTyParams};
 use std::alloc::{AllocError, Global};
 use type_terms::interner::Interner;
 use type_terms::kinds::{Ty, TyKind};
 use type_terms::{CrateId, ImplId};
-use workspace::ImplEntry;
+use workspace::{ImplEntry, TermCell};
 
 /// An impl that is refused.
 #[derive(Clone, Copy)]
@@ -47,20 +48,46 @@ fn sort_of_types(cx: &Interner, ty: Ty) -> &'static str
     }
 }
 
+/// Whether other types may stand in a type that is called so.
+fn is_made_of_others(name: &str) -> bool {
+    for byte in name.as_bytes() {
+        if !byte.is_ascii_alphanumeric() && *byte != b'_' {
+            return name.len() > 1;
+        }
+    }
+    false
+}
+
+/// What is said of a struct that comes from a crate: where types may stand in it, that those do not count.
+fn owner_said<'s>(name: &'s str, owner: Piece<'s>) -> Sentence<'s> {
+    let template = if is_made_of_others(name) {
+        "`{}` counts as a type of crate `{}`: the orphan rule does not look into it"
+    } else {
+        "`{}` is of crate `{}`"
+    };
+    with_two(template, Piece::Text(name), owner)
+}
+
+/// What is said of a type that is no struct.
+fn homeless_said<'s>(name: &'s str) -> Sentence<'s> {
+    let template = if is_made_of_others(name) {
+        "`{}` is of no crate: the orphan rule does not look into it"
+    } else {
+        "`{}` is of no crate"
+    };
+    with_one(template, Piece::Text(name))
+}
+
 /// Where a type that is called so comes from.
 fn home_said<'s>(texts: Texts<'s>, cx: &Interner, ty: Ty, name: &'s str) -> Sentence<'s>
     requires { Has cx.now.entries types ty.0 }
 {
-    let name = Piece::Text(name);
     match cx.kind(ty) {
         TyKind::Adt(id, _) => match texts.workspace.structs().get(id.index as usize) {
-            Some(entry) => {
-                let owner = Piece::Name(crate_name(texts, entry.owner));
-                with_two("`{}` is of crate `{}`", name, owner)
-            }
-            None => with_one("`{}` is of another crate", name),
+            Some(entry) => owner_said(name, Piece::Name(crate_name(texts, entry.owner))),
+            None => with_one("`{}` is of another crate", Piece::Text(name)),
         },
-        _ => with_one("`{}` is of no crate", name),
+        _ => homeless_said(name),
     }
 }
 
@@ -99,6 +126,69 @@ fn mark_header(refused: Refused<'_>, label: Sentence<'_>, telling: &mut Telling)
     }
 }
 
+/// Marks the type of the impl alone, or the header where the trait has types too, if it stands in the text.
+fn mark_type(refused: Refused<'_>, label: Sentence<'_>, telling: &mut Telling) {
+    let Some(found) = impl_line(refused.texts, refused.id) else {
+        return;
+    };
+    if has_params(refused.texts, refused.entry.header.trait_id) {
+        telling.mark(found.header(), label);
+    } else {
+        telling.mark(on_line(found.line, found.parts.subject), label);
+    }
+}
+
+/// Whether a crate sees another one.
+fn sees(texts: Texts<'_>, seeing: CrateId, seen: CrateId) -> bool {
+    let count = texts.workspace.crates().len();
+    (seeing.index as usize) < count && texts.workspace.sees(seeing, seen)
+}
+
+/// Whether a crate sees the struct or the trait of a part of a type.
+fn sees_part(texts: Texts<'_>, seeing: CrateId, part: TermCell) -> bool {
+    let owner = match part {
+        TermCell::Adt { id, .. } => match texts.workspace.structs().get(id.index as usize) {
+            Some(entry) => entry.owner,
+            None => return false,
+        },
+        TermCell::Principal { def_id, .. } => {
+            match texts.workspace.traits().get(def_id.index as usize) {
+                Some(entry) => entry.owner,
+                None => return false,
+            }
+        }
+        _ => return true,
+    };
+    sees(texts, seeing, owner)
+}
+
+/// Whether the crate of the trait sees the types of the header.
+fn is_writable_there(refused: Refused<'_>) -> bool {
+    let header = &refused.entry.header;
+    let traits = refused.texts.workspace.traits();
+    let Some(entry) = traits.get(header.trait_id.index as usize) else {
+        return false;
+    };
+    for part in &header.args {
+        if !sees_part(refused.texts, entry.owner, *part) {
+            return false;
+        }
+    }
+    true
+}
+
+/// Tells where such an impl may stand: in the crate of the trait, where that sees the types, or for a struct that wraps the type.
+fn tell_elsewhere(refused: Refused<'_>, telling: &mut Telling) {
+    let template = if is_writable_there(refused) {
+        "the trait is of crate `{}`: write this impl there, or for a struct of crate `{}` that wraps the type"
+    } else {
+        "the trait is of crate `{}`, which does not see the types: write this impl for a struct of crate `{}` that wraps the type"
+    };
+    let home = Piece::Name(trait_home(refused.texts, refused.entry.header.trait_id));
+    let own = Piece::Name(crate_name(refused.texts, refused.crate_id));
+    telling.help(with_two(template, home, own));
+}
+
 /// The message where no type of the header is of the crate.
 fn nonlocal_message(cx: &Interner, types: &[(Ty, IsFirstInputType)]) -> Sentence<'static>
     requires { LeavesHeld cx.now.entries types.now }
@@ -125,17 +215,13 @@ fn nonlocal(
     let message = nonlocal_message(cx, types);
     let mut telling = Telling::begin(alloc, Level::Error, Some(ErrCode::E0117), message);
     let own = Piece::Name(crate_name(refused.texts, refused.crate_id));
-    mark_header(
+    mark_type(
         refused,
-        with_one("no type here is of crate `{}`", own),
+        with_one("not a type of crate `{}`", own),
         &mut telling,
     );
     tell_met(refused, cx, types, &mut telling);
-    telling.help(with_two(
-        "the trait is of crate `{}`: write this impl there, or for a struct of crate `{}`",
-        Piece::Name(trait_home(refused.texts, refused.entry.header.trait_id)),
-        own,
-    ));
+    tell_elsewhere(refused, &mut telling);
     telling.finish()
 }
 
@@ -166,6 +252,38 @@ fn uncovered_label<'s>(param: &'s str, has_local: bool) -> Sentence<'s> {
     with_one(template, Piece::Text(param))
 }
 
+/// Tells of a part right behind a parameter of the header that it covers nothing, if it is a reference or a fundamental struct.
+fn tell_bare(texts: Texts<'_>, part: TermCell, telling: &mut Telling) {
+    match part {
+        TermCell::Ref { .. } => telling.note(plain(
+            "`&` covers nothing: what stands behind it counts",
+        )),
+        TermCell::Adt { id, .. } => {
+            if let Some(entry) = texts.workspace.structs().get(id.index as usize) {
+                if entry.is_fundamental {
+                    telling.note(with_one(
+                        "`{}` is fundamental and covers nothing: what stands in it counts",
+                        Piece::Name(name_of(&entry.name)),
+                    ));
+                }
+            }
+        }
+        _ => {}
+    }
+}
+
+/// Tells what stands round the first parameter of the header, if that covers nothing.
+fn tell_covers_nothing(refused: Refused<'_>, telling: &mut Telling) {
+    let mut is_behind = false;
+    for part in &refused.entry.header.args {
+        if is_behind {
+            tell_bare(refused.texts, *part, telling);
+            return;
+        }
+        is_behind = matches!(part, TermCell::Param(_));
+    }
+}
+
 /// What is said where a parameter comes before the first local type, or there is no such type.
 fn uncovered_param(
     alloc: Global,
@@ -180,6 +298,7 @@ fn uncovered_param(
         uncovered_label(param, local.is_some()),
         &mut telling,
     );
+    tell_covers_nothing(refused, &mut telling);
     telling.note(with_one(
         "the trait is of crate `{}`, so a crate may write an impl of it only where a struct of its own comes before any parameter that stands alone",
         Piece::Name(trait_home(refused.texts, refused.entry.header.trait_id)),

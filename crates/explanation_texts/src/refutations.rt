@@ -8,6 +8,7 @@ use crate::story::Story;
 use crate::telling::Telling;
 use diagnostics::{Diagnostic, Level, Span};
 use orphan_check::errors::Conflict;
+use session_walks::Adder;
 use std::alloc::{AllocError, Global};
 
 /// That nothing fits, and where that was not checked, this too.
@@ -46,22 +47,29 @@ fn known_said<'s>(texts: Texts<'s>, spoken: &'s Spoken) -> Sentence<'s> {
 }
 
 /// Why an impl that a crate that is not seen may add changes nothing.
-fn unseen_said<'s>(texts: Texts<'s>, spoken: &'s Spoken, conflict: Conflict) -> Sentence<'s> {
-    let template = match conflict {
-        Conflict::Upstream =>
+fn unseen_said<'s>(texts: Texts<'s>, spoken: &'s Spoken, adder: Option<Adder>) -> Sentence<'s> {
+    let template = match adder {
+        Some(Adder::Owner(_)) =>
             "upstream crates may add a new impl of trait `{}` for type `{}` in future versions, but such an impl would need the supertraits of `{}`, of which one is refused",
-        Conflict::Downstream =>
+        Some(Adder::User) =>
             "downstream crates may implement trait `{}` for type `{}`, but such an impl would need the supertraits of `{}`, of which one is refused",
+        None =>
+            "an impl of trait `{}` for type `{}` that is not seen would need the supertraits of `{}`, of which one is refused",
     };
     let name = Piece::Name(trait_name(texts, spoken.trait_id));
     with_three(template, spoken.bound_piece(), spoken.subject_piece(), name)
 }
 
 /// Why nothing that is not seen proves the reference.
-fn unseen_why<'s>(texts: Texts<'s>, spoken: &'s Spoken, unseen: Option<Conflict>) -> Sentence<'s> {
+fn unseen_why<'s>(
+    texts: Texts<'s>,
+    spoken: &'s Spoken,
+    unseen: Option<Conflict>,
+    adder: Option<Adder>,
+) -> Sentence<'s> {
     match unseen {
         None => known_said(texts, spoken),
-        Some(conflict) => unseen_said(texts, spoken, conflict),
+        Some(_) => unseen_said(texts, spoken, adder),
     }
 }
 
@@ -75,7 +83,7 @@ fn tell_whys(story: &Story<'_>, telling: &mut Telling) {
         telling.note(nothing_fits(story, spoken));
     }
     if let Some(unseen) = story.unseen(0) {
-        telling.note(unseen_why(story.texts, spoken, unseen));
+        telling.note(unseen_why(story.texts, spoken, unseen, story.adder(0)));
     }
 }
 

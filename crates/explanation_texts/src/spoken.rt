@@ -4,11 +4,11 @@ ghost use Rattle.std.specs.Prelude.{IfSome};
 ghost use Rattle.type_terms.specs.Kinds.{ArgHeld};
 ghost use Rattle.type_terms.specs.Terms.{Has, args_lists, types};
 
-use crate::sentences::{Piece, Sentence, with_two};
+use crate::items::Name;
+use crate::sentences::Piece;
 use crate::words::type_text;
 use answer_lines::{PrintNames, ShownNames, print_const, print_type_within};
 use diagnostics::{TYPE_LIMIT, cut_text};
-use orphan_check::errors::Conflict;
 use std::alloc::{AllocError, Global};
 use term_folds::predicate::TraitRef;
 use type_terms::TraitId;
@@ -53,6 +53,11 @@ impl Spoken {
     /// The bound, in a sentence.
     pub fn bound_piece(&self) -> Piece<'_> {
         Piece::Text(self.bound.as_str())
+    }
+
+    /// Whether it is written with this self type and this bound.
+    pub(crate) fn is_written(&self, subject: Name<'_>, bound: Name<'_>) -> bool {
+        self.subject.as_bytes() == subject.bytes && self.bound.as_bytes() == bound.bytes
     }
 
     /// The self type, in a sentence.
@@ -212,14 +217,4 @@ pub fn speak(
         is_unknown: is_unknown(cx, reference),
         is_param: is_param(cx, reference),
     })
-}
-
-/// Which crates may have an impl that is not seen, as the original says it.
-pub fn conflict_said<'s>(spoken: &'s Spoken, conflict: Conflict) -> Sentence<'s> {
-    let template = match conflict {
-        Conflict::Upstream =>
-            "upstream crates may add a new impl of trait `{}` for type `{}` in future versions",
-        Conflict::Downstream => "downstream crates may implement trait `{}` for type `{}`",
-    };
-    with_two(template, spoken.bound_piece(), spoken.subject_piece())
 }

@@ -10,7 +10,7 @@ use crate::spoken::{Spoken, speak};
 use answer_lines::ShownNames;
 use goal_walk::{Answer, CandidateNode, GoalWalk, Standing};
 use orphan_check::errors::Conflict;
-use session_walks::Claims;
+use session_walks::{Adder, Claims};
 use sessions::Session;
 use std::alloc::{AllocError, Global};
 use term_folds::predicate::TraitRef;
@@ -231,6 +231,16 @@ impl Story<'_> {
     /// Which crates that are not seen may have an impl for a goal, where that is claimed; none of them, where all impls for it are known.
     pub fn unseen(&self, place: usize) -> Option<Option<Conflict>> {
         for found in &self.claims.unseen {
+            if found.0 == place {
+                return Some(found.1);
+            }
+        }
+        None
+    }
+
+    /// Who may write an impl for a goal that is not seen, where that is claimed.
+    pub(crate) fn adder(&self, place: usize) -> Option<Adder> {
+        for found in &self.claims.adders {
             if found.0 == place {
                 return Some(found.1);
             }
