@@ -16,7 +16,12 @@ is not cut:
     "required for X to implement B", at the marks of an impl              its header can be `X: B`, and where the next inner reference
                                                                           is known, that is one of its clauses
     an overlap for a type                                                 both headers that are marked can be that
-    a where-clause of such impls that "holds"                             `prove` answers `yes`
+    a where-clause of such impls, or an open goal, that "holds"           `prove` answers `yes`
+    "downstream crates may implement" a trait                             a new crate that uses the asker writes the impl, with a struct of its
+                                                                          own for unknowns: no fault 6, 11 or 12, and it is no orphan;
+                                                                          and `prove` does not answer `yes`
+    "upstream crates may add a new impl"                                  a section of the crate of the trait has it: none of these faults, and
+                                                                          it is `compatible`; and `prove` does not answer `yes`
 
 What is asked is asked of the other program, whose answers are proved. A case is a text. The line before the last tells how many claims of
 each kind there were.
@@ -39,11 +44,16 @@ from .makers import PlainText
 
 LIMITS = Limits(seconds=60)
 QUOTED = re.compile(r"`([^`]*)`")
-OVERLAP = re.compile(r"conflicting implementations of trait `([^`]*)` for type `([^`]*)`$")
+OVERLAP = re.compile(r"conflicting implementations of trait `([^`]*)` for type `([^`]*)`(?:: lines? .*)?$")
 FITS = re.compile(r"the impl at line (\d+) (?:fits(?:, not checked)?, but needs `([^`]*)`, (.*)|fits(?:, not checked)?, and .*|(?:applies|may apply)(?:, not checked)?)$")
 NONE_FITS = re.compile(r"no impl (and no built-in rule )?of `")
 REQUIRED = re.compile(r"required for `([^`]*)` to implement `([^`]*)`(?:, not checked)?$")
-HOLDS = re.compile(r"`([^`]*)` holds(?:, not checked)?$")
+HOLDS = re.compile(r"`([^`]*)` holds(?:, not checked|, by the .*)?$")
+ADDED = re.compile(r"(down|up)stream crates may (?:implement|add a new impl of) trait `([^`]*)` for type `([^`]*)`(?:.* is of crate `(\w+)`\))?")
+NOT_REFUSED = re.compile(r"`([^`]*)` (?:is not refused|needs itself)")
+LENGTH = re.compile(r"; *(?:\?\w+|_)(?=\])")
+UNKNOWN = re.compile(r"\?\w+|\b_\b")
+CANNOT = re.compile(r"line \d+: fault (6|11|12)$")
 ROW = re.compile(r"[|` -]*(.*?)  +(\S.*)$")
 HOLE = re.compile(r"\b_\b")
 QUESTION = re.compile(r"(prove|refute) (\d+): (.*)$")
@@ -175,12 +185,38 @@ def goal_of(text: str, asker: Asker) -> Optional[Term]:
         return None
 
 
+class Written(NamedTuple):
+    """An impl that may be written, as it was said: the lines of a crate or a section with it, and what is said of these where it may."""
+
+    lines: list[str]
+    answer: str
+    said: str
+
+
+def filled(text: str, value: str) -> str:
+    """With this type for each unknown, and 1 for unknown lengths."""
+    return UNKNOWN.sub(value, LENGTH.sub("; 1", text))
+
+
+def written(crate: str, found: re.Match[str]) -> Optional[Written]:
+    """What a crate is told that others may write; none where it is cut."""
+    way, bound, subject, home = found.groups()
+    if ".." in bound + subject:
+        return None
+    if way == "down":
+        lines = [f"crate Added uses {crate}", "struct Adder", f"impl {filled(bound, 'Adder')} for {filled(subject, 'Adder')}"]
+        return Written(lines, "crate Added: (?!orphan)", found[0])
+    lines = [f"later {home}", f"impl {filled(bound, 'u8')} for {filled(subject, 'u8')}"]
+    return Written(lines, f"later {home}: compatible$", found[0]) if home else None
+
+
 class Claims:
     """What is to be asked of a text, what was held to be so, and what is wrong."""
 
     def __init__(self, text: Text) -> None:
         self.text = text
         self.asked: list[Claim] = []
+        self.written: list[Written] = []
         self.wrong: list[str] = []
         self.held: Counter[str] = Counter()
 
@@ -209,6 +245,15 @@ class Claims:
     def note(self, asker: Asker, goal: str, it: Any, inner: Optional[str]) -> Optional[str]:
         """What one note says of a goal. Answers the reference that it is about, if it is one of the way from the goal to the question."""
         message = it["message"]
+        added, open_goal = ADDED.match(message), HOLDS.match(message) or NOT_REFUSED.match(message)
+        if added:
+            self.written.extend(filter(None, [written(asker.crate, added)]))
+            self.ask("prove", asker, f"{added[3]}: {added[2]}", is_not_yes, message)
+            return f"{added[3]}: {added[2]}"
+        if open_goal:
+            if " holds" in message:
+                self.ask("prove", asker, open_goal[1], is_yes, message)
+            return open_goal[1]
         found = FITS.match(message)
         if found:
             self.fits(int(found[1]), goal, asker, message)
@@ -244,10 +289,9 @@ class Claims:
 
     def overlap(self, crate: str, told: Any) -> None:
         """Both impls that are marked can be what is named, and where-clauses that hold do."""
+        inner = None
         for it in told["children"]:
-            holds = HOLDS.match(it["message"])
-            if holds:
-                self.ask("prove", Asker(crate), holds[1], is_yes, it["message"])
+            inner = self.note(Asker(crate), "", it, inner)
         found = OVERLAP.match(told["message"])
         goal = goal_of(f"{found[2]}: {found[1]}", Asker(crate)) if found else None
         for line in {it["line_start"] for it in told["spans"]}:
@@ -303,6 +347,16 @@ class Claims:
             # printed types have no lifetimes: some can't be asked so
             del self.asked[int(fault[1]) - len(self.text.others) - 1]
 
+    def write(self, answering: str, depth: str) -> None:
+        """Writes each impl that may be written, so it was said, behind the other lines of the text."""
+        for it in self.written:
+            ended = run([answering, depth], "\n".join([*self.text.others, *it.lines]).encode("latin-1"), LIMITS)
+            said = ended.output.decode("latin-1").splitlines()
+            if ended.status and said and not CANNOT.match(said[0]):
+                continue  # printed types have no lifetimes: some can't be written so
+            is_so = any(re.match(it.answer, line) for line in said)
+            self.hold(f"written: {it.answer.split()[0]}", is_so, f"{it.said} -- {it.lines[-1]} -- {said[:1] if ended.status else said[-1:]}")
+
     def compare(self, status: int, said: list[str]) -> None:
         rows = [(row, found) for row in said if (found := ANSWERED.match(row))]
         if status or len(rows) != len(self.asked):
@@ -329,6 +383,7 @@ class Words:
             if it.message:
                 claims.told(it.answer, it.message)
         claims.ask_again(self.answering, depth)
+        claims.write(self.answering, depth)
         self.kinds.update(claims.held)
         return "\n".join(claims.wrong) or None
 
