@@ -6,14 +6,14 @@ use Rattle.type_terms.specs.Worlds.{World, Reference}
 use Rattle.session_walks.specs.declared.breaking.BreakingCause.{BreakingCause}
 use Rattle.session_walks.specs.declared.breaking.BreakingCause.TheVariants.{Orphan, ReliedOn, OpenWalk}
 
--- What crate c of V may add by this header, or why it may not.
+-- Crate c of V may add an impl with this header, or this is why it may not.
 abbrev pub IsCauseOf : World → ℕ → Reference → Option BreakingCause → Type 0
 IsCauseOf V c h None = is_addable V c h ≡ true
 IsCauseOf V c h (Some Orphan) = keeps_orphan_rule V c h ≡ false
 IsCauseOf V c h (Some ReliedOn) = (trait_is (λ x. x.is_fundamental) V h.trait || trait_is (λ x. x.is_auto) V h.trait) ≡ true
 IsCauseOf V c h (Some OpenWalk) = open_walk_meets_param V h ≡ true
 
--- A cause is that of the header of this number, counted from 1.
+-- A cause is that of the header with this number, counted from 1.
 abbrev pub IsCauseAt : World → ℕ → List Reference → ℕ → Option BreakingCause → Type 0
 IsCauseAt V c hs n None = Unit {0}
 IsCauseAt V c hs n (Some cause) = (h : Reference) × (slice_get hs (n - 1) ≡ Some h) × IsCauseOf V c h (Some cause)

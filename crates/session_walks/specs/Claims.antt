@@ -1,4 +1,4 @@
--- What is claimed of a walk: all that is said of its goals and candidates as checked.
+-- What is claimed of a trace: all that is stated of its goals and candidates as checked.
 use Rattle.std.specs.Prelude.{◌≡◌, ℕ, true, List, Option, Some}
 use Rattle.std.specs.List.{slice_get}
 use Rattle.type_terms.specs.Terms.{Entry}
@@ -17,7 +17,7 @@ use Rattle.session_walks.specs.Unseen.{IsUnseen}
 use Rattle.session_walks.specs.declared.adding.Adder.{Adder}
 use Rattle.session_walks.specs.declared.claims.Claims.{Claims}
 
--- Which unseen crates may have an impl for the goal at a place of rs.
+-- Which crates outside the view may have an impl for the goal at an index of rs.
 abbrev pub IsUnseenAt : List Entry → World → ℕ → List TraitRef → ℕ × Option Conflict → Type 0
 IsUnseenAt es V c rs x = (r : TraitRef) × (slice_get rs x.0 ≡ Some r) × IsUnseen V c (reference_in es r) x.1
 
@@ -25,7 +25,7 @@ IsUnseenAt es V c rs x = (r : TraitRef) × (slice_get rs x.0 ≡ Some r) × IsUn
 abbrev pub MayAddAt : List Entry → World → ℕ → List TraitRef → ℕ × Adder → Type 0
 MayAddAt es V c rs x = (r : TraitRef) × (slice_get rs x.0 ≡ Some r) × MayAdd V c (reference_in es r) x.1
 
--- Each claim is true of what crate c sees, V.
+-- Each claim is true by what crate c sees, V.
 pub record AreClaims (es : List Entry) (V : World) (c : ℕ) (w : GoalWalk) (x : Claims) : Type 0 where
   pub candidates : AreChecked es V w x.candidates
   pub refused : Each (IsRefusedAt es V c w.references.items) x.refused.items
@@ -35,11 +35,11 @@ pub record AreClaims (es : List Entry) (V : World) (c : ℕ) (w : GoalWalk) (x :
   pub no_impl : x.no_impl ≡ true → HasNoImplAt es V w.references.items 0
   pub no_built_in_rule : x.no_built_in_rule ≡ true → HasNoRowAt es V w.references.items 0
 
--- It is true of the crate that a session is on.
+-- Each claim is true for the crate of a session.
 abbrev pub ClaimsHold : Subject → GoalWalk → Claims → Type 0
 ClaimsHold s w x = AreClaims s.terms (view_in s.declarations s.of_crate) s.of_crate w x
 
--- So it is said of goals which unseen crates may have impls for them.
+-- The same for which crates outside the view may have impls for goals.
 abbrev pub UnseenHold : Subject → GoalWalk → List (ℕ × Option Conflict) → Type 0
 UnseenHold s w xs = Each (IsUnseenAt s.terms (view_in s.declarations s.of_crate) s.of_crate w.references.items) xs
 

@@ -1,4 +1,4 @@
--- Which goals have a proof by what a crate sees, and which have none wherever it is linked.
+-- Which goals have a proof by what a crate sees, and which have none in any linked set with it.
 use Rattle.std.specs.Prelude.{◌≡◌, ℕ, false, List, [], Some}
 use Rattle.std.specs.List.{slice_get}
 use Rattle.type_terms.specs.Label.{Sort}
@@ -11,17 +11,17 @@ use Rattle.view_lowering.specs.QuestionVariables.{is_stray}
 use Rattle.overlap_check.specs.Questions.{IsRefuted}
 use Rattle.proof_checker.specs.Steps.{term_of}
 
--- It is refused as a question is that is answered `no`: what is open in it are unknowns of these kinds, and whatever stands for them, it has
--- no proof in a linked set with crate c, whose view is V.
+-- It is refused like a query with the answer `no`. It holds no parameter that is a type or a constant, and no inference variable but those
+-- of these kinds. Whatever they stand for, it has no proof in a linked set with crate c, whose view is V.
 pub record IsRefusedGoal (V : World) (c : ℕ) (r : Reference) : Type 0 where
   pub kinds : List Sort
   pub unknowns : some_node (is_stray kinds) r.args ≡ false
   pub refuted : IsRefuted V c kinds r
 
--- So is the goal at place p of rs.
+-- The goal at index p of rs is refused like this.
 abbrev pub IsRefusedAt : List Entry → World → ℕ → List TraitRef → ℕ → Type 0
 IsRefusedAt es V c rs p = (r : TraitRef) × (slice_get rs p ≡ Some r) × IsRefusedGoal V c (term_of es r)
 
--- The goal at place p of rs has a proof by V.
+-- The goal at index p of rs has a proof by V.
 abbrev pub HoldsAt : List Entry → World → List TraitRef → ℕ → Type 0
 HoldsAt es V rs p = (r : TraitRef) × (slice_get rs p ≡ Some r) × HasProof V [] (term_of es r)

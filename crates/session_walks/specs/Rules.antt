@@ -1,4 +1,5 @@
--- What is checked of walks: which candidates are rules, which goals no impl and no built-in row has, and what two impls have in common.
+-- What is checked of traces: which candidates are rules, which goals no impl and no built-in rule concludes, and what two impls have in
+-- common.
 use Rattle.std.specs.Prelude.{◌≡◌, ℕ, Bool, true, false, List, [], Some}
 use Rattle.std.specs.List.{AllZip, slice_get}
 use Rattle.type_terms.specs.Label.{Label, tuple, fn_ptr, dynamic, infer}
@@ -20,18 +21,18 @@ use Rattle.proof_checker.specs.Checked.{IsConcludedFrom}
 use Rattle.proof_checker.specs.Steps.{term_of, terms_of}
 use Rattle.session_walks.specs.declared.walks.CheckedCandidates.{CheckedCandidates}
 
--- The source is this way of a rule. It does not say which built-in row it is.
+-- The source is this rule instance. It does not say which built-in rule it is.
 abbrev pub IsSourceOf : CandidateSource → Way → Type 0
 IsSourceOf (Impl i) w = w ≡ by_impl i.index
 IsSourceOf (BuiltinImpl s) w = (b : BuiltIn) × (w ≡ built_in b)
 IsSourceOf s w = ⊥
 
--- By the rules of W, whatever the where-clauses are, the source concludes the reference from these premises, and maybe further ones behind
--- them.
+-- By the rules of W, whatever the where-clauses are, the source concludes the trait reference from these premises, and maybe further ones
+-- after them.
 abbrev pub Concludes : List Entry → World → CandidateSource → TraitRef → List TraitRef → Type 0
 Concludes es W s r ps = (E : List Reference) → (w : Way) × IsSourceOf s w × IsConcludedFrom W E (term_of es r) w (terms_of es ps)
 
--- The candidate's source does so of the goal at place p of rs, and the premises are the goals that the candidate asks.
+-- The candidate's source concludes the goal at index p of rs like this, and the premises are the candidate's nested goals.
 pub record IsRuleCandidate (es : List Entry) (W : World) (rs : List TraitRef) (p : ℕ) (c : CandidateNode) : Type 0 where
   pub reference : TraitRef
   pub goal : slice_get rs p ≡ Some reference
@@ -39,17 +40,17 @@ pub record IsRuleCandidate (es : List Entry) (W : World) (rs : List TraitRef) (p
   pub asked : AllZip (λ k r. slice_get rs k ≡ Some r) c.premises.items premises
   pub concludes : Concludes es W c.source reference premises
 
--- So does the candidate with this number, from 0, of the goal at this place.
+-- The same for the candidate with this number, counted from 0, of the goal at this index.
 abbrev pub IsRuleAt : List Entry → World → GoalWalk → ℕ × ℕ → Type 0
 IsRuleAt es W w x =
     (n : Node) × (slice_get w.nodes.items x.0 ≡ Some n) × (c : CandidateNode) × (slice_get n.candidates.items x.1 ≡ Some c)
     × IsRuleCandidate es W w.references.items x.0 c
 
--- The reference with trees in place of its type and const unknowns.
+-- The trait reference with terms for its type and constant variables.
 abbrev pub assigned : Assignment → Reference → Reference
 assigned s r = record r { args = instance s r.args }
 
--- It is the reference with trees of their sorts in the place of its unknowns.
+-- It is the trait reference with terms of their kinds for its variables.
 abbrev pub IsInstanceOf : Reference → Reference → Type 0
 IsInstanceOf r q = (s : Assignment) × IsSorted s × (assigned s r ≡ q)
 
@@ -57,27 +58,27 @@ IsInstanceOf r q = (s : Assignment) × IsSorted s × (assigned s r ≡ q)
 abbrev pub HasNoRuleBy : Reference → ImplDecl → Type 0
 HasNoRuleBy r i = (q : Reference) → IsInstanceOf r q → impl_rules q i ≡ []
 
--- Whatever its unknowns stand for, no impl of W has a rule for r.
+-- Whatever its variables stand for, no impl of W has a rule for r.
 abbrev pub HasNoImpl : World → Reference → Type 0
 HasNoImpl W r = (i : ImplDecl) → In i W.impls → HasNoRuleBy r i
 
--- The impl of W with this number has none.
+-- The impl of W with this number has no rule for any instance of r.
 abbrev pub HasNoRuleByImpl : World → Reference → ℕ → Type 0
 HasNoRuleByImpl W r n = (i : ImplDecl) → In i W.impls → i.name ≡ n → HasNoRuleBy r i
 
--- None has one for the goal at place p of rs.
+-- No impl of W has a rule for the goal at index p of rs, whatever its variables stand for.
 abbrev pub HasNoImplAt : List Entry → World → List TraitRef → ℕ → Type 0
 HasNoImplAt es W rs p = (r : TraitRef) × (slice_get rs p ≡ Some r) × HasNoImpl W (term_of es r)
 
--- Whatever its unknowns stand for, no built-in row of W concludes r.
+-- Whatever its variables stand for, no built-in rule of W concludes r.
 abbrev pub HasNoRow : World → Reference → Type 0
 HasNoRow W r = (s : Assignment) → built_in_rules W (assigned s r) ≡ []
 
--- None concludes the goal at place p of rs.
+-- No built-in rule of W concludes the goal at index p of rs.
 abbrev pub HasNoRowAt : List Entry → World → List TraitRef → ℕ → Type 0
 HasNoRowAt es W rs p = (r : TraitRef) × (slice_get rs p ≡ Some r) × HasNoRow W (term_of es r)
 
--- The first type is no unknown.
+-- The first type is no variable.
 abbrev pub begins_known : Trees → Bool
 begins_known none = false
 begins_known (tree (infer s i) c o) = false
@@ -90,19 +91,19 @@ is_bare (fn_ptr n) = false
 is_bare dynamic = false
 is_bare l = true
 
--- The impl of W with this number has a rule for r, whatever it asks.
+-- The impl of W with this number has a rule for r, whatever its where-clauses are.
 abbrev pub HasRuleByImpl : World → Reference → ℕ → Type 0
 HasRuleByImpl W r i = (E : List Reference) → IsConcludedFrom W E r (by_impl i) []
 
--- So have both.
+-- Both impls have a rule for r.
 abbrev pub HasRulesByBoth : World → Reference → ℕ → ℕ → Type 0
 HasRulesByBoth W r i j = HasRuleByImpl W r i × HasRuleByImpl W r j
 
--- The impl of W with this number has a rule for an instance of r, whatever it asks.
+-- The impl of W with this number has a rule for an instance of r, whatever its where-clauses are.
 abbrev pub MayHaveRule : World → Reference → ℕ → Type 0
 MayHaveRule W r i = (q : Reference) × IsInstanceOf r q × HasRuleByImpl W q i
 
--- The candidate is by an impl that has one for an instance of the goal at place p of rs.
+-- The candidate is by an impl that has a rule for an instance of the goal at index p of rs.
 pub record MayApply (es : List Entry) (W : World) (rs : List TraitRef) (p : ℕ) (c : CandidateNode) : Type 0 where
   pub reference : TraitRef
   pub goal : slice_get rs p ≡ Some reference
@@ -110,7 +111,7 @@ pub record MayApply (es : List Entry) (W : World) (rs : List TraitRef) (p : ℕ)
   pub source : c.source ≡ Impl number
   pub rule : MayHaveRule W (term_of es reference) number.index
 
--- So is the candidate with this number, from 0, of the goal at this place.
+-- The same for the candidate with this number, counted from 0, of the goal at this index.
 abbrev pub MayApplyAt : List Entry → World → GoalWalk → ℕ × ℕ → Type 0
 MayApplyAt es W w x =
     (n : Node) × (slice_get w.nodes.items x.0 ≡ Some n) × (c : CandidateNode) × (slice_get n.candidates.items x.1 ≡ Some c) × MayApply es W w.references.items x.0 c

@@ -1,4 +1,4 @@
--- Terms that speak of a table's own unknowns.
+-- Terms that hold a table's own variables alone.
 use Rattle.std.specs.Prelude.{ℕ, Bool, true, not, nat_lt}
 use Rattle.type_terms.specs.Label.{Label, Sort, of_type, of_const, of_lifetime, infer, canonical, principal, auto_trait}
 use Rattle.type_terms.specs.Trees.{Trees, none, tree, erase_label, some_node}
@@ -8,17 +8,18 @@ use Rattle.type_terms.specs.declared.visit.Seen.TheVariants.{Enter}
 use Rattle.candidate_assembly.specs.Finding.{BreaksAt, at_root}
 use Rattle.session_walks.specs.declared.unknowns.FindsOther.{FindsOther}
 
--- An open place that is no unknown with a number below these. Lifetimes that a binder binds or a declaration names are none.
+-- A parameter, placeholder or variable that is no variable with a number below these. Lifetimes that a binder binds or a declaration names
+-- do not count.
 abbrev pub is_other_place : (Sort → ℕ) → Label → Bool
 is_other_place counts (infer s v) = not (nat_lt v (counts s))
 is_other_place counts (canonical s i) = true
 is_other_place counts l = is_open (erase_label l)
 
--- No such place is in the trees.
+-- The terms hold none of these.
 abbrev pub speaks_of_known : (Sort → ℕ) → Trees → Bool
 speaks_of_known counts t = not (some_node (is_other_place counts) t)
 
--- How many unknowns of each sort the visitor knows.
+-- How many variables of each kind the visitor knows.
 abbrev pub known_to : FindsOther → Sort → ℕ
 known_to v of_type = v.ty_vars
 known_to v of_const = v.const_vars

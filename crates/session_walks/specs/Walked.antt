@@ -1,4 +1,4 @@
--- What walks of a session keep, and what they hold.
+-- What traces of a session preserve, and what they hold.
 use Rattle.std.specs.Prelude.{ℕ, List}
 use Rattle.type_terms.specs.Terms.{Entry, Has, Keeps, args_lists}
 use Rattle.declarations.specs.Held.{ReferenceHeld}
@@ -18,32 +18,32 @@ use Rattle.session_walks.specs.declared.pairs.CommonHeader.{CommonHeader}
 use Rattle.session_walks.specs.declared.walks.PairWalk.{PairWalk}
 use Rattle.session_walks.specs.declared.walks.ProofWalk.{ProofWalk}
 
--- All is at rest after a call, and solves by the same declarations, within the same limits; each handle keeps its term.
+-- After a call everything is at rest, and the solver has the same declarations and limits. Each handle keeps its term.
 pub record RestsAfter (depth : ℕ) (old new : SolverCx Solver) (graph : SearchState) (cache : Cached) : Type 0 where
   pub rest : SolverRests depth new graph cache
   pub solving : SolvesTheSame old new
   pub keeps : Keeps (entries_of old) (entries_of new)
   pub limits : KeepsLimits old new
 
--- The references of a walk are the interner's.
+-- The trait references of a trace are the interner's.
 abbrev pub WalkHeld : List Entry → GoalWalk → Type 0
 WalkHeld es w = ReferencesHeld es w.references.items
 
--- So are steps.
+-- The steps are the interner's.
 abbrev pub AllStepsHeld : List Entry → List Step → Type 0
 AllStepsHeld es ss = Each (StepHeld es) ss
 
--- So are the walk of a proof and its steps.
+-- The trace of a proof and its steps are the interner's.
 pub record ProofWalkHeld (es : List Entry) (p : ProofWalk) : Type 0 where
   pub walked : WalkHeld es p.walk
   pub steps : AllStepsHeld es p.steps.items
 
--- So are those of a pair's walk.
+-- The trace of a pair, and the common instance, are the interner's.
 pub record PairWalkHeld (es : List Entry) (p : PairWalk) : Type 0 where
   pub common : ReferenceHeld es p.common
   pub walked : WalkHeld es p.walk
 
--- So are a header that two impls have in common, and the arguments of each.
+-- The common instance of two impls, and the arguments of each, are the interner's.
 pub record CommonHeld (es : List Entry) (x : CommonHeader) : Type 0 where
   pub reference : ReferenceHeld es x.reference
   pub left : Has es args_lists x.left.0

@@ -1,4 +1,5 @@
-//! Impls that are told apart from a goal by an equation: no values make their headers the goal.
+//! Impls that an equation rules out for a goal: no values make their headers equal to it. For `(u8, bool): Show`, the header of
+//! `impl<T> Show for (T, T)` is ruled out, though both begin with a tuple of two types.
 
 ghost use Rattle.std.specs.Prelude.{◌≡◌, true, [], IfOk, OnOk};
 ghost use Rattle.type_terms.specs.Erased.{erased_impl};
@@ -28,7 +29,7 @@ use term_folds::predicate::TraitRef;
 use type_terms::interner::Interner;
 use type_terms::{Fault, ImplId};
 
-/// Whether no values make the header of an impl a reference, which speaks of the table's unknowns. The table is as before.
+/// Whether no values make the header of an impl equal to a trait reference over the table's variables. The table is as before.
 fn is_apart(
     alloc: Global,
     cx: &mut Interner,
@@ -64,7 +65,7 @@ fn is_apart(
     }
 }
 
-/// The same of the impl with a number.
+/// The same for the impl with this number.
 fn impl_is_apart(
     alloc: Global,
     cx: &mut Interner,
@@ -90,7 +91,8 @@ fn impl_is_apart(
     }
 }
 
-/// Whether each impl that heads let through is told apart from a reference so: then no impl has a rule for it, whatever its unknowns stand for.
+/// Whether an equation rules out each impl that the heads do not. Then no impl has a rule for the trait reference, whatever its variables
+/// stand for.
 pub(crate) fn all_are_apart(
     alloc: Global,
     cx: &mut Interner,

@@ -28,13 +28,13 @@ use workspace::Workspace;
 pub enum BreakingCause {
     /// Its header breaks the crate's orphan rule.
     Orphan,
-    /// Its trait is fundamental or auto: users may rely on what it is not implemented for.
+    /// Its trait is fundamental or auto, so users may rely on it not being implemented.
     ReliedOn,
     /// Its open walk meets a parameter.
     OpenWalk,
 }
 
-/// Why a later version of the crate that asks may not add an impl with this header, which is read as it is declared; none where it may.
+/// Why a later version of the local crate may not add an impl with this header. `None` if it may. The header is read as it is declared.
 fn cause_of(cx: &Interner, declarations: &Declarations, header: TraitRef) -> Option<BreakingCause>
     requires { ReferenceHeld cx.now.entries header }
     ensures { let es = cx.now.entries in IsCauseOf (declared es declarations.now) declarations.now.local (erased_reference (reference_in es header)) result }
@@ -52,7 +52,7 @@ fn cause_of(cx: &Interner, declarations: &Declarations, header: TraitRef) -> Opt
     None
 }
 
-/// Why a later version of the crate that asks may not add the impl with a number, from 1; none where it may, or there is no such.
+/// Why a later version of the local crate may not add the impl with this number, counted from 1. `None` if it may, or if there is none.
 fn cause_at(
     cx: &Interner,
     declarations: &Declarations,
@@ -73,10 +73,10 @@ fn cause_at(
     }
 }
 
-/// Why a later version of the crate that asks may not add the impl of a section with a number, from 1; none where it may, or there is no
-/// such.
+/// Why a later version of the local crate may not add the impl of a section with this number, counted from 1. `None` if it may, or if there
+/// is none.
 ///
-/// All stays ready, after a fault too. The fault is a refusal of memory, or `Full`.
+/// Everything stays ready, after a fault too. Fails with `Memory` if memory is refused, or with `Full` if a table is full.
 pub(crate) fn breaking_cause(
     cx: &mut SolverCx<Solver>,
     workspace: &Workspace,

@@ -1,4 +1,4 @@
-//! What is claimed of walks: all that may be said of their goals and candidates as checked.
+//! What may be stated as checked about the goals and candidates of a trace.
 
 ghost use Rattle.std.specs.Prelude.{◌≡◌, [], false, IfOk, Some};
 ghost use Rattle.std.specs.List.{slice_get};
@@ -26,9 +26,9 @@ use std::alloc::Global;
 use term_folds::predicate::TraitRef;
 use type_terms::Fault;
 
-/// What is claimed of a walk, each of it checked. What is not claimed may be so too.
+/// What is claimed of a trace. Each claim is checked. What is not claimed may hold too.
 ///
-/// Goals are named by their places.
+/// Goals are named by their indices in the trace.
 pub struct Claims {
     /// The candidates that are rules, and those that may apply.
     pub candidates: CheckedCandidates,
@@ -36,17 +36,17 @@ pub struct Claims {
     pub refused: Vec<usize>,
     /// The goals that have a proof without where-clauses.
     pub held: Vec<usize>,
-    /// Which crates that are not seen may have an impl for a goal; none where all impls for it are known.
+    /// Which crates outside the view may have an impl for a goal. `None` if the goal is knowable.
     pub unseen: Vec<(usize, Option<Conflict>)>,
     /// Who may write an impl for a goal.
     pub adders: Vec<(usize, Adder)>,
-    /// Whether no impl has a rule for the goal at place 0.
+    /// Whether no impl has a rule for the goal at index 0.
     pub no_impl: bool,
-    /// Whether no built-in rule concludes the goal at place 0.
+    /// Whether no built-in rule concludes the goal at index 0.
     pub no_built_in_rule: bool,
 }
 
-// Written, so that what owns one drops it by one call at each way out, and not field by field.
+// Hand-written so that the prover sees one drop call: docs/PROVING.md#drop.
 impl Drop for Claims {
     fn drop(self) {
         let Claims {
@@ -61,7 +61,7 @@ impl Drop for Claims {
     }
 }
 
-/// That these candidates are rules or may apply, and nothing else.
+/// The claim that these candidates are rules or may apply, and no other.
 fn of_candidates(alloc: Global, candidates: CheckedCandidates) -> Claims
     ensures candidates { result.candidates ≡ candidates }
     ensures refused { result.refused.items ≡ [] }
@@ -82,7 +82,7 @@ fn of_candidates(alloc: Global, candidates: CheckedCandidates) -> Claims
     }
 }
 
-/// Nothing, of any walk.
+/// No claims. They hold for every trace.
 pub fn no_claims(alloc: Global) -> Claims
     ensures { (s : Subject) (w : GoalWalk) → ClaimsHold s w result }
 {
@@ -93,9 +93,9 @@ pub fn no_claims(alloc: Global) -> Claims
     of_candidates(alloc, candidates)
 }
 
-/// What is claimed of the walk of a `prove` question, or of a supertrait: which of its candidates are rules, and which may apply.
+/// The claims for the trace of a `prove` query, or of a supertrait: which of its candidates are rules, and which may apply.
 ///
-/// The fault is `Memory` where memory is refused, or `Full` where a table of the session is full.
+/// Fails with `Memory` if memory is refused, or with `Full` if a table of the session is full.
 pub fn question_claims(session: &mut Session<'_>, walk: &GoalWalk) -> Result<Claims, Fault>
     requires { WalkHeld session.old.terms walk.now }
     ensures claims { IfOk result (ClaimsHold session.new walk.now) }

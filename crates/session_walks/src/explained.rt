@@ -1,4 +1,5 @@
-//! What a session asked, walked.
+//! Traces of what a session answered: queries, supertraits, overlaps and sections. Each call leaves the session as it was, after a fault
+//! too.
 
 ghost use Rattle.std.specs.Prelude.{◌≡◌, true, IfOk, IfSome};
 ghost use Rattle.type_terms.specs.Kinds.{ArgsHeld};
@@ -25,10 +26,10 @@ use sessions::{Session, clauses_apply, impls_apply};
 use type_terms::kinds::GenericArgKind;
 use type_terms::{Fault, ImplId};
 
-/// Walks the goal of a `prove` question of the session's crate as it is asked first: why it was not proved, or is not settled.
-/// Questions count from 1.
+/// Traces the goal of a `prove` query of the session's crate as it is evaluated first. It explains why the query was not proved, or is not
+/// known. Queries count from 1.
 ///
-/// The fault is `Memory` where memory is refused, or `Full` where a table of the session is full.
+/// Fails with `Memory` if memory is refused, or with `Full` if a table of the session is full.
 pub fn explain_question(session: &mut Session<'_>, number: u32) -> Result<GoalWalk, Fault>
     requires { (q : Question) × AsksProof session.old.declarations session.old.of_crate number q }
     ensures held { IfOk result (WalkHeld session.new.terms) }
@@ -45,8 +46,8 @@ pub fn explain_question(session: &mut Session<'_>, number: u32) -> Result<GoalWa
     )
 }
 
-/// Walks the goal of a `prove` question of the session's crate with the values of its answer, and finds the steps of its proof. They are
-/// not checked.
+/// Traces the goal of a `prove` query of the session's crate with the values of its answer, and finds the steps of its proof. They are not
+/// checked.
 fn find_proof(session: &mut Session<'_>, number: u32) -> Result<ProofWalk, Fault>
     requires { (q : Question) × AsksProof session.old.declarations session.old.of_crate number q }
     ensures held { IfOk result (ProofWalkHeld session.new.terms) }
@@ -64,10 +65,13 @@ fn find_proof(session: &mut Session<'_>, number: u32) -> Result<ProofWalk, Fault
     )
 }
 
-/// Walks the goal of a `prove` question of the session's crate that was answered `Yes`, and has the proof that the walk finds checked, with
-/// the values of the answer. Questions count from 1.
+/// Traces the goal of a `prove` query of the session's crate that was answered `Yes`, and checks the proof that the trace finds, with the
+/// values of the answer. Queries count from 1.
 ///
-/// The fault is `Memory` where memory is refused, or `Full` where a table of the session is full.
+/// If the result says that the steps are checked, they are a proof of the query's trait reference with some values of its variables, under
+/// what they assume: a rule that is not checked, or a goal that is not displayed.
+///
+/// Fails with `Memory` if memory is refused, or with `Full` if a table of the session is full.
 pub fn explain_proof(
     session: &mut Session<'_>,
     number: u32,
@@ -86,9 +90,9 @@ pub fn explain_proof(
     Ok(found)
 }
 
-/// Walks the goal of a `refute` question of the session's crate in coherence. Questions count from 1.
+/// Traces the goal of a `refute` query of the session's crate in coherence. Queries count from 1.
 ///
-/// The fault is `Memory` where memory is refused, or `Full` where a table of the session is full.
+/// Fails with `Memory` if memory is refused, or with `Full` if a table of the session is full.
 pub fn explain_refutation(session: &mut Session<'_>, number: u32) -> Result<GoalWalk, Fault>
     requires { (q : Question) × AsksRefutation session.old.declarations session.old.of_crate number q }
     ensures held { IfOk result (WalkHeld session.new.terms) }
@@ -104,10 +108,10 @@ pub fn explain_refutation(session: &mut Session<'_>, number: u32) -> Result<Goal
     )
 }
 
-/// Walks a supertrait of the header of an impl of the session's crate, by its number from 1, as `check_supertraits` asks for it; none
-/// where there is no such.
+/// Traces a supertrait of the header of an impl of the session's crate, as `check_supertraits` evaluates it. Supertraits count from 1.
+/// `None` if there is no such impl or supertrait.
 ///
-/// The fault is `Memory` where memory is refused, or `Full` where a table of the session is full.
+/// Fails with `Memory` if memory is refused, or with `Full` if a table of the session is full.
 pub fn explain_supertrait(
     session: &mut Session<'_>,
     id: ImplId,
@@ -127,10 +131,10 @@ pub fn explain_supertrait(
     )
 }
 
-/// Walks the where-clauses of two impls where their headers are equal, as the session's crate compares them; none where it does not, or
-/// their headers have no common instance.
+/// Traces the where-clauses of two impls where their headers are equal, as the session's crate compares them. `None` if it does not compare
+/// them, or if their headers have no common instance.
 ///
-/// The fault is `Memory` where memory is refused, or `Full` where a table of the session is full.
+/// Fails with `Memory` if memory is refused, or with `Full` if a table of the session is full.
 pub fn explain_overlap(
     session: &mut Session<'_>,
     later: ImplId,
@@ -152,10 +156,10 @@ pub fn explain_overlap(
     )
 }
 
-/// Why a later version of the session's crate may not add the impl of a section with a number, from 1; none where it may, or there is no
-/// such. Sections count from 0.
+/// Why a later version of the session's crate may not add the impl of a section with this number, counted from 1. `None` if it may, or if
+/// there is none. Sections count from 0.
 ///
-/// The fault is `Memory` where memory is refused, or `Full` where a table of the session is full.
+/// Fails with `Memory` if memory is refused, or with `Full` if a table of the session is full.
 pub fn explain_breaking(
     session: &mut Session<'_>,
     section: u32,

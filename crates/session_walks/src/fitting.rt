@@ -1,4 +1,5 @@
-//! Which goals no impl and no built-in rule has.
+//! Goals that no impl fits, and goals that no built-in rule fits. If a crate sees only `impl Show for u8` and `impl<T> Show for V<T>`, no
+//! impl fits `bool: Show` and none fits `&?x: Show`.
 
 ghost use Rattle.std.specs.Prelude.{◌≡◌, true, List, IfOk, IfSome};
 ghost use Rattle.type_terms.specs.Terms.{Has, types, trees_at};
@@ -39,7 +40,7 @@ use type_terms::Fault;
 use type_terms::interner::Interner;
 use type_terms::kinds::{GenericArgKind, Ty, TyKind};
 
-/// The self type of a reference, if it has one.
+/// The self type of a trait reference, if it has one.
 fn self_type(cx: &Interner, reference: TraitRef) -> Option<Ty>
     requires { ReferenceHeld cx.now.entries reference }
     ensures held { IfSome result (λ ty. Has cx.now.entries types ty.0) }
@@ -54,7 +55,7 @@ fn self_type(cx: &Interner, reference: TraitRef) -> Option<Ty>
     }
 }
 
-/// Whether a type is no unknown.
+/// Whether a type is no variable.
 fn is_known(cx: &Interner, ty: Ty) -> bool
     requires { Has cx.now.entries types ty.0 }
     ensures { result ≡ begins_known (trees_at cx.now.entries ty.0) }
@@ -81,8 +82,8 @@ fn is_known(cx: &Interner, ty: Ty) -> bool
     }
 }
 
-/// Whether no impl has a rule for a reference, whatever its unknowns stand for: heads, and the first levels of the arguments, tell them apart,
-/// or equations of headers do.
+/// Whether no impl has a rule for a trait reference, whatever its variables stand for. Heads, the first levels of the arguments, and
+/// equations of headers can tell.
 fn has_no_impl(
     alloc: Global,
     cx: &mut Interner,
@@ -114,7 +115,7 @@ fn has_no_impl(
     all_are_apart(alloc, cx, declarations, &mut table, reference)
 }
 
-/// Whether no impl has a rule for the goal at a place of a walk.
+/// Whether no impl has a rule for the goal at this index of a trace.
 fn has_no_impl_at(cx: &mut SolverCx<Solver>, walk: &GoalWalk, place: usize) -> Result<bool, Fault>
     requires ready { SolverIsReady cx.old }
     requires walked { ReferencesHeld cx.old.interner.entries walk.now.references.items }
@@ -131,7 +132,7 @@ fn has_no_impl_at(cx: &mut SolverCx<Solver>, walk: &GoalWalk, place: usize) -> R
     told
 }
 
-/// Whether types of this head are no tuples, no `fn` pointers and no `dyn`.
+/// Whether types with this head are no tuples, no `fn` pointers and no `dyn`.
 fn is_bare(head: SimplifiedType) -> bool
     ensures { result ≡ is_bare (label_of head) }
 {
@@ -153,7 +154,8 @@ fn is_bare(head: SimplifiedType) -> bool
     }
 }
 
-/// Whether the trait and the head of the self type tell that no built-in row concludes a reference, whatever its unknowns stand for.
+/// Whether the trait and the head of the self type tell that no built-in rule concludes a trait reference, whatever its variables stand
+/// for.
 fn has_no_row(cx: &Interner, declarations: &Declarations, reference: TraitRef) -> bool
     requires { ReferenceHeld cx.now.entries reference }
     ensures { result ≡ true → (cs : List CrateDecl)
@@ -176,12 +178,13 @@ fn has_no_row(cx: &Interner, declarations: &Declarations, reference: TraitRef) -
     }
 }
 
-/// Whether no impl that the session's crate sees has a rule for the goal at a place of a walk, whatever types, lifetimes and constants its
-/// unknowns stand for.
+/// Whether no impl that the session's crate sees has a rule for the goal at this index of a trace, whatever types, lifetimes and constants
+/// its variables stand for.
 ///
-/// `false` says nothing: of a goal whose self type is unknown nothing is told, and of one with a parameter, or with an unknown whose number is
-/// 64 or more, only what heads tell. And the walk may have no such place. The fault is `Memory` where memory is refused, or `Full` where a
-/// table of the session is full.
+/// `false` says nothing. It is the answer if the self type is a variable, or if the trace has no such index. For a goal with a parameter,
+/// or with a variable whose number is 64 or more, only heads are compared.
+///
+/// Fails with `Memory` if memory is refused, or with `Full` if a table of the session is full.
 pub fn no_impl_fits(session: &mut Session<'_>, walk: &GoalWalk, place: usize) -> Result<bool, Fault>
     requires { WalkHeld session.old.terms walk.now }
     ensures none { IfOk result (λ b. b ≡ true
@@ -192,10 +195,11 @@ pub fn no_impl_fits(session: &mut Session<'_>, walk: &GoalWalk, place: usize) ->
     has_no_impl_at(&mut session.cx, walk, place)
 }
 
-/// Whether no built-in rule concludes the goal at a place of a walk, by what the session's crate sees and whatever its unknowns stand for.
+/// Whether no built-in rule concludes the goal at this index of a trace, by what the session's crate sees and whatever its variables stand
+/// for.
 ///
-/// `false` says nothing: it is told of types that are no tuples, no `fn` pointers and no `dyn`, and of other traits than `Unsize` and auto
-/// traits; of `Sized` only for `str` and slices. And the walk may have no such place.
+/// `false` says nothing. `true` comes only for types that are no tuples, no `fn` pointers and no `dyn`, and not for `Unsize` or auto
+/// traits. For `Sized` it comes only for `str` and slices. If the trace has no such index, the answer is `false`.
 pub fn no_built_in_rule_fits(session: &Session<'_>, walk: &GoalWalk, place: usize) -> bool
     requires { WalkHeld session.now.terms walk.now }
     ensures { result ≡ true

@@ -1,4 +1,4 @@
-//! Headers of impls, made equal.
+//! Headers of impls, equated.
 
 ghost use Rattle.std.specs.Prelude.{IfOk, IfSome};
 ghost use Rattle.type_terms.specs.Terms.{Has, args_lists};
@@ -15,7 +15,7 @@ use type_terms::Fault;
 use type_terms::interner::Interner;
 use type_terms::kinds::GenericArgs;
 
-/// What arguments over the table are where two headers are equal; none where they cannot be.
+/// The value of these arguments over the table where two headers are equal. `None` if they cannot be equal.
 pub(crate) fn args_where_equal(
     alloc: Global,
     cx: &mut Interner,

@@ -1,4 +1,5 @@
-//! Which goals of a walk have a proof that the checker lets through.
+//! The goals of a trace that have a proof which the checker accepts, without where-clauses. With `impl<T> Show for V<T> where T: Show` and
+//! `impl Show for u8`, `V<u8>: Show` is one, and `V<T>: Show` is none.
 
 ghost use Rattle.std.specs.Prelude.{◌≡◌, [], true, false, List, IfOk};
 ghost use Rattle.type_terms.specs.Terms.{Entry};
@@ -30,7 +31,7 @@ use solver_context::SolverCx;
 use term_folds::predicate::TraitRef;
 use type_terms::Fault;
 
-/// Whether a step by this way is taken for granted.
+/// Whether a step by this rule instance is assumed.
 fn is_assumed(way: Way) -> bool
     ensures { result ≡ false → (es : List Entry) (r : TraitRef) → assumed_by es r way ≡ [] }
 {
@@ -43,7 +44,7 @@ fn is_assumed(way: Way) -> bool
     }
 }
 
-/// Whether no step is taken for granted.
+/// Whether no step is assumed.
 fn assumes_nothing(steps: &[Step]) -> bool
     ensures { result ≡ true → (es : List Entry) → assumed_in es steps.now ≡ [] }
 {
@@ -57,7 +58,7 @@ fn assumes_nothing(steps: &[Step]) -> bool
     true
 }
 
-/// Whether steps are a proof of a reference by the declarations of a context, with nothing taken for granted.
+/// Whether steps are a proof of a trait reference by the declarations of a context, with nothing assumed.
 pub(crate) fn is_proved_by(
     cx: &mut SolverCx<Solver>,
     reference: TraitRef,
@@ -86,7 +87,7 @@ pub(crate) fn is_proved_by(
     found
 }
 
-/// Whether the steps of the goal at a place of a walk are such a proof.
+/// Whether the steps of the goal at this index of a trace are such a proof.
 fn holds_at(cx: &mut SolverCx<Solver>, walk: &GoalWalk, place: usize) -> Result<bool, Fault>
     requires ready { SolverIsReady cx.old }
     requires walked { ReferencesHeld cx.old.interner.entries walk.now.references.items }
@@ -104,7 +105,7 @@ fn holds_at(cx: &mut SolverCx<Solver>, walk: &GoalWalk, place: usize) -> Result<
     }
 }
 
-/// The same by what a session's crate sees, where the walk shows the goal as proved.
+/// The same by what a session's crate sees, if the trace has the goal as proved.
 fn is_held_at(session: &mut Session<'_>, walk: &GoalWalk, place: usize) -> Result<bool, Fault>
     requires { WalkHeld session.old.terms walk.now }
     ensures holds { IfOk result (λ b. b ≡ true

@@ -20,11 +20,11 @@ use term_folds::predicate::TraitRef;
 use type_terms::interner::Interner;
 use type_terms::{Fault, ImplId};
 
-/// How many unknowns of each sort a goal may have so that an impl's parameters are told apart from them. Where it has more, a parameter may be
-/// taken for one of them: then an impl that may apply may be missed, and one that is kept out is not told.
+/// How many variables of each kind a goal may have, so that an impl's parameters are not confused with them. If it has more, an impl that
+/// may apply can be missed, and one that is ruled out is not reported.
 const GOAL_UNKNOWNS: usize = 64;
 
-/// A table in which the numbers of a goal's unknowns are taken, without values.
+/// A table in which the numbers of a goal's variables are taken, without values.
 pub(crate) fn table_for_goals(alloc: Global, cx: &mut Interner) -> Result<InferCtxt, Fault>
     ensures ready { IfOk result (Ready cx.new.entries) }
     ensures no_values { IfOk result (λ table. table.values ≡ []) }
@@ -39,7 +39,7 @@ pub(crate) fn table_for_goals(alloc: Global, cx: &mut Interner) -> Result<InferC
     Ok(table)
 }
 
-/// A reference with the table's values in the place of its unknowns.
+/// A trait reference with the table's values for its variables.
 fn instance_in(cx: &mut Interner, table: &InferCtxt, reference: TraitRef) -> Result<TraitRef, Fault>
     requires ready { Ready cx.old.entries table.now }
     requires held { ReferenceHeld cx.old.entries reference }
@@ -55,7 +55,7 @@ fn instance_in(cx: &mut Interner, table: &InferCtxt, reference: TraitRef) -> Res
     })
 }
 
-/// Whether an instance of a reference follows by an impl, whatever that asks, where the table has the numbers of its unknowns.
+/// Whether an instance of a trait reference follows by an impl, whatever its where-clauses are. The table has the numbers of the variables.
 fn has_instance_by(
     alloc: Global,
     cx: &mut Interner,
@@ -83,9 +83,9 @@ fn has_instance_by(
     follows_by_impl(alloc, cx, declarations, instance, id, args, &[])
 }
 
-/// Whether an instance of a reference follows by an impl, whatever that asks.
+/// Whether an instance of a trait reference follows by an impl, whatever its where-clauses are.
 ///
-/// `false` says nothing, as where the impl needs lifetimes of a `for` to be one.
+/// `false` says nothing, for example if the impl needs two lifetimes of a `for` to be equal.
 pub(crate) fn may_follow(
     alloc: Global,
     cx: &mut Interner,

@@ -40,7 +40,7 @@ pub use explained::{
 pub use unseen::impl_header;
 pub use walks::{CheckedCandidates, PairWalk, ProofWalk, ShownStep};
 
-// What walks are made of, so that who reads one names no crate below.
+// What traces are made of, so that users of this crate need no other.
 pub use goal_walk::{Answer, GoalWalk};
 pub use orphan_check::errors::Conflict;
 pub use proof_checker::steps::{Step, Way};

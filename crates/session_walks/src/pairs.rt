@@ -1,4 +1,4 @@
-//! The where-clauses of two impls, walked where their headers are equal.
+//! The where-clauses of two impls, traced where their headers are equal.
 
 ghost use Rattle.std.specs.Prelude.{◌≡◌, true, IfOk, IfSome};
 ghost use Rattle.type_terms.specs.Growth.{Grew};
@@ -38,7 +38,7 @@ use type_terms::interner::Interner;
 use type_terms::kinds::GenericArgs;
 use type_terms::{Fault, ImplId};
 
-/// What the headers of two impls are where they are equal, and the arguments with which each is that.
+/// The common instance of the headers of two impls, and the arguments with which each is that.
 #[derive(Clone, Copy)]
 struct CommonHeader {
     reference: TraitRef,
@@ -46,7 +46,7 @@ struct CommonHeader {
     right: GenericArgs,
 }
 
-/// What the headers of two impls are where they are equal; none where they cannot be.
+/// The common instance of the headers of two impls. `None` if there is none.
 fn common_header(
     alloc: Global,
     cx: &mut Interner,
@@ -81,7 +81,7 @@ fn common_header(
     }))
 }
 
-/// Whether each of two impls concludes what their headers are, whatever it asks.
+/// Whether each of two impls concludes the common instance, whatever its where-clauses are.
 fn both_conclude(
     alloc: Global,
     cx: &mut Interner,
@@ -113,8 +113,8 @@ fn both_conclude(
     )
 }
 
-/// What the headers of the impls of two numbers are where they are equal, where the crate that asks has to compare them; and whether it
-/// was checked that each concludes that.
+/// The common instance of the headers of the impls with these numbers, if the local crate has to compare them, and whether it was checked
+/// that each impl concludes it.
 fn checked_common(
     alloc: Global,
     cx: &mut Interner,
@@ -158,7 +158,7 @@ fn common_header_at(
     common
 }
 
-/// Walks a where-clause in coherence, alone over the table, and answers its place.
+/// Traces a where-clause in coherence, alone over the table, and returns its index.
 fn walk_clause(
     graph: &mut SearchGraph<SolverGraph<Solver>>,
     cache: &mut GlobalCache<SolverGraph<Solver>>,
@@ -189,7 +189,7 @@ fn walk_clause(
     )
 }
 
-/// Walks where-clauses in coherence, each alone over the table, and answers their places.
+/// Traces where-clauses in coherence, each alone over the table, and returns their indices.
 fn walk_clauses(
     graph: &mut SearchGraph<SolverGraph<Solver>>,
     cache: &mut GlobalCache<SolverGraph<Solver>>,
@@ -217,7 +217,7 @@ fn walk_clauses(
     Ok(places)
 }
 
-/// Walks the where-clauses of two impls over the table in which their headers are equal.
+/// Traces the where-clauses of two impls over the table in which their headers are equal.
 fn walk_intersection(
     graph: &mut SearchGraph<SolverGraph<Solver>>,
     cache: &mut GlobalCache<SolverGraph<Solver>>,
@@ -248,10 +248,10 @@ fn walk_intersection(
     })
 }
 
-/// Walks the where-clauses of two impls where their headers are equal, as the crate that asks compares them; none where it does not, or
+/// Traces the where-clauses of two impls where their headers are equal, as the local crate compares them. `None` if it does not, or if
 /// their headers have no common instance.
 ///
-/// All stays at rest, after a fault too. The fault is a refusal of memory, or `Full`.
+/// Everything stays at rest, after a fault too. Fails with `Memory` if memory is refused, or with `Full` if a table is full.
 pub(crate) fn walk_pair(
     graph: &mut SearchGraph<SolverGraph<Solver>>,
     cache: &mut GlobalCache<SolverGraph<Solver>>,

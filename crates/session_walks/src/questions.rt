@@ -1,4 +1,4 @@
-//! The goals of questions, walked as a session asks them.
+//! The goals of queries, traced as a session evaluates them.
 
 ghost use Rattle.std.specs.Prelude.{◌≡◌, IfOk};
 ghost use Rattle.text_definitions.specs.Declarations.{Question};
@@ -26,7 +26,7 @@ use type_terms::Fault;
 use view_lowering::LoweredQuestion;
 use workspace::Workspace;
 
-/// The goal of a question whose terms are the context's, under its where-clauses with all their supertraits, and a table for its unknowns.
+/// The goal of a query of the context's terms, under its where-clauses with all their supertraits, and a table for its variables.
 fn pose(cx: &mut SolverCx<Solver>, lowered: &LoweredQuestion) -> Result<(Goal, InferCtxt), Fault>
     requires ready { SolverIsReady cx.old }
     requires lowered { (q : Question) × IsLowered cx.old.interner.entries q lowered.now }
@@ -40,9 +40,9 @@ fn pose(cx: &mut SolverCx<Solver>, lowered: &LoweredQuestion) -> Result<(Goal, I
     Ok((goal, table))
 }
 
-/// Walks the goal of a `prove` question as it is asked first, no deeper than this.
+/// Traces the goal of a `prove` query as it is evaluated first, at most this deep.
 ///
-/// All stays at rest, after a fault too. The fault is a refusal of memory, or `Full`.
+/// Everything stays at rest, after a fault too. Fails with `Memory` if memory is refused, or with `Full` if a table is full.
 pub(crate) fn walk_question(
     graph: &mut SearchGraph<SolverGraph<Solver>>,
     cache: &mut GlobalCache<SolverGraph<Solver>>,
@@ -70,9 +70,9 @@ pub(crate) fn walk_question(
     )
 }
 
-/// Walks the goal of a `prove` question that was proved, no deeper than this, and finds the steps of its proof. They are not checked.
+/// Traces the goal of a `prove` query that was proved, at most this deep, and finds the steps of its proof. They are not checked.
 ///
-/// All stays at rest, after a fault too. The fault is a refusal of memory, or `Full`.
+/// Everything stays at rest, after a fault too. Fails with `Memory` if memory is refused, or with `Full` if a table is full.
 pub(crate) fn walk_proof(
     graph: &mut SearchGraph<SolverGraph<Solver>>,
     cache: &mut GlobalCache<SolverGraph<Solver>>,
@@ -94,9 +94,9 @@ pub(crate) fn walk_proof(
     with_steps(cx, &mut table, &lowered.clauses, walk)
 }
 
-/// Walks the goal of a `refute` question in coherence, no deeper than this.
+/// Traces the goal of a `refute` query in coherence, at most this deep.
 ///
-/// All stays at rest, after a fault too. The fault is a refusal of memory, or `Full`.
+/// Everything stays at rest, after a fault too. Fails with `Memory` if memory is refused, or with `Full` if a table is full.
 pub(crate) fn walk_refutation(
     graph: &mut SearchGraph<SolverGraph<Solver>>,
     cache: &mut GlobalCache<SolverGraph<Solver>>,

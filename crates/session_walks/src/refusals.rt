@@ -1,4 +1,4 @@
-//! Which goals have no proof wherever the session's crate is linked.
+//! The goals that have no proof in any linked set with the session's crate.
 
 ghost use Rattle.std.specs.Prelude.{◌≡◌, ℕ, true, [], IfOk};
 ghost use Rattle.declarations.specs.Held.{ReferenceHeld};
@@ -25,7 +25,7 @@ use solver_context::{SolverCx, SolverGraph};
 use term_folds::predicate::TraitRef;
 use type_terms::Fault;
 
-/// A table in which the numbers of a goal's unknowns are taken, over the interner of a context.
+/// A table in which the numbers of a goal's variables are taken, over the interner of a context.
 pub(crate) fn goal_table_in(cx: &mut SolverCx<Solver>) -> Result<InferCtxt, Fault>
     requires { SolverIsReady cx.old }
     ensures advances { SolverAdvances cx.old cx.new }
@@ -37,10 +37,10 @@ pub(crate) fn goal_table_in(cx: &mut SolverCx<Solver>) -> Result<InferCtxt, Faul
     table
 }
 
-/// Whether a reference is refused in coherence, asked alone. Of one with other open places than unknowns, or with too many of these, that is
-/// not asked.
+/// Whether a trait reference is refused in coherence, evaluated alone. It is not evaluated if it has parameters or placeholders, or too
+/// many variables.
 ///
-/// All stays at rest, after a fault too. The fault is a refusal of memory, or `Full`.
+/// Everything stays at rest, after a fault too. Fails with `Memory` if memory is refused, or with `Full` if a table is full.
 fn is_refused(
     graph: &mut SearchGraph<SolverGraph<Solver>>,
     cache: &mut GlobalCache<SolverGraph<Solver>>,
@@ -60,7 +60,7 @@ fn is_refused(
     is_impossible(graph, cache, cx, &mut table, reference)
 }
 
-/// The same of the goal at a place of a walk, where that shows it as refused.
+/// The same for the goal at this index of a trace, if the trace has it as refused.
 fn is_refused_at(session: &mut Session<'_>, walk: &GoalWalk, place: usize) -> Result<bool, Fault>
     requires { WalkHeld session.old.terms walk.now }
     ensures refused { IfOk result (λ b. b ≡ true
@@ -82,11 +82,11 @@ fn is_refused_at(session: &mut Session<'_>, walk: &GoalWalk, place: usize) -> Re
     )
 }
 
-/// Which goals of a walk are refused as a `refute` question is that is answered `No`, by their places: they have no proof in any linked set
-/// with the session's crate, whatever types and constants their unknowns stand for.
+/// The indices of goals of a trace that are refused like a `refute` query with the answer `No`: they have no proof in any linked set with
+/// the session's crate, whatever types and constants their variables stand for.
 ///
-/// Of those that the walk shows as refused each is asked once more in coherence, without where-clauses. One that is not named may be refused
-/// too: as where it has a parameter, or more unknowns than are looked at. The fault is `Memory` where memory is refused, or `Full` where a
+/// Each goal that the trace has as refused is evaluated once more in coherence, without where-clauses. A goal that is not named may be
+/// refused too, for example if it has a parameter or too many variables. Fails with `Memory` if memory is refused, or with `Full` if a
 /// table of the session is full.
 pub fn refused_goals(session: &mut Session<'_>, walk: &GoalWalk) -> Result<Vec<usize>, Fault>
     requires { WalkHeld session.old.terms walk.now }

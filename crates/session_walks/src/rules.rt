@@ -1,5 +1,8 @@
-//! Which candidates of a walk are rules: their goals follow by their impls, or by built-in rules, from the goals that they ask. And which may
-//! apply: instances of their goals do.
+//! The candidates of a trace that are rules: their goals follow from their nested goals, by their impls or by built-in rules. And those
+//! that may apply: instances of their goals follow.
+//!
+//! With `impl<T> Show for V<T> where T: Show`, the candidate of `V<u8>: Show` with the nested goal `u8: Show` is a rule. The candidate of
+//! `V<?x>: Show` by `impl Show for V<u8>` may apply.
 
 ghost use Rattle.std.specs.Prelude.{◌≡◌, true, List, [], ◌∷◌, ◌++◌, if◌then◌else◌, Some, IfOk, IfSome, OnOk};
 ghost use Rattle.std.specs.List.{AllZip, slice_get};
@@ -39,7 +42,7 @@ use term_folds::predicate::TraitRef;
 use type_terms::interner::Interner;
 use type_terms::{Fault, ImplId};
 
-/// The references at these places; none where one of them has no reference.
+/// The trait references at these indices. `None` if there is none at one of them.
 fn references_at(
     alloc: Global,
     references: &[TraitRef],
@@ -57,7 +60,7 @@ fn references_at(
     Ok(Some(found))
 }
 
-/// Whether a reference follows by an impl, from premises of which the first are these.
+/// Whether a trait reference follows by an impl from premises that begin with these.
 fn follows_by(
     alloc: Global,
     cx: &mut Interner,
@@ -87,7 +90,7 @@ fn follows_by(
     follows_by_impl(alloc, cx, declarations, reference, id, args, premises)
 }
 
-/// Whether a reference follows by what a candidate comes from, an impl or a built-in rule, from premises of which the first are these.
+/// Whether a trait reference follows by the source of a candidate, an impl or a built-in rule, from premises that begin with these.
 fn concludes(
     alloc: Global,
     cx: &mut Interner,
@@ -118,7 +121,7 @@ fn concludes(
     }
 }
 
-/// Whether the goal at a place follows by what a candidate comes from, from the goals that it asks, and maybe further ones.
+/// Whether the goal at this index follows by the source of a candidate from its nested goals, and maybe further ones.
 fn is_rule(
     alloc: Global,
     cx: &mut Interner,
@@ -153,7 +156,7 @@ fn is_rule(
     )
 }
 
-/// The same of the candidate with a number, of the goal at a place.
+/// The same for the candidate with this number, of the goal at this index.
 fn is_rule_at(
     alloc: Global,
     cx: &mut Interner,
@@ -178,7 +181,8 @@ fn is_rule_at(
     is_rule(alloc, cx, declarations, table, walk, at.0, candidate)
 }
 
-/// Whether the candidate with a number, of the goal at a place, may apply: it is by an impl, and an instance of the goal follows by that.
+/// Whether the candidate with this number, of the goal at this index, may apply: it is by an impl, and an instance of the goal follows by
+/// it.
 fn may_apply_at(
     alloc: Global,
     cx: &mut Interner,
@@ -208,7 +212,7 @@ fn may_apply_at(
     }
 }
 
-/// The candidates of a walk, by the places of their goals and their numbers there.
+/// The candidates of a trace, by the indices of their goals and their numbers there.
 fn candidates_of(alloc: Global, walk: &GoalWalk) -> Result<Vec<(usize, usize)>, AllocError> {
     let mut found = Vec::new(alloc);
     for (place, node) in walk.nodes.iter().enumerate() {
@@ -219,7 +223,7 @@ fn candidates_of(alloc: Global, walk: &GoalWalk) -> Result<Vec<(usize, usize)>, 
     Ok(found)
 }
 
-/// Those of these candidates that are rules, and of the others those that may apply.
+/// Those of these candidates that are rules, and those of the others that may apply.
 fn checked_among(
     alloc: Global,
     cx: &mut Interner,
@@ -246,7 +250,7 @@ fn checked_among(
     Ok(CheckedCandidates { rules, chances })
 }
 
-/// The same over the interner of a context, of all candidates of a walk.
+/// The same over the interner of a context, for all candidates of a trace.
 fn checked_in(cx: &mut SolverCx<Solver>, walk: &GoalWalk) -> Result<CheckedCandidates, Fault>
     requires ready { SolverIsReady cx.old }
     requires walked { ReferencesHeld cx.old.interner.entries walk.now.references.items }
@@ -268,14 +272,14 @@ fn checked_in(cx: &mut SolverCx<Solver>, walk: &GoalWalk) -> Result<CheckedCandi
     checked
 }
 
-/// Which candidates of a walk are rules by what the session's crate sees, and which may apply.
+/// Which candidates of a trace are rules by what the session's crate sees, and which may apply.
 ///
-/// Of a rule the goal follows by the candidate's impl, or by a built-in rule, from the goals that it asks, and maybe further ones behind them. A
-/// candidate by an impl may apply where an instance of its goal follows by that impl, whatever it asks: the goal with some types, lifetimes
-/// and constants in the place of its unknowns.
+/// - A rule: the goal follows by the candidate's impl, or by a built-in rule, from its nested goals, and maybe further ones after them.
+/// - A candidate by an impl may apply: an instance of its goal follows by that impl, whatever its where-clauses are. An instance is the
+///   goal with some types, lifetimes and constants for its variables.
 ///
-/// One that is not named may be a rule too, as where its goal has unknowns for which the impl needs values, or the built-in rule is not
-/// checked. The fault is `Memory` where memory is refused, or `Full` where a table of the session is full.
+/// A candidate that is not named may be a rule too, for example if the impl needs values for variables of its goal, or if the built-in rule
+/// is not checked. Fails with `Memory` if memory is refused, or with `Full` if a table of the session is full.
 pub fn checked_candidates(
     session: &mut Session<'_>,
     walk: &GoalWalk,

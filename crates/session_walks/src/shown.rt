@@ -1,32 +1,32 @@
-//! The goals of a proof, each behind those that it asks.
+//! The goals of a proof, each after its nested goals.
 
 use crate::walks::ShownStep;
 use goal_walk::{GoalWalk, Standing};
 use std::alloc::{AllocError, Global};
 
-/// How often a goal is entered or left at most: more often than a walk has goals.
+/// How often a goal is entered or left at most. It is more often than a trace has goals.
 const VISIT_LIMIT: usize = 4096;
 
-/// What is to be done with the goal at a place.
+/// What is to be done with the goal at an index.
 #[derive(Clone, Copy)]
 enum Visit {
-    /// The goals that it asks are visited before it.
+    /// Visit its nested goals before it.
     Enter(usize),
-    /// They were.
+    /// Its nested goals were visited.
     Leave(usize),
 }
 
 /// A visit of the goals of a proof.
 struct ProofOrder {
-    /// The places that were entered.
+    /// The indices of goals that were entered.
     entered: Vec<usize>,
     /// What is left to do, the next at the end.
     visits: Vec<Visit>,
-    /// The places that were left, in order.
+    /// The indices of goals that were left, in order.
     places: Vec<usize>,
 }
 
-// Written, so that what owns one drops it by one call at each way out, and not field by field.
+// Hand-written so that the prover sees one drop call: docs/PROVING.md#drop.
 impl Drop for ProofOrder {
     fn drop(self) {
         let ProofOrder {
@@ -37,7 +37,7 @@ impl Drop for ProofOrder {
     }
 }
 
-/// The place at which the candidates of the goal at a place stand.
+/// The index that has the candidates of the goal at this index.
 fn opened_at(walk: &GoalWalk, place: usize) -> usize {
     match walk.node(place) {
         Some(node) => match node.standing {
@@ -51,7 +51,7 @@ fn opened_at(walk: &GoalWalk, place: usize) -> usize {
     }
 }
 
-/// The places of the goals that the first candidate of the goal at a place asks.
+/// The indices of the nested goals of the first candidate of the goal at this index.
 fn premises_at(walk: &GoalWalk, place: usize) -> &[usize] {
     match walk.node(place) {
         Some(node) => match node.candidates.first() {
@@ -62,7 +62,7 @@ fn premises_at(walk: &GoalWalk, place: usize) -> &[usize] {
     }
 }
 
-/// The first number at which a place stands; the number of all places where it does not.
+/// The first position of an index in the list. If it is not there, the length of the list.
 fn number_of(places: &[usize], place: usize) -> usize {
     for (number, other) in places.iter().enumerate() {
         if *other == place {
@@ -73,7 +73,7 @@ fn number_of(places: &[usize], place: usize) -> usize {
 }
 
 impl ProofOrder {
-    /// Enters the goal at a place, if it was not entered before.
+    /// Enters the goal at this index, if it was not entered before.
     fn enter(&mut self, walk: &GoalWalk, place: usize) -> Result<(), AllocError> {
         let place = opened_at(walk, place);
         if number_of(&self.entered, place) < self.entered.len() {
@@ -87,7 +87,7 @@ impl ProofOrder {
         Ok(())
     }
 
-    /// Does what is next; whether there was something.
+    /// Does what is next. Returns whether there was something.
     fn visit(&mut self, walk: &GoalWalk) -> Result<bool, AllocError> {
         match self.visits.pop() {
             None => Ok(false),
@@ -103,7 +103,8 @@ impl ProofOrder {
     }
 }
 
-/// The places of the goals that a proof of the goal at a place needs, each behind those that it asks but for cycles; that goal is the last.
+/// The indices of the goals that a proof of the goal at this index needs. Each comes after its nested goals, except for cycles. The goal
+/// itself is the last.
 fn places_of(alloc: Global, walk: &GoalWalk, place: usize) -> Result<ProofOrder, AllocError> {
     let mut order = ProofOrder {
         entered: Vec::new(alloc),
@@ -119,7 +120,7 @@ fn places_of(alloc: Global, walk: &GoalWalk, place: usize) -> Result<ProofOrder,
     Ok(order)
 }
 
-/// How the goal at a place is shown, where those of the proof stand so.
+/// How the goal at this index is displayed, if those of the proof have these indices.
 fn shown_at(
     alloc: Global,
     walk: &GoalWalk,
@@ -133,7 +134,7 @@ fn shown_at(
     Ok(ShownStep { place, premises })
 }
 
-/// The proof of the goal at a place, as it is shown; nothing where the walk has none.
+/// The proof of the goal at this index, as it is displayed. It is empty if the trace has none.
 pub(crate) fn shown_steps(
     alloc: Global,
     walk: &GoalWalk,

@@ -1,4 +1,4 @@
-//! The steps of a proof that a walk found.
+//! The steps of a proof that a trace found. How they are found needs no proof, because the checker accepts or refuses them.
 
 ghost use Rattle.std.specs.Prelude.{IfOk, IfSome};
 ghost use Rattle.type_terms.specs.Terms.{Has, args_lists};
@@ -38,7 +38,7 @@ use type_terms::interner::Interner;
 use type_terms::kinds::GenericArgs;
 use type_terms::{Fault, ImplId};
 
-/// Arguments with which the header of an impl is the reference; none where there are none.
+/// The arguments with which the header of an impl is the trait reference. `None` if there are none.
 pub(crate) fn impl_args(
     alloc: Global,
     cx: &mut Interner,
@@ -62,7 +62,7 @@ pub(crate) fn impl_args(
     args_where_equal(alloc, cx, table, header, asked, header.impl_args)
 }
 
-/// The way by an impl, where its header can be the reference.
+/// The rule instance by an impl, if its header can be the trait reference.
 fn impl_way(
     alloc: Global,
     cx: &mut Interner,
@@ -88,7 +88,7 @@ fn impl_way(
     }
 }
 
-/// The first where-clause that is the reference, by its place.
+/// The index of the first where-clause that is the trait reference.
 fn clause_place(
     alloc: Global,
     cx: &mut Interner,
@@ -107,7 +107,7 @@ fn clause_place(
     Ok(None)
 }
 
-/// The first where-clause of which the reference is a supertrait, by its place.
+/// The index of the first where-clause that has the trait reference as a supertrait.
 fn supertrait_place(
     alloc: Global,
     cx: &mut Interner,
@@ -129,7 +129,7 @@ fn supertrait_place(
     Ok(None)
 }
 
-/// The way by a where-clause, where the reference is one, or a supertrait of one.
+/// The rule instance by a where-clause, if the trait reference is one, or a supertrait of one.
 fn clause_way(
     alloc: Global,
     cx: &mut Interner,
@@ -153,7 +153,7 @@ fn clause_way(
     }
 }
 
-/// The way by a built-in rule, where one that is checked concludes the reference.
+/// The rule instance by a built-in rule, if one that is checked concludes the trait reference.
 fn row_way(
     alloc: Global,
     cx: &mut Interner,
@@ -171,7 +171,8 @@ fn row_way(
     }
 }
 
-/// By what a candidate concludes a reference; what no rule of the checker concludes is taken for granted, as is what has no candidate.
+/// The rule instance by which a candidate concludes a trait reference. If the checker has no rule for it, or if there is no candidate, it
+/// is assumed.
 fn way_by(
     alloc: Global,
     cx: &mut Interner,
@@ -202,7 +203,7 @@ fn way_by(
     }
 }
 
-/// Where the first candidate of the goal at a place comes from; none where its proof is not shown.
+/// The source of the first candidate of the goal at this index. `None` if its proof is not displayed.
 fn source_at(walk: &GoalWalk, place: usize) -> Option<CandidateSource> {
     match walk.node(place) {
         Some(node) => match node.candidates.first() {
@@ -213,7 +214,7 @@ fn source_at(walk: &GoalWalk, place: usize) -> Option<CandidateSource> {
     }
 }
 
-/// The premises of a step by a way: the checker asks those of impls and of built-in rules alone.
+/// The premises of a step by a rule instance. The checker has premises for impls and built-in rules alone.
 fn premises_by(alloc: Global, way: Way, shown: &ShownStep) -> Result<Vec<usize>, AllocError>
     ensures { IfOk result (λ ps. AreShownPremises way ps.items shown.now.premises.items) }
 {
@@ -226,7 +227,7 @@ fn premises_by(alloc: Global, way: Way, shown: &ShownStep) -> Result<Vec<usize>,
     }
 }
 
-/// The step that is shown so; none where the walk has no such place.
+/// The step that is displayed like this. `None` if the trace has no such index.
 fn step_of(
     alloc: Global,
     cx: &mut Interner,
@@ -258,7 +259,7 @@ fn step_of(
     }))
 }
 
-/// The steps that are shown so, in order; none where the walk has not all places.
+/// The steps that are displayed like this, in order. `None` if the trace lacks one of the indices.
 fn steps_of(
     alloc: Global,
     cx: &mut Interner,
@@ -316,7 +317,7 @@ pub(crate) fn steps_in(
     steps
 }
 
-/// A walk with the steps of the proof that it found. They are not checked.
+/// A trace with the steps of the proof that it found. They are not checked.
 pub(crate) fn with_steps(
     cx: &mut SolverCx<Solver>,
     table: &mut InferCtxt,

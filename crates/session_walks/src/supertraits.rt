@@ -1,4 +1,4 @@
-//! A supertrait of an impl's header, walked as a session asks for it.
+//! A supertrait of an impl's header, traced as a session evaluates it.
 
 ghost use Rattle.std.specs.Prelude.{◌≡◌, IfOk, IfSome};
 ghost use Rattle.declarations.specs.Applied.{TraitRefsHeld};
@@ -20,7 +20,7 @@ use solver_context::{SolverCx, SolverGraph};
 use term_folds::predicate::TraitRef;
 use type_terms::{Fault, ImplId};
 
-/// Walks the goal that asks for a reference without unknowns outside coherence, under just these where-clauses.
+/// Traces the goal for a trait reference without variables outside coherence, under just these where-clauses.
 fn walk_under(
     graph: &mut SearchGraph<SolverGraph<Solver>>,
     cache: &mut GlobalCache<SolverGraph<Solver>>,
@@ -48,7 +48,7 @@ fn walk_under(
     )
 }
 
-/// Walks a supertrait, by its number from 1; none where there are fewer.
+/// Traces a supertrait, by its number from 1. `None` if there are fewer.
 fn walk_numbered(
     graph: &mut SearchGraph<SolverGraph<Solver>>,
     cache: &mut GlobalCache<SolverGraph<Solver>>,
@@ -73,9 +73,9 @@ fn walk_numbered(
     Ok(Some(walk))
 }
 
-/// Walks a supertrait of the header of an impl of the crate that asks, by its number from 1; none where there is no such.
+/// Traces a supertrait of the header of an impl of the local crate, by its number from 1. `None` if there is no such impl or supertrait.
 ///
-/// All stays at rest, after a fault too. The fault is a refusal of memory, or `Full`.
+/// Everything stays at rest, after a fault too. Fails with `Memory` if memory is refused, or with `Full` if a table is full.
 pub(crate) fn walk_supertrait(
     graph: &mut SearchGraph<SolverGraph<Solver>>,
     cache: &mut GlobalCache<SolverGraph<Solver>>,

@@ -1,4 +1,4 @@
-//! Whether terms speak of a table's own unknowns alone.
+//! Whether terms hold a table's own variables alone.
 
 ghost use Rattle.std.specs.Prelude.{◌≡◌};
 ghost use Rattle.type_terms.specs.Terms.{Has, args_lists, trees_at};
@@ -22,7 +22,8 @@ fn break_if(found: bool) -> Seen<()>
     if found { Seen::Break(()) } else { Seen::Enter }
 }
 
-/// Breaks at an open place that is none of so many unknowns of each sort; of lifetimes, at unknowns and canonical variables alone.
+/// Breaks at a parameter, placeholder or variable that is none of this many variables of each kind. Of lifetimes it breaks at variables and
+/// canonical variables alone.
 #[derive(Clone, Copy)]
 struct FindsOther {
     ty_vars: u32,
@@ -86,8 +87,8 @@ impl TypeVisitor for FindsOther {
     }
 }
 
-/// Whether the arguments speak of the table's own unknowns alone: nothing else is open in them, but for lifetimes that something binds or
-/// declares. A type that stands in many places is entered once.
+/// Whether the arguments hold the table's own variables alone, and no parameter or placeholder, except for lifetimes that something binds
+/// or declares. A type that occurs more than once is entered once.
 pub(crate) fn is_of_table(cx: &Interner, table: &InferCtxt, args: GenericArgs) -> bool
     requires { Has cx.now.entries args_lists args.0 }
     ensures { result ≡ speaks_of_known (variables_of table.now) (trees_at cx.now.entries args.0) }

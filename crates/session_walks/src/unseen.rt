@@ -1,4 +1,7 @@
-//! What a session's crate sees, and who else may have impls.
+//! Which crates outside the view of a session's crate may have impls. The reasons are those of rustc's `Conflict`.
+//!
+//! - Downstream: for `&?x: Local`, a crate that uses this one may have `impl Local for &Theirs`.
+//! - Upstream: for `Vec<u8>: Foreign`, a later version of the crate of `Foreign` may add the impl.
 
 ghost use Rattle.std.specs.Prelude.{◌≡◌, IfOk, IfSome};
 ghost use Rattle.declarations.specs.Held.{ReferenceHeld};
@@ -20,7 +23,7 @@ use term_folds::predicate::TraitRef;
 use type_terms::interner::Interner;
 use type_terms::{Fault, ImplId};
 
-/// Which crates that are not seen may have an impl for a reference, if any may. The error is `Memory`.
+/// Which crates outside the view may have an impl for a trait reference, if any may. Fails only with `Memory`.
 fn conflict_of(
     alloc: Global,
     cx: &Interner,
@@ -30,7 +33,7 @@ fn conflict_of(
     requires { ReferenceHeld cx.now.entries reference }
     ensures { IfOk result (IsUnseen (declared cx.now.entries declarations.now) declarations.now.local (reference_in cx.now.entries reference)) }
 {
-    // No unknown has a value, nothing has to be normalized, and no walk goes deeper than the arguments are.
+    // No variable has a value, nothing has to be normalized, and no walk goes deeper than the arguments are.
     let table = InferCtxt::new(alloc);
     let limit = cx.depth(reference.args);
     match trait_ref_is_knowable(
@@ -50,8 +53,9 @@ fn conflict_of(
     }
 }
 
-/// Which crates that the session's crate does not see may have an impl for a reference, if any may: a later version of the crate of its
-/// trait or of a type, or one that uses the session's crate. Unknowns stand for any terms. The error is `Memory`.
+/// Which crates that the session's crate does not see may have an impl for a trait reference: a later version of the crate of its trait or
+/// of a type, or a crate that uses the session's crate. `None` if the trait reference is knowable. Variables stand for any terms. Fails
+/// only with `Memory`.
 pub fn unseen_crates(session: &Session<'_>, reference: TraitRef) -> Result<Option<Conflict>, Fault>
     requires { ReferenceHeld session.now.terms reference }
     ensures { IfOk result (IsUnseen (view_in session.now.declarations session.now.of_crate) session.now.of_crate (reference_in session.now.terms reference)) }
@@ -64,7 +68,7 @@ pub fn unseen_crates(session: &Session<'_>, reference: TraitRef) -> Result<Optio
     )
 }
 
-/// The same of the reference at a place of a walk; none where the walk has no such place.
+/// The same for the trait reference at this index of a trace. `None` if the trace has no such index.
 pub fn unseen_at(
     session: &Session<'_>,
     walk: &GoalWalk,
@@ -78,7 +82,7 @@ pub fn unseen_at(
     }
 }
 
-/// The header of an impl that the session's crate sees, over the impl's own parameters; none of one that it does not see.
+/// The header of an impl, over the impl's own parameters. `None` if the session's crate does not see the impl.
 pub fn impl_header(session: &Session<'_>, id: ImplId) -> Option<TraitRef>
     ensures { IfSome result (ReferenceHeld session.now.terms) }
 {

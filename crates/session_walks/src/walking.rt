@@ -1,4 +1,4 @@
-//! Goals of the solver, walked from nothing.
+//! Traces of the solver's goals that begin without any goal.
 
 ghost use Rattle.std.specs.Prelude.{◌≡◌, [], IfOk};
 ghost use Rattle.declarations.specs.Applied.{TraitRefsHeld, AreApplied};
@@ -21,7 +21,7 @@ use std::alloc::Global;
 use term_folds::predicate::{TraitPredicate, TraitRef};
 use type_terms::Fault;
 
-/// The goal that asks for a reference under where-clauses with all their supertraits.
+/// The goal for a trait reference under where-clauses with all their supertraits.
 pub(crate) fn elaborated_goal(
     cx: &mut SolverCx<Solver>,
     clauses: &[TraitRef],
@@ -39,7 +39,7 @@ pub(crate) fn elaborated_goal(
     Ok(goal)
 }
 
-/// The goal that asks for a reference without where-clauses.
+/// The goal for a trait reference without where-clauses.
 pub(crate) fn bare_goal(alloc: Global, asked: TraitRef) -> Goal
     ensures clauses { result.param_env.items ≡ [] }
     ensures asked { result.predicate.trait_ref ≡ asked }
@@ -50,9 +50,9 @@ pub(crate) fn bare_goal(alloc: Global, asked: TraitRef) -> Goal
     }
 }
 
-/// Walks a goal over a table, no deeper than this.
+/// Traces a goal over a table, at most this deep.
 ///
-/// All stays at rest, after a fault too. The fault is a refusal of memory, or `Full`.
+/// Everything stays at rest, after a fault too. Fails with `Memory` if memory is refused, or with `Full` if a table is full.
 pub(crate) fn walk_alone(
     graph: &mut SearchGraph<SolverGraph<Solver>>,
     cache: &mut GlobalCache<SolverGraph<Solver>>,
@@ -74,9 +74,9 @@ pub(crate) fn walk_alone(
     Ok(walk)
 }
 
-/// Walks a goal over a table, with the values that the search gives its unknowns put in before.
+/// Traces a goal over a table, after the values that the search gives its variables are put in.
 ///
-/// All stays at rest, after a fault too. The fault is a refusal of memory, or `Full`.
+/// Everything stays at rest, after a fault too. Fails with `Memory` if memory is refused, or with `Full` if a table is full.
 pub(crate) fn walk_settled(
     graph: &mut SearchGraph<SolverGraph<Solver>>,
     cache: &mut GlobalCache<SolverGraph<Solver>>,

@@ -1,32 +1,33 @@
-//! What is shown of an answer.
+//! What is displayed of an answer.
 
 use goal_walk::GoalWalk;
 use proof_checker::steps::Step;
 use term_folds::predicate::TraitRef;
 
-/// A step of a proof as it is shown.
+/// A step of a proof as it is displayed.
 #[derive(Drop)]
 pub struct ShownStep {
-    /// The place of its goal in the walk.
+    /// The index of its goal in the trace.
     pub place: usize,
-    /// The numbers of the steps of the goals that its candidate asks, in their order, also where the checker takes it for granted.
+    /// The numbers of the steps for the nested goals of its candidate, in their order. They are here also if the checker takes the step as
+    /// assumed.
     ///
-    /// One that is no earlier step is assumed: it is a goal above, and the trait of the step is coinductive.
+    /// One that is no earlier step is assumed: its goal is an open one above, and the trait of the step is coinductive.
     pub premises: Vec<usize>,
 }
 
-/// A goal that holds, walked, and a proof of it.
+/// The trace of a goal that holds, and a proof of it.
 pub struct ProofWalk {
     pub walk: GoalWalk,
-    /// The steps of the proof, the last of which concludes the reference of the goal at place 0. None where the walk has no proof.
+    /// The steps of the proof. The last one concludes the trait reference of the goal at index 0. Empty if the trace has no proof.
     pub steps: Vec<Step>,
-    /// How these are shown, one for one.
+    /// How these are displayed, one for one.
     pub shown: Vec<ShownStep>,
-    /// Whether the checker lets the steps through. What a step takes for granted (`Way::Assumed`), as a built-in rule, is not checked.
+    /// Whether the checker accepts the steps. What a step assumes (`Way::Assumed`), such as a built-in rule, is not checked.
     pub is_checked: bool,
 }
 
-// Written, so that what owns one drops it by one call at each way out, and not field by field.
+// Hand-written so that the prover sees one drop call: docs/PROVING.md#drop.
 impl Drop for ProofWalk {
     fn drop(self) {
         let ProofWalk {
@@ -38,15 +39,15 @@ impl Drop for ProofWalk {
     }
 }
 
-/// The candidates of a walk that are checked, each by the place of its goal and its number among the candidates there, from 0.
+/// The candidates of a trace that are checked, each by the index of its goal and its number among the candidates there, from 0.
 pub struct CheckedCandidates {
-    /// Those that are rules of their goals.
+    /// Those that are rules for their goals.
     pub rules: Vec<(usize, usize)>,
     /// Those that may apply: their impls have rules for instances of their goals.
     pub chances: Vec<(usize, usize)>,
 }
 
-// Written, so that what owns one drops it by one call at each way out, and not field by field.
+// Hand-written so that the prover sees one drop call: docs/PROVING.md#drop.
 impl Drop for CheckedCandidates {
     fn drop(self) {
         let CheckedCandidates {
@@ -56,20 +57,20 @@ impl Drop for CheckedCandidates {
     }
 }
 
-/// Two impls whose headers have a common instance, and their where-clauses there, each asked alone in coherence.
+/// Two impls whose headers have a common instance, and their where-clauses there, each evaluated alone in coherence.
 pub struct PairWalk {
-    /// What both headers are where they are equal. Its unknowns stand for any terms.
+    /// The common instance of both headers. Its variables stand for any terms.
     pub common: TraitRef,
-    /// Whether the checker finds that each of the impls concludes it, from what its where-clauses ask.
+    /// Whether the checker finds that each of the impls concludes the common instance from its where-clauses.
     pub is_checked: bool,
     pub walk: GoalWalk,
-    /// The places of the where-clauses of the first impl, in their order.
+    /// The indices of the where-clauses of the first impl, in their order.
     pub left: Vec<usize>,
-    /// Those of the second impl.
+    /// The indices of those of the second impl.
     pub right: Vec<usize>,
 }
 
-// Written, so that what owns one drops it by one call at each way out, and not field by field.
+// Hand-written so that the prover sees one drop call: docs/PROVING.md#drop.
 impl Drop for PairWalk {
     fn drop(self) {
         let PairWalk {
