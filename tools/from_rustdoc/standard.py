@@ -41,6 +41,12 @@ def home_of(rust_crate: str) -> str:
     return HOMES.get(rust_crate, "std")
 
 
+def without_thin(predicates: list[Predicate]) -> list[Predicate]:
+    """`T: ?Sized + Thin` as `T: Sized`: `Thin` is an alias, and of the types that a text has those are thin that are sized."""
+    thin = {subject for subject, bound in predicates if bound.key == "?Thin"}
+    return [(t, b) for t, b in predicates if b.key != "?Thin" and not (t in thin and b.maybe)]
+
+
 class Standard:
     def __init__(self, pages: Pages) -> None:
         self.pages = pages
@@ -166,6 +172,7 @@ class Standard:
                 impl.predicates += reader.where()
             if not reader.at_end():
                 raise NotUnderstood(f"`{reader.peek()[1]}` after the header")
+            impl.predicates = without_thin(impl.predicates)
             impl.trait = trait
             impl.associated = self.associated(rest, page)
             self.narrow(impl)

@@ -75,8 +75,9 @@ class Std(unittest.TestCase):
         text = std_text.std_text(World(pages()))
         answer = run(text + "crate mine uses std\nstruct S\nimpl Clone for S\n" + "\n".join(self.QUESTIONS) + "\n")
         self.assertEqual((answer.refusals(), answer.questions), ({}, list(self.QUESTIONS.values())))
-        self.assertIn("// Left out: std: impl<T: ?Sized + Thin> Default for *const T: ", text)
-        self.assertNotIn(" Default for PtrConst_", text)
+        self.assertIn("// Left out: std: impl<T: PointeeSized> !Clone for &mut T: ", text)
+        self.assertNotIn(" Clone for RefMut_", text)
+        self.assertIn("\nimpl<T> Default for PtrConst_<T> where T: Sized\n", text)
 
     def test_what_the_documents_have_not_is_named(self) -> None:
         with mock.patch.object(std_text, "TYPES", {"alloc::vec": "Nothing"}), self.assertRaisesRegex(BadInput, "have no alloc::vec::Nothing"):
