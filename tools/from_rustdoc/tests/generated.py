@@ -23,6 +23,9 @@ AROUND = {"Vec": "alloc/vec/struct.Vec.html", "Option": "core/option/enum.Option
           "Mutex": "std/sync/struct.Mutex.html", "PhantomData": "core/marker/struct.PhantomData.html", "HashMap": "std/collections/struct.HashMap.html"}
 
 
+UNSIZED = "cannot be known at compilation time"
+
+
 @dataclass
 class Asked:
     question: Question
@@ -121,7 +124,7 @@ def compiled(asked: list[Asked], folder: str, pages: Pages, world: World) -> lis
 
 
 def failures(output: str, offset: int) -> tuple[set[int], set[int]]:
-    """The questions that do not hold (E0277), and those with another error."""
+    """The questions that do not hold (E0277), and those with another error, of types that cannot be: `(str, u8)`."""
     failed: set[int] = set()
     odd: set[int] = set()
     for line in output.splitlines():
@@ -132,5 +135,5 @@ def failures(output: str, offset: int) -> tuple[set[int], set[int]]:
         code = (told.get("code") or {}).get("code")
         for span in told["spans"]:
             if span["is_primary"] and span["file_name"].endswith("lib.rs"):
-                (failed if code == "E0277" else odd).add(span["line_start"] - 1 - offset)
+                (failed if code == "E0277" and UNSIZED not in told["message"] else odd).add(span["line_start"] - 1 - offset)
     return failed, odd
