@@ -10,12 +10,13 @@ import tempfile
 import unittest
 from collections import Counter
 from typing import Any
+from unittest import mock
 
 from from_rustdoc.program import TOP, proved_program
 from from_rustdoc.terms import BadInput
-from from_rustdoc.tests.common import world
+from from_rustdoc.tests.common import kept, world
 
-from .. import database, figures, registry, results, translator
+from .. import database, figures, registry, results, steps, translator
 from ..registry import Dependency, Package
 from ..steps import chosen, first_error, is_added, without_impls
 
@@ -127,6 +128,27 @@ class Steps(Room):
         for text in ("{", "[]", '{"step": "read"}'):
             with self.assertRaises(BadInput, msg=text):
                 list(results.read(put(self.room, "bad.jsonl", text + "\n")))
+
+
+class Adopted(Room):
+    """The crates of a project that is documented already, without the folder of the project."""
+
+    def test_each_crate_of_the_registry_has_what_it_uses(self) -> None:
+        among = [Package("ab", "1.0.0"), Package("user", "1.0.0"), Package("user", "2.0.0"), Package("other", "1.0.0")]
+        place = steps.Place(self.room)
+        inputs = {"json": [], "links": {"uses": {"ab": [], "user": ["ab"]}, "root": "/project"}}
+        compiled = {"ab": [("registry#ab@1.0.0", "ab.rmeta")], "user": [("registry#user@1.0.0", "user.rmeta")]}
+        with mock.patch.object(translator, "map_of", return_value={"inputs": inputs}), mock.patch.object(translator, "read", return_value=world("ab", "user")), \
+                mock.patch.object(steps, "compiled_in", return_value=compiled) as cargo:
+            self.assertEqual(steps.adopt(place, "/project/target/from-rustdoc/user", among), among[:2])
+        cargo.assert_called_once_with("/project", "/project/target/from-rustdoc", 1)
+        for package, used in ((among[0], ["ab"]), (among[1], ["ab", "user"])):
+            project = steps.load_project(place.folder(package))
+            self.assertEqual((project.members, sorted(project.files), sorted(project.closure([package.crate]))), ([package.crate], used, used))
+            self.assertEqual((results.head(place.file(package, "document"))["status"], results.head(place.file(package, "document"))["crates"]), ("done", len(used)))
+            self.assertTrue(all(os.path.samefile(file, kept(name)) for name, file in project.files.items()))
+        # What rustc reads is known without cargo.
+        self.assertEqual(steps.metadata_of(place, place.folder(among[1]), among[1]), {"ab": "ab.rmeta", "user": "user.rmeta"})
 
 
 @unittest.skipUnless(proved_program(), "there is no proved program of these sources")
