@@ -10,6 +10,7 @@ from __future__ import annotations
 
 import argparse
 import json
+import re
 import sys
 from pathlib import Path
 from typing import Any, Mapping, NamedTuple, Sequence, Union
@@ -18,7 +19,7 @@ from .common import Tally, Wrong
 
 Kind = Union[type, tuple[type, ...]]
 NONE: type = type(None)
-ANSWER: Mapping[str, Kind] = {"$message_type": str, "answer": str}
+ANSWER: Mapping[str, Kind] = {"$message_type": str, "answer": str, "parts": dict}
 SPAN: Mapping[str, Kind] = {
     "file_name": str, "byte_start": int, "byte_end": int, "line_start": int, "line_end": int, "column_start": int, "column_end": int,
     "is_primary": bool, "text": list, "label": (str, NONE), "suggested_replacement": NONE, "suggestion_applicability": NONE, "expansion": NONE,
@@ -26,7 +27,19 @@ SPAN: Mapping[str, Kind] = {
 TEXT: Mapping[str, Kind] = {"text": str, "highlight_start": int, "highlight_end": int}
 CODE: Mapping[str, Kind] = {"code": str, "explanation": NONE}
 MESSAGE: Mapping[str, Kind] = {"message": str, "code": (dict, NONE), "level": str, "spans": list, "children": list, "rendered": (str, NONE)}
+ROW: Mapping[str, Kind] = {"goal": str, "rule": str, "span": (dict, NONE), "premises": list}
 LEVELS = ("error", "warning", "note", "help")
+
+# What stands behind each kind of answer, in `parts`.
+PARTS: Mapping[str, tuple[Mapping[str, Kind], ...]] = {
+    "fault": ({"fault": int},), "accepted": ({},), "overlap": ({"impl": int, "with": str, "with_impl": int},),
+    "orphan": ({"impl": int, "nonlocal": bool}, {"impl": int, "uncovered": str}, {"impl": int, "uncovered": str, "before": str}),
+    "compatible": ({},), "breaking": ({"impl": int},), "held": ({},), "missing": ({"impl": int, "clause": int},),
+    "undecided": ({"impl": int, "clause": int},), "yes": ({"values": dict},), "maybe": ({},), "unproved": ({},), "no": ({},), "open": ({},),
+}
+SUBJECTS: Mapping[str, tuple[str, Kind]] = {
+    "line": ("line", int), "crate": ("crate", str), "later": ("crate", str), "supers": ("crate", str), "prove": ("question", int), "refute": ("question", int),
+}
 
 
 def need(is_so: bool, what: str, value: object) -> None:
@@ -48,6 +61,44 @@ def read_span(span: Any) -> None:
     text = span["text"][0]
     has_keys(text, TEXT, "a line of a span")
     need(1 <= text["highlight_start"] <= text["highlight_end"] <= len(text["text"]) + 1, "marks outside their line", span)
+
+
+def line_of(parts: Mapping[str, Any], subject: str) -> str:
+    """The line of an answer, put together again of its parts."""
+    named = {key: it for key, it in parts.items() if key not in ("answered", subject, "kind", "values", "with", "with_impl", "nonlocal", "fault")}
+    words = [parts["kind"], *(f"{key} {it}" for key, it in named.items())]
+    words += ["nonlocal"] if "nonlocal" in parts else []
+    words += [f"with {parts['with']} {parts['with_impl']}"] if "with" in parts else []
+    words += [str(parts["fault"])] if "fault" in parts else []
+    values = ", ".join(f"{name} = {it}" for name, it in parts.get("values", {}).items())
+    return f"{parts['answered']} {parts[subject]}: {' '.join(words)}" + (f" {values}" if values else "")
+
+
+def read_parts(answer: str, parts: Any) -> None:
+    """The parts of an answer have the keys of its kind, and are the line."""
+    subject, kind = SUBJECTS.get(parts.get("answered"), ("", str))
+    need(bool(subject), "parts of no answer", parts)
+    head: Mapping[str, Kind] = {"answered": str, subject: kind, "kind": str}
+    need(any(set(parts) == {*head, *it} for it in PARTS.get(parts.get("kind"), ())), "other keys in the parts of an answer", parts)
+    need(line_of(parts, subject) == answer, f"parts that are not those of {answer!r}", parts)
+
+
+def count_rows(rows: Any) -> int:
+    """How many rows a proof has. Each has its keys."""
+    for row in rows:
+        has_keys(row, ROW, "a row of a proof")
+        if row["span"] is not None:
+            read_span(row["span"])
+        line = re.match(r"impl at line ([0-9]+)", row["rule"])
+        need((row["span"] and row["span"]["line_start"]) == (int(line[1]) if line else None), "another span than the rule's line", row)
+    return len(rows) + sum(count_rows(row["premises"]) for row in rows)
+
+
+def read_proof(message: Any) -> None:
+    """The trees of a proof have as many rows as its text."""
+    shown = [it["message"] for it in message["children"] if it["message"].startswith("proof:")]
+    rows = shown[0].count("\n") if shown else 0
+    need(count_rows(message["proof"]) == rows, f"trees that have not the {rows} rows of the proof", message["proof"])
 
 
 def read_message(message: Any, extra: Mapping[str, Kind]) -> None:
@@ -73,8 +124,12 @@ def read_line(line: str) -> Told:
     value = json.loads(line)
     if isinstance(value, dict) and value.get("$message_type") == "answer":
         has_keys(value, ANSWER, "an answer")
+        read_parts(value["answer"], value["parts"])
         return Told(value["answer"], "", None)
-    read_message(value, ANSWER)
+    read_message(value, {**ANSWER, "proof": list})
+    read_proof(value)
+    if value["answer"]:
+        read_parts(value["answer"], value["parts"])
     need(value["$message_type"] == "diagnostic" and value["rendered"] is not None, "another type of message", value)
     return Told(value["answer"], value["rendered"], value)
 

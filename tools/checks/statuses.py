@@ -22,6 +22,7 @@ from pathlib import Path
 from typing import Callable, Optional
 
 from .common import TOP, Ended, Example, Tally, Word, example, program, run
+from .explained_json import read_lines
 
 TEXT, FAULTY = example("two_crates_accepted"), example("unknown_name")
 OVERLAPS = (example("overlapping_impls"), example("an_overlap_with_core"))
@@ -133,9 +134,9 @@ def try_explained(cases: Cases) -> None:
     for it in OVERLAPS:
         answer(f"{it.name} as a file", 0, it, f"8 {it.folder}/input.txt", b"")
         answer(f"{it.name} and --check", 4, it, "8 --check")
-    cases.run("--json", "8", text=TEXT.text)
-    told = [f'{{"$message_type":"answer","answer":"{it}"}}\n' for it in TEXT.expected().decode().splitlines()]
-    cases.gave("accepted crates as JSON", 0, "".join(told).encode())
+    told = read_lines(cases.run("--json", "8", text=TEXT.text).output)
+    cases.expect("accepted crates as JSON", [(it.answer, it.message) for it in told] == [(it, None) for it in TEXT.expected().decode().splitlines()])
+    cases.expect("accepted crates as JSON, the status", cases.last.status == 0)
     for name, file in (("a folder as a file", "."), ("no file", "none")):
         cases.run("8", file)
         cases.gave(name, 3)

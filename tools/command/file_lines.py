@@ -95,13 +95,21 @@ class Rows:
             return value
         if "file_name" in value:
             return self.span(value)
+        if value.get("answered") == "line":
+            return self.fault(value)
         return {key: self.member(key, item) for key, item in value.items()}
 
     def member(self, key: str, value: object) -> object:
         if not isinstance(value, str):
             return self.value(value)
-        words = {"answer": self.answer, "rendered": self.text, "message": self.mentions}
+        words = {"answer": self.answer, "rendered": self.text, "message": self.mentions, "rule": self.mentions}
         return words[key](value) if key in words else value
+
+    def fault(self, parts: dict[str, object]) -> dict[str, object]:
+        """The parts of the answer to a text with a fault: the line counts in its file, which is named where it is not the last."""
+        line = int(str(parts["line"]))
+        part = self.part_of(line)
+        return {**parts, "line": self.own_line(line), **({} if part is self.last else {"file": part.name})}
 
     def span(self, span: dict[str, object]) -> dict[str, object]:
         part = self.part_of(int(str(span["line_start"])))

@@ -24,19 +24,23 @@ pub struct Told {
     pub is_cut: bool,
 }
 
-/// What is said of a line: as text what stands below it, as JSON an object that has the line in it.
+/// The text with its lines, and what is said of a line of the answer.
+type Found<'f> = (&'f SourceFile<'f>, &'f Diagnostic);
+
+/// What is said of a line: as text what stands below it, if something does, as JSON an object that has the line in it.
 fn explanation(
     alloc: Global,
-    file: &SourceFile<'_>,
     shown: Shown,
     line: &[u8],
-    diagnostic: &Diagnostic,
-) -> Result<String, AllocError> {
+    found: Option<Found<'_>>,
+) -> Result<Option<String>, AllocError> {
     if shown.is_json {
         let line = String::from_utf8_lossy(alloc, line)?;
-        json_line(alloc, file, line.as_str(), diagnostic)
-    } else {
-        render(alloc, file, diagnostic, shown.has_colors)
+        return Ok(Some(json_line(alloc, line.as_str(), found)?));
+    }
+    match found {
+        None => Ok(None),
+        Some((file, diagnostic)) => Ok(Some(render(alloc, file, diagnostic, shown.has_colors)?)),
     }
 }
 
@@ -50,7 +54,7 @@ fn write_parts<W: Write>(writer: &mut W, parts: &[&[u8]]) -> io::Result<()> {
 
 /// Writes a line alone, with its end.
 ///
-/// As JSON too this takes no memory: what lines are made of, names, numbers and signs, stands for itself there.
+/// As JSON too this takes no memory, and gives no parts: what lines are made of, names, numbers and signs, stands for itself there.
 fn write_bare<W: Write>(writer: &mut W, shown: Shown, line: &[u8]) -> io::Result<()> {
     if shown.is_json {
         write_parts(
@@ -75,50 +79,39 @@ fn write_text<W: Write>(writer: &mut W, shown: Shown, line: &[u8], text: &[u8]) 
     }
 }
 
-/// Writes a line with what is said of it; the answer is whether that was cut, since memory was refused: then the line stands alone.
-fn write_explained<W: Write>(
-    alloc: Global,
-    writer: &mut W,
-    shown: Shown,
-    file: &SourceFile<'_>,
-    line: &[u8],
-    diagnostic: &Diagnostic,
-) -> io::Result<bool> {
-    match explanation(alloc, file, shown, line, diagnostic) {
-        Err(_) => {
-            write_bare(writer, shown, line)?;
-            Ok(true)
-        }
-        Ok(text) => {
-            write_text(writer, shown, line, text.as_bytes())?;
-            Ok(false)
-        }
-    }
-}
-
-/// Writes a line with what was found for it, if there is something; the answer is whether that was cut.
+/// Writes a line with what was found for it, if there is something; the answer is whether that was cut, since memory was refused: then the
+/// line stands alone.
 fn write_line<W: Write>(
     alloc: Global,
     writer: &mut W,
     shown: Shown,
-    file: Option<&SourceFile<'_>>,
     line: &[u8],
-    diagnostic: Option<&Diagnostic>,
+    found: Option<Found<'_>>,
 ) -> io::Result<bool> {
-    match (file, diagnostic) {
-        (Some(file), Some(diagnostic)) => {
-            write_explained(alloc, writer, shown, file, line, diagnostic)
+    match explanation(alloc, shown, line, found) {
+        Ok(Some(text)) => {
+            write_text(writer, shown, line, text.as_bytes())?;
+            Ok(false)
         }
-        _ => {
+        Ok(None) => {
             write_bare(writer, shown, line)?;
             Ok(false)
+        }
+        Err(_) => {
+            write_bare(writer, shown, line)?;
+            Ok(found.is_some())
         }
     }
 }
 
-/// What was found for the line at a place.
-fn found_at(found: &[Option<Diagnostic>], place: usize) -> Option<&Diagnostic> {
-    found.get(place)?.as_ref()
+/// What was found for the line at a place, where the text's lines could be kept.
+fn found_at<'f>(
+    file: Option<&'f SourceFile<'f>>,
+    found: &'f [Option<Diagnostic>],
+    place: usize,
+) -> Option<Found<'f>> {
+    let diagnostic = found.get(place)?.as_ref()?;
+    Some((file?, diagnostic))
 }
 
 /// Writes the lines of the answer, each with what was found for it. Where the text's lines could not be kept, they stand alone.
@@ -137,7 +130,7 @@ fn write_answers<W: Write>(
     let mut place = 0usize;
     let mut rest = lines;
     while let Some((line, behind)) = split_line(rest) {
-        let is_cut = write_line(alloc, writer, shown, file, line, found_at(found, place))?;
+        let is_cut = write_line(alloc, writer, shown, line, found_at(file, found, place))?;
         told = Told {
             are_best: told.are_best && is_best(line),
             is_cut: told.is_cut || is_cut,
@@ -192,7 +185,7 @@ fn write_note<W: Write>(writer: &mut W, shown: Shown, lack: Lack) -> io::Result<
             &[
                 b"{\"$message_type\":\"diagnostic\",\"answer\":\"\",\"children\":[],\"code\":null,\"level\":\"note\",\"message\":\"",
                 message,
-                b"\",\"rendered\":\"note: ",
+                b"\",\"parts\":{},\"proof\":[],\"rendered\":\"note: ",
                 message,
                 b"\\n\",\"spans\":[]}\n",
             ],

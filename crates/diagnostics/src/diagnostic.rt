@@ -55,6 +55,8 @@ pub struct ProofRow {
     pub depth: usize,
     pub goal: String,
     pub reason: String,
+    /// The line of the impl by which it holds, if it is one of the text.
+    pub impl_line: Option<u32>,
 }
 
 /// What is said after a line of the answer.
@@ -95,6 +97,7 @@ impl Drop for ProofRow {
             depth: _,
             goal: _,
             reason: _,
+            impl_line: _,
         } = self;
     }
 }

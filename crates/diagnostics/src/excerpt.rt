@@ -337,11 +337,11 @@ fn push_line(
     shown.push_marks(out);
 }
 
-/// Appends where a text is spoken of: ` --> NAME:LINE:COLUMN`.
+/// Appends where a text is spoken of: ` --> NAME:LINE:COLUMN`, the name as bytes of the text are shown.
 fn push_place(out: &mut TextWriter, frame: Frame, name: &str, main: &SpanLabel) {
     out.push_spaces(frame.digits);
     push_in(out, frame.has_colors, Ink::Frame, "--> ");
-    out.push_str(name);
+    out.push_shown(name.as_bytes());
     out.push_number(":", main.span.line as usize);
     out.push_number(":", main.span.start.saturating_add(1));
     out.push_str("\n");

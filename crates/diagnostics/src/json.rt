@@ -3,11 +3,12 @@
 ghost use Rattle.std.specs.Prelude.{length};
 ghost use Rattle.diagnostics.specs.Places.{IsPartOf};
 
+use crate::answer_parts::put_answer;
 use crate::diagnostic::{Diagnostic, ErrCode, Level, ProofRow, SpanLabel, Subdiagnostic};
 use crate::proof_tree::{goal_columns, push_proof_row};
 use crate::rendering::render;
 use crate::source::SourceFile;
-use crate::span::{Place, place_in};
+use crate::span::{Place, Span, place_in};
 use crate::window::{place_in_window, window};
 use crate::writer::TextWriter;
 use serde_json::{Map, Value, put};
@@ -17,10 +18,15 @@ use std::alloc::{AllocError, Global};
 const LINE_BYTES: usize = 1000;
 
 /// The members of an object that is being made. Who adds some owns nothing at its ways out.
-type Members = Map<String, Value>;
+pub(crate) type Members = Map<String, Value>;
 
 /// Adds a text.
-fn put_text(alloc: Global, object: &mut Members, key: &str, text: &str) -> Result<(), AllocError> {
+pub(crate) fn put_text(
+    alloc: Global,
+    object: &mut Members,
+    key: &str,
+    text: &str,
+) -> Result<(), AllocError> {
     let value = Value::try_from_str(alloc, text)?;
     put(object, alloc, key, value)
 }
@@ -181,13 +187,15 @@ fn span_values(
     Ok(Value::Array(values))
 }
 
-/// The code, or null.
-fn code_value(alloc: Global, code: Option<ErrCode>) -> Result<Value, AllocError> {
-    let Some(code) = code else {
-        return Ok(Value::Null);
+/// The code of rustc, or else the fault that an answer names, or null.
+fn code_value(alloc: Global, code: Option<ErrCode>, answer: &str) -> Result<Value, AllocError> {
+    let name = match (code, answer.split_once(": ")) {
+        (Some(code), _) => code.name(),
+        (None, Some((_, fault))) if fault.starts_with("fault ") => fault,
+        _ => return Ok(Value::Null),
     };
     let mut object = Map::new(alloc);
-    put_text(alloc, &mut object, "code", code.name())?;
+    put_text(alloc, &mut object, "code", name)?;
     put(&mut object, alloc, "explanation", Value::Null)?;
     Ok(Value::Object(object))
 }
@@ -251,6 +259,78 @@ fn subdiagnostic_value(
     child_value(alloc, child.level, child.message.as_str(), spans)
 }
 
+/// The line of the impl by which a row holds, or null.
+fn impl_span_value(
+    alloc: Global,
+    file: &SourceFile<'_>,
+    row: &ProofRow,
+) -> Result<Value, AllocError> {
+    let Some(line) = row.impl_line else {
+        return Ok(Value::Null);
+    };
+    let span = Span {
+        line,
+        start: 0,
+        end: file.line(line).len(),
+    };
+    span_value(alloc, file, &SpanLabel::primary(span, String::new(alloc)))
+}
+
+/// A row of a proof above its premises.
+fn row_value(
+    alloc: Global,
+    file: &SourceFile<'_>,
+    row: &ProofRow,
+    premises: Vec<Value>,
+) -> Result<Value, AllocError> {
+    let span = impl_span_value(alloc, file, row)?;
+    let mut object = Map::new(alloc);
+    put_text(alloc, &mut object, "goal", row.goal.as_str())?;
+    put_text(alloc, &mut object, "rule", row.reason.as_str())?;
+    put(&mut object, alloc, "span", span)?;
+    put(&mut object, alloc, "premises", Value::Array(premises))?;
+    Ok(Value::Object(object))
+}
+
+/// A row of a proof with what is below it, and how deep it stands.
+type Branch = (usize, Value);
+
+/// Takes the last branches that stand so deep, the last one first.
+fn take_branches(
+    alloc: Global,
+    branches: &mut Vec<Branch>,
+    depth: usize,
+) -> Result<Vec<Value>, AllocError> {
+    let mut taken = Vec::new(alloc);
+    for _ in 0..branches.len() {
+        match branches.last() {
+            Some(branch) if branch.0 >= depth => {}
+            _ => break,
+        }
+        if let Some((_, value)) = branches.pop() {
+            taken.push(value)?;
+        }
+    }
+    Ok(taken)
+}
+
+/// The rows of a proof as trees: each has those that stand one deeper below it.
+fn tree_values(
+    alloc: Global,
+    file: &SourceFile<'_>,
+    rows: &[ProofRow],
+) -> Result<Value, AllocError> {
+    // What is below the rows that are left, the first one last.
+    let mut branches = Vec::new(alloc);
+    for row in rows.iter().rev() {
+        let premises = take_branches(alloc, &mut branches, row.depth.saturating_add(1))?;
+        let value = row_value(alloc, file, row, premises)?;
+        branches.push((row.depth, value))?;
+    }
+    let trees = take_branches(alloc, &mut branches, 0)?;
+    Ok(Value::Array(trees))
+}
+
 /// The proof, if there is one, and then the children.
 fn child_values(
     alloc: Global,
@@ -286,31 +366,50 @@ fn put_diagnostic(
     alloc: Global,
     object: &mut Members,
     file: &SourceFile<'_>,
+    answer: &str,
     diagnostic: &Diagnostic,
 ) -> Result<(), AllocError> {
-    let code = code_value(alloc, diagnostic.code)?;
+    let code = code_value(alloc, diagnostic.code, answer)?;
     put(object, alloc, "code", code)?;
     let spans = span_values(alloc, file, &diagnostic.spans)?;
     put(object, alloc, "spans", spans)?;
     let children = child_values(alloc, file, diagnostic)?;
     put(object, alloc, "children", children)?;
+    let proof = tree_values(alloc, file, &diagnostic.proof)?;
+    put(object, alloc, "proof", proof)?;
     put_message(alloc, object, diagnostic.level, diagnostic.message.as_str())?;
     put_rendered(alloc, object, file, diagnostic)
 }
 
-/// A line of the answer with its diagnostic, as a line of JSON without its end: the keys that rustc writes, and `answer`.
+/// What a line of the answer says.
+fn answer_value(alloc: Global, answer: &str) -> Result<Value, AllocError> {
+    let mut object = Map::new(alloc);
+    put_answer(alloc, &mut object, answer)?;
+    Ok(Value::Object(object))
+}
+
+/// A line of the answer as a line of JSON without its end, with its diagnostic if it has one: then with the keys that rustc writes.
 ///
-/// `rendered` is the text for people, without colours, with an empty line behind it. A proof is the first child, with its rows whole. Of a
-/// span's line at most 1,000 bytes are there, and what is marked lies in these.
+/// `answer` is the line, and `parts` what it says. `rendered` is the text for people, without colours, with an empty line behind it. A proof
+/// is the first child, with its rows whole, and `proof` its trees. Of a span's line at most 1,000 bytes are there, and what is marked lies in
+/// these.
 pub fn json_line(
     alloc: Global,
-    file: &SourceFile<'_>,
     answer: &str,
-    diagnostic: &Diagnostic,
+    told: Option<(&SourceFile<'_>, &Diagnostic)>,
 ) -> Result<String, AllocError> {
     let mut object = Map::new(alloc);
-    put_text(alloc, &mut object, "$message_type", "diagnostic")?;
+    let kind = if told.is_some() {
+        "diagnostic"
+    } else {
+        "answer"
+    };
+    put_text(alloc, &mut object, "$message_type", kind)?;
     put_text(alloc, &mut object, "answer", answer)?;
-    put_diagnostic(alloc, &mut object, file, diagnostic)?;
+    let parts = answer_value(alloc, answer)?;
+    put(&mut object, alloc, "parts", parts)?;
+    if let Some((file, diagnostic)) = told {
+        put_diagnostic(alloc, &mut object, file, answer, diagnostic)?;
+    }
     Value::Object(object).to_string(alloc)
 }

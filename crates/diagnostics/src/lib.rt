@@ -7,6 +7,7 @@
 //! The text is any bytes. Each byte of it is shown in one column, so columns count bytes.
 #![tactic(auto)]
 
+mod answer_parts;
 mod cut;
 mod diagnostic;
 mod excerpt;

@@ -116,6 +116,14 @@ fn push_sentence(out: &mut TextWriter, sentence: Sentence<'_>) {
     }
 }
 
+/// The line of the impl that a sentence speaks of first, if that is what it speaks of.
+pub(crate) fn impl_line_in(sentence: Sentence<'_>) -> Option<u32> {
+    match sentence.pieces {
+        [Piece::ImplAtLine(line), ..] => Some(line),
+        _ => None,
+    }
+}
+
 /// A sentence as text.
 pub(crate) fn sentence_text(alloc: Global, sentence: Sentence<'_>) -> Result<String, AllocError> {
     let mut out = TextWriter::new(alloc);

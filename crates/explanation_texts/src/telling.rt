@@ -3,7 +3,7 @@
 ghost use Rattle.std.specs.Prelude.{◌≡◌, ◌+◌, vec_len, false, true, IfNone, IfOk, IfSome, OnOk, OnSome};
 ghost use Rattle.std.specs.declared.result.Result.TheVariants.{Ok};
 
-use crate::sentences::{Piece, Sentence, plain, sentence_text, with_one};
+use crate::sentences::{Piece, Sentence, impl_line_in, plain, sentence_text, with_one};
 use diagnostics::{Diagnostic, ErrCode, Level, ProofRow, Span, SpanLabel, Subdiagnostic};
 use std::alloc::{AllocError, Global};
 
@@ -203,6 +203,7 @@ impl Telling {
         ensures told { self.new.is_refused ≡ false → vec_len self.new.told.proof ≡ vec_len self.old.told.proof + 1 }
         ensures stays { self.new.is_refused ≡ false → self.old.is_refused ≡ false }
     {
+        let impl_line = impl_line_in(reason);
         let goal = self.text_of(with_one("{}", goal));
         let reason = self.text_of(reason);
         if let (Some(goal), Some(reason)) = (goal, reason) {
@@ -210,6 +211,7 @@ impl Telling {
                 depth,
                 goal,
                 reason,
+                impl_line,
             };
             self.is_refused = self.told.proof.push(row).is_err();
         }
