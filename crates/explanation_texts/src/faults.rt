@@ -1,7 +1,7 @@
 //! What is said of a text with a fault.
 
 use crate::offending::tell_offence;
-use crate::sentences::plain;
+use crate::sentences::{Piece, plain, with_one};
 use crate::telling::Telling;
 use diagnostics::{Diagnostic, ErrCode, Level, SourceFile};
 use name_resolution::FaultKind;
@@ -12,7 +12,7 @@ use text_reader::TextFault;
 fn message(kind: FaultKind) -> &'static str {
     match kind {
         FaultKind::OtherByte => "a byte that is not ASCII",
-        FaultKind::Syntax => "the grammar has no such line",
+        FaultKind::Syntax => "this line is not in the grammar",
         FaultKind::Misplaced =>
             "an item stands before any `crate` line, or a struct or a trait in a section",
         FaultKind::Taken => "a name is declared twice",
@@ -42,7 +42,7 @@ fn code(kind: FaultKind) -> Option<ErrCode> {
     }
 }
 
-/// What to do about it.
+/// What to do about it, where that is the same for all lines with the fault.
 fn advice(kind: FaultKind) -> Option<&'static str> {
     match kind {
         FaultKind::OtherByte => Some("write the text in ASCII, its comments too"),
@@ -51,8 +51,21 @@ fn advice(kind: FaultKind) -> Option<&'static str> {
         ),
         FaultKind::LoadedAuto => Some("leave them out, or leave `auto` out"),
         FaultKind::RefutesParams => Some("ask with a variable, as `?x`"),
-        FaultKind::Limit => Some("the limits stand in docs/FORMAT.md"),
         _ => None,
+    }
+}
+
+/// Under which heading of docs/FORMAT.md the rule stands.
+fn heading(kind: FaultKind) -> &'static str {
+    match kind {
+        FaultKind::OtherByte => "Bytes, lines and tokens",
+        FaultKind::Syntax => "Rust and how it is written here",
+        FaultKind::Misplaced | FaultKind::Taken | FaultKind::Unknown | FaultKind::Hidden => {
+            "Statements"
+        }
+        FaultKind::BuiltIn => "Built-in rules",
+        FaultKind::Limit => "Limits",
+        _ => "Faults",
     }
 }
 
@@ -69,5 +82,7 @@ pub fn fault_diagnostic(
     if let Some(advice) = advice(fault.kind) {
         telling.help(plain(advice));
     }
+    let heading = Piece::Text(heading(fault.kind));
+    telling.help(with_one("the rule: docs/FORMAT.md, `{}`", heading));
     telling.finish()
 }

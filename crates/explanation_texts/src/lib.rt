@@ -1,26 +1,29 @@
-//! What is said of the lines of an answer: of a text with a fault, of a header that breaks the orphan rule, and of goals that were walked; what
-//! items are called, and where they stand.
+//! The texts of explanations: for a fault, for a header that breaks the orphan rule, and for goals that were traced.
 //!
-//! The token that a fault is about is looked for in its line, by what the lines above declare; what is said of a header is read off its
-//! orphan error, and what is said of a goal off its walk (`goal_walk`). What is told of a walk as checked is claimed of it
-//! (`session_walks::Claims`): `tell`, through which alone a walk is told, takes claims that hold and no others. That a sentence says no more
-//! than its claim is no part of a contract here.
+//! For a fault, the token that it is about is looked for in its line, by what the lines above declare. The text for a header is made from
+//! its orphan error, and the text for a goal from its trace (`goal_walk`). What is stated as checked is claimed of the trace
+//! (`session_walks::Claims`). A trace is explained through `tell` alone, which takes claims that hold and no others. No contract says that
+//! a sentence says no more than its claim.
 #![tactic(auto)]
 
 mod doubts;
 mod failures;
 mod faults;
+mod grammar;
+mod hints;
 mod items;
 mod lines;
 mod links;
 mod offending;
 mod open_questions;
 mod orphans;
+mod passed;
 mod reasons;
 mod refused;
 mod refutations;
 mod sentences;
 mod similar;
+mod sorts;
 mod sources;
 mod spoken;
 mod story;

@@ -1,20 +1,24 @@
 //! The token that a fault is about.
 
+use crate::grammar::{END, LineWords, Word, read_words};
+use crate::hints::hint_for;
 use crate::items::{name_in, name_of};
 use crate::lines::whole_line;
+use crate::passed::tell_passed;
 use crate::sentences::{Piece, plain, with_one, with_three, with_two};
-use crate::similar::similar_name;
+use crate::similar::{similar_name, similar_word};
+use crate::sorts::tell_other_sort;
 use crate::telling::Telling;
-use diagnostics::{Place, SourceFile, Span, on_line, text_of, token_places};
-use line_reader::{Cell, Length, LineRead, Param, Statement};
+use diagnostics::{SourceFile, Span, TextWriter, on_line, parts_of_impl};
+use line_reader::{LineRead, Statement};
 use name_resolution::FaultKind;
 use std::alloc::{AllocError, Global};
-use text_reader::{LineForm, TextFault, line_form, parse};
+use text_reader::{LineForm, TEXT_LIMIT, TextFault, line_form, parse};
 use type_terms::CrateId;
 use workspace::{Known, Workspace};
 
 /// What a line says, where the grammar has it.
-fn reading(alloc: Global, line: &[u8]) -> Result<Option<LineRead<'_>>, AllocError> {
+pub(crate) fn reading(alloc: Global, line: &[u8]) -> Result<Option<LineRead<'_>>, AllocError> {
     match line_form(alloc, line)? {
         LineForm::Read(read) => Ok(Some(read)),
         LineForm::OtherByte | LineForm::Blank | LineForm::Unwritten => Ok(None),
@@ -42,15 +46,76 @@ fn tell_other_byte(line: u32, bytes: &[u8], telling: &mut Telling) -> bool {
     false
 }
 
-/// Tells of a tab or a carriage return where a space is meant, and whether there is one.
-fn tell_other_space(line: u32, bytes: &[u8], telling: &mut Telling) -> bool {
-    for (at, byte) in bytes.iter().enumerate() {
-        if *byte == b'\t' || *byte == b'\r' {
-            telling.mark(byte_span(line, at), plain("only byte 32 is a space"));
-            return true;
+/// Tells of the first byte too many of a text.
+fn tell_long_text(file: &SourceFile<'_>, line: u32, telling: &mut Telling) -> bool {
+    let at = TEXT_LIMIT.saturating_sub(file.line_start(line));
+    let label = with_one("a text has {} bytes at most", Piece::Number(TEXT_LIMIT));
+    telling.mark(byte_span(line, at), label);
+    true
+}
+
+/// How a symbol of the grammar is called, where it is no token.
+static CALLED: [(&str, &str); 16] = [
+    (END, "the line's end"),
+    ("Line", "the first word of a line"),
+    ("Type", "a type"),
+    ("@own", "a name"),
+    ("@param", "a name"),
+    ("@const", "a name"),
+    ("@length", "a name"),
+    ("@crate", "the name of a crate"),
+    ("@trait", "the name of a trait"),
+    ("@bound", "the name of a trait"),
+    ("'param", "a lifetime"),
+    ("'binder", "a lifetime"),
+    ("'used", "a lifetime"),
+    ("'item", "a lifetime"),
+    ("#argument", "a number"),
+    ("#length", "a number"),
+];
+
+/// Appends what a symbol of the grammar is called.
+fn push_symbol(out: &mut TextWriter, symbol: &str) {
+    for (name, called) in &CALLED {
+        if *name == symbol {
+            out.push_str(called);
+            return;
         }
     }
-    false
+    out.push_str("`");
+    out.push_str(symbol);
+    out.push_str("`");
+}
+
+/// What could stand at a place, in words.
+fn expected_text(alloc: Global, expected: &[&str]) -> Result<String, AllocError> {
+    let mut out = TextWriter::new(alloc);
+    for (at, symbol) in expected.iter().enumerate() {
+        if at > 0 {
+            let is_last = at.saturating_add(1) == expected.len();
+            out.push_str(if is_last { " or " } else { ", " });
+        }
+        push_symbol(&mut out, symbol);
+    }
+    out.finish()
+}
+
+/// Tells of the first token at which no line can go on, and whether there is one.
+fn tell_unwritten(number: u32, line: &LineWords<'_>, telling: &mut Telling) -> bool {
+    let alloc = telling.alloc();
+    let Some(word) = line.words.get(line.read) else {
+        return false;
+    };
+    if let Some(expected) = telling.granted(expected_text(alloc, &line.expected)) {
+        let label = with_one("expected {}", Piece::Text(expected.as_str()));
+        telling.mark(on_line(number, word.place), label);
+    }
+    if let Some(advice) = hint_for(line) {
+        telling.help(with_one("{}", Piece::Text(advice)));
+    } else if let Some(Some(similar)) = telling.granted(similar_word(alloc, word.text)) {
+        telling.help(with_one("a similar word is `{}`", Piece::Name(similar)));
+    }
+    true
 }
 
 /// Whether a line stands in a section: a `later` line is the last above it that begins a crate or a section.
@@ -68,7 +133,7 @@ fn is_in_section(alloc: Global, file: &SourceFile<'_>, line: u32) -> Result<bool
     Ok(in_section)
 }
 
-/// Tells of an item that no crate may have there, and that there is one.
+/// Tells of an item that no crate may have there.
 fn tell_misplaced(file: &SourceFile<'_>, line: u32, telling: &mut Telling) -> bool {
     let in_section = is_in_section(telling.alloc(), file, line);
     let (label, help) = if telling.granted(in_section).unwrap_or(false) {
@@ -87,286 +152,187 @@ fn tell_misplaced(file: &SourceFile<'_>, line: u32, telling: &mut Telling) -> bo
     true
 }
 
-/// A faulty line that the grammar has.
-struct Faulty<'t> {
-    number: u32,
-    bytes: &'t [u8],
-    read: LineRead<'t>,
-    /// The places of its tokens.
-    places: Vec<Place>,
+/// A faulty line that the grammar has, and what the lines above it give.
+#[derive(Clone, Copy)]
+pub(crate) struct Faulty<'t> {
+    pub file: &'t SourceFile<'t>,
+    pub number: u32,
+    /// Its tokens, and behind them one that is empty.
+    pub words: &'t [Word<'t>],
+    pub workspace: &'t Workspace,
 }
 
-// Written, so that what owns one drops it by one call at each way out, and not field by field.
-impl Drop for Faulty<'_> {
-    fn drop(self) {
-        let Faulty {
-            number: _,
-            bytes: _,
-            read: _,
-            places: _,
-        } = self;
+impl<'t> Faulty<'t> {
+    /// The span of a token.
+    pub(crate) fn span(self, word: Word<'_>) -> Span {
+        on_line(self.number, word.place)
+    }
+
+    /// Whether the list that a token opens are the fields of a struct: the first one in round brackets.
+    pub(crate) fn has_fields_at(self, at: usize) -> bool {
+        let mut is_struct = false;
+        for word in self.words.iter().take(at) {
+            match word.text {
+                b"struct" => is_struct = true,
+                b"(" => return false,
+                _ => {}
+            }
+        }
+        is_struct
+    }
+
+    /// The first token that declares a name, or a lifetime, that is written so.
+    pub(crate) fn declaring(self, text: &[u8]) -> Option<Word<'t>> {
+        for word in self.words {
+            if word.declares() && word.text == text {
+                return Some(*word);
+            }
+        }
+        None
     }
 }
 
-/// The line with a number, if the grammar has it.
-fn faulty_line<'t>(
-    alloc: Global,
-    file: &SourceFile<'t>,
-    number: u32,
-) -> Result<Option<Faulty<'t>>, AllocError> {
-    let bytes = file.line(number);
-    let places = token_places(alloc, bytes)?;
-    match reading(alloc, bytes)? {
-        Some(read) => Ok(Some(Faulty {
-            number,
-            bytes,
-            read,
-            places,
-        })),
-        None => Ok(None),
+/// What a name in `core` or above stands for.
+pub(crate) fn kind_of(known: Known<'_>) -> &'static str {
+    match known {
+        Known::Crate(_) => "crate",
+        Known::Struct { .. } => "struct",
+        Known::Trait { .. } => "trait",
     }
 }
 
-/// Whether a statement declares a name as its own.
-fn is_own(statement: &Statement<'_>, name: &[u8]) -> bool {
-    match statement.declared_name() {
-        Some(own) => own == name,
-        None => false,
-    }
-}
-
-/// The name of a parameter.
-fn param_name<'a>(param: &Param<'a>) -> &'a [u8] {
-    match param {
-        Param::Lifetime(name) | Param::Type(name) | Param::Const(name) => name,
-    }
-}
-
-/// Whether a line declares a name: as its own, or as that of a parameter or of a binder.
-fn declares(read: &LineRead<'_>, name: &[u8]) -> bool {
-    if is_own(&read.statement, name) {
-        return true;
-    }
-    for param in read.statement.params() {
-        if param_name(param) == name {
+/// Tells of a declared name that is taken, and whether there is one.
+fn tell_taken(line: Faulty<'_>, telling: &mut Telling) -> bool {
+    for word in line.words {
+        if !word.declares() {
+            continue;
+        }
+        if let Some(known) = line.workspace.known(word.text) {
+            let kind = Piece::Text(kind_of(known));
+            telling.mark(
+                line.span(*word),
+                with_one("the name of a {} above, or in `core`", kind),
+            );
             return true;
         }
-    }
-    for cell in &read.cells {
-        if let Cell::Binder(other) = cell {
-            if *other == name {
-                return true;
-            }
+        if word.text == b"'static".as_slice() {
+            telling.mark(line.span(*word), plain("`'static` needs no declaration"));
+            return true;
+        }
+        if let Some(first) = line.declaring(word.text)
+            && first.place.start < word.place.start
+        {
+            telling.mark(line.span(*word), plain("declared twice in this line"));
+            telling.mark_beside(line.span(first), plain(""));
+            return true;
         }
     }
     false
 }
 
-/// The name that a cell uses.
-fn used_in<'a>(cell: &Cell<'a>) -> Option<&'a [u8]> {
-    match cell {
-        Cell::Named { name, .. } | Cell::Bound { name, .. } | Cell::Lifetime(name) => Some(name),
-        Cell::Reference { lifetime, .. } => *lifetime,
-        Cell::Array(Length::Name(name)) => Some(name),
+/// What to write for a name or a lifetime of Rust that is not known.
+static WRITTEN: [(&[&str], &str); 8] = [
+    (
+        &["_"],
+        "an unknown type is written `?x`, in what a question asks",
+    ),
+    (&["'_"], "leave it out: an omitted lifetime is `'static`"),
+    (
+        &["Self"],
+        "write the type itself; the bounds of a trait cannot name it",
+    ),
+    (
+        &["f32", "f64"],
+        "declare `struct {}`: it is no primitive type here",
+    ),
+    (
+        &[
+            "Vec",
+            "Rc",
+            "Arc",
+            "Option",
+            "Cell",
+            "RefCell",
+            "Mutex",
+            "PhantomData",
+        ],
+        "declare what the text speaks of, as `struct {}<T>(*const T)`, or read texts/std.txt before it: `--with texts/std.txt`",
+    ),
+    (
+        &["String", "Path", "PathBuf", "OsString"],
+        "declare `struct {}`, or read texts/std.txt before it: `--with texts/std.txt`",
+    ),
+    (
+        &["Send", "Sync"],
+        "declare `auto trait {}`; Rust's is another for `&T` and raw pointers: see `Send and Sync` in docs/FORMAT.md",
+    ),
+    (
+        &[
+            "Display",
+            "Debug",
+            "Default",
+            "Iterator",
+            "From",
+            "Into",
+            "Hash",
+            "Eq",
+            "PartialEq",
+            "Ord",
+            "Error",
+        ],
+        "declare the trait, or read texts/std.txt before it: `--with texts/std.txt`",
+    ),
+];
+
+/// What to write for a name or a lifetime of Rust; none where that is not known. A capital letter is a parameter.
+fn written_for(text: &[u8]) -> Option<&'static str> {
+    for (names, advice) in &WRITTEN {
+        for name in *names {
+            if name.as_bytes() == text {
+                return Some(*advice);
+            }
+        }
+    }
+    match text {
+        [b'A'..=b'Z'] => Some("declare a parameter behind the first word of the line: `<{}>`"),
         _ => None,
     }
 }
 
-/// Whether a statement uses the name of a crate.
-fn uses_crate(statement: &Statement<'_>, name: &[u8]) -> bool {
-    match statement {
-        Statement::Crate { uses, .. } => {
-            for used in uses {
-                if *used == name {
-                    return true;
-                }
-            }
-            false
-        }
-        Statement::Prove { crate_name, .. } => *crate_name == name,
-        Statement::Refute { crate_name, .. } => *crate_name == name,
-        Statement::Later { crate_name } => *crate_name == name,
-        Statement::Supers { crate_name } => *crate_name == name,
-        _ => false,
-    }
-}
-
-/// Whether a line uses a name.
-fn uses(read: &LineRead<'_>, name: &[u8]) -> bool {
-    for cell in &read.cells {
-        if let Some(used) = used_in(cell) {
-            if used == name {
-                return true;
-            }
-        }
-    }
-    uses_crate(&read.statement, name)
-}
-
-/// A token of a faulty line.
-#[derive(Clone, Copy)]
-struct Used<'t> {
-    place: Place,
-    /// As it is written.
-    shown: &'t [u8],
-    /// Without the sign of a lifetime.
-    name: &'t [u8],
-    is_lifetime: bool,
-}
-
-/// A token as a name.
-fn used_at<'t>(line: &'t [u8], place: Place) -> Used<'t> {
-    let shown = text_of(line, place);
-    match shown {
-        [b'\'', name @ ..] => Used {
-            place,
-            shown,
-            name,
-            is_lifetime: true,
-        },
-        name => Used {
-            place,
-            shown,
-            name,
-            is_lifetime: false,
-        },
-    }
-}
-
-/// The crate that declares what a name stands for, if it is a struct or a trait.
-fn owner_of(known: Known<'_>) -> Option<CrateId> {
-    match known {
-        Known::Crate(_) => None,
-        Known::Struct { owner, .. } => Some(owner),
-        Known::Trait { owner, .. } => Some(owner),
-    }
-}
-
-/// Whether a token that a line uses is not known, if the line does not declare it.
-fn is_unknown(workspace: &Workspace, used: Used<'_>) -> bool {
-    if used.is_lifetime {
-        used.shown != b"'static".as_slice()
-    } else {
-        workspace.known(used.name).is_none()
-    }
-}
-
-/// Whether crate `seeing` does not see crate `seen`.
-fn is_hidden(workspace: &Workspace, seeing: CrateId, seen: CrateId) -> bool {
-    (seeing.index as usize) < workspace.crates().len() && !workspace.sees(seeing, seen)
-}
-
-/// The crate of the struct or trait that a token names, if another one does not see it.
-fn hidden_owner(workspace: &Workspace, seeing: CrateId, used: Used<'_>) -> Option<CrateId> {
-    if used.is_lifetime {
-        return None;
-    }
-    let owner = owner_of(workspace.known(used.name)?)?;
-    if is_hidden(workspace, seeing, owner) {
-        Some(owner)
-    } else {
-        None
-    }
-}
-
-/// Whether a token that a line uses is not known, if the line does not declare it, or is not seen by a crate that is given.
-fn is_amiss(workspace: &Workspace, seeing: Option<CrateId>, used: Used<'_>) -> bool {
-    match seeing {
-        None => is_unknown(workspace, used),
-        Some(seeing) => hidden_owner(workspace, seeing, used).is_some(),
-    }
-}
-
-/// The first of a line's tokens that it uses, and does not declare itself, which is not known, or which a crate that is given does not see.
-fn first_amiss<'t>(
-    line: &Faulty<'t>,
-    workspace: &Workspace,
-    seeing: Option<CrateId>,
-) -> Option<Used<'t>> {
-    for place in &line.places {
-        let used = used_at(line.bytes, *place);
-        if is_amiss(workspace, seeing, used)
-            && uses(&line.read, used.name)
-            && !declares(&line.read, used.name)
-        {
-            return Some(used);
-        }
-    }
-    None
-}
-
-/// What a name in `core` or above stands for.
-fn kind_named(workspace: &Workspace, name: &[u8]) -> Option<&'static str> {
-    match workspace.known(name)? {
-        Known::Crate(_) => Some("crate"),
-        Known::Struct { .. } => Some("struct"),
-        Known::Trait { .. } => Some("trait"),
-    }
-}
-
-/// The first of these places at which a name stands.
-fn place_of_name(line: &[u8], places: &[Place], name: &[u8]) -> Option<Place> {
-    for place in places {
-        if text_of(line, *place) == name {
-            return Some(*place);
-        }
-    }
-    None
-}
-
-/// Tells of a declared name that is taken, and whether there is one.
-fn tell_taken(line: &Faulty<'_>, workspace: &Workspace, telling: &mut Telling) -> bool {
-    let Some(own) = line.read.statement.declared_name() else {
-        return false;
-    };
-    let (Some(kind), Some(place)) = (
-        kind_named(workspace, own),
-        place_of_name(line.bytes, &line.places, own),
-    ) else {
-        return false;
-    };
-    let label = with_one("the name of a {} above, or in `core`", Piece::Text(kind));
-    telling.mark(on_line(line.number, place), label);
-    true
-}
-
-/// The line below a line that declares a name, if there is one.
-fn declared_below(
+/// The first line behind one, before another, that declares a name, if there is one.
+pub(crate) fn line_declaring(
     alloc: Global,
     file: &SourceFile<'_>,
-    line: u32,
+    behind: u32,
+    before: u32,
     name: &[u8],
 ) -> Result<Option<u32>, AllocError> {
-    let count = u32::try_from(file.count_lines()).unwrap_or(0);
-    for number in line..count {
-        let below = number.saturating_add(1);
-        if let Some(read) = reading(alloc, file.line(below))? {
-            if is_own(&read.statement, name) {
-                return Ok(Some(below));
+    for above in behind..before {
+        let number = above.saturating_add(1);
+        if let Some(read) = reading(alloc, file.line(number))? {
+            if read.statement.declared_name() == Some(name) {
+                return Ok(Some(number));
             }
         }
     }
     Ok(None)
 }
 
-/// Tells what to do about a name that is not known.
-fn tell_known(
-    file: &SourceFile<'_>,
-    line: u32,
-    workspace: &Workspace,
-    name: &[u8],
-    telling: &mut Telling,
-) {
+/// Tells what to do about a name or a lifetime that is not known.
+fn tell_known(line: Faulty<'_>, name: &[u8], telling: &mut Telling) {
     let alloc = telling.alloc();
-    if let Some(Some(below)) = telling.granted(declared_below(alloc, file, line, name)) {
+    let shown = Piece::Name(name_of(name));
+    let end = u32::try_from(line.file.count_lines()).unwrap_or(0);
+    let below = line_declaring(alloc, line.file, line.number, end, name);
+    if let Some(Some(below)) = telling.granted(below) {
         telling.help(with_two(
             "`{}` is declared in line {}: a name is known from the line behind its own, so move that up",
-            Piece::Name(name_of(name)),
+            shown,
             Piece::Number(below as usize),
         ));
-        return;
-    }
-    if let Some(Some(other)) = telling.granted(similar_name(alloc, workspace, name)) {
+    } else if let Some(advice) = written_for(name) {
+        telling.help(with_one(advice, shown));
+    } else if let Some(Some(other)) = telling.granted(similar_name(alloc, line.workspace, name)) {
         telling.help(with_one(
             "a struct or trait with a similar name is known: `{}`",
             Piece::Name(other),
@@ -375,56 +341,43 @@ fn tell_known(
 }
 
 /// Tells of a name, or of a lifetime, that is not known, and whether there is one.
-fn tell_unknown(
-    file: &SourceFile<'_>,
-    line: &Faulty<'_>,
-    workspace: &Workspace,
-    telling: &mut Telling,
-) -> bool {
-    let Some(used) = first_amiss(line, workspace, None) else {
-        return false;
-    };
-    let span = on_line(line.number, used.place);
-    let shown = Piece::Name(name_of(used.shown));
-    if used.is_lifetime {
-        let label = with_one("the lifetime `{}` is not declared in this line", shown);
-        telling.mark(span, label);
-    } else {
-        telling.mark(span, with_one("`{}` is not known here", shown));
-        tell_known(file, line.number, workspace, used.name, telling);
+fn tell_unknown(line: Faulty<'_>, telling: &mut Telling) -> bool {
+    for word in line.words {
+        let is_lifetime = word.class == b'\'';
+        if word.uses()
+            && line.declaring(word.text).is_none()
+            && line.workspace.known(word.text).is_none()
+            && word.text != b"'static".as_slice()
+        {
+            let label = if is_lifetime {
+                "the lifetime `{}` is not declared in this line"
+            } else {
+                "`{}` is not known here"
+            };
+            let shown = Piece::Name(name_of(word.text));
+            telling.mark(line.span(*word), with_one(label, shown));
+            tell_known(line, word.text, telling);
+            return true;
+        }
     }
-    true
-}
-
-/// What a name of a crate in the lines above stands for.
-fn crate_named(workspace: &Workspace, name: &[u8]) -> Option<CrateId> {
-    match workspace.known(name) {
-        Some(Known::Crate(id)) => Some(id),
-        _ => None,
-    }
+    false
 }
 
 /// The crate to which a line belongs: that of the section or of the crate that begins last above it; of a question the one that it names.
-fn seeing_crate(
-    alloc: Global,
-    file: &SourceFile<'_>,
-    line: u32,
-    workspace: &Workspace,
-) -> Result<Option<CrateId>, AllocError> {
+pub(crate) fn seeing_crate(alloc: Global, line: Faulty<'_>) -> Result<Option<CrateId>, AllocError> {
     let mut found = None;
-    for number in 0..line {
-        let at = number.saturating_add(1);
-        if let Some(read) = reading(alloc, file.line(at))? {
-            match &read.statement {
-                Statement::Crate { name, .. } => found = crate_named(workspace, name),
-                Statement::Later { crate_name } => found = crate_named(workspace, crate_name),
-                Statement::Prove { crate_name, .. } if at == line => {
-                    found = crate_named(workspace, crate_name);
-                }
-                Statement::Refute { crate_name, .. } if at == line => {
-                    found = crate_named(workspace, crate_name);
-                }
-                _ => {}
+    for before in 0..line.number {
+        let at = before.saturating_add(1);
+        if let Some(read) = reading(alloc, line.file.line(at))? {
+            let named = match &read.statement {
+                Statement::Crate { name, .. } => name,
+                Statement::Later { crate_name } => crate_name,
+                Statement::Prove { crate_name, .. } if at == line.number => crate_name,
+                Statement::Refute { crate_name, .. } if at == line.number => crate_name,
+                _ => continue,
+            };
+            if let Some(Known::Crate(id)) = line.workspace.known(named) {
+                found = Some(id);
             }
         }
     }
@@ -433,107 +386,218 @@ fn seeing_crate(
 
 /// Tells of a struct or trait of a crate that another one does not see.
 fn tell_owner(
-    line: u32,
-    workspace: &Workspace,
+    line: Faulty<'_>,
     seeing: CrateId,
     owner: CrateId,
-    used: Used<'_>,
+    word: Word<'_>,
     telling: &mut Telling,
 ) {
-    let shown = Piece::Name(name_of(used.shown));
-    let home = Piece::Name(name_in(workspace, owner));
+    let shown = Piece::Name(name_of(word.text));
+    let home = Piece::Name(name_in(line.workspace, owner));
     telling.mark(
-        on_line(line, used.place),
+        line.span(word),
         with_two("`{}` is of crate `{}`", shown, home),
     );
     if owner.index < seeing.index {
-        let own = Piece::Name(name_in(workspace, seeing));
+        let own = Piece::Name(name_in(line.workspace, seeing));
         telling.help(with_three("let crate `{}` use it: `crate {} uses {}`", own, own, home));
     }
 }
 
 /// Tells of a struct or trait that the crate of a line does not see, and whether there is one.
-fn tell_hidden(
-    file: &SourceFile<'_>,
-    line: &Faulty<'_>,
-    workspace: &Workspace,
-    telling: &mut Telling,
-) -> bool {
-    let seeing = seeing_crate(telling.alloc(), file, line.number, workspace);
+fn tell_hidden(line: Faulty<'_>, telling: &mut Telling) -> bool {
+    let seeing = seeing_crate(telling.alloc(), line);
     let Some(Some(seeing)) = telling.granted(seeing) else {
         return false;
     };
-    let Some(used) = first_amiss(line, workspace, Some(seeing)) else {
+    if seeing.index as usize >= line.workspace.crates().len() {
+        return false;
+    }
+    for word in line.words {
+        if !word.uses() || line.declaring(word.text).is_some() {
+            continue;
+        }
+        let owner = match line.workspace.known(word.text) {
+            Some(Known::Struct { owner, .. }) => owner,
+            Some(Known::Trait { owner, .. }) => owner,
+            _ => continue,
+        };
+        if !line.workspace.sees(seeing, owner) {
+            tell_owner(line, seeing, owner, *word, telling);
+            return true;
+        }
+    }
+    false
+}
+
+/// What is wrong with an item of a `dyn`, between the tokens around it.
+fn item_fault(
+    line: Faulty<'_>,
+    before: Word<'_>,
+    word: Word<'_>,
+    behind: Word<'_>,
+) -> &'static str {
+    let is_auto = match line.workspace.known(word.text) {
+        Some(Known::Trait { is_auto, .. }) => is_auto,
+        _ => false,
+    };
+    let is_bound = word.used_as == "@bound";
+    if is_bound && !is_auto && before.text == b"+".as_slice() {
+        "`{}` is no auto trait: a `dyn` has one such trait at most, and that stands first"
+    } else if is_bound && is_auto && before.text == b">".as_slice() {
+        "no `for<..>` stands before an auto trait"
+    } else if word.used_as == "'item" && behind.text == b"+".as_slice() {
+        "the lifetime of a `dyn` stands last"
+    } else if word.used_as == "'item" && before.text == b"dyn".as_slice() {
+        "a `dyn` has a trait"
+    } else {
+        ""
+    }
+}
+
+/// Whether a parameter is left out of the header of its impl.
+fn is_free(line: Faulty<'_>, param: Word<'_>) -> bool {
+    for word in line.words {
+        if word.text == b"where".as_slice() {
+            break;
+        }
+        if word.uses() && word.text == param.text {
+            return false;
+        }
+    }
+    param.used_as == "@param" || param.used_as == "@const"
+}
+
+/// Whether a variable stands outside what is asked, or for two kinds.
+fn is_stray(line: Faulty<'_>, variable: Word<'_>) -> bool {
+    let mut is_stray = true;
+    for word in line.words {
+        match word.text {
+            b"prove" | b"refute" => is_stray = false,
+            b"where" if word.place.start < variable.place.start => return true,
+            text if text == variable.text && word.used_as != variable.used_as => return true,
+            _ => {}
+        }
+    }
+    is_stray
+}
+
+/// What is said of a token, between those around it, in a line with a fault of this kind; nothing where the fault is not about it.
+fn said_of(
+    line: Faulty<'_>,
+    kind: FaultKind,
+    before: Word<'_>,
+    word: Word<'_>,
+    behind: Word<'_>,
+) -> &'static str {
+    match kind {
+        FaultKind::FreeParam if is_free(line, word) => "`{}` is not in the header",
+        FaultKind::OwnBound if word.uses() && line.declaring(word.text).is_some() =>
+            "the trait itself",
+        FaultKind::LoadedAuto if before.used_as == "@own" => "an auto trait has none",
+        FaultKind::BuiltIn if word.used_as == "@trait" => "an impl of `{}` cannot be written",
+        FaultKind::StrayVariable if word.class == b'?' && is_stray(line, word) =>
+            "`{}` is a variable",
+        FaultKind::RefutesParams if word.declares() => "`{}` is a parameter",
+        FaultKind::BadDyn => item_fault(line, before, word, behind),
+        _ => "",
+    }
+}
+
+/// Tells of the first token of a line that a fault of this kind is about, and whether there is one.
+fn tell_word(line: Faulty<'_>, kind: FaultKind, telling: &mut Telling) -> bool {
+    for three in line.words.windows(3) {
+        if let [before, word, behind] = three {
+            let said = said_of(line, kind, *before, *word, *behind);
+            if !said.is_empty() {
+                let shown = Piece::Name(name_of(word.text));
+                telling.mark(line.span(*word), with_one(said, shown));
+                return true;
+            }
+        }
+    }
+    false
+}
+
+/// Tells of the type for which an auto trait is implemented, and whether it is found.
+fn tell_foreign_auto(line: Faulty<'_>, telling: &mut Telling) -> bool {
+    let alloc = telling.alloc();
+    let seeing = seeing_crate(alloc, line);
+    let parts = parts_of_impl(alloc, line.file.line(line.number));
+    let (Some(Some(seeing)), Some(Some(parts))) = (telling.granted(seeing), telling.granted(parts))
+    else {
         return false;
     };
-    let Some(owner) = hidden_owner(workspace, seeing, used) else {
-        return false;
-    };
-    tell_owner(line.number, workspace, seeing, owner, used, telling);
+    let own = Piece::Name(name_in(line.workspace, seeing));
+    telling.mark(
+        on_line(line.number, parts.subject),
+        with_one("no struct of crate `{}`", own),
+    );
+    telling.mark_beside(on_line(line.number, parts.bound), plain("an auto trait"));
     true
 }
 
-/// What the lines above a faulty line give.
-fn above(alloc: Global, text: &[u8], file: &SourceFile<'_>, line: u32) -> Option<Workspace> {
-    let end = file.line_start(line).min(text.len());
-    match parse(alloc, &text[..end]) {
-        Ok(workspace) => Some(workspace),
-        Err(_) => None,
-    }
-}
-
-/// Tells of the token of a line that a fault is about, by the lines above it, and whether there is one.
-fn tell_token(
+/// Tells of the part of a line that a fault is about, by its tokens and what the lines above it give, and whether it is found.
+fn tell_part(
     file: &SourceFile<'_>,
     fault: TextFault,
+    words: &[Word<'_>],
     workspace: &Workspace,
     telling: &mut Telling,
 ) -> bool {
-    let read = faulty_line(telling.alloc(), file, fault.line);
-    let Some(Some(line)) = telling.granted(read) else {
-        return false;
+    let line = Faulty {
+        file,
+        number: fault.line,
+        words,
+        workspace,
     };
     match fault.kind {
-        FaultKind::Taken => tell_taken(&line, workspace, telling),
-        FaultKind::Unknown => tell_unknown(file, &line, workspace, telling),
-        FaultKind::Hidden => tell_hidden(file, &line, workspace, telling),
-        _ => false,
+        FaultKind::Taken => tell_taken(line, telling),
+        FaultKind::Unknown => tell_unknown(line, telling),
+        FaultKind::Hidden => tell_hidden(line, telling),
+        FaultKind::OtherSort => tell_other_sort(line, telling),
+        FaultKind::ForeignAuto => tell_foreign_auto(line, telling),
+        FaultKind::Limit => tell_passed(line, telling),
+        _ => tell_word(line, fault.kind, telling),
     }
 }
 
-/// Whether more is known of the faults of this kind than their line: then the lines above it are read.
-fn reads_above(kind: FaultKind) -> bool {
-    matches!(
-        kind,
-        FaultKind::Taken | FaultKind::Unknown | FaultKind::Hidden
-    )
-}
-
-/// Tells of the token that a fault is about, and whether it is found.
-fn tell_found(text: &[u8], file: &SourceFile<'_>, fault: TextFault, telling: &mut Telling) -> bool {
-    if reads_above(fault.kind) {
-        return match above(telling.alloc(), text, file, fault.line) {
-            Some(workspace) => tell_token(file, fault, &workspace, telling),
-            None => false,
-        };
+/// Tells of the part of a line that a fault is about, by the grammar and by the lines above it, and whether it is found.
+fn tell_written(
+    text: &[u8],
+    file: &SourceFile<'_>,
+    fault: TextFault,
+    telling: &mut Telling,
+) -> bool {
+    let alloc = telling.alloc();
+    let read = read_words(alloc, file.line(fault.line));
+    let Some(read) = telling.granted(read) else {
+        return false;
+    };
+    if fault.kind == FaultKind::Syntax {
+        return tell_unwritten(fault.line, &read, telling);
     }
-    let line = file.line(fault.line);
-    match fault.kind {
-        FaultKind::OtherByte => tell_other_byte(fault.line, line, telling),
-        FaultKind::Syntax => tell_other_space(fault.line, line, telling),
-        FaultKind::Misplaced => tell_misplaced(file, fault.line, telling),
-        _ => false,
+    let end = file.line_start(fault.line).min(text.len());
+    match parse(alloc, &text[..end]) {
+        Err(_) => false,
+        Ok(workspace) => tell_part(file, fault, &read.words, &workspace, telling),
     }
 }
 
-/// Marks the token that a fault is about, and tells what follows; where it is not found, marks the whole line.
+/// Marks what a fault is about, and tells what follows; where it is not found, marks the whole line.
 pub(crate) fn tell_offence(
     text: &[u8],
     file: &SourceFile<'_>,
     fault: TextFault,
     telling: &mut Telling,
 ) {
-    if !tell_found(text, file, fault, telling) {
+    let is_found = match fault.kind {
+        FaultKind::OtherByte => tell_other_byte(fault.line, file.line(fault.line), telling),
+        FaultKind::Misplaced => tell_misplaced(file, fault.line, telling),
+        FaultKind::Limit if text.len() > TEXT_LIMIT => tell_long_text(file, fault.line, telling),
+        _ => tell_written(text, file, fault, telling),
+    };
+    if !is_found {
         let whole = whole_line(file.line(fault.line));
         telling.mark(on_line(fault.line, whole), plain(""));
     }

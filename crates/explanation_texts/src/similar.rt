@@ -3,12 +3,16 @@
 use crate::items::{Name, name_of};
 use diagnostics::{TYPE_LIMIT, cut_text};
 use std::alloc::{AllocError, Global};
-use strsim::levenshtein;
+use strsim::osa_distance;
 use workspace::Workspace;
 
-/// How many edits a name that is alike may be away: one for each three bytes, and at least one, as in the original.
+/// How many edits a name that is alike may be away: one for each three bytes, and at least one, as in the original. One letter is like nothing.
 fn near(name: &str) -> usize {
-    (name.len() / 3).max(1)
+    if name.len() < 2 {
+        0
+    } else {
+        (name.len() / 3).max(1)
+    }
 }
 
 /// The name that is most like another one so far.
@@ -18,10 +22,10 @@ struct Nearest<'w> {
     distance: usize,
 }
 
-/// How many edits a name is away.
+/// How many edits a name is away. Two letters that change places are one.
 fn edits(alloc: Global, wanted: &str, name: &[u8]) -> Result<usize, AllocError> {
     let other = cut_text(alloc, name, TYPE_LIMIT)?;
-    levenshtein(alloc, wanted, other.as_str())
+    osa_distance(alloc, wanted, other.as_str())
 }
 
 /// Compares one more name.
@@ -69,4 +73,39 @@ pub(crate) fn similar_name<'w>(
 ) -> Result<Option<Name<'w>>, AllocError> {
     let wanted = cut_text(alloc, wanted, TYPE_LIMIT)?;
     nearest_name(alloc, workspace, wanted.as_str())
+}
+
+/// The words of the grammar that stand outside types.
+static WORDS: [&str; 15] = [
+    "crate",
+    "uses",
+    "fundamental",
+    "struct",
+    "auto",
+    "trait",
+    "impl",
+    "for",
+    "where",
+    "prove",
+    "refute",
+    "in",
+    "later",
+    "supers",
+    "const",
+];
+
+/// The word of the grammar that is most like this one, if one is near.
+pub(crate) fn similar_word(
+    alloc: Global,
+    wanted: &[u8],
+) -> Result<Option<Name<'static>>, AllocError> {
+    let wanted = cut_text(alloc, wanted, TYPE_LIMIT)?;
+    let mut best = Nearest {
+        name: None,
+        distance: near(wanted.as_str()).saturating_add(1),
+    };
+    for word in &WORDS {
+        best = compare(alloc, best, wanted.as_str(), word.as_bytes())?;
+    }
+    Ok(best.name)
 }
