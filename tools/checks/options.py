@@ -167,7 +167,7 @@ def try_help(tally: Tally) -> None:
         ended = run([word])
         is_good = ended.status == 0 and ended.said == "" and ended.output.startswith("usage: ./celtisdarts [DEPTH] [OPTION ..] [FILE ..]\n")
         tally.expect(word, is_good, ended)
-    for option in ("--explain", "--json", "--color", "--check", "--ask", "--with", "--file", "--build", "--version", "--help", "--"):
+    for option in ("--explain", "--json", "--proof", "--color", "--check", "--ask", "--with", "--file", "--build", "--version", "--help", "--"):
         tally.expect(f"help on {option}", f"\n  {option} " in run(["--help"]).output, "it is not listed")
 
 
@@ -203,6 +203,9 @@ def try_mistakes(tally: Tally, room: Room) -> None:
         "--with=": "an empty word is the name of no file",
         "--file": "`--file` needs a word behind it",
         "--explain --json good.txt 8": "`--json` takes one text, and here are 2 files",
+        "--proof": "`--proof` needs a word behind it",
+        "--proof svg good.txt": "`--proof` takes dot, and not `svg`",
+        "--proof dot good.txt 8": "`--proof` takes one text, and here are 2 files",
         "--check --file a good.txt 8": "`--file` names one text, and here are 2 files",
         "--build 8": "`--build` takes no other word",
         "8 --build": "`--build` takes no other word",
@@ -478,7 +481,24 @@ def try_with_json(tally: Tally, room: Room) -> None:
     rows = [row for row in explained.output.splitlines() if not row.startswith(("crate", "prove"))]
     tally.expect("what is rendered", rendered.splitlines() == rows, rendered)
     ended = room.run("--explain --json --with fault.txt good.txt")
-    tally.expect("a fault in front as JSON", json.loads(ended.output)["answer"] == "fault.txt: line 3: fault 2", ended)
+    told = json.loads(ended.output)
+    tally.expect("a fault in front as JSON", told["answer"] == "fault.txt: line 3: fault 2", ended)
+    parts = {"answered": "line", "line": 3, "file": "fault.txt", "kind": "fault", "fault": 2}
+    tally.expect("the parts of a fault in front", told["parts"] == parts, ended)
+
+
+def try_proof(tally: Tally, room: Room) -> None:
+    """A proof as a picture: a node for each row, and an edge to each premise."""
+    ended = room.run("--proof dot --with front.txt behind.txt")
+    nodes = re.findall(r'^    (\w+) \[label="(.*)"\];$', ended.output, re.M)
+    edges = re.findall(r"^    (\w+) -> (\w+);$", ended.output, re.M)
+    said = dict(nodes)
+    wanted = ("u8: Named\\nimpl at line 3", "u8: Display\\nimpl at line 3 of front.txt")
+    tally.expect("a proof as a picture", ended.status == 0 and wanted in [(said[above], said[below]) for above, below in edges], ended)
+    is_whole = ended.output.startswith("digraph proofs {\n") and ended.output.endswith("}\n") and len(nodes) == len(said)
+    tally.expect("a picture, whole", is_whole, ended)
+    ended = room.run("--proof=dot good.txt")
+    tally.expect("a picture of no proof", ended.status == 0 and "label" not in ended.output and ended.output.endswith("}\n"), ended)
 
 
 def try_without_python(tally: Tally, room: Room, folder: Path) -> None:
@@ -625,6 +645,7 @@ def check(told: common.Tally, _: argparse.Namespace) -> None:
         try_with(tally, room)
         try_with_explained(tally, room)
         try_with_json(tally, room)
+        try_proof(tally, room)
         try_terminal(tally, room)
         try_full_device(tally, room)
         try_refused_output(tally, room)

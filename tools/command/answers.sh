@@ -180,6 +180,16 @@ name_files() {
     return 1
 }
 
+# Draws the proofs in what was told, for `dot`.
+draw_proofs() {
+    if python=$(command -pv python3 || command -v python3); then
+        "$python" -I -S "$here/tools/command/proof_dot.py" < "$room/$told"
+        return
+    fi
+    say "--proof needs the command 'python3'"
+    return 1
+}
+
 # Holds the kept answer to what is expected of the text.
 check_answer() {
     awk -f "$here/tools/command/expected.awk" of=parts "$room/parts.here" of=text "$room/texts/$number" of=answer "$room/answer" >&2
@@ -194,12 +204,16 @@ check_answer() {
 write_kept() {
     keep_answer "$@"
     { cat "$room/parts" && note_part "$(name_of "${title:-$file}")"; } > "$room/parts.here"
+    told=answer
     if [ -s "$room/parts" ]; then
         name_files > "$room/named" || exit 3
-        cat "$room/named" 2> /dev/null || end_output
-    else
-        cat "$room/answer" 2> /dev/null || end_output
+        told=named
     fi
+    if [ -n "$proof" ]; then
+        draw_proofs > "$room/drawn" || exit 3
+        told=drawn
+    fi
+    cat "$room/$told" 2> /dev/null || end_output
     [ -z "$checks" ] || [ "$status" -ne 0 ] || check_answer
 }
 
@@ -303,7 +317,7 @@ answer_texts() {
     fi
     find_program || need_toolchain
     [ "$inputs" -eq 0 ] || [ ! -t 0 ] || say "reading the text from the terminal, until Ctrl-D on a line by itself"
-    if [ -z "$program" ] || [ -n "$checks" ] || [ -n "$fronts" ]; then keep_texts "$@"; fi
+    if [ -z "$program" ] || [ -n "$checks" ] || [ -n "$fronts" ] || [ -n "$proof" ]; then keep_texts "$@"; fi
     [ -n "$program" ] || [ -n "$explains" ] || [ -z "$(ls "$room/texts")" ] || try_unproved "$room/texts" "$depth"
     worst=0
     number=0
