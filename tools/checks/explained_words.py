@@ -19,9 +19,9 @@ is not cut:
     a where-clause of such impls, or an open goal, that "holds"           `prove` answers `yes`
     "downstream crates may implement" a trait                             a new crate that uses the asker writes the impl, with a struct of its
                                                                           own for unknowns: no fault 6, 11 or 12, and it is no orphan;
-                                                                          and `prove` does not answer `yes`
+                                                                          and `prove` does not answer `yes`, if all crates are accepted
     "upstream crates may add a new impl"                                  a section of the crate of the trait has it: none of these faults, and
-                                                                          it is `compatible`; and `prove` does not answer `yes`
+                                                                          it is `compatible`; and `prove` does not answer `yes`, if so
 
 What is asked is asked of the other program, whose answers are proved. A case is a text. The line before the last tells how many claims of
 each kind there were.
@@ -217,6 +217,7 @@ class Claims:
         self.text = text
         self.asked: list[Claim] = []
         self.written: list[Written] = []
+        self.are_accepted = True
         self.wrong: list[str] = []
         self.held: Counter[str] = Counter()
 
@@ -248,7 +249,8 @@ class Claims:
         added, open_goal = ADDED.match(message), HOLDS.match(message) or NOT_REFUSED.match(message)
         if added:
             self.written.extend(filter(None, [written(asker.crate, added)]))
-            self.ask("prove", asker, f"{added[3]}: {added[2]}", is_not_yes, message)
+            if self.are_accepted:
+                self.ask("prove", asker, f"{added[3]}: {added[2]}", is_not_yes, message)
             return f"{added[3]}: {added[2]}"
         if open_goal:
             if " holds" in message:
@@ -379,7 +381,9 @@ class Words:
         if status:
             return None
         claims = Claims(Text(text.decode("latin-1").split("\n")))
-        for it in read_lines(output):
+        lines = read_lines(output)
+        claims.are_accepted = all(it.answer.endswith(": accepted") for it in lines if it.answer.startswith("crate "))
+        for it in lines:
             if it.message:
                 claims.told(it.answer, it.message)
         claims.ask_again(self.answering, depth)
