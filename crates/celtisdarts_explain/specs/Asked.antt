@@ -1,4 +1,4 @@
--- What is checked and asked of a crate, as its session takes it.
+-- The checks and queries of a crate, as its session takes them.
 use Rattle.std.specs.Prelude.{ℕ}
 use Rattle.text_definitions.specs.Declarations.{Declarations, Question}
 use Rattle.sessions.specs.Releases.{IsSectionOf}
@@ -13,7 +13,7 @@ abbrev pub IsCheckOf : Declarations → ℕ → Check → Type 0
 IsCheckOf d c (Later k changed) = IsSectionOf d c k
 IsCheckOf d c (Supers asked) = Unit {0}
 
--- Question number n, counted from 1, asks this in crate c.
+-- Query number n, counted from 1, is of this kind and of crate c.
 abbrev pub IsAskedOf : Declarations → ℕ → ℕ → Asked → Type 0
 IsAskedOf d c n (Prove asker) = (q : Question) × AsksProof d c n q
 IsAskedOf d c n (Refute asker) = (q : Question) × AsksRefutation d c n q

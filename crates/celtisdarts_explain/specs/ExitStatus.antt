@@ -1,4 +1,4 @@
--- What the program tells its caller by its exit status.
+-- What the exit status says.
 use Rattle.std.specs.Prelude.{ℕ, Bool, Ok, Err, if◌then◌else◌}
 use Rattle.std.specs.declared.result.Result.{Result}
 use Rattle.coherence.specs.declared.status.Status.{Status}
@@ -7,7 +7,7 @@ use Rattle.celtisdarts_explain.specs.declared.Ending.{Ending}
 use Rattle.celtisdarts_explain.specs.declared.Failure.{Failure}
 use Rattle.celtisdarts_explain.specs.declared.Failure.TheVariants.{Words, Run}
 
--- Where lines were written: of a faulty text, or answers, which `--check` may refuse.
+-- If lines were written: for a faulty text, or for answers, which `--check` may refuse.
 abbrev pub written_status : Status → Bool → ℕ
 written_status TextFault refused = 1
 written_status Done refused = if refused then 4 else 0

@@ -1,4 +1,4 @@
--- What is handed to the words as checked, beside what is claimed of walks.
+-- What the texts state as checked, in addition to the claims of traces.
 use Rattle.std.specs.Prelude.{◌≡◌, ℕ, true}
 use Rattle.type_terms.specs.declared.ImplId.{ImplId}
 use Rattle.text_definitions.specs.Declarations.{Question}
@@ -10,10 +10,10 @@ use Rattle.session_walks.specs.Rules.{HasRulesByBoth}
 use Rattle.session_walks.specs.declared.walks.PairWalk.{PairWalk}
 use Rattle.session_walks.specs.declared.walks.ProofWalk.{ProofWalk}
 
--- Steps that are shown as checked are a proof of what the question with this number asks.
+-- Steps that are displayed as checked are a proof of the bound of the query with this number.
 abbrev pub ShowsProofOf : Subject → ℕ → ProofWalk → Type 0
 ShowsProofOf s n p = (q : Question) × AsksProof s.declarations s.of_crate n q × (p.is_checked ≡ true → AreProofOfQuestion s.declarations q s.terms p.steps.items)
 
--- What is shown as checked that two impls have in common, both of them conclude.
+-- If the common instance of two impls is displayed as checked, both of them conclude it.
 abbrev pub ShowsCommonOf : Subject → ImplId → ImplId → PairWalk → Type 0
 ShowsCommonOf s i j p = p.is_checked ≡ true → HasRulesByBoth (view_in s.declarations s.of_crate) (term_of s.terms p.common) i.index j.index

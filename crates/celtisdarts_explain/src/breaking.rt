@@ -1,4 +1,4 @@
-//! What is said of a later version that may break users.
+//! The text for a section that is breaking.
 
 use diagnostics::{Diagnostic, Level};
 use explanation_texts::{
@@ -8,14 +8,14 @@ use session_walks::BreakingCause;
 use std::alloc::{AllocError, Global};
 use type_terms::{CrateId, TraitId};
 
-/// The trait of the impl of a section with a number.
+/// The trait of the impl of a section with this number.
 fn added_trait(texts: Texts<'_>, section: u32, number: u32) -> Option<TraitId> {
     let place = (number as usize).checked_sub(1)?;
     let added = texts.workspace.later_impls_of(section).get(place)?;
     Some(added.entry.header.trait_id)
 }
 
-/// That users rely on what a trait is not implemented for, since it is fundamental, or else since it is an auto trait.
+/// The sentence that users rely on the trait not being implemented, because it is fundamental or an auto trait.
 fn relied_said(texts: Texts<'_>, relied: Option<TraitId>) -> Sentence<'_> {
     let Some(id) = relied else {
         return plain("users rely on what the trait is not implemented for");
@@ -28,7 +28,7 @@ fn relied_said(texts: Texts<'_>, relied: Option<TraitId>) -> Sentence<'_> {
     with_one(template, Piece::Name(trait_name(texts, id)))
 }
 
-/// What is said at the header of an impl of this trait.
+/// The label at the header of an impl of this trait.
 fn label_of<'w>(
     texts: Texts<'w>,
     crate_id: CrateId,
@@ -48,7 +48,7 @@ fn label_of<'w>(
     }
 }
 
-/// What the cause means, where that is to be said.
+/// What the cause means, if it needs an explanation.
 fn meaning(cause: BreakingCause) -> Option<&'static str> {
     match cause {
         BreakingCause::Orphan => None,
@@ -59,7 +59,7 @@ fn meaning(cause: BreakingCause) -> Option<&'static str> {
     }
 }
 
-/// What is said of the impl of a section with a number, from 1, that a later version of a crate may not add.
+/// The diagnostic for the impl of a section that a later version of a crate may not add. Impls count from 1.
 pub(crate) fn breaking(
     alloc: Global,
     texts: Texts<'_>,

@@ -1,4 +1,4 @@
-//! Why what is checked of a crate is answered as it is.
+//! Explanations of checks.
 
 ghost use Rattle.celtisdarts_explain.specs.Asked.{IsCheckOf};
 ghost use Rattle.sessions.specs.Releases.{IsSectionOf};
@@ -14,8 +14,7 @@ use std::alloc::Global;
 use type_terms::{CrateId, Fault, ImplId};
 use workspace::Check;
 
-/// Why a later version of a crate is answered as it is: why the first impl that breaks users may not be added, and nothing where it is
-/// compatible.
+/// Explains the answer for a section: why the first breaking impl may not be added. `None` if the section is compatible.
 fn explain_later(
     alloc: Global,
     texts: Texts<'_>,
@@ -36,7 +35,7 @@ fn explain_later(
     Ok(Some(told))
 }
 
-/// Why what is checked of the session's crate is answered as it is.
+/// Explains the answer for a check of the session's crate. The session stays as it was, after a fault too.
 pub(crate) fn explain_checked(
     alloc: Global,
     texts: Texts<'_>,

@@ -1,7 +1,7 @@
-//! Each line of an answer, explained.
+//! Explanations of all lines of an output.
 //!
-//! What is said of a crate is read off its verdict, what is said of a question off a walk of its goal (`goal_walk`), which a session
-//! makes. Whether a sentence is true is no part of a contract here.
+//! The text for a crate is made from its verdict, and the text for a query from a trace of its goal (`goal_walk`), which a session makes.
+//! One session for each crate explains all its lines. No contract says that a sentence is true.
 
 ghost use Rattle.std.specs.Prelude.{◌≡◌, ◌<◌, length, IfSome, OnOk};
 ghost use Rattle.sessions.specs.SeenViews.{IsLeftView};
@@ -24,7 +24,7 @@ use text_reader::{TextError, parse};
 use type_terms::{CrateId, Fault, ImplId};
 use workspace::{ENTRY_LIMIT, Workspace};
 
-/// Room for so many diagnostics, with none in it.
+/// Room for this many diagnostics, with none in it.
 fn reserve(count: usize, found: &mut Vec<Option<Diagnostic>>) -> Result<(), AllocError> {
     for _line in 0..count {
         found.push(None)?;
@@ -32,24 +32,24 @@ fn reserve(count: usize, found: &mut Vec<Option<Diagnostic>>) -> Result<(), Allo
     Ok(())
 }
 
-/// Puts the diagnostic of a line where it belongs.
+/// Stores the diagnostic of a line.
 fn put(found: &mut Vec<Option<Diagnostic>>, line: usize, told: Option<Diagnostic>) {
     if let Some(place) = found.get_mut(line) {
         *place = told;
     }
 }
 
-/// How many lines crates have: each but `core` has one.
+/// How many lines crates have: one for each but `core`.
 fn crate_lines(workspace: &Workspace) -> usize {
     workspace.crates().len().saturating_sub(1)
 }
 
-/// Where the line of the first question stands.
+/// The index of the line of the first query.
 fn first_question(workspace: &Workspace) -> usize {
     crate_lines(workspace).saturating_add(workspace.checks().len())
 }
 
-/// Why a crate is refused; nothing where it is accepted.
+/// Explains why a crate is refused. `None` if it is accepted.
 fn explain_verdict(
     alloc: Global,
     texts: Texts<'_>,
@@ -84,7 +84,7 @@ pub(crate) fn seen_impls(
     Ok(seen)
 }
 
-/// Explains what is checked of the session's crate.
+/// Explains the checks of the session's crate.
 fn explain_checks(
     alloc: Global,
     texts: Texts<'_>,
@@ -109,7 +109,7 @@ fn explain_checks(
     Ok(())
 }
 
-/// Explains the questions of the session's crate.
+/// Explains the queries of the session's crate.
 fn explain_questions(
     alloc: Global,
     texts: Texts<'_>,
@@ -143,7 +143,7 @@ fn explain_questions(
     Ok(())
 }
 
-/// Explains what is checked of the session's crate, and its questions.
+/// Explains the checks and the queries of the session's crate.
 fn explain_below(
     alloc: Global,
     texts: Texts<'_>,
@@ -188,7 +188,7 @@ fn explain_lines(
     explain_below(alloc, texts, session, id, depth, spending, found)
 }
 
-/// Explains the lines of a crate, by one session, which sees the crate's view: it is made behind the view that is kept, and leaves its own.
+/// Explains the lines of a crate with one session. It begins with the view that is stored, and leaves its own.
 fn explain_crate(
     alloc: Global,
     texts: Texts<'_>,
@@ -261,11 +261,11 @@ fn explain_text(
     explain_crates(alloc, texts, limits, found)
 }
 
-/// Finds for each line of a text's answer why it is as it is: a diagnostic for each crate but `core`, then for each `later` and `supers` line,
-/// then for each question, in their order; of a text with a fault that of its one line. A line of which nothing is said has none.
+/// Finds the explanation of each line of a text's output: for each crate but `core`, then for each `later` and `supers` line, then for each
+/// query, in their order. A text with a fault has one line. A line without an explanation has `None`.
 ///
-/// `file` is the same text with its name. What was found before an error stays. The error says that memory was refused, or that a table
-/// of a session was full.
+/// `file` is the same text with its name. What was found before an error stays. Fails with `Memory` if memory is refused, or with `Full` if
+/// a table of a session is full.
 pub fn explain(
     alloc: Global,
     file: &SourceFile<'_>,

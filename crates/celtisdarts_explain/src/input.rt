@@ -1,4 +1,4 @@
-//! The text that comes in.
+//! The text that is read.
 
 ghost use Rattle.std.specs.Prelude.{◌≤◌, length, IfOk};
 
@@ -6,10 +6,10 @@ use coherence::RunFault;
 use std::alloc::Global;
 use std::io::Read;
 
-/// How many bytes are read at most: one more than a text may have, so that a longer one is seen to be too long.
+/// How many bytes are read at most: one more than a text may have, so that a text that is too long can be detected.
 pub const READ_LIMIT: usize = 1_048_577;
 
-/// What a reader gives, as far as a text may go and one byte further.
+/// What a reader gives, up to `READ_LIMIT` bytes. Fails with `Read` or `Memory`.
 pub fn read_text<R: Read>(alloc: Global, reader: &mut R) -> Result<Vec<u8>, RunFault>
     ensures { IfOk result (λ text. length text.items ≤ READ_LIMIT) }
 {

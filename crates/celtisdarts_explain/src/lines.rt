@@ -1,8 +1,8 @@
-//! The lines of the answer.
+//! The lines of the output.
 
 ghost use Rattle.std.specs.Prelude.{◌↔◌, ◌≤◌, ◌<◌, IsTrue, IfSome, length};
 
-/// The first line of a text, without its end, and what stands behind it; none where no line ends.
+/// The first line of a text, without its end, and what comes after it. `None` if no line ends.
 pub fn split_line(text: &[u8]) -> Option<(&[u8], &[u8])>
     ensures { IfSome result (λ parts. length parts.1.now < length text.now) }
 {
@@ -10,13 +10,13 @@ pub fn split_line(text: &[u8]) -> Option<(&[u8], &[u8])>
     Some((&text[..end], &text[end + 1..]))
 }
 
-/// The last words of the best answer of each kind but `yes`, behind which values may stand.
+/// The last words of the best answer of each kind but `yes`, which values may follow.
 const BEST_ENDS: [&[u8]; 4] = [b": accepted", b": compatible", b": held", b": no"];
 
-/// What stands in a line that says yes, and in no other: what names items has no colon.
+/// It is in each line that says yes, and in no other, because names have no colon.
 const YES: &[u8] = b": yes";
 
-/// Whether a line of the answer is the best of its kind: `accepted`, `compatible`, `held`, `yes` or `no`.
+/// Whether a line of the output is the best of its kind: `accepted`, `compatible`, `held`, `yes` or `no`.
 pub fn is_best(line: &[u8]) -> bool {
     for end in &BEST_ENDS {
         if line.ends_with(*end) {

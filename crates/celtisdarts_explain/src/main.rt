@@ -1,8 +1,13 @@
-//! Answers the text on standard input, or that of a file, as `celtisdarts` does, and says why after each line.
+//! Answers the text on standard input or in a file, as `celtisdarts` does, and explains each line.
 //!
-//! The words are `DEPTH [--json] [--color auto|always|never] [--file NAME] [--check] [FILE]`, in any order but that `DEPTH`, from 1 to 255,
-//! stands before `FILE`. Exit statuses: 0 where the answers were written, 1 where the text has a fault, 2 where the words are no good ones,
-//! 3 where reading, writing or memory failed before all answers were written, and, with `--check`, 4 where an answer is not the best one.
+//! The arguments are `DEPTH [--json] [--color auto|always|never] [--file NAME] [--check] [FILE]`. `DEPTH`, from 1 to 255, comes before
+//! `FILE`, and the other order is free. Exit statuses:
+//!
+//! - 0: the answers were written.
+//! - 1: the text has a fault.
+//! - 2: the arguments are wrong.
+//! - 3: reading, writing or memory failed before all answers were written.
+//! - 4: with `--check`, some answer is not the best of its kind.
 #![tactic(auto)]
 
 ghost use Rattle.std.specs.Prelude.{◌≡◌};
@@ -38,14 +43,14 @@ use type_terms::Fault;
 /// How many handles of each kind a session holds at most.
 const HANDLES: u32 = 16_777_216;
 
-/// What is printed where the words are no good ones.
+/// What is printed if the arguments are wrong.
 const USAGE: &str =
     "usage: celtisdarts_explain DEPTH [--json] [--color auto|always|never] [--file NAME] [--check] [FILE]";
 
 /// Why there is no output, or not all of it.
 #[derive(Clone, Copy)]
 enum Failure {
-    /// The words are no good ones.
+    /// The arguments are wrong.
     Words,
     /// The run stopped, or a request for memory was refused before it.
     Run(RunFault),
@@ -55,11 +60,11 @@ enum Failure {
 #[derive(Clone, Copy)]
 struct Ending {
     status: Status,
-    /// Whether good answers alone are asked for, and one is another.
+    /// Whether `--check` is given, and some answer is not the best of its kind.
     is_refused: bool,
 }
 
-/// The words that are left, kept.
+/// The arguments that are left, in a vector.
 fn keep_words(alloc: Global, args: env::Args) -> Result<Vec<String>, AllocError> {
     let mut words = Vec::new(alloc);
     for word in args {
@@ -68,7 +73,7 @@ fn keep_words(alloc: Global, args: env::Args) -> Result<Vec<String>, AllocError>
     Ok(words)
 }
 
-/// The words behind the program's name.
+/// The arguments after the program's name.
 fn command_words(rt: &HostRuntime) -> Result<Vec<String>, Failure> {
     match env::args(rt) {
         Err(e) => {
@@ -102,7 +107,7 @@ fn text_asked(rt: &HostRuntime, file: Option<&str>) -> Result<Vec<u8>, RunFault>
     }
 }
 
-/// Whether there are colours where answers are written so.
+/// Whether there are colours in what is written here.
 fn has_colors<W: IsTerminal>(options: Options<'_>, writer: &W) -> bool {
     match options.color {
         ColorConfig::Always => true,
@@ -111,7 +116,7 @@ fn has_colors<W: IsTerminal>(options: Options<'_>, writer: &W) -> bool {
     }
 }
 
-/// What was missing where explaining ended so.
+/// What was missing if the explanations ended like this.
 fn lack_of(ended: Result<(), Fault>) -> Option<Lack> {
     match ended {
         Ok(()) => None,
@@ -120,7 +125,7 @@ fn lack_of(ended: Result<(), Fault>) -> Option<Lack> {
     }
 }
 
-/// What is found for the lines of the answer, each at its place, and what was missing if that is not all.
+/// The explanation of each line of the output, by index, and what was missing if they are not complete.
 fn explanations_of(
     alloc: Global,
     file: Option<&SourceFile<'_>>,
@@ -135,7 +140,7 @@ fn explanations_of(
     (found, lack)
 }
 
-/// Writes the lines of the answer, each with what is said of it.
+/// Writes the lines of the output, each with its explanation.
 fn tell(
     rt: &HostRuntime,
     options: Options<'_>,
@@ -174,7 +179,7 @@ fn ending_of(ran: Result<Status, RunFault>, is_check: bool, told: Told) -> Resul
     }
 }
 
-/// Answers a text: first all lines are there, and then each is explained as it is written.
+/// Answers a text. All lines are made first, and then they are explained and written.
 fn answer_text(
     rt: &HostRuntime,
     options: Options<'_>,
@@ -190,7 +195,7 @@ fn answer_text(
     }
 }
 
-/// Answers the text that is asked for.
+/// Answers the text in the file, or on standard input.
 fn answer_asked(rt: &HostRuntime, options: Options<'_>) -> Result<Ending, Failure> {
     match text_asked(rt, options.file) {
         Err(fault) => {
@@ -204,7 +209,7 @@ fn answer_asked(rt: &HostRuntime, options: Options<'_>) -> Result<Ending, Failur
     }
 }
 
-/// Answers the text that the words name.
+/// Answers the text that the arguments name.
 fn answer(rt: &HostRuntime) -> Result<Ending, Failure> {
     let words = command_words(rt)?;
     match read_words(&words) {
@@ -213,7 +218,7 @@ fn answer(rt: &HostRuntime) -> Result<Ending, Failure> {
     }
 }
 
-/// The exit status that tells how the program ended.
+/// The exit status for how the program ended.
 fn exit_status(ending: Result<Ending, Failure>) -> u8
     ensures { result ≡ exit_status ending }
 {

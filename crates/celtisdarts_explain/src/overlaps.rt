@@ -1,4 +1,4 @@
-//! What is said of two impls that overlap: an instance of both headers, and why no where-clause keeps them apart.
+//! The text for two impls that overlap: a common instance of both headers, and why no where-clause rules the overlap out.
 
 ghost use Rattle.std.specs.Prelude.{◌≡◌, IfOk};
 ghost use Rattle.celtisdarts_explain.specs.Told.{ShowsCommonOf};
@@ -22,22 +22,22 @@ use type_terms::{Fault, ImplId};
 #[derive(Clone, Copy)]
 struct Clause {
     id: ImplId,
-    /// Its number among those of its impl, from 0.
+    /// Its index among those of its impl, from 0.
     number: usize,
-    /// The place of its goal.
+    /// The index of its goal.
     place: usize,
 }
 
-/// Two impls that overlap, told.
+/// Two impls that overlap, rendered.
 struct Conflicting<'w> {
     later: ImplId,
     earlier: ImplId,
     common: Spoken,
-    /// Whether it was checked that both impls conclude it.
+    /// Whether it was checked that both impls conclude the common instance.
     is_checked: bool,
     story: Story<'w>,
     clauses: Vec<Clause>,
-    /// The header of the earlier impl, where the crate sees it.
+    /// The header of the earlier impl, if the crate sees it.
     header: Option<Spoken>,
     /// The depth limit with which the where-clauses were asked.
     depth: u32,
@@ -45,7 +45,7 @@ struct Conflicting<'w> {
     seen: Vec<ImplId>,
 }
 
-// Written, so that what owns one drops it by one call at each way out, and not field by field.
+// Hand-written so that the prover sees one drop call: docs/PROVING.md#drop.
 impl Drop for Conflicting<'_> {
     fn drop(self) {
         let Conflicting {
@@ -87,7 +87,7 @@ fn clauses_of(
     Ok(clauses)
 }
 
-/// The header of an impl, where the crate sees it.
+/// The header of an impl, rendered, if the crate sees it.
 fn speak_header(
     alloc: Global,
     texts: Texts<'_>,
@@ -109,7 +109,7 @@ fn speak_header(
     Ok(Some(spoken))
 }
 
-/// A pair's walk, told.
+/// Renders the trace of a pair. The caller must prove that both impls conclude the common instance, if it is displayed as checked.
 fn tell_pair<'w>(
     alloc: Global,
     texts: Texts<'w>,
@@ -158,7 +158,7 @@ fn span_of(texts: Texts<'_>, clause: Clause) -> Span {
     }
 }
 
-/// Tells why a where-clause does not keep the impls apart, with its place.
+/// Adds why a where-clause does not rule the overlap out, and marks it.
 fn tell_one(
     found: &Conflicting<'_>,
     clause: Clause,
@@ -173,7 +173,7 @@ fn tell_one(
     tell_clause(&found.story, clause.place, asking, telling)
 }
 
-/// What is said of an impl of `core`, which has no line.
+/// The sentence for an impl of `core`, which has no line.
 fn core_said<'s>(found: &'s Conflicting<'_>) -> Sentence<'s> {
     match &found.header {
         None => with_one(
@@ -187,7 +187,7 @@ fn core_said<'s>(found: &'s Conflicting<'_>) -> Sentence<'s> {
     }
 }
 
-/// Marks both headers, and tells of the earlier one where it has no line.
+/// Marks both headers, and adds a note for the earlier one if it has no line.
 fn tell_headers(found: &Conflicting<'_>, telling: &mut Telling) {
     let texts = found.story.texts;
     let earlier = impl_line(texts, found.earlier);
@@ -236,7 +236,7 @@ fn message_of<'s>(found: &'s Conflicting<'_>) -> Sentence<'s> {
     }
 }
 
-/// What is said of the overlap.
+/// The diagnostic for the overlap.
 fn diagnose(alloc: Global, found: &Conflicting<'_>) -> Result<Diagnostic, AllocError> {
     let message = message_of(found);
     let mut telling = Telling::begin(alloc, Level::Error, Some(ErrCode::E0119), message);
@@ -250,7 +250,7 @@ fn diagnose(alloc: Global, found: &Conflicting<'_>) -> Result<Diagnostic, AllocE
     telling.finish()
 }
 
-/// What is said of two impls that overlap.
+/// The diagnostic for two impls that overlap. The session stays as it was, after a fault too.
 pub(crate) fn overlap(
     alloc: Global,
     texts: Texts<'_>,

@@ -1,4 +1,4 @@
-//! The crates, checks and questions of a text, by their places.
+//! The crates, checks and queries of a text, by their indices.
 
 ghost use Rattle.std.specs.Prelude.{◌≡◌, ◌+◌, ◌<◌, length};
 ghost use Rattle.celtisdarts_explain.specs.Asked.{IsAskedOf, IsCheckOf};
@@ -13,7 +13,7 @@ pub(crate) fn crate_count(workspace: &Workspace) -> usize
     workspace.crates().len()
 }
 
-/// The crate at a place of the text.
+/// The crate at this index of the text.
 pub(crate) fn crate_at(workspace: &Workspace, place: usize) -> CrateId
     requires { place < length workspace.now.crates }
     ensures { result.index ≡ place }
@@ -28,7 +28,7 @@ pub(crate) fn check_count(workspace: &Workspace) -> usize
     workspace.checks().len()
 }
 
-/// What is checked at a place of the text, and of which crate.
+/// The check at this index of the text, and its crate.
 pub(crate) fn check_at(workspace: &Workspace, place: usize) -> (CrateId, Check)
     requires { place < length workspace.now.checks }
     ensures { IsCheckOf workspace.now result.0.index result.1 }
@@ -40,14 +40,14 @@ pub(crate) fn check_at(workspace: &Workspace, place: usize) -> (CrateId, Check)
     }
 }
 
-/// How many questions a text has.
+/// How many queries a text has.
 pub(crate) fn question_count(workspace: &Workspace) -> usize
     ensures { result ≡ length workspace.now.questions }
 {
     workspace.questions().len()
 }
 
-/// What is asked at a place of the text, and in which crate.
+/// The query at this index of the text, and its crate.
 pub(crate) fn question_at(workspace: &Workspace, place: usize) -> (CrateId, Asked)
     requires { place < length workspace.now.questions }
     ensures { IsAskedOf workspace.now result.0.index (place + 1) result.1 }
@@ -58,7 +58,7 @@ pub(crate) fn question_at(workspace: &Workspace, place: usize) -> (CrateId, Aske
     }
 }
 
-/// Whether something is checked of a crate, or a question asks in it.
+/// Whether a crate has checks or queries.
 pub(crate) fn is_asked(workspace: &Workspace, id: CrateId) -> bool {
     for place in 0..check_count(workspace) {
         if check_at(workspace, place).0.index == id.index {

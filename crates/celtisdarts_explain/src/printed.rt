@@ -1,4 +1,4 @@
-//! The lines of the answer as they are printed, with what is said of each.
+//! The lines of the output as they are printed, with their explanations.
 
 ghost use Rattle.std.specs.Prelude.{◌≤◌};
 
@@ -8,7 +8,7 @@ use std::alloc::{AllocError, Global};
 use std::io;
 use std::io::Write;
 
-/// How answers are shown.
+/// How answers are displayed.
 #[derive(Clone, Copy)]
 pub struct Shown {
     pub is_json: bool,
@@ -18,9 +18,9 @@ pub struct Shown {
 /// What was printed.
 #[derive(Clone, Copy)]
 pub struct Told {
-    /// Whether each line is the best of its kind.
+    /// Whether each answer is the best of its kind.
     pub are_best: bool,
-    /// Whether memory was refused for what was to be said of a line.
+    /// Whether memory was refused for an explanation.
     pub is_cut: bool,
 }
 
@@ -44,7 +44,7 @@ fn explanation(
     }
 }
 
-/// Writes parts, one behind the other.
+/// Writes parts, one after the other.
 fn write_parts<W: Write>(writer: &mut W, parts: &[&[u8]]) -> io::Result<()> {
     for part in parts {
         writer.write_all(*part)?;
@@ -70,7 +70,7 @@ fn write_bare<W: Write>(writer: &mut W, shown: Shown, line: &[u8]) -> io::Result
     }
 }
 
-/// Writes what is said of a line: as text below it, as JSON with the line in it.
+/// Writes an explanation: as text below its line, as JSON with the line in it.
 fn write_text<W: Write>(writer: &mut W, shown: Shown, line: &[u8], text: &[u8]) -> io::Result<()> {
     if shown.is_json {
         write_parts(writer, &[text, b"\n"])
@@ -114,7 +114,7 @@ fn found_at<'f>(
     Some((file?, diagnostic))
 }
 
-/// Writes the lines of the answer, each with what was found for it. Where the text's lines could not be kept, they stand alone.
+/// Writes the lines of the output, each with its explanation. If the text's lines could not be stored, they are written alone.
 fn write_answers<W: Write>(
     alloc: Global,
     writer: &mut W,
@@ -141,8 +141,8 @@ fn write_answers<W: Write>(
     Ok(told)
 }
 
-/// Writes the lines of the answer, each with what was found for it, and then what was missing if that is not all: memory for what was to
-/// be said of a line, or else what ended the explaining.
+/// Writes the lines of the output, each with its explanation. If explanations are missing, it adds why: memory was refused for one, or the
+/// reason for which they ended.
 pub fn write_told<W: Write>(
     alloc: Global,
     writer: &mut W,
@@ -164,7 +164,7 @@ pub fn write_told<W: Write>(
     Ok(told)
 }
 
-/// Why not all is explained.
+/// Why not all lines are explained.
 #[derive(Clone, Copy)]
 pub enum Lack {
     /// A request for memory was refused.
@@ -173,7 +173,7 @@ pub enum Lack {
     Full,
 }
 
-/// Writes that not all is explained. This takes no memory.
+/// Writes that not all lines are explained. It takes no memory.
 fn write_note<W: Write>(writer: &mut W, shown: Shown, lack: Lack) -> io::Result<()> {
     let message: &[u8] = match lack {
         Lack::Memory => b"no explanation: out of memory",

@@ -1,4 +1,4 @@
-//! What is said of a question that was answered yes.
+//! The text for a query that was answered `yes`: its proof, as the tree of the checked steps.
 
 ghost use Rattle.std.specs.Prelude.{ℕ};
 ghost use Rattle.celtisdarts_explain.specs.Told.{ShowsProofOf};
@@ -20,10 +20,10 @@ use type_terms::interner::Interner;
 /// How many rows a proof has at most.
 const ROW_LIMIT: usize = 128;
 
-/// What is said of a goal that holds, where no more is shown of it.
+/// The reason for a goal that holds, if no more of its proof is displayed.
 const NOT_SHOWN: &str = "holds; its proof is not shown";
 
-/// A proof with the references of its steps as texts.
+/// A proof with the trait references of its steps rendered.
 pub(crate) struct ToldProof<'w> {
     proof: &'w ProofWalk,
     story: Story<'w>,
@@ -31,7 +31,7 @@ pub(crate) struct ToldProof<'w> {
     goals: Vec<Spoken>,
 }
 
-// Written, so that what owns one drops it by one call at each way out, and not field by field.
+// Hand-written so that the prover sees one drop call: docs/PROVING.md#drop.
 impl Drop for ToldProof<'_> {
     fn drop(self) {
         let ToldProof {
@@ -42,7 +42,7 @@ impl Drop for ToldProof<'_> {
     }
 }
 
-/// The references of steps as texts.
+/// The trait references of steps, rendered.
 fn speak_steps(
     alloc: Global,
     cx: &Interner,
@@ -59,7 +59,8 @@ fn speak_steps(
     Ok(spoken)
 }
 
-/// A proof that a session found, told, with what is claimed of its walk.
+/// Renders a proof that a session found, with what is claimed of its trace. The caller must prove that the steps are a proof, if they are
+/// displayed as checked.
 pub(crate) fn tell_proof<'w>(
     alloc: Global,
     texts: Texts<'w>,
@@ -81,37 +82,37 @@ pub(crate) fn tell_proof<'w>(
     })
 }
 
-/// A step that is to be shown.
+/// A step that is to be displayed.
 #[derive(Clone, Copy)]
 struct Row {
     step: usize,
     depth: usize,
-    /// Whether it is one above, taken for granted.
+    /// Whether it is a goal above, which is assumed here.
     is_assumed: bool,
 }
 
-/// How far a proof is shown.
+/// How far a proof is displayed.
 #[derive(Drop)]
 struct Course {
-    /// The steps that were shown.
+    /// The steps that were displayed.
     shown: Vec<usize>,
-    /// The steps that are to be shown, the next one last.
+    /// The steps that are to be displayed, the next one last.
     left: Vec<Row>,
 }
 
-/// By what a step holds.
+/// Why a step holds.
 #[derive(Clone, Copy)]
 enum Reason {
-    /// No more is shown of it.
+    /// No more of it is displayed.
     NotShown,
-    /// It is the goal above.
+    /// It is a goal above.
     Assumed,
     ShownAbove,
     Clause,
     Supertrait,
     BuiltIn,
     Impl(ImplId),
-    /// The rule by which the search has it, of the goal at this place of the walk: the checker takes it for granted.
+    /// The rule by which the search has it, of the goal at this index of the trace. The checker assumes it.
     Searched(usize),
 }
 
@@ -126,7 +127,7 @@ impl Reason {
 }
 
 impl ToldProof<'_> {
-    /// The reference of a step, in a sentence.
+    /// The trait reference of a step, for a sentence.
     fn goal(&self, step: usize) -> Piece<'_> {
         match self.goals.get(step) {
             Some(spoken) => spoken.reference_piece(),
@@ -134,7 +135,7 @@ impl ToldProof<'_> {
         }
     }
 
-    /// By what a step holds that the checker takes for granted: a rule of the search, or it is not shown.
+    /// Why a step holds that the checker assumes: a rule of the search, or it is not displayed.
     fn assumed_by(&self, step: usize) -> Reason {
         match self.proof.shown.get(step) {
             Some(shown) if !self.story.candidates(shown.place).is_empty() => {
@@ -144,7 +145,7 @@ impl ToldProof<'_> {
         }
     }
 
-    /// By what a step holds.
+    /// Why a step holds.
     fn reason_by(&self, step: usize) -> Reason {
         let Some(entry) = self.proof.steps.get(step) else {
             return Reason::NotShown;
@@ -158,7 +159,7 @@ impl ToldProof<'_> {
         }
     }
 
-    /// By what a step holds, and whether its premises are shown here.
+    /// Why a step holds, and whether its premises are displayed here.
     fn reason_of(&self, row: Row, course: &Course) -> Reason {
         if row.is_assumed {
             Reason::Assumed
@@ -169,7 +170,7 @@ impl ToldProof<'_> {
         }
     }
 
-    /// What is said of a rule by which the search has a goal.
+    /// The sentence for a rule by which the search has a goal.
     fn searched_said(&self, place: usize) -> Sentence<'static> {
         match self.story.candidates(place).first() {
             Some(candidate) => with_one(
@@ -180,7 +181,7 @@ impl ToldProof<'_> {
         }
     }
 
-    /// What is said of a reason.
+    /// The sentence for a reason.
     fn reason_said(&self, reason: Reason) -> Sentence<'static> {
         match reason {
             Reason::Impl(id) => with_one("{}", impl_piece(self.story.texts, id)),
@@ -194,7 +195,7 @@ impl ToldProof<'_> {
         }
     }
 
-    /// Notes that the premises of a step are to be shown, the first one next.
+    /// Notes that the premises of a step are to be displayed, the first one next.
     fn push_premises(&self, row: Row, left: &mut Vec<Row>) -> Result<(), AllocError> {
         let Some(shown) = self.proof.shown.get(row.step) else {
             return Ok(());
@@ -209,7 +210,7 @@ impl ToldProof<'_> {
         Ok(())
     }
 
-    /// Tells the row of a step, and notes what is to be shown below it.
+    /// Adds the row of a step, and notes what is to be displayed below it.
     fn tell_row(
         &self,
         row: Row,
@@ -225,7 +226,7 @@ impl ToldProof<'_> {
         Ok(())
     }
 
-    /// Tells the rows of the proof, as many as are shown.
+    /// Adds the rows of the proof, as many as are displayed.
     fn tell_rows(&self, last: usize, telling: &mut Telling) -> Result<(), AllocError> {
         let mut course = Course {
             shown: Vec::new(telling.alloc()),
@@ -256,7 +257,7 @@ impl ToldProof<'_> {
         }
     }
 
-    /// Tells the proof, or that it is not shown.
+    /// Adds the proof, or that it is not displayed.
     fn tell_all(&self, telling: &mut Telling) {
         match self.last_step() {
             Some(last) => {
@@ -268,7 +269,7 @@ impl ToldProof<'_> {
     }
 }
 
-/// What is said of a question that was answered yes, at a span.
+/// The diagnostic for a query that was answered `yes`, at this span.
 pub(crate) fn proved(
     alloc: Global,
     proof: &ToldProof<'_>,

@@ -1,4 +1,4 @@
-//! Why a question is answered as it is.
+//! Explanations of queries.
 
 ghost use Rattle.std.specs.Prelude.{◌≡◌, ℕ};
 ghost use Rattle.celtisdarts_explain.specs.Asked.{IsAskedOf};
@@ -24,7 +24,7 @@ use type_terms::kinds::GenericArgKind;
 use type_terms::{Fault, ImplId};
 use workspace::{Asked, Param};
 
-/// A question of a text, by its place there.
+/// A query of a text, by its index there.
 #[derive(Clone, Copy)]
 pub(crate) struct Questioned<'s> {
     pub texts: Texts<'s>,
@@ -34,7 +34,7 @@ pub(crate) struct Questioned<'s> {
     pub seen: &'s [ImplId],
 }
 
-/// How a `prove` question is answered where it is not proved.
+/// How a `prove` query is answered, if not `yes`.
 #[derive(Clone, Copy)]
 enum NotProved {
     Unproved,
@@ -42,7 +42,7 @@ enum NotProved {
 }
 
 impl<'s> Questioned<'s> {
-    /// The parameters of the question.
+    /// The parameters of the query.
     fn params(self) -> &'s [Param] {
         match self.texts.workspace.question_entries().get(self.place) {
             Some(entry) => &entry.params,
@@ -50,7 +50,7 @@ impl<'s> Questioned<'s> {
         }
     }
 
-    /// The variables of the question.
+    /// The variables of the query.
     fn variables(self) -> &'s [Param] {
         match self.texts.workspace.question_entries().get(self.place) {
             Some(entry) => &entry.variables,
@@ -58,7 +58,7 @@ impl<'s> Questioned<'s> {
         }
     }
 
-    /// What its parameters and its variables are called.
+    /// The names of its parameters and variables.
     fn names(self) -> ShownNames<'s> {
         ShownNames {
             workspace: self.texts.workspace,
@@ -67,7 +67,7 @@ impl<'s> Questioned<'s> {
         }
     }
 
-    /// What it asks, in its line.
+    /// The span of its bound.
     fn span(self) -> Span {
         let none = Span {
             line: 0,
@@ -78,7 +78,7 @@ impl<'s> Questioned<'s> {
         questions.get(self.place).copied().unwrap_or(none)
     }
 
-    /// Who asks.
+    /// What requires the goal: this query.
     fn asking(self) -> Asking<'s> {
         Asking {
             span: self.span(),
@@ -89,7 +89,7 @@ impl<'s> Questioned<'s> {
     }
 }
 
-/// What is said of a question that was proved.
+/// The diagnostic for a query that was proved.
 fn tell_proved(
     alloc: Global,
     question: Questioned<'_>,
@@ -111,7 +111,7 @@ fn tell_proved(
     proved(alloc, &told, question.span())
 }
 
-/// Why a question is answered yes, with these values.
+/// Explains the answer `yes` with these values.
 fn explain_yes(
     alloc: Global,
     question: Questioned<'_>,
@@ -130,7 +130,7 @@ fn explain_yes(
     Ok(tell_proved(alloc, question, session, &proof)?)
 }
 
-/// What is said of a question that was not proved.
+/// The diagnostic for a query that was not proved.
 fn tell_not_proved(
     alloc: Global,
     question: Questioned<'_>,
@@ -150,7 +150,7 @@ fn tell_not_proved(
     }
 }
 
-/// Why a question is not proved.
+/// Explains why a query is not proved.
 fn explain_not_proved(
     alloc: Global,
     question: Questioned<'_>,
@@ -169,7 +169,7 @@ fn explain_not_proved(
     Ok(tell_not_proved(alloc, question, session, &walk, &claims, answer)?)
 }
 
-/// Why a `prove` question is answered as it is.
+/// Explains the answer of a `prove` query.
 fn explain_proving(
     alloc: Global,
     question: Questioned<'_>,
@@ -203,7 +203,7 @@ fn explain_proving(
     }
 }
 
-/// What is said of a `refute` question.
+/// The diagnostic for a `refute` query.
 fn tell_refutation(
     alloc: Global,
     question: Questioned<'_>,
@@ -224,7 +224,7 @@ fn tell_refutation(
     }
 }
 
-/// Why a `refute` question is answered as it is.
+/// Explains the answer of a `refute` query.
 fn explain_refuting(
     alloc: Global,
     question: Questioned<'_>,
@@ -246,7 +246,8 @@ fn explain_refuting(
     Ok(tell_refutation(alloc, question, session, &walk, &claims, answer)?)
 }
 
-/// Why a question of the session's crate is answered as it is, unless explanations took as long as they may. Questions count from 1.
+/// Explains the answer of a query of the session's crate, unless the explanations so far took as long as they may. Queries count from 1.
+/// The session stays as it was, after a fault too.
 pub(crate) fn explain_asked(
     alloc: Global,
     question: Questioned<'_>,

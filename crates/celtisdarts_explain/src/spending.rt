@@ -1,4 +1,4 @@
-//! How much is spent on explanations.
+//! The budget of explanations, in frames.
 
 ghost use Rattle.std.specs.Prelude.{◌≡◌, ◌≤◌, ◌+◌, false};
 
@@ -6,7 +6,7 @@ use diagnostics::{Diagnostic, Level};
 use explanation_texts::{Telling, plain};
 use std::alloc::{AllocError, Global};
 
-/// So many frames may explanations take in any case.
+/// How many frames explanations may take in any case.
 const FREE: u64 = 4096;
 
 /// How many frames the answers of a text took, and how many its explanations.
@@ -14,12 +14,12 @@ const FREE: u64 = 4096;
 pub(crate) struct Spending {
     answering: u64,
     explaining: u64,
-    /// Whether it was said that nothing more is explained.
+    /// Whether it was reported that nothing more is explained.
     is_told: bool,
 }
 
 impl Spending {
-    /// Nothing was spent.
+    /// No frames yet.
     pub(crate) fn new() -> Spending {
         Spending {
             answering: 0,
@@ -33,7 +33,7 @@ impl Spending {
         self.answering = self.answering.saturating_add(to.saturating_sub(from));
     }
 
-    /// Adds what an explanation took, and the goals that it walked: to tell one takes as long as two frames.
+    /// Adds what an explanation took, and the goals of its trace. A displayed goal counts as two frames.
     pub(crate) fn add_explanation(&mut self, from: u64, to: u64, goals: usize) {
         let telling = (goals as u64).saturating_mul(2);
         let frames = to.saturating_sub(from).saturating_add(telling);
@@ -48,7 +48,7 @@ impl Spending {
         self.explaining > twice.saturating_add(FREE)
     }
 
-    /// How it stands with a question that is to be explained next: it is explained only where those before took no more than they may.
+    /// What is to be done with the next query. It is explained only if the explanations before took no more than they may.
     pub(crate) fn next(&mut self) -> Next
         ensures { result ≡ Next.Explained → self.old.explaining ≤ self.old.answering + self.old.answering + FREE }
     {
@@ -63,18 +63,18 @@ impl Spending {
     }
 }
 
-/// How it stands with a question that is to be explained.
+/// What is to be done with a query.
 #[derive(Clone, Copy)]
 pub(crate) enum Next {
     /// It is explained.
     Explained,
-    /// It is said that it is not, nor are those behind it.
+    /// It is reported that this query and those after it are not explained.
     Told,
-    /// Nothing is said.
+    /// It has no explanation.
     Silent,
 }
 
-/// What is said of the first question that is not explained, since that would take too long.
+/// The diagnostic for the first query that is not explained, because that would take too long.
 pub(crate) fn too_long(alloc: Global) -> Result<Diagnostic, AllocError> {
     let message = plain(
         "no explanation of this question and those behind it: those before took as long as they may",

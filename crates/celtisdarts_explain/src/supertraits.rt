@@ -1,4 +1,4 @@
-//! What is said of a supertrait that is not held.
+//! The text for an unproved supertrait.
 
 ghost use Rattle.std.specs.Prelude.{◌≡◌};
 ghost use Rattle.session_walks.specs.Claims.{ClaimsHold};
@@ -14,7 +14,7 @@ use std::alloc::{AllocError, Global};
 use type_terms::{Fault, ImplId};
 use workspace::Param;
 
-/// A supertrait of the header of an impl, by its number from 1, of which no proof was found, or which is not settled.
+/// A supertrait of the header of an impl that is not proved, by its number from 1.
 #[derive(Clone, Copy)]
 struct Unheld {
     id: ImplId,
@@ -22,7 +22,7 @@ struct Unheld {
     is_missing: bool,
 }
 
-/// What an answer names; none where all are held.
+/// The supertrait that an answer names. `None` if all are proved.
 fn unheld_of(answer: SupersAnswer) -> Option<Unheld> {
     match answer {
         SupersAnswer::Held => None,
@@ -47,7 +47,7 @@ fn params_of(texts: Texts<'_>, id: ImplId) -> &[Param] {
     }
 }
 
-/// The span of the header of an impl; an empty one where it has no line.
+/// The span of the header of an impl. It is empty if the impl has no line.
 fn header_span(texts: Texts<'_>, id: ImplId) -> Span {
     match impl_line(texts, id) {
         Some(found) => found.header(),
@@ -55,7 +55,7 @@ fn header_span(texts: Texts<'_>, id: ImplId) -> Span {
     }
 }
 
-/// What is said of a supertrait that was walked.
+/// The diagnostic for a supertrait that was traced.
 fn explain_walk(
     alloc: Global,
     texts: Texts<'_>,
@@ -88,7 +88,7 @@ fn explain_walk(
     }
 }
 
-/// Why a supertrait is not held; nothing where there is no such.
+/// Explains why a supertrait is not proved. `None` if there is no such supertrait.
 fn explain_unheld(
     alloc: Global,
     texts: Texts<'_>,
@@ -107,7 +107,8 @@ fn explain_unheld(
     Ok(Some(told))
 }
 
-/// What is said of a crate whose headers' supertraits were checked; nothing where all are held.
+/// The diagnostic for a crate whose headers' supertraits were checked. `None` if all are proved. The session stays as it was, after a fault
+/// too.
 pub(crate) fn supertraits(
     alloc: Global,
     texts: Texts<'_>,

@@ -1,37 +1,37 @@
-//! The words of the command.
+//! The arguments of the command.
 
 ghost use Rattle.std.specs.Prelude.{◌≤◌, IfSome};
 
 use coherence::parse_depth;
 
-/// When there are colours, after rustc's `--color`.
+/// When there are colours. rustc: `--color`.
 #[derive(Clone, Copy)]
 pub enum ColorConfig {
-    /// Where standard output is a terminal.
+    /// If standard output is a terminal.
     Auto,
     Always,
     Never,
 }
 
-/// What the words ask for.
+/// What the arguments say.
 #[derive(Clone, Copy)]
 pub struct Options<'w> {
     /// The depth limit, from 1 to 255.
     pub depth: u32,
     pub is_json: bool,
     pub color: ColorConfig,
-    /// Whether the exit status is to tell if each answer is the best one.
+    /// Whether the exit status says if each answer is the best of its kind.
     pub is_check: bool,
-    /// What the text is called; none: by its file's name.
+    /// The name of the text. `None` for the name of its file.
     pub name: Option<&'w str>,
-    /// The file of the text; none: standard input.
+    /// The file of the text. `None` for standard input.
     pub file: Option<&'w str>,
 }
 
-/// The words read so far.
+/// The arguments read so far.
 #[derive(Clone, Copy)]
 struct Reading<'w> {
-    /// 0 where the depth limit is not read yet.
+    /// 0 if the depth limit is not read yet.
     depth: u32,
     is_json: bool,
     color: ColorConfig,
@@ -42,7 +42,7 @@ struct Reading<'w> {
     ghost small: { depth ≤ 255 },
 }
 
-/// What the next word is.
+/// What the next argument is.
 #[derive(Clone, Copy)]
 enum Awaits {
     Word,
@@ -50,7 +50,7 @@ enum Awaits {
     Name,
 }
 
-/// When there are colours, by the word behind `--color`.
+/// The choice that this argument after `--color` names.
 fn color_named(word: &str) -> Option<ColorConfig> {
     match word {
         "auto" => Some(ColorConfig::Auto),
@@ -61,7 +61,7 @@ fn color_named(word: &str) -> Option<ColorConfig> {
 }
 
 impl<'w> Reading<'w> {
-    /// Reads a word that stands by itself; false where it is no good one.
+    /// Reads an argument that is complete by itself. Returns `false` if it is wrong.
     fn take_word(&mut self, word: &'w str) -> bool {
         match word {
             "--json" => {
@@ -84,7 +84,7 @@ impl<'w> Reading<'w> {
         }
     }
 
-    /// Reads the depth limit, or behind it the file.
+    /// Reads the depth limit, or after it the file.
     fn take_operand(&mut self, word: &'w str) -> bool {
         if self.depth == 0 {
             return match parse_depth(word.as_bytes()) {
@@ -102,7 +102,7 @@ impl<'w> Reading<'w> {
         true
     }
 
-    /// Reads a word; false where it is no good one.
+    /// Reads an argument. Returns `false` if it is wrong.
     fn take(&mut self, word: &'w str) -> bool {
         match self.awaits {
             Awaits::Word => self.take_word(word),
@@ -125,7 +125,7 @@ impl<'w> Reading<'w> {
     }
 }
 
-/// What the words behind the program's name ask for; none where they are no good ones.
+/// What the arguments after the program's name say. `None` if they are wrong. A depth limit is one that `celtisdarts` takes.
 pub fn read_words<'w>(words: &'w [String]) -> Option<Options<'w>>
     ensures least { IfSome result (λ options. 1 ≤ options.depth) }
     ensures most { IfSome result (λ options. options.depth ≤ 255) }

@@ -1,11 +1,11 @@
--- Places in a line.
+-- Ranges in a line.
 use Rattle.std.specs.Prelude.{◌<◌, ◌≤◌, ℕ}
 use Rattle.diagnostics.specs.declared.span.Place.{Place}
 
--- A part of a line of this length, which is not empty.
+-- A range of a line with this length. It is not empty.
 abbrev pub IsPartOfLine : ℕ → Place → Type 0
 IsPartOfLine end p = (p.start < p.end) × (p.end ≤ end)
 
--- A part of a line of this length, which may be empty.
+-- A range of a line with this length. It may be empty.
 abbrev pub IsPartOf : ℕ → Place → Type 0
 IsPartOf end p = (p.start ≤ p.end) × (p.end ≤ end)

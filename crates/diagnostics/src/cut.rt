@@ -1,4 +1,4 @@
-//! Long texts, cut.
+//! Long texts are cut.
 
 ghost use Rattle.std.specs.Prelude.{◌≡◌, ◌≤◌, ◌<◌, ◌++◌, length, map, take, codes, string_bytes, IfOk};
 ghost use Rattle.diagnostics.specs.Shown.{shown};
@@ -6,14 +6,14 @@ ghost use Rattle.diagnostics.specs.Shown.{shown};
 use crate::writer::TextWriter;
 use std::alloc::{AllocError, Global};
 
-/// How many bytes of a type are shown.
+/// How many bytes of a type are displayed.
 pub const TYPE_LIMIT: usize = 120;
 
-/// How many items of a list are shown.
+/// How many items of a list are displayed.
 pub const LIST_LIMIT: usize = 8;
 
-/// A text as it is shown: at most so many of its bytes, and `..` behind them where it has more. A byte that is no printable ASCII is
-/// shown as `?`, a tab as a space.
+/// A text as it is displayed: at most `limit` of its bytes, and `..` after them if it has more. A byte that is no printable ASCII becomes
+/// `?`, and a tab becomes a space. Fails only if memory is refused.
 pub fn cut_text(alloc: Global, text: &[u8], limit: usize) -> Result<String, AllocError>
     ensures whole { IfOk result (λ t. length text.now ≤ limit → string_bytes t ≡ map shown text.now) }
     ensures cut { IfOk result (λ t. limit < length text.now → string_bytes t ≡ map shown (take limit text.now) ++ codes "..") }

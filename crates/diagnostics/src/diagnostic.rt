@@ -1,11 +1,11 @@
-//! Diagnostics as data: what is said, where, and what follows.
+//! Diagnostics as data: a message, where it belongs, and what follows it.
 
 ghost use Rattle.std.specs.Prelude.{◌≡◌, true, false, []};
 
 use crate::span::Span;
 use std::alloc::Global;
 
-/// How much it matters, after rustc's `Level`.
+/// How severe a message is. rustc: `Level`.
 #[derive(Clone, Copy, PartialEq, Eq)]
 pub enum Level {
     Error,
@@ -13,7 +13,7 @@ pub enum Level {
     Help,
 }
 
-/// A code of rustc that says by what rule something is refused. `rustc --explain CODE` tells of it.
+/// A code of rustc that names the rule by which something is refused. `rustc --explain CODE` describes it.
 #[derive(Clone, Copy)]
 pub enum ErrCode {
     /// An impl of a foreign trait for foreign types.
@@ -24,33 +24,33 @@ pub enum ErrCode {
     E0207,
     /// A parameter that comes before the first local type.
     E0210,
-    /// The depth limit was met.
+    /// The depth limit was reached.
     E0275,
     /// A bound that was not proved.
     E0277,
-    /// More than one way, or a type that is not known.
+    /// More than one candidate, or a type that is a variable.
     E0283,
     /// A cycle among supertraits.
     E0391,
 }
 
-/// What is said of a part of the text, after rustc's `SpanLabel`.
+/// A label for a part of the text. rustc: `SpanLabel`.
 pub struct SpanLabel {
     pub span: Span,
-    /// Whether this is what the message is about: it is marked by `^`, others by `-`.
+    /// Whether the message is about this part. It is marked with `^`, and other parts with `-`.
     pub is_primary: bool,
-    /// Empty where nothing is said beside the mark.
+    /// The text after the mark, which may be empty.
     pub label: String,
 }
 
-/// What follows a message: a note, or a help, which advises and claims nothing. After rustc's `Subdiag`.
+/// What follows a message: a note, or a help. A help advises and claims nothing. rustc: `Subdiag`.
 pub struct Subdiagnostic {
     pub level: Level,
     pub message: String,
     pub spans: Vec<SpanLabel>,
 }
 
-/// A row of a proof: what holds, how deep below the first row it stands, and by what it holds.
+/// A row of a proof: what holds, how deep it is below the first row, and why it holds.
 pub struct ProofRow {
     pub depth: usize,
     pub goal: String,
@@ -59,18 +59,18 @@ pub struct ProofRow {
     pub impl_line: Option<u32>,
 }
 
-/// What is said after a line of the answer.
+/// The explanation of a line of the output.
 pub struct Diagnostic {
     pub level: Level,
     pub code: Option<ErrCode>,
     pub message: String,
     pub spans: Vec<SpanLabel>,
-    /// Empty where no proof is shown.
+    /// Empty if no proof is displayed.
     pub proof: Vec<ProofRow>,
     pub children: Vec<Subdiagnostic>,
 }
 
-// Written, so that what owns one drops it by one call at each way out, and not field by field.
+// Hand-written so that the prover sees one drop call: docs/PROVING.md#drop.
 impl Drop for SpanLabel {
     fn drop(self) {
         let SpanLabel {
@@ -116,7 +116,7 @@ impl Drop for Diagnostic {
 }
 
 impl SpanLabel {
-    /// What the message is about.
+    /// A label for what the message is about.
     pub fn primary(span: Span, label: String) -> SpanLabel
         ensures primary { result.is_primary ≡ true }
         ensures span { result.span ≡ span }
@@ -129,7 +129,7 @@ impl SpanLabel {
         }
     }
 
-    /// What stands beside it.
+    /// A label for another part.
     pub fn secondary(span: Span, label: String) -> SpanLabel
         ensures secondary { result.is_primary ≡ false }
         ensures span { result.span ≡ span }
@@ -159,7 +159,7 @@ impl Subdiagnostic {
 }
 
 impl Diagnostic {
-    /// A message without a span, a proof or children: these are put into its fields.
+    /// A message without spans, proof and children. The caller adds these to its fields.
     pub fn new(alloc: Global, level: Level, code: Option<ErrCode>, message: String) -> Diagnostic
         ensures level { result.level ≡ level }
         ensures code { result.code ≡ code }
@@ -180,7 +180,7 @@ impl Diagnostic {
 }
 
 impl Level {
-    /// As rustc writes it.
+    /// The word that rustc prints.
     pub(crate) fn name(self) -> &'static str {
         match self {
             Level::Error => "error",
@@ -191,7 +191,7 @@ impl Level {
 }
 
 impl ErrCode {
-    /// As rustc writes it.
+    /// The code as rustc prints it.
     pub fn name(self) -> &'static str {
         match self {
             ErrCode::E0117 => "E0117",

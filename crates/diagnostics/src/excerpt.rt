@@ -1,4 +1,4 @@
-//! Excerpts: the lines that labels are of, with marks under them.
+//! Excerpts: the lines that labels belong to, with marks under them.
 
 ghost use Rattle.std.specs.Prelude.{◌≡◌, ◌≤◌, ◌<◌, ◌+◌, ◌-◌, length, min, max, IfSome};
 ghost use Rattle.diagnostics.specs.Places.{IsPartOf};
@@ -11,7 +11,7 @@ use crate::window::window;
 use crate::writer::TextWriter;
 use std::fmt::InlineText;
 
-/// What all excerpts of a diagnostic have in common: colours, and the columns of their line numbers.
+/// What all excerpts of a diagnostic have in common: colours, and how many columns line numbers take.
 #[derive(Clone, Copy)]
 pub(crate) struct Frame {
     pub has_colors: bool,
@@ -19,55 +19,55 @@ pub(crate) struct Frame {
     ghost short: { digits ≤ 10 },
 }
 
-/// A label whose text stands below its mark: the column of that, and which of the labels it is.
+/// A label whose text is below its mark: the mark's column, and the label's index.
 #[derive(Clone, Copy)]
 struct Hanging {
     column: usize,
     index: usize,
 }
 
-/// What all of these stand before.
+/// A bound after all of these.
 const BEHIND_ALL: Hanging = Hanging {
     column: usize::MAX,
     index: usize::MAX,
 };
 
 impl Hanging {
-    /// Whether its bar stands beside the text of another: that one is further right, or at the same column and a later label.
+    /// Whether its bar is next to the text of another one, which is further right, or in the same column with a later label.
     fn is_before(self, other: Hanging) -> bool {
         self.column < other.column || self.column == other.column && self.index < other.index
     }
 }
 
 impl Frame {
-    /// The first column behind the bar.
+    /// The first column after the bar.
     fn left(self) -> usize
         ensures { result ≡ self.digits + 3 }
     {
         self.digits + 3
     }
 
-    /// How many columns are left for the text.
+    /// How many columns remain for the text.
     fn width(self) -> usize
         ensures { result + self.digits + 3 ≡ COLUMNS }
     {
         COLUMNS - self.left()
     }
 
-    /// A row with the bar alone.
+    /// A row with only the bar.
     fn bar(self) -> Row {
         let mut row = Row::blank();
         row.mark(self.digits + 1, self.digits + 2, b'|', Ink::Frame);
         row
     }
 
-    /// Appends a row with the bar alone.
+    /// Appends a row with only the bar.
     pub(crate) fn push_bar(self, out: &mut TextWriter) {
         self.bar().push_to(out, self.has_colors);
     }
 }
 
-/// The first label that is primary, or else the first one.
+/// The first primary label. If there is none, the first label.
 fn main_label(labels: &[SpanLabel]) -> Option<&SpanLabel> {
     for label in labels {
         if label.is_primary {
@@ -77,7 +77,7 @@ fn main_label(labels: &[SpanLabel]) -> Option<&SpanLabel> {
     labels.first()
 }
 
-/// The least line of labels above a line.
+/// The smallest line of a label that is greater than this line.
 fn next_line(labels: &[SpanLabel], last: u32) -> Option<u32>
     ensures { IfSome result (λ line. last < line) }
 {
@@ -91,7 +91,7 @@ fn next_line(labels: &[SpanLabel], last: u32) -> Option<u32>
     found
 }
 
-/// A line as it is shown, with what is said of it.
+/// A line as it is displayed, with its labels.
 #[derive(Clone, Copy)]
 struct LineView<'d> {
     frame: Frame,
@@ -100,11 +100,11 @@ struct LineView<'d> {
     level: Level,
     /// How many bytes the line has.
     length: usize,
-    /// Which of them are shown.
+    /// Which of them are displayed.
     view: Place,
 }
 
-/// From the first to the last of what is marked in a line of so many bytes.
+/// The range from the first to the last mark of a line with this many bytes.
 fn marked_place(labels: &[SpanLabel], line: u32, length: usize) -> Place
     ensures { IsPartOf length result }
 {
@@ -123,7 +123,7 @@ fn marked_place(labels: &[SpanLabel], line: u32, length: usize) -> Place
     }
 }
 
-/// The first of what is marked in a line of so many bytes, a primary one if there is one.
+/// The first mark of a line with this many bytes, a primary one if there is one.
 fn main_place(labels: &[SpanLabel], line: u32, length: usize) -> Place
     ensures { IsPartOf length result }
 {
@@ -139,7 +139,7 @@ fn main_place(labels: &[SpanLabel], line: u32, length: usize) -> Place
     found.unwrap_or(Place { start: 0, end: 0 })
 }
 
-/// Which part of a line is shown: with all that is marked, or else with the main mark.
+/// Which part of a line is displayed: the part with all marks, or else the part with the main mark.
 fn view_of(labels: &[SpanLabel], line: u32, length: usize, width: usize) -> Place
     ensures part { IsPartOf length result }
     ensures fits { result.end - result.start ≤ width }
@@ -170,7 +170,7 @@ fn text_row(frame: Frame, number: &[u8], text: &[u8], view: Place) -> Row
 }
 
 impl LineView<'_> {
-    /// The columns of a label's mark: one at least.
+    /// The columns of a label's mark, at least one.
     fn columns_of(self, label: &SpanLabel) -> Place
         ensures { result.start ≤ result.end }
     {
@@ -184,7 +184,7 @@ impl LineView<'_> {
         }
     }
 
-    /// How a label and its mark are shown.
+    /// The ink of a label and its mark.
     fn ink_of(self, label: &SpanLabel) -> Ink {
         if label.is_primary {
             Ink::OfLevel(self.level)
@@ -193,7 +193,7 @@ impl LineView<'_> {
         }
     }
 
-    /// Marks what is primary, or what is not.
+    /// Puts the marks of the primary labels, or of the others.
     fn mark_these(self, row: &mut Row, are_primary: bool) {
         for label in self.labels {
             if label.span.line == self.line && label.is_primary == are_primary {
@@ -204,7 +204,7 @@ impl LineView<'_> {
         }
     }
 
-    /// The label whose text stands behind the marks: the one that ends last, if there is room for it.
+    /// The label whose text comes after the marks: the one that ends last, if there is room for it.
     fn inline_label(self) -> Option<usize> {
         let mut found = None;
         let mut last = 0;
@@ -222,7 +222,7 @@ impl LineView<'_> {
         found
     }
 
-    /// The row of marks, with a label's text behind them.
+    /// The row of marks, with a label's text after them.
     fn mark_row(self, inline: Option<usize>) -> Row {
         let mut row = self.frame.bar();
         self.mark_these(&mut row, true);
@@ -236,7 +236,7 @@ impl LineView<'_> {
         row
     }
 
-    /// Where a label's text stands below its mark.
+    /// The position of a label's text below its mark, if it is there.
     fn hanging(self, inline: Option<usize>, index: usize, label: &SpanLabel) -> Option<Hanging> {
         if label.span.line != self.line || label.label.is_empty() || inline == Some(index) {
             return None;
@@ -247,7 +247,7 @@ impl LineView<'_> {
         })
     }
 
-    /// The last of the labels whose texts stand below their marks, of those before one.
+    /// The last label before `limit` whose text is below its mark.
     fn last_hanging(self, inline: Option<usize>, limit: Hanging) -> Option<Hanging> {
         let mut found: Option<Hanging> = None;
         for (index, label) in self.labels.iter().enumerate() {
@@ -263,7 +263,7 @@ impl LineView<'_> {
         found
     }
 
-    /// A row of bars under the marks of labels whose texts stand below them, of those before one.
+    /// A row of bars under the marks of labels before `limit` whose texts are below them.
     fn bar_row(self, inline: Option<usize>, limit: Hanging) -> Row {
         let mut row = self.frame.bar();
         for (index, label) in self.labels.iter().enumerate() {
@@ -277,7 +277,7 @@ impl LineView<'_> {
         row
     }
 
-    /// The row of a label's text, with the bars of labels that stand before it.
+    /// The row of a label's text, with the bars of the labels before it.
     fn hanging_row(self, inline: Option<usize>, last: Hanging) -> Row {
         let mut row = self.bar_row(inline, last);
         if let Some(label) = self.labels.get(last.index) {
@@ -288,7 +288,7 @@ impl LineView<'_> {
         row
     }
 
-    /// Appends the rows of labels whose texts stand below their marks, the last one first; above them a row with the bars of all.
+    /// Appends the rows of labels whose texts are below their marks, the last one first. A row with the bars of all comes above them.
     fn push_hanging(self, out: &mut TextWriter, inline: Option<usize>) {
         let mut above = BEHIND_ALL;
         for index in 0..self.labels.len() {
@@ -313,7 +313,7 @@ impl LineView<'_> {
     }
 }
 
-/// Appends a line with what is said of it.
+/// Appends a line with its labels.
 fn push_line(
     out: &mut TextWriter,
     frame: Frame,
@@ -347,7 +347,7 @@ fn push_place(out: &mut TextWriter, frame: Frame, name: &str, main: &SpanLabel) 
     out.push_str("\n");
 }
 
-/// Appends the lines that labels are of, each once, with marks; nothing where there is no label.
+/// Appends the lines of the labels, each once, with marks. Without labels it appends nothing.
 pub(crate) fn push_excerpt(
     out: &mut TextWriter,
     frame: Frame,

@@ -1,4 +1,4 @@
-//! Diagnostics as one JSON object a line, with the keys of `rustc --error-format=json`.
+//! Diagnostics as one JSON object per line, with the keys of `rustc --error-format=json` and the key `answer`.
 
 ghost use Rattle.std.specs.Prelude.{length};
 ghost use Rattle.diagnostics.specs.Places.{IsPartOf};
@@ -14,10 +14,10 @@ use crate::writer::TextWriter;
 use serde_json::{Map, Value, put};
 use std::alloc::{AllocError, Global};
 
-/// How many bytes of a line stand beside a span.
+/// How many bytes of a line are stored with a span.
 const LINE_BYTES: usize = 1000;
 
-/// The members of an object that is being made. Who adds some owns nothing at its ways out.
+/// The members of an object that is being made. A function that adds some owns nothing at its exits.
 pub(crate) type Members = Map<String, Value>;
 
 /// Adds a text.
@@ -31,7 +31,7 @@ pub(crate) fn put_text(
     put(object, alloc, key, value)
 }
 
-/// Adds a text, or null where it is empty.
+/// Adds a text, or null if it is empty.
 fn put_text_or_null(
     alloc: Global,
     object: &mut Members,
@@ -45,7 +45,7 @@ fn put_text_or_null(
     }
 }
 
-/// Adds numbers by their keys.
+/// Adds numbers with their keys.
 fn put_numbers(
     alloc: Global,
     object: &mut Members,
@@ -57,7 +57,7 @@ fn put_numbers(
     Ok(())
 }
 
-/// Adds keys without a value.
+/// Adds keys with the value null.
 fn put_nulls(alloc: Global, object: &mut Members, keys: &[&str]) -> Result<(), AllocError> {
     for key in keys {
         put(object, alloc, *key, Value::Null)?;
@@ -65,8 +65,8 @@ fn put_nulls(alloc: Global, object: &mut Members, keys: &[&str]) -> Result<(), A
     Ok(())
 }
 
-/// Adds the line that a span is of, and where in it the span is; of a long line the part around the span, and of a span that ends behind
-/// that part as much as is in it.
+/// Adds the line of a span, and where the span is in it. Of a long line only the part around the span is added. If the span ends after that
+/// part, the rest of it is left out.
 fn put_line(
     alloc: Global,
     object: &mut Members,
@@ -100,7 +100,7 @@ fn line_value(alloc: Global, line: &[u8], place: Place) -> Result<Value, AllocEr
     Ok(Value::Object(object))
 }
 
-/// Adds that line as the one line of a span.
+/// Adds that line as the only line of a span.
 fn put_lines(
     alloc: Global,
     object: &mut Members,
@@ -115,7 +115,7 @@ fn put_lines(
     put(object, alloc, "text", Value::Array(lines))
 }
 
-/// Adds where a part of a line stands, behind so many bytes of the text.
+/// Adds the position of a part of a line, after this many bytes of the text.
 fn put_place(
     alloc: Global,
     object: &mut Members,
@@ -137,7 +137,7 @@ fn put_place(
     )
 }
 
-/// Adds what there is of a span with its label.
+/// Adds the members of a span with its label.
 fn put_span(
     alloc: Global,
     object: &mut Members,
@@ -211,7 +211,7 @@ fn put_message(
     put_text(alloc, object, "message", message)
 }
 
-/// What follows a message.
+/// A child of a message.
 fn child_value(
     alloc: Global,
     level: Level,
@@ -231,7 +231,7 @@ fn child_value(
     Ok(Value::Object(object))
 }
 
-/// A proof as one text, a row a line, each whole.
+/// A proof as one text, one line for each row, none of them cut.
 fn proof_text(alloc: Global, rows: &[ProofRow]) -> Result<String, AllocError> {
     let mut text = TextWriter::new(alloc);
     text.push_str("proof:");
@@ -349,7 +349,7 @@ fn child_values(
     Ok(Value::Array(values))
 }
 
-/// Adds the text for people, with an empty line behind it.
+/// Adds the text for people, with an empty line after it.
 fn put_rendered(
     alloc: Global,
     object: &mut Members,

@@ -1,10 +1,10 @@
-//! Diagnostics: what is said of parts of a text, as text for people and as JSON.
+//! Diagnostics: messages about parts of a text, as text for people and as JSON.
 //!
-//! A diagnostic has a level, a code, a message, spans of the text with labels, a proof as rows, and children, after rustc's. It is data:
-//! `render` makes rustc's text of it, and `json_line` an object with rustc's keys. Whatever a diagnostic holds, both give a text or the
-//! refused request for memory: a span that leaves its line is shown as far as it is in there.
+//! A diagnostic has a level, a code, a message, spans of the text with labels, a proof as rows, and children, like one of rustc. It is
+//! data. `render` makes rustc's text of it, and `json_line` an object with rustc's keys. Both work for every diagnostic and fail only if
+//! memory is refused. If a span leaves its line, only its part within the line is marked.
 //!
-//! The text is any bytes. Each byte of it is shown in one column, so columns count bytes.
+//! The text can be any bytes. Each byte takes one column, so columns count bytes.
 #![tactic(auto)]
 
 mod answer_parts;

@@ -1,4 +1,4 @@
-//! The parts of an impl's line and of a question's line.
+//! The parts of an impl's line and of a query's line.
 
 ghost use Rattle.std.specs.Prelude.{◌<◌, ◌≤◌, length, All, IfOk, IfSome};
 ghost use Rattle.diagnostics.specs.Places.{IsPartOfLine, IsPartOf};
@@ -7,11 +7,10 @@ use crate::span::Place;
 use crate::tokens::{text_of, token_places};
 use std::alloc::{AllocError, Global};
 
-/// Where the parts of a line stand that says a bound of a type: `impl<T> Show for V<T> where T: Show`, or
-/// `prove in base <T> V<T>: Show where T: Show`.
+/// The parts of a line with a bound: `impl<T> Show for V<T> where T: Show`, or `prove in base <T> V<T>: Show where T: Show`.
 #[derive(Drop)]
 pub struct LineParts {
-    /// The bound and the type, whichever comes first: `Show for V<T>`, `V<T>: Show`.
+    /// The bound and the type in the order of the line: `Show for V<T>`, `V<T>: Show`.
     pub header: Place,
     /// The trait with its arguments.
     pub bound: Place,
@@ -26,7 +25,7 @@ fn is_token(line: &[u8], place: Place, word: &[u8]) -> bool {
     text_of(line, place) == word
 }
 
-/// The token behind a token, and behind the list if it opens one; or behind the last one.
+/// The index after a token. If the token opens a list, the index after the list. It is past the last token if there is no more.
 fn behind_list(line: &[u8], tokens: &[Place], from: usize) -> usize
     requires { from < length tokens.now }
     ensures behind { from < result }
@@ -46,7 +45,7 @@ fn behind_list(line: &[u8], tokens: &[Place], from: usize) -> usize
     tokens.len()
 }
 
-/// The first token from one on that is a word and stands in no list, or behind the last one.
+/// The index of the first token from here on that is this word and in no list. If there is none, it is past the last token.
 fn find_outside(line: &[u8], tokens: &[Place], from: usize, word: &[u8]) -> usize
     requires { from ≤ length tokens.now }
     ensures behind { from ≤ result }
@@ -62,7 +61,7 @@ fn find_outside(line: &[u8], tokens: &[Place], from: usize, word: &[u8]) -> usiz
     at
 }
 
-/// The place of the tokens from one to before another.
+/// The range from one token to before another.
 fn between(tokens: &[Place], from: usize, to: usize) -> Place
     requires some { from < to }
     requires there { to ≤ length tokens.now }
@@ -74,7 +73,7 @@ fn between(tokens: &[Place], from: usize, to: usize) -> Place
     }
 }
 
-/// The places of what stands between commas, from a token on.
+/// The ranges between commas, from this token on.
 fn list_places(
     alloc: Global,
     line: &[u8],
@@ -93,7 +92,7 @@ fn list_places(
     Ok(places)
 }
 
-/// The token behind the parameters of a line, which stand at a token if there are any; behind the last one where there are fewer tokens.
+/// The index after the parameters of a line, which may begin at this token. If there are fewer tokens, it is past the last one.
 fn behind_params(line: &[u8], tokens: &[Place], from: usize) -> usize
     ensures { result ≤ length tokens.now }
 {
@@ -104,7 +103,7 @@ fn behind_params(line: &[u8], tokens: &[Place], from: usize) -> usize
     }
 }
 
-/// The parts of a line from a token on, of which one stands before a word and one behind it: the trait and then the type, or the other way.
+/// The parts of a line from a token on: one before the word and one after it. These are the trait and the type, or the other way round.
 fn parts_from(
     alloc: Global,
     line: &[u8],
@@ -132,7 +131,7 @@ fn parts_from(
     }))
 }
 
-/// The parts of a line behind so many tokens and the parameters.
+/// The parts of a line after this many tokens and the parameters.
 fn parts_behind(
     alloc: Global,
     line: &[u8],
@@ -145,12 +144,12 @@ fn parts_behind(
     parts_from(alloc, line, &tokens, from, word, is_type_first)
 }
 
-/// The parts of an impl's line; none where the line is no such line.
+/// The parts of an impl's line. `None` if the line has another form. Fails only if memory is refused.
 pub fn parts_of_impl(alloc: Global, line: &[u8]) -> Result<Option<LineParts>, AllocError> {
     parts_behind(alloc, line, 1, b"for", false)
 }
 
-/// The parts of a question's line; none where the line is no such line.
+/// The parts of a query's line. `None` if the line has another form. Fails only if memory is refused.
 pub fn parts_of_question(alloc: Global, line: &[u8]) -> Result<Option<LineParts>, AllocError> {
     parts_behind(alloc, line, 3, b":", true)
 }

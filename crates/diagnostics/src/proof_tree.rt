@@ -6,13 +6,13 @@ use crate::diagnostic::ProofRow;
 use crate::writer::TextWriter;
 use std::alloc::{AllocError, Global};
 
-/// How many columns of a row are for the goal, so that the reasons of most stand below each other.
+/// How many columns of a row are for the goal, so that most reasons are below one another.
 const GOAL_COLUMNS: usize = 60;
 
 /// How many columns there are between a goal and its reason.
 const GAP: usize = 4;
 
-/// Whether another row of a depth stands in these, before any that is less deep.
+/// Whether another row of this depth follows in these, before any row that is less deep.
 fn goes_on(rows: &[ProofRow], depth: usize) -> bool {
     for row in rows {
         if row.depth <= depth {
@@ -22,12 +22,12 @@ fn goes_on(rows: &[ProofRow], depth: usize) -> bool {
     false
 }
 
-/// How many columns stand before the goal of a row.
+/// How many columns come before the goal of a row.
 fn indent(depth: usize) -> usize {
     depth.saturating_mul(3)
 }
 
-/// How many columns the goals of a proof take, with what stands before them.
+/// How many columns the goals of a proof take, with what comes before them.
 pub(crate) fn goal_columns(rows: &[ProofRow]) -> usize
     ensures { result ≤ 60 }
 {
@@ -41,8 +41,8 @@ pub(crate) fn goal_columns(rows: &[ProofRow]) -> usize
     columns
 }
 
-/// Appends what stands before the goal of a row: the lines that lead to it and to those below. Of a row that is deeper than so many levels
-/// the first ones are left out.
+/// Appends what comes before the goal of a row: the lines that lead to it and to the rows below. If the row is deeper than `levels`, the
+/// first ones are left out.
 fn push_branches(out: &mut TextWriter, depth: usize, below: &[ProofRow], levels: usize) {
     let hidden = depth.saturating_sub(levels);
     if hidden > 0 {
@@ -56,7 +56,7 @@ fn push_branches(out: &mut TextWriter, depth: usize, below: &[ProofRow], levels:
     }
 }
 
-/// A goal behind what stands before it, which takes about half of the row at most.
+/// A goal after what comes before it, which takes at most about half of the row.
 fn goal_text(
     alloc: Global,
     row: &ProofRow,
@@ -69,7 +69,7 @@ fn goal_text(
     text.finish()
 }
 
-/// Appends a goal, and spaces up to so many columns, as far as there is room.
+/// Appends a goal, and spaces up to this many columns, as far as there is room.
 fn push_goal(out: &mut TextWriter, goal: &str, columns: usize, room: usize)
     ensures { string_len out.new.text ≤ string_len out.old.text + room }
 {
@@ -77,7 +77,7 @@ fn push_goal(out: &mut TextWriter, goal: &str, columns: usize, room: usize)
     out.push_spaces(columns.min(room).saturating_sub(goal.len()));
 }
 
-/// Appends a reason behind a goal, as far as there is room.
+/// Appends a reason after a goal, as far as there is room.
 fn push_reason(out: &mut TextWriter, reason: &str, room: usize)
     ensures { string_len out.new.text ≤ string_len out.old.text + room }
 {
@@ -85,7 +85,7 @@ fn push_reason(out: &mut TextWriter, reason: &str, room: usize)
     out.push_cut(reason, room.saturating_sub(GAP));
 }
 
-/// How many columns are for a reason behind a goal of so many: all it takes if the goal has room beside it, and else half of a row.
+/// How many columns a reason gets after a goal: all that it needs if the goal has room next to it, and otherwise half of a row.
 fn reason_columns(reason: usize, goal: usize, room: usize) -> usize
     ensures { result ≤ room }
 {
@@ -93,7 +93,7 @@ fn reason_columns(reason: usize, goal: usize, room: usize) -> usize
     reason.saturating_add(GAP).min(most)
 }
 
-/// Appends a goal and its reason. Where they have no room beside each other, each has half of the row at least, and is cut.
+/// Appends a goal and its reason. If both do not fit, each gets at least half of the row, and is cut.
 fn push_beside(out: &mut TextWriter, goal: &str, reason: &str, columns: usize, room: usize)
     ensures { string_len out.new.text ≤ string_len out.old.text + room }
 {
@@ -106,8 +106,8 @@ fn push_beside(out: &mut TextWriter, goal: &str, reason: &str, columns: usize, r
     }
 }
 
-/// Appends a row of a proof without its end, above the rows that are given: the goal, which takes so many columns where there is room, and
-/// its reason. Where they have no room beside each other, each has half of the row at least, and is cut.
+/// Appends a row of a proof without its end. `below` are the rows after it. The goal takes `columns` columns if there is room, and the
+/// reason follows. If both do not fit, each gets at least half of the row, and is cut.
 pub(crate) fn push_proof_row(
     out: &mut TextWriter,
     row: &ProofRow,

@@ -18,7 +18,7 @@ fn count_digits(number: u32) -> usize
     InlineText::<10>::of(number).as_str().len()
 }
 
-/// The greatest line of labels, or the one that is given.
+/// The greatest line of the labels, or `least` if that is greater.
 fn greatest_line(labels: &[SpanLabel], least: u32) -> u32 {
     let mut greatest = least;
     for label in labels {
@@ -39,7 +39,7 @@ fn frame_of(diagnostic: &Diagnostic, has_colors: bool) -> Frame {
     }
 }
 
-/// Appends the level of a message, and the code if there is one.
+/// Appends the level of a message, and its code if there is one.
 fn push_header(out: &mut TextWriter, has_colors: bool, level: Level, code: Option<ErrCode>) {
     push_ink(out, has_colors, Ink::OfLevel(level));
     out.push_str(level.name());
@@ -51,7 +51,7 @@ fn push_header(out: &mut TextWriter, has_colors: bool, level: Level, code: Optio
     push_reset(out, has_colors);
 }
 
-/// Appends a message behind its level.
+/// Appends a message after its level.
 fn push_title(out: &mut TextWriter, has_colors: bool, message: &str) {
     push_ink(out, has_colors, Ink::Bold);
     out.push_str(": ");
@@ -60,7 +60,7 @@ fn push_title(out: &mut TextWriter, has_colors: bool, message: &str) {
     out.push_str("\n");
 }
 
-/// Appends what stands before a row of a proof: the frame, and in the first row what follows.
+/// Appends what comes before a row of a proof: the frame, and in the first row the word `proof`.
 fn push_proof_head(out: &mut TextWriter, frame: Frame, is_first: bool)
     ensures { frame.has_colors ≡ false → string_len out.new.text ≤ string_len out.old.text + frame.digits + 10 }
 {
@@ -74,9 +74,7 @@ fn push_proof_head(out: &mut TextWriter, frame: Frame, is_first: bool)
     }
 }
 
-/// Appends a row of a proof with its end, above the rows that are given.
-///
-/// So it has at most 100 columns.
+/// Appends a row of a proof with its end. `below` are the rows after it.
 fn push_proof_line(
     out: &mut TextWriter,
     frame: Frame,
@@ -92,7 +90,7 @@ fn push_proof_line(
     out.push_str("\n");
 }
 
-/// Appends a proof, each goal in a row.
+/// Appends a proof, one row for each goal.
 fn push_proof(out: &mut TextWriter, frame: Frame, rows: &[ProofRow]) {
     let columns = goal_columns(rows);
     for (index, row) in rows.iter().enumerate() {
@@ -101,7 +99,7 @@ fn push_proof(out: &mut TextWriter, frame: Frame, rows: &[ProofRow]) {
     }
 }
 
-/// Appends a child: a row of the frame where it has no span, and else a message with an excerpt.
+/// Appends a child: a row of the frame if it has no span, and otherwise a message with an excerpt.
 fn push_child(out: &mut TextWriter, frame: Frame, file: &SourceFile<'_>, child: &Subdiagnostic) {
     if child.spans.is_empty() {
         out.push_spaces(frame.digits + 1);
@@ -116,7 +114,7 @@ fn push_child(out: &mut TextWriter, frame: Frame, file: &SourceFile<'_>, child: 
     push_excerpt(out, frame, file, child.level, &child.spans);
 }
 
-/// Whether a row with a bar alone stands between the message and what follows it.
+/// Whether a row with only a bar comes between the message and what follows it.
 fn has_bar(diagnostic: &Diagnostic) -> bool {
     if !diagnostic.proof.is_empty() {
         return true;
@@ -127,7 +125,7 @@ fn has_bar(diagnostic: &Diagnostic) -> bool {
     }
 }
 
-/// Appends a diagnostic as rustc writes one.
+/// Appends a diagnostic in rustc's form.
 pub(crate) fn push_diagnostic(
     out: &mut TextWriter,
     file: &SourceFile<'_>,
@@ -147,10 +145,11 @@ pub(crate) fn push_diagnostic(
     }
 }
 
-/// A diagnostic as rustc writes one, with colours if they are asked for; its last line has its end, and no empty line follows.
+/// A diagnostic in rustc's form, with colours if `has_colors`. Its last line has its end, and no empty line follows.
 ///
-/// An excerpt has at most 100 columns: of a longer line the part around its marks is shown, with `..` where something is left out. So has a
-/// proof: of a goal or a reason that has no room there, what is behind `..` is left out. The only error is a refused request for memory.
+/// A line of an excerpt or of a proof has at most 100 columns, without the codes of colours. Of a longer line of text the part around its
+/// marks is displayed, with `..` where something is left out. A goal or a reason that is too long ends with `..`. Fails only if memory is
+/// refused.
 pub fn render(
     alloc: Global,
     file: &SourceFile<'_>,

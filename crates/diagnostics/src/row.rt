@@ -5,23 +5,23 @@ ghost use Rattle.std.specs.Prelude.{◌≡◌, ◌≤◌, ◌+◌, length, false
 use crate::diagnostic::Level;
 use crate::writer::TextWriter;
 
-/// How text is shown, after rustc's `Style`.
+/// How text is displayed. rustc: `Style`.
 #[derive(Clone, Copy, PartialEq, Eq)]
 pub(crate) enum Ink {
     Plain,
-    /// As headers are.
+    /// The ink of headers.
     Bold,
-    /// As line numbers and secondary marks are.
+    /// The ink of line numbers and secondary marks.
     Frame,
-    /// As the level's name is, and what is marked as primary.
+    /// The ink of the level's name, and of primary marks.
     OfLevel(Level),
 }
 
-/// What ends each colour.
+/// The code that ends each colour.
 const RESET: &str = "\x1b[0m";
 
 impl Ink {
-    /// What a terminal is told, as rustc tells it.
+    /// The code that a terminal gets, as rustc writes it.
     fn codes(self) -> &'static str {
         match self {
             Ink::Plain => "",
@@ -34,7 +34,7 @@ impl Ink {
     }
 }
 
-/// Appends what begins a text in a colour, where there are colours.
+/// Appends the code that begins a text in a colour, if there are colours.
 pub(crate) fn push_ink(out: &mut TextWriter, has_colors: bool, ink: Ink)
     ensures { has_colors ≡ false → string_len out.new.text ≤ string_len out.old.text }
 {
@@ -43,7 +43,7 @@ pub(crate) fn push_ink(out: &mut TextWriter, has_colors: bool, ink: Ink)
     }
 }
 
-/// Appends what ends such a text.
+/// Appends the code that ends such a text, if there are colours.
 pub(crate) fn push_reset(out: &mut TextWriter, has_colors: bool)
     ensures { has_colors ≡ false → string_len out.new.text ≤ string_len out.old.text }
 {
@@ -52,7 +52,7 @@ pub(crate) fn push_reset(out: &mut TextWriter, has_colors: bool)
     }
 }
 
-/// Appends a text, in a colour where there are colours.
+/// Appends a text, in a colour if there are colours.
 pub(crate) fn push_in(out: &mut TextWriter, has_colors: bool, ink: Ink, text: &str)
     ensures { has_colors ≡ false → string_len out.new.text ≤ string_len out.old.text + length text.now }
 {
@@ -68,13 +68,13 @@ struct Column {
     ink: Ink,
 }
 
-/// What stands where nothing was put.
+/// A column to which nothing was written.
 const SPACE: Column = Column {
     byte: b' ',
     ink: Ink::Plain,
 };
 
-/// How many columns a row of an excerpt has, line numbers and all.
+/// How many columns a row of an excerpt has, with the line number.
 pub(crate) const COLUMNS: usize = 100;
 
 /// A row of an excerpt.
@@ -84,14 +84,14 @@ pub(crate) struct Row {
 }
 
 impl Row {
-    /// Spaces alone.
+    /// A row of spaces.
     pub(crate) fn blank() -> Row {
         Row {
             columns: [SPACE; COLUMNS],
         }
     }
 
-    /// Puts a byte into the columns from one to before another, as far as they are there.
+    /// Writes a byte into the columns from `start` to before `end`, as far as the row has them.
     pub(crate) fn mark(&mut self, start: usize, end: usize, byte: u8, ink: Ink) {
         for (place, column) in self.columns.iter_mut().enumerate() {
             if start <= place && place < end {
@@ -100,7 +100,7 @@ impl Row {
         }
     }
 
-    /// Puts a text into the columns from one on; of a text that has no room, the last two columns say `..`.
+    /// Writes a text into the columns from `start` on. If it does not fit, the last two columns are `..`.
     pub(crate) fn write(&mut self, start: usize, text: &[u8], ink: Ink) {
         for (place, column) in self.columns.iter_mut().enumerate() {
             if start <= place && place - start < text.len() {
@@ -128,9 +128,8 @@ impl Row {
         used
     }
 
-    /// Appends the row without the spaces at its end, and the end of the line.
-    ///
-    /// So a line of an excerpt has at most 100 columns.
+    /// Appends the row without the spaces at its end, and the end of the line. Without colours a line of an excerpt has at most 100
+    /// columns.
     pub(crate) fn push_to(&self, out: &mut TextWriter, has_colors: bool)
         ensures { has_colors ≡ false → string_len out.new.text ≤ string_len out.old.text + COLUMNS + 1 }
     {

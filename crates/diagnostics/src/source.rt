@@ -5,18 +5,18 @@ ghost use Rattle.std.specs.Prelude.{◌≡◌, ◌≤◌};
 use crate::span::Place;
 use std::alloc::{AllocError, Global};
 
-/// A text with its name, and where each of its lines stands. After rustc's `SourceFile`.
+/// A text with its name, and where each of its lines is. rustc: `SourceFile`.
 #[derive(Drop)]
 pub struct SourceFile<'t> {
     name: String,
     src: &'t [u8],
-    /// Where lines stand, without their ends.
+    /// The ranges of lines, without their ends.
     lines: Vec<Place>,
 }
 
 impl<'t> SourceFile<'t> {
-    /// The lines of a text: they end with a line feed each, the last one may end without. The name is what stands in
-    /// `--> NAME:LINE:COLUMN`.
+    /// The lines of a text. Each ends with a line feed, and the last one may have none. The name is printed in `--> NAME:LINE:COLUMN`.
+    /// Fails only if memory is refused.
     pub fn new(alloc: Global, name: &str, src: &'t [u8]) -> Result<SourceFile<'t>, AllocError> {
         let name = String::from_str(alloc, name)?;
         let lines = line_places(alloc, src)?;
@@ -28,18 +28,18 @@ impl<'t> SourceFile<'t> {
         self.name.as_str()
     }
 
-    /// How many lines there are, with the empty one behind the last line feed.
+    /// How many lines there are, with the empty one after the last line feed.
     pub fn count_lines(&self) -> usize {
         self.lines.len()
     }
 
-    /// The line with a number, counted from 1, without its end; empty where there is none.
+    /// The line with this number, counted from 1, without its end. It is empty if there is no such line.
     pub fn line(&self, number: u32) -> &'t [u8] {
         let place = self.place_of(number);
         self.src.get(place.start..place.end).unwrap_or(&[])
     }
 
-    /// How many bytes stand before the line with a number.
+    /// How many bytes are before the line with this number.
     pub fn line_start(&self, number: u32) -> usize {
         self.place_of(number).start
     }
@@ -54,7 +54,7 @@ impl<'t> SourceFile<'t> {
     }
 }
 
-/// Where the lines of a text stand.
+/// The ranges of the lines of a text.
 fn line_places(alloc: Global, src: &[u8]) -> Result<Vec<Place>, AllocError> {
     let mut lines = Vec::new(alloc);
     let mut start = 0;

@@ -1,16 +1,16 @@
-//! Places in a line, and spans of a text.
+//! Ranges in a line, and spans of a text.
 
 ghost use Rattle.std.specs.Prelude.{◌≡◌, ◌≤◌};
 ghost use Rattle.diagnostics.specs.Places.{IsPartOf};
 
-/// A part of a line: bytes of it, from the first to before the end, both counted from 0.
+/// A range of bytes of a line, from `start` to before `end`, both counted from 0.
 #[derive(Clone, Copy)]
 pub struct Place {
     pub start: usize,
     pub end: usize,
 }
 
-/// A part of a line of a text: lines count from 1, columns in bytes from 0. After rustc's `Span`, which may have several lines.
+/// A range within one line of a text. Lines count from 1, columns in bytes from 0. rustc: `Span`, which may have several lines.
 #[derive(Clone, Copy)]
 pub struct Span {
     pub line: u32,
@@ -18,7 +18,7 @@ pub struct Span {
     pub end: usize,
 }
 
-/// The span of a place in the line with a number.
+/// The span of a range in the line with this number.
 pub fn on_line(line: u32, place: Place) -> Span
     ensures line { result.line ≡ line }
     ensures start { result.start ≡ place.start }
@@ -31,7 +31,7 @@ pub fn on_line(line: u32, place: Place) -> Span
     }
 }
 
-/// What of a span lies in its line, which has so many bytes.
+/// The part of a span that is within its line, which has this many bytes.
 pub(crate) fn place_in(span: &Span, length: usize) -> Place
     ensures part { IsPartOf length result }
     ensures whole { span.now.start ≤ span.now.end → span.now.end ≤ length → (result.start ≡ span.now.start) × (result.end ≡ span.now.end) }

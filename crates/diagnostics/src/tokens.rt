@@ -1,4 +1,4 @@
-//! Where the tokens of a line stand.
+//! The tokens of a line.
 
 ghost use Rattle.std.specs.Prelude.{◌<◌, ◌≤◌, ◌≡◌, ◌+◌, length, All, IfOk, slice_range};
 ghost use Rattle.diagnostics.specs.Places.{IsPartOfLine};
@@ -10,7 +10,7 @@ fn is_word_byte(byte: u8) -> bool {
     byte.is_ascii_alphanumeric() || byte == b'_'
 }
 
-/// Where the word that is here ends.
+/// Where the word that begins here ends.
 fn word_end(line: &[u8], start: usize) -> usize
     requires { start ≤ length line.now }
     ensures within { result ≤ length line.now }
@@ -39,9 +39,10 @@ fn token_end(line: &[u8], start: usize) -> usize
     }
 }
 
-/// Where the tokens of a line stand, in order: words, lifetimes, variables, arrows, and each other byte but a space by itself.
+/// The ranges of the tokens of a line, in order: words, lifetimes, variables, arrows, and each other byte but spaces by itself. Fails only
+/// if memory is refused.
 ///
-/// Of a line that is in the grammar these are its tokens; any line has some.
+/// For a line of the grammar these are its tokens. Any other line has some too.
 pub fn token_places(alloc: Global, line: &[u8]) -> Result<Vec<Place>, AllocError>
     ensures { IfOk result (λ places. All (IsPartOfLine (length line.now)) places.items) }
 {
@@ -59,7 +60,7 @@ pub fn token_places(alloc: Global, line: &[u8]) -> Result<Vec<Place>, AllocError
     Ok(places)
 }
 
-/// The text of a place of a line; empty where the line does not have it.
+/// The text of a range of a line. It is empty if the line does not have the range.
 pub fn text_of<'t>(line: &'t [u8], place: Place) -> &'t [u8] {
     line.get(place.start..place.end).unwrap_or(&[])
 }

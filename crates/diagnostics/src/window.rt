@@ -1,15 +1,15 @@
-//! Which part of a long line is shown.
+//! Which part of a long line is displayed.
 
 ghost use Rattle.std.specs.Prelude.{◌≡◌, ◌≤◌, ◌+◌, ◌-◌, min};
 ghost use Rattle.diagnostics.specs.Places.{IsPartOf};
 
 use crate::span::Place;
 
-/// The part of a line of so many bytes that is shown in so many columns, so that a place of it can be seen: all of the line if there is
-/// room, and else as many bytes as there are columns.
+/// The part of a line with `length` bytes that is displayed in `columns` columns, so that a range of it is visible. It is the whole line if
+/// that fits, and otherwise as many bytes as there are columns.
 ///
-/// Where the line has bytes before or behind what is shown, two columns at that end are left for `..`; they are none of the place, if
-/// that has room.
+/// If the line goes on before or after the part, two columns at that end are for `..`. They are not in the range, if the range leaves room
+/// for them.
 pub(crate) fn window(length: usize, columns: usize, place: Place) -> Place
     requires { IsPartOf length place }
     ensures part { IsPartOf length result }
@@ -32,7 +32,7 @@ pub(crate) fn window(length: usize, columns: usize, place: Place) -> Place
     }
 }
 
-/// What of a place is in the part of a line that is shown, counted from where that begins.
+/// The part of a range that is displayed, counted from where the window begins.
 pub(crate) fn place_in_window(window: Place, place: Place) -> Place
     ensures part { IsPartOf (window.end - window.start) result }
     ensures begins { place.start ≤ min place.end window.end → result.start ≡ place.start - window.start }

@@ -6,7 +6,7 @@ ghost use Rattle.diagnostics.specs.Shown.{shown};
 use std::alloc::{AllocError, Global};
 use std::fmt::InlineText;
 
-/// A byte as it is shown: a printable one of ASCII as it is, a tab as a space, any other as `?`.
+/// A byte as it is displayed: a printable byte of ASCII as it is, a tab as a space, any other as `?`.
 pub fn shown_byte(byte: u8) -> u8
     ensures value { result ≡ shown byte }
     ensures printable { 32 ≤ result }
@@ -19,8 +19,8 @@ pub fn shown_byte(byte: u8) -> u8
     }
 }
 
-/// A text that is being written. When a request for memory is refused it is kept in mind, and nothing is appended from then on: so who
-/// writes goes on, and asks once, at the end.
+/// A text that is being written. It remembers that a request for memory was refused, and appends nothing from then on. So a writer does not
+/// check each call, and asks once, in `finish`.
 #[derive(Drop)]
 pub struct TextWriter {
     pub(crate) alloc: Global,
@@ -29,7 +29,7 @@ pub struct TextWriter {
 }
 
 impl TextWriter {
-    /// A text of which nothing is written.
+    /// An empty text.
     pub fn new(alloc: Global) -> TextWriter
         ensures { string_bytes result.text ≡ [] }
     {
@@ -40,7 +40,7 @@ impl TextWriter {
         }
     }
 
-    /// The text, if no request was refused.
+    /// The text, if no request for memory was refused.
     pub fn finish(self) -> Result<String, AllocError>
         ensures whole { IfOk result (λ t. t ≡ self.text) }
         ensures granted { IfOk result (λ t. self.is_refused ≡ false) }
@@ -57,7 +57,7 @@ impl TextWriter {
         }
     }
 
-    /// Keeps in mind that a request was refused.
+    /// Remembers that a request for memory was refused.
     pub(crate) fn refuse(&mut self)
         ensures { self.new.text ≡ self.old.text }
     {
@@ -75,13 +75,13 @@ impl TextWriter {
         }
     }
 
-    /// Appends what stands before a number, and the number.
+    /// Appends `before` and the number.
     pub fn push_number(&mut self, before: &str, number: usize) {
         self.push_str(before);
         self.push_str(InlineText::<20>::of(number).as_str());
     }
 
-    /// Appends a byte as it is shown.
+    /// Appends a byte as it is displayed.
     pub fn push_byte(&mut self, byte: u8)
         ensures bytes { self.new.is_refused ≡ false → string_bytes self.new.text ≡ string_bytes self.old.text ++ shown byte ∷ [] }
         ensures stays { self.new.is_refused ≡ false → self.old.is_refused ≡ false }
@@ -92,7 +92,7 @@ impl TextWriter {
         }
     }
 
-    /// Appends the bytes of a text, each as it is shown.
+    /// Appends the bytes of a text, each as it is displayed.
     pub fn push_shown(&mut self, text: &[u8])
         ensures bytes { self.new.is_refused ≡ false → string_bytes self.new.text ≡ string_bytes self.old.text ++ map shown text.now }
         ensures len { string_len self.new.text ≤ string_len self.old.text + length text.now }
@@ -102,7 +102,7 @@ impl TextWriter {
         }
     }
 
-    /// Appends a byte so many times, as it is shown.
+    /// Appends a byte `count` times, as it is displayed.
     fn push_times(&mut self, byte: u8, count: usize)
         ensures { string_len self.new.text ≤ string_len self.old.text + count }
     {
@@ -111,14 +111,15 @@ impl TextWriter {
         }
     }
 
-    /// Appends so many spaces.
+    /// Appends `count` spaces.
     pub(crate) fn push_spaces(&mut self, count: usize)
         ensures { string_len self.new.text ≤ string_len self.old.text + count }
     {
         self.push_times(b' ', count);
     }
 
-    /// Appends a text; of one that has more bytes than there are columns, as many as leave two columns for `..`, each as it is shown.
+    /// Appends a text. If it has more bytes than `columns`, it is cut, and its last two columns are `..`. Each byte is appended as it is
+    /// displayed.
     pub(crate) fn push_cut(&mut self, text: &str, columns: usize)
         ensures fits { string_len self.new.text ≤ string_len self.old.text + min (length text.now) columns }
         ensures whole { length text.now ≤ columns → self.new.is_refused ≡ false → string_bytes self.new.text ≡ string_bytes self.old.text ++ text.now }

@@ -1,4 +1,4 @@
-//! What is said of a goal that is not settled: several ways, an unknown, the depth, or a cycle.
+//! The text for a goal that is ambiguous: several candidates, a variable, the depth limit, or a cycle.
 
 ghost use Rattle.std.specs.Prelude.{◌≡◌, ◌<◌, ◌≤◌, ◌⊎◌, IfSome};
 
@@ -15,12 +15,12 @@ use evaluation::{CandidateSource, MaybeCause};
 use goal_walk::{Answer, CandidateNode};
 use std::alloc::{AllocError, Global};
 
-/// Why a goal is not settled.
+/// Why a goal is ambiguous.
 #[derive(Clone, Copy)]
 enum Doubt {
-    /// The search met its depth limit.
+    /// The search reached its depth limit.
     Depth,
-    /// The search met a limit, and it is not seen that it was that of the depth.
+    /// The search reached a limit, which need not be that of the depth.
     Limits,
     /// The search met a limit, and the walk took what it may before it was seen which.
     Either,
@@ -28,13 +28,13 @@ enum Doubt {
     Cycle,
     /// More than one candidate is left.
     Ways,
-    /// An argument is not known.
+    /// An argument is a variable.
     Open,
-    /// None of these is seen.
+    /// None of these is found.
     Other,
 }
 
-/// The first goal that a candidate asks with this answer.
+/// The first nested goal of a candidate with this answer.
 fn premise_answered(story: &Story<'_>, candidate: &CandidateNode, answer: Answer) -> Option<usize> {
     for premise in &candidate.premises {
         if story.answer(*premise) == answer {
@@ -44,7 +44,8 @@ fn premise_answered(story: &Story<'_>, candidate: &CandidateNode, answer: Answer
     None
 }
 
-/// Whether a goal that holds when it is asked alone may meet the limit in the course of others: it asks goals, or those are not shown.
+/// Whether a goal that holds when it is evaluated alone may reach the limit as a nested goal: it has nested goals, or those are not
+/// displayed.
 fn may_go_deeper(story: &Story<'_>, place: usize) -> bool {
     match story.only_candidate(place) {
         Some(candidate) => !candidate.premises.is_empty(),
@@ -52,8 +53,8 @@ fn may_go_deeper(story: &Story<'_>, place: usize) -> bool {
     }
 }
 
-/// The goal through which a goal meets the depth limit, though each that it asks holds when it is asked alone; none where it is not known
-/// which it is.
+/// The nested goal through which a goal reaches the depth limit, though each nested goal holds when it is evaluated alone. `None` if it is
+/// not known which one it is.
 fn deep_premise(story: &Story<'_>, place: usize) -> Option<usize> {
     let candidate = story.only_candidate(place)?;
     let mut found = None;
@@ -67,7 +68,7 @@ fn deep_premise(story: &Story<'_>, place: usize) -> Option<usize> {
     if count == 1 { found } else { None }
 }
 
-/// The goal that the candidates of a goal ask for which that is not settled: one that is not settled for the same cause if there is such.
+/// The nested goal that makes a goal ambiguous. One that is ambiguous for the same cause is preferred.
 fn unsure_goal(story: &Story<'_>, place: usize) -> Option<usize> {
     let answer = story.answer(place);
     for candidate in story.candidates(place) {
@@ -83,12 +84,12 @@ fn unsure_goal(story: &Story<'_>, place: usize) -> Option<usize> {
     None
 }
 
-/// Whether the goal at place 0 is not settled since a limit was met, or a goal needs itself.
+/// Whether the goal at index 0 is ambiguous because a limit was reached, or because a goal needs itself.
 fn overflows(story: &Story<'_>) -> bool {
     story.answer(0) == Answer::Maybe(MaybeCause::Overflow)
 }
 
-/// The goal that a goal asks for which that is not settled.
+/// The nested goal that makes a goal ambiguous.
 fn doubtful_premise(story: &Story<'_>, place: usize) -> Option<usize> {
     let is_ambiguous = story.answer(place) == Answer::Maybe(MaybeCause::Ambiguity);
     if is_ambiguous && story.candidates(place).len() > 1 {
@@ -106,8 +107,8 @@ fn doubtful_premise(story: &Story<'_>, place: usize) -> Option<usize> {
     }
 }
 
-/// The goals from place 0 down, each one for which the one above is not settled, to the first that is not settled by itself: with more than
-/// one way left, an unknown, or as deep as goals are looked at.
+/// The goals from index 0 down, each of which makes the one above ambiguous. The last one is ambiguous by itself: it has more than one
+/// candidate, or a variable, or is as deep as goals are looked at.
 fn doubtful_path(alloc: Global, story: &Story<'_>) -> Result<Vec<usize>, AllocError> {
     let mut path = Vec::new(alloc);
     let mut at = 0usize;
@@ -121,7 +122,7 @@ fn doubtful_path(alloc: Global, story: &Story<'_>) -> Result<Vec<usize>, AllocEr
     Ok(path)
 }
 
-/// Why the goal at place 0 is not settled, where its path of goals ends here.
+/// Why the goal at index 0 is ambiguous, if its path of goals ends here.
 fn doubt_of(story: &Story<'_>, leaf: usize) -> Doubt {
     if story.is_cycle(leaf) {
         Doubt::Cycle
@@ -164,7 +165,7 @@ fn message_of<'s>(story: &'s Story<'_>, doubt: Doubt, leaf: usize) -> Sentence<'
     with_one(template, story.reference(place))
 }
 
-/// What is said where it is asked for.
+/// The label at the bound that is queried.
 fn said_at<'s>(story: &'s Story<'_>, doubt: Doubt, leaf: usize, depth: u32) -> Sentence<'s> {
     let reference = story.reference(leaf);
     match doubt {
@@ -190,7 +191,7 @@ fn said_at<'s>(story: &'s Story<'_>, doubt: Doubt, leaf: usize, depth: u32) -> S
     }
 }
 
-/// Tells a way that is left: a candidate that may apply, and where that was not checked, this too.
+/// Adds the note for a candidate that is left, and says so if it was not checked that it may apply.
 fn tell_way(texts: Texts<'_>, source: CandidateSource, may_apply: bool, telling: &mut Telling) {
     telling.note(with_one(chance(may_apply), source_piece(texts, source)));
     if let CandidateSource::Impl(id) = source {
@@ -200,7 +201,7 @@ fn tell_way(texts: Texts<'_>, source: CandidateSource, may_apply: bool, telling:
     }
 }
 
-/// Tells the ways that are left of the goal at a place.
+/// Adds the notes for the candidates that are left of the goal at this index.
 fn tell_ways(story: &Story<'_>, place: usize, telling: &mut Telling) {
     for (index, candidate) in story.candidates(place).iter().enumerate() {
         if index == LIST_LIMIT {
@@ -212,10 +213,10 @@ fn tell_ways(story: &Story<'_>, place: usize, telling: &mut Telling) {
     }
 }
 
-/// The greatest depth limit that a program takes.
+/// The greatest depth limit that the program takes.
 const GREATEST_DEPTH: u32 = 255;
 
-/// A greater depth limit to ask with, if there is one: twice as much, as far as that goes.
+/// A greater depth limit to try: twice as much, but at most `GREATEST_DEPTH`. `None` if the limit is that already.
 fn deeper(depth: u32) -> Option<u32>
     ensures greater { IfSome result (λ other. depth < other) }
     ensures taken { IfSome result (λ other. other ≤ GREATEST_DEPTH) }
@@ -225,7 +226,7 @@ fn deeper(depth: u32) -> Option<u32>
     if twice > depth { Some(twice) } else { None }
 }
 
-/// Tells to ask with a greater depth limit, where there is one.
+/// Adds the advice to try a greater depth limit, if there is one.
 pub(crate) fn tell_deeper(depth: u32, telling: &mut Telling) {
     if let Some(other) = deeper(depth) {
         telling.help(with_two(
@@ -236,7 +237,7 @@ pub(crate) fn tell_deeper(depth: u32, telling: &mut Telling) {
     }
 }
 
-/// What is advised where the search may have been given up: it may have asked too much, so less depth may settle it.
+/// The advice if the search may have been given up. It may have evaluated too many goals, so a smaller depth may help.
 const GIVEN_UP: &str =
     "a search is given up after 65,536 nested goals: a smaller depth limit may settle it";
 
@@ -245,7 +246,7 @@ pub(crate) fn tell_given_up(telling: &mut Telling) {
     telling.help(plain(GIVEN_UP));
 }
 
-/// Tells what follows from why the goal is not settled.
+/// Adds what follows from why the goal is ambiguous.
 fn tell_doubt(story: &Story<'_>, doubt: Doubt, leaf: usize, depth: u32, telling: &mut Telling) {
     match doubt {
         Doubt::Ways => tell_ways(story, leaf, telling),
@@ -255,7 +256,7 @@ fn tell_doubt(story: &Story<'_>, doubt: Doubt, leaf: usize, depth: u32, telling:
     }
 }
 
-/// What is said of a goal that is not settled.
+/// The diagnostic for a goal that is ambiguous.
 pub fn unsettled(
     alloc: Global,
     story: &Story<'_>,

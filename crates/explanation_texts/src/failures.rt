@@ -1,4 +1,4 @@
-//! What is said of a goal of which no proof was found: the deepest goal that failed, and who asked for it.
+//! The text for a goal without a proof that was found: the deepest goal that failed, and what requires it.
 
 use crate::items::{Texts, has_rules, impl_line, trait_name, written};
 use crate::lines::ImplLine;
@@ -13,25 +13,25 @@ use goal_walk::Standing;
 use std::alloc::{AllocError, Global};
 use type_terms::{ImplId, TraitId};
 
-/// Who asks for a goal.
+/// What requires a goal: a query, or the header of an impl.
 #[derive(Clone, Copy)]
 pub struct Asking<'s> {
-    /// Where it asks.
+    /// Where it is in the text.
     pub span: Span,
-    /// The depth limit with which it asks.
+    /// The depth limit of the run.
     pub depth: u32,
     /// The impls that its crate sees.
     pub seen: &'s [ImplId],
-    /// Which supertrait of a header it asks for, from 1; none of a question.
+    /// The number of the supertrait, counted from 1, if a header requires it. `None` for a query.
     pub supertrait: Option<u32>,
 }
 
-/// The goal that a goal fails for: the one that its one candidate asks for, if that is refused.
+/// The nested goal that makes a goal fail: that of its one candidate, if it is refused.
 fn failing_premise(story: &Story<'_>, place: usize) -> Option<usize> {
     refused_premise(story, story.only_candidate(place)?)
 }
 
-/// The goals from place 0 to the first that fails for a reason of its own: not since the one goal of its one candidate is refused.
+/// The goals from index 0 to the first that fails for a reason of its own, and not because the nested goal of its one candidate is refused.
 fn failing_path(alloc: Global, story: &Story<'_>) -> Result<Vec<usize>, AllocError> {
     let mut path = Vec::new(alloc);
     let mut at = 0usize;
@@ -61,7 +61,7 @@ pub(crate) fn has_params(texts: Texts<'_>, id: TraitId) -> bool {
     }
 }
 
-/// An impl as it is written, with its line: its type, and where the trait has parameters its whole header.
+/// An impl as it is written, with its line: its type, and its whole header if the trait has parameters.
 fn written_impl<'w>(
     texts: Texts<'w>,
     found: &ImplLine,
@@ -82,7 +82,7 @@ fn written_impl<'w>(
     with_two(template, header, Piece::Number(found.line as usize))
 }
 
-/// That a trait has no impl.
+/// The sentence that a trait has no impl.
 fn without_impls(texts: Texts<'_>, id: TraitId) -> Sentence<'_> {
     let template = if has_rules(texts, id) {
         "`{}` has built-in rules alone here"
@@ -92,14 +92,14 @@ fn without_impls(texts: Texts<'_>, id: TraitId) -> Sentence<'_> {
     with_one(template, Piece::Name(trait_name(texts, id)))
 }
 
-/// Begins to tell how a trait is implemented.
+/// Begins the help about how a trait is implemented.
 fn begin_impls(texts: Texts<'_>, id: TraitId, telling: &mut Telling) {
     let how = if has_params(texts, id) { "as" } else { "for" };
     let name = Piece::Name(trait_name(texts, id));
     telling.help(with_two("`{}` is implemented {} ", name, Piece::Text(how)));
 }
 
-/// Tells an impl of a trait behind so many others: nothing where more than is shown stand before it.
+/// Adds an impl of a trait to the help. If more impls than are displayed come before it, nothing is added.
 fn tell_impl(
     texts: Texts<'_>,
     id: TraitId,
@@ -118,7 +118,7 @@ fn tell_impl(
     }
 }
 
-/// Tells how a trait is implemented, by the impls that the crate sees. Those of `core` are not told.
+/// Adds the help about how a trait is implemented, with the impls that the crate sees. Those of `core` are left out.
 fn tell_implemented(texts: Texts<'_>, id: TraitId, seen: &[ImplId], telling: &mut Telling) {
     let mut is_implemented = false;
     let mut count = 0usize;
@@ -136,7 +136,7 @@ fn tell_implemented(texts: Texts<'_>, id: TraitId, seen: &[ImplId], telling: &mu
     }
 }
 
-/// Tells to ask under a where-clause, where a parameter fails.
+/// Adds the help to use a where-clause, if a parameter fails.
 fn tell_where(spoken: &Spoken, is_impl: bool, telling: &mut Telling) {
     let template = if is_impl {
         "consider a where-clause of the impl: `where {}`"
@@ -148,7 +148,7 @@ fn tell_where(spoken: &Spoken, is_impl: bool, telling: &mut Telling) {
     }
 }
 
-/// What is said of the goal that failed by its place among the others: that the goals that it asks are not shown, or that it needs itself.
+/// The sentence if the nested goals of the failed goal are not displayed, or if it needs itself.
 fn standing_said<'s>(story: &'s Story<'_>, leaf: usize) -> Option<Sentence<'s>> {
     match story.standing(leaf) {
         Standing::Cut | Standing::Unwalked => {
@@ -162,7 +162,7 @@ fn standing_said<'s>(story: &'s Story<'_>, leaf: usize) -> Option<Sentence<'s>> 
     }
 }
 
-/// Tells why the goal that failed did: the goals that it asks are not shown, or its candidates are refused.
+/// Adds why the goal failed: its nested goals are not displayed, or its candidates are refused.
 fn tell_leaf(story: &Story<'_>, leaf: usize, telling: &mut Telling) {
     if let Some(said) = standing_said(story, leaf) {
         telling.note(said);
@@ -170,7 +170,7 @@ fn tell_leaf(story: &Story<'_>, leaf: usize, telling: &mut Telling) {
     tell_refused(story, leaf, Refusal::NotProved, telling);
 }
 
-/// Tells what may help.
+/// Adds what may help.
 fn tell_helps(story: &Story<'_>, leaf: usize, asking: Asking<'_>, telling: &mut Telling) {
     if let Some(spoken) = story.spoken(leaf) {
         tell_where(spoken, asking.supertrait.is_some(), telling);
@@ -178,12 +178,12 @@ fn tell_helps(story: &Story<'_>, leaf: usize, asking: Asking<'_>, telling: &mut 
     }
 }
 
-/// That no proof was found of a goal.
+/// The message that no proof of a goal was found.
 fn message_of<'s>(story: &'s Story<'_>, leaf: usize) -> Sentence<'s> {
     with_one("the trait bound `{}` was not proved", story.reference(leaf))
 }
 
-/// What is said where it is asked for.
+/// The label at the bound that is queried.
 fn said_at<'s>(story: &'s Story<'_>, leaf: usize) -> Sentence<'s> {
     with_two(
         "no proof was found that `{}` implements `{}`",
@@ -192,7 +192,7 @@ fn said_at<'s>(story: &'s Story<'_>, leaf: usize) -> Sentence<'s> {
     )
 }
 
-/// What is said of a goal of which no proof was found.
+/// The diagnostic for a goal without a proof that was found.
 pub fn unproved(
     alloc: Global,
     story: &Story<'_>,

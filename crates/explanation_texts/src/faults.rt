@@ -1,4 +1,4 @@
-//! What is said of a text with a fault.
+//! The text for a fault of a text.
 
 use crate::offending::tell_offence;
 use crate::sentences::{Piece, plain, with_one};
@@ -8,7 +8,7 @@ use name_resolution::FaultKind;
 use std::alloc::{AllocError, Global};
 use text_reader::TextFault;
 
-/// What a fault is.
+/// The message for a fault.
 fn message(kind: FaultKind) -> &'static str {
     match kind {
         FaultKind::OtherByte => "a byte that is not ASCII",
@@ -33,7 +33,7 @@ fn message(kind: FaultKind) -> &'static str {
     }
 }
 
-/// The code of rustc, where it has the same error.
+/// The code of rustc for the same error, if there is one.
 fn code(kind: FaultKind) -> Option<ErrCode> {
     match kind {
         FaultKind::FreeParam => Some(ErrCode::E0207),
@@ -69,7 +69,7 @@ fn heading(kind: FaultKind) -> &'static str {
     }
 }
 
-/// What is said of a text with a fault.
+/// The diagnostic for a text with a fault.
 pub fn fault_diagnostic(
     alloc: Global,
     text: &[u8],

@@ -142,7 +142,7 @@ pub(crate) struct LineWords<'t> {
     pub read: usize,
 }
 
-// Written, so that what owns one drops it by one call at each way out, and not field by field.
+// Hand-written so that the prover sees one drop call: docs/PROVING.md#drop.
 impl Drop for LineWords<'_> {
     fn drop(self) {
         let LineWords {

@@ -1,4 +1,4 @@
-//! What items are called, and where they stand.
+//! The names of items, and where they are in the text.
 
 use crate::lines::{ImplLine, ItemLines};
 use crate::sentences::Piece;
@@ -7,7 +7,7 @@ use diagnostics::{Place, SourceFile, on_line, text_of};
 use type_terms::{CrateId, ImplId, TraitId};
 use workspace::Workspace;
 
-/// A text, with what it declares and where that stands.
+/// A text, with what it declares and where that is.
 #[derive(Clone, Copy)]
 pub struct Texts<'w> {
     pub workspace: &'w Workspace,
@@ -15,7 +15,7 @@ pub struct Texts<'w> {
     pub lines: &'w ItemLines,
 }
 
-/// The line of an impl; none of an impl of `core`.
+/// The line of an impl. `None` for an impl of `core`.
 pub fn impl_line<'w>(texts: Texts<'w>, id: ImplId) -> Option<&'w ImplLine> {
     let all = texts.workspace.impls().len();
     let of_core = all.checked_sub(texts.lines.impls.len())?;
@@ -28,7 +28,7 @@ pub(crate) fn written<'w>(texts: Texts<'w>, line: u32, place: Place) -> Name<'w>
     name_of(text_of(texts.file.line(line), place))
 }
 
-/// What an impl is called: its line, or its number in `core`.
+/// What an impl is called: by its line, or by its number in `core`.
 pub fn impl_piece(texts: Texts<'_>, id: ImplId) -> Piece<'static> {
     if let Some(found) = impl_line(texts, id) {
         return Piece::ImplAtLine(found.line);
@@ -39,13 +39,13 @@ pub fn impl_piece(texts: Texts<'_>, id: ImplId) -> Piece<'static> {
     }
 }
 
-/// A name, which is shown as `cut_text` shows a text.
+/// A name. It is displayed as `cut_text` displays a text.
 #[derive(Clone, Copy)]
 pub struct Name<'w> {
     pub(crate) bytes: &'w [u8],
 }
 
-/// A name in a text.
+/// A name of a text.
 pub(crate) fn name_of(bytes: &[u8]) -> Name<'_> {
     Name { bytes }
 }
@@ -96,7 +96,7 @@ pub fn is_fundamental(texts: Texts<'_>, id: TraitId) -> bool {
     }
 }
 
-/// Marks the trait and the type of an impl in the last child, with nothing beside them.
+/// Marks the trait and the type of an impl in the last child, without labels.
 pub(crate) fn mark_parts(found: &ImplLine, telling: &mut Telling) {
     telling.mark_child(on_line(found.line, found.parts.bound));
     telling.mark_child(on_line(found.line, found.parts.subject));

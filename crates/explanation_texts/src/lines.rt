@@ -1,11 +1,11 @@
-//! Where the impls and the questions of a text stand.
+//! Where the impls and the queries of a text are.
 
 use diagnostics::{LineParts, Place, SourceFile, Span, on_line, parts_of_impl, parts_of_question};
 use line_reader::Statement;
 use std::alloc::{AllocError, Global};
 use text_reader::{LineForm, line_form};
 
-/// The line of an impl, which counts from 1, with its parts.
+/// The line of an impl, counted from 1, with its parts.
 #[derive(Drop)]
 pub struct ImplLine {
     pub line: u32,
@@ -13,33 +13,33 @@ pub struct ImplLine {
 }
 
 impl ImplLine {
-    /// Its header.
+    /// The span of its header.
     pub fn header(&self) -> Span {
         on_line(self.line, self.parts.header)
     }
 
-    /// Its where-clause with a number, from 0.
+    /// The span of its where-clause with this number, counted from 0.
     pub fn clause(&self, number: usize) -> Option<Span> {
         let place = self.parts.clauses.get(number)?;
         Some(on_line(self.line, *place))
     }
 }
 
-/// Where the impls and the questions of a text stand, in order.
+/// Where the impls and the queries of a text are, in order.
 pub struct ItemLines {
     /// The impls of crates.
     pub impls: Vec<ImplLine>,
     /// The impls of sections, which belong to no crate.
     added: Vec<ImplLine>,
-    /// Of each section, how many impls of sections stand before it.
+    /// For each section, how many impls of sections come before it.
     sections: Vec<usize>,
-    /// What each question asks.
+    /// The bound of each query.
     pub questions: Vec<Span>,
-    /// Whether the impls of a section follow.
+    /// Whether a section is open.
     in_section: bool,
 }
 
-// Written, so that what owns one drops it by one call at each way out, and not field by field.
+// Hand-written so that the prover sees one drop call: docs/PROVING.md#drop.
 impl Drop for ItemLines {
     fn drop(self) {
         let ItemLines {
@@ -60,7 +60,7 @@ pub(crate) fn whole_line(line: &[u8]) -> Place {
     }
 }
 
-/// The parts of the line of an impl; all of them are the whole line where they are not found.
+/// The parts of the line of an impl. If they are not found, each is the whole line.
 fn impl_parts(alloc: Global, line: &[u8]) -> Result<LineParts, AllocError> {
     match parts_of_impl(alloc, line)? {
         Some(parts) => Ok(parts),
@@ -73,7 +73,7 @@ fn impl_parts(alloc: Global, line: &[u8]) -> Result<LineParts, AllocError> {
     }
 }
 
-/// What a question asks; the whole line where that is not found.
+/// The bound of a query. If it is not found, the whole line.
 fn asked_place(alloc: Global, line: &[u8]) -> Result<Place, AllocError> {
     match parts_of_question(alloc, line)? {
         Some(parts) => Ok(parts.header),
@@ -97,7 +97,7 @@ impl ItemLines {
         Ok(())
     }
 
-    /// Adds the line of a question.
+    /// Adds the line of a query.
     fn add_question(&mut self, alloc: Global, number: u32, line: &[u8]) -> Result<(), AllocError> {
         let place = asked_place(alloc, line)?;
         self.questions.push(on_line(number, place))?;
@@ -111,7 +111,7 @@ impl ItemLines {
         Ok(())
     }
 
-    /// Adds a line with what it says.
+    /// Adds a line, with what it says.
     fn add(
         &mut self,
         alloc: Global,
@@ -132,7 +132,7 @@ impl ItemLines {
         }
     }
 
-    /// The line of the impl of a section, which counts from 0, with a number, from 1.
+    /// The line of an impl of a section. Sections count from 0, impls from 1.
     pub fn added_impl(&self, section: u32, number: u32) -> Option<&ImplLine> {
         let before = self.sections.get(section as usize)?;
         let place = (number as usize).checked_sub(1)?;
@@ -140,7 +140,7 @@ impl ItemLines {
     }
 }
 
-/// Where the impls and the questions of a text stand.
+/// Where the impls and the queries of a text are. Fails only if memory is refused.
 pub fn item_lines(alloc: Global, file: &SourceFile<'_>) -> Result<ItemLines, AllocError> {
     let mut found = ItemLines {
         impls: Vec::new(alloc),

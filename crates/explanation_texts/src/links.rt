@@ -1,4 +1,4 @@
-//! For what the goals of a path are required.
+//! What requires the goals of a path.
 
 use crate::items::{impl_line, mark_parts};
 use crate::sentences::{Piece, Sentence, plain, with_one, with_three, with_two};
@@ -14,16 +14,16 @@ pub(crate) fn last_of(path: &[usize]) -> usize {
     path.last().copied().unwrap_or(0)
 }
 
-/// What a goal of a path asks for.
+/// A step of a path, from a goal to one of its nested goals.
 #[derive(Clone, Copy)]
 struct Link {
-    /// The goal that asks.
+    /// The parent goal.
     asker: usize,
-    /// The goal that it asks.
+    /// The nested goal.
     asked: usize,
 }
 
-/// The link of a path with a number, from the inside out: the link to the last goal has number 0.
+/// The link of a path with this number. They count from the inside: the link to the last goal has number 0.
 fn link_at(path: &[usize], number: usize) -> Option<Link> {
     match path.get(..path.len().saturating_sub(number)) {
         Some([.., asker, asked]) => Some(Link {
@@ -34,17 +34,17 @@ fn link_at(path: &[usize], number: usize) -> Option<Link> {
     }
 }
 
-/// A candidate that asks a goal.
+/// A candidate with one of its nested goals.
 #[derive(Clone, Copy)]
 struct CandidateLink<'s> {
     candidate: &'s CandidateNode,
-    /// Which of the goals that it asks this one is, from 0.
+    /// The index of the nested goal among those of the candidate, from 0.
     clause: usize,
-    /// Whether it was checked that its impl, or the built-in rule, asks so.
+    /// Whether it was checked that its impl, or the built-in rule, needs this goal.
     is_rule: bool,
 }
 
-/// The candidate of the asker that asks.
+/// The candidate of the parent goal that needs the nested goal.
 fn asking<'s>(story: &'s Story<'_>, link: Link) -> Option<CandidateLink<'s>> {
     for (number, candidate) in story.candidates(link.asker).iter().enumerate() {
         for (clause, premise) in candidate.premises.iter().enumerate() {
@@ -60,7 +60,7 @@ fn asking<'s>(story: &'s Story<'_>, link: Link) -> Option<CandidateLink<'s>> {
     None
 }
 
-/// What is said at the bound that asks.
+/// The label at the bound that needs the goal.
 fn bound_label(story: &Story<'_>, link: Link) -> &'static str {
     if story.is_refused(link.asker) {
         "unproved trait bound introduced here"
@@ -69,7 +69,7 @@ fn bound_label(story: &Story<'_>, link: Link) -> &'static str {
     }
 }
 
-/// What the asked goal of a link is required for, by a candidate of which it is said where it is no impl, and where it was not checked.
+/// The sentence for what requires the nested goal of a link. It names the candidate if that is no impl, and says so if it was not checked.
 fn required_for<'s>(
     story: &'s Story<'_>,
     link: Link,
@@ -100,7 +100,7 @@ fn required_for<'s>(
     }
 }
 
-/// Marks the header of the impl that asks, and the bound by which it does, in the last child.
+/// Marks the header of the impl that needs the goal, and its bound, in the last child.
 fn mark_asking(story: &Story<'_>, link: Link, asks: CandidateLink<'_>, telling: &mut Telling) {
     let CandidateSource::Impl(id) = asks.candidate.source else {
         return;
@@ -114,7 +114,7 @@ fn mark_asking(story: &Story<'_>, link: Link, asks: CandidateLink<'_>, telling: 
     }
 }
 
-/// Tells one link: what the asked goal is required for, with the bound that asks it marked.
+/// Adds the note for one link: what requires the nested goal, with its bound marked.
 fn tell_link(story: &Story<'_>, link: Link, is_marked: bool, telling: &mut Telling) {
     let asks = asking(story, link);
     telling.note(required_for(story, link, asks));
@@ -123,7 +123,7 @@ fn tell_link(story: &Story<'_>, link: Link, is_marked: bool, telling: &mut Telli
     }
 }
 
-/// Tells how many links in a row are not told.
+/// Adds the note for how many links in a row are left out.
 fn tell_hidden(hidden: usize, telling: &mut Telling) {
     let template = match hidden {
         0 => return,
@@ -133,7 +133,7 @@ fn tell_hidden(hidden: usize, telling: &mut Telling) {
     telling.note(with_one(template, Piece::Number(hidden)));
 }
 
-/// The impl that asks.
+/// The impl that needs the goal.
 fn asking_impl(story: &Story<'_>, link: Link) -> Option<ImplId> {
     match asking(story, link)?.candidate.source {
         CandidateSource::Impl(id) => Some(id),
@@ -141,7 +141,7 @@ fn asking_impl(story: &Story<'_>, link: Link) -> Option<ImplId> {
     }
 }
 
-/// Whether an impl asks in a link too.
+/// Whether the same impl is that of another link.
 fn is_asked_by(story: &Story<'_>, link: Option<Link>, id: Option<ImplId>) -> bool {
     match link {
         Some(link) => id.is_some() && asking_impl(story, link) == id,
@@ -149,7 +149,7 @@ fn is_asked_by(story: &Story<'_>, link: Option<Link>, id: Option<ImplId>) -> boo
     }
 }
 
-/// Tells that the goal at place 0 is the supertrait of a header with a number, from 1; nothing of a question.
+/// Adds the note that the goal at index 0 is a supertrait of a header, by its number from 1. For a query it adds nothing.
 pub(crate) fn tell_supertrait(story: &Story<'_>, supertrait: Option<u32>, telling: &mut Telling) {
     let Some(number) = supertrait else {
         return;
@@ -161,7 +161,8 @@ pub(crate) fn tell_supertrait(story: &Story<'_>, supertrait: Option<u32>, tellin
     ));
 }
 
-/// Tells what the goals of a path are required for, from the inside out. Of goals in a row by one impl the first and the last are told.
+/// Adds the notes for what requires the goals of a path, from the inside out. For goals in a row by one impl, only the first and the last
+/// are added.
 pub(crate) fn tell_links(story: &Story<'_>, path: &[usize], telling: &mut Telling) {
     let mut hidden = 0usize;
     let mut last: Option<ImplId> = None;

@@ -17,7 +17,7 @@ use text_reader::{LineForm, TEXT_LIMIT, TextFault, line_form, parse};
 use type_terms::CrateId;
 use workspace::{Known, Workspace};
 
-/// What a line says, where the grammar has it.
+/// What a line says, if the grammar has it.
 pub(crate) fn reading(alloc: Global, line: &[u8]) -> Result<Option<LineRead<'_>>, AllocError> {
     match line_form(alloc, line)? {
         LineForm::Read(read) => Ok(Some(read)),
@@ -34,7 +34,7 @@ fn byte_span(line: u32, at: usize) -> Span {
     }
 }
 
-/// Tells of a byte of 128 or more, and whether there is one.
+/// Marks a byte of 128 or more. Returns whether there is one.
 fn tell_other_byte(line: u32, bytes: &[u8], telling: &mut Telling) -> bool {
     for (at, byte) in bytes.iter().enumerate() {
         if *byte >= 128 {
@@ -118,7 +118,7 @@ fn tell_unwritten(number: u32, line: &LineWords<'_>, telling: &mut Telling) -> b
     true
 }
 
-/// Whether a line stands in a section: a `later` line is the last above it that begins a crate or a section.
+/// Whether a line is in a section: the last line above it that begins a crate or a section is a `later` line.
 fn is_in_section(alloc: Global, file: &SourceFile<'_>, line: u32) -> Result<bool, AllocError> {
     let mut in_section = false;
     for at in 1..line {
@@ -192,7 +192,7 @@ impl<'t> Faulty<'t> {
     }
 }
 
-/// What a name in `core` or above stands for.
+/// What a name stands for in `core` or in the lines above, in a word.
 pub(crate) fn kind_of(known: Known<'_>) -> &'static str {
     match known {
         Known::Crate(_) => "crate",
@@ -201,7 +201,7 @@ pub(crate) fn kind_of(known: Known<'_>) -> &'static str {
     }
 }
 
-/// Tells of a declared name that is taken, and whether there is one.
+/// Marks a declared name that is taken. Returns whether there is one.
 fn tell_taken(line: Faulty<'_>, telling: &mut Telling) -> bool {
     for word in line.words {
         if !word.declares() {
@@ -340,7 +340,7 @@ fn tell_known(line: Faulty<'_>, name: &[u8], telling: &mut Telling) {
     }
 }
 
-/// Tells of a name, or of a lifetime, that is not known, and whether there is one.
+/// Marks a name or a lifetime that is not declared. Returns whether there is one.
 fn tell_unknown(line: Faulty<'_>, telling: &mut Telling) -> bool {
     for word in line.words {
         let is_lifetime = word.class == b'\'';
@@ -363,7 +363,7 @@ fn tell_unknown(line: Faulty<'_>, telling: &mut Telling) -> bool {
     false
 }
 
-/// The crate to which a line belongs: that of the section or of the crate that begins last above it; of a question the one that it names.
+/// The crate to which a line belongs: that of the last section or crate that begins above it. For a query the crate that it names.
 pub(crate) fn seeing_crate(alloc: Global, line: Faulty<'_>) -> Result<Option<CrateId>, AllocError> {
     let mut found = None;
     for before in 0..line.number {
@@ -384,7 +384,7 @@ pub(crate) fn seeing_crate(alloc: Global, line: Faulty<'_>) -> Result<Option<Cra
     Ok(found)
 }
 
-/// Tells of a struct or trait of a crate that another one does not see.
+/// Adds which crate declares a struct or trait that another crate does not see.
 fn tell_owner(
     line: Faulty<'_>,
     seeing: CrateId,
@@ -404,7 +404,7 @@ fn tell_owner(
     }
 }
 
-/// Tells of a struct or trait that the crate of a line does not see, and whether there is one.
+/// Marks a struct or trait that the crate of a line does not see. Returns whether there is one.
 fn tell_hidden(line: Faulty<'_>, telling: &mut Telling) -> bool {
     let seeing = seeing_crate(telling.alloc(), line);
     let Some(Some(seeing)) = telling.granted(seeing) else {

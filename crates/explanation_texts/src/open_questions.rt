@@ -1,4 +1,4 @@
-//! What is said of a question that was answered open.
+//! The text for a query that was answered `open`.
 
 use crate::failures::Asking;
 use crate::reasons::{Reason, is_left, open_path, reason_of, tell_limit, tell_path};
@@ -11,7 +11,7 @@ use evaluation::Certainty;
 use goal_walk::{Answer, CandidateNode};
 use std::alloc::{AllocError, Global};
 
-/// What is said of a candidate that may apply: this, and where it was not checked, that too.
+/// The sentence for a candidate that may apply, which says so if that was not checked.
 pub(crate) fn chance(may_apply: bool) -> &'static str {
     if may_apply {
         "the {} may apply"
@@ -20,8 +20,8 @@ pub(crate) fn chance(may_apply: bool) -> &'static str {
     }
 }
 
-/// What is said of the candidate with a number, which is left: that it applies, where the goal holds by it, or may, and where that was not
-/// checked, this too.
+/// The sentence for the candidate with this number, which is left: it applies, if the goal holds by it, or it may apply. It says so if that
+/// was not checked.
 fn way_said(
     story: &Story<'_>,
     candidate: &CandidateNode,
@@ -38,7 +38,8 @@ fn way_said(
     with_one(template, source_piece(story.texts, candidate.source))
 }
 
-/// Tells the candidates that apply, or may. Of a type that is not known none is told: the one candidate stands for all of them.
+/// Adds the notes for the candidates that apply, or may apply. If the self type is a variable, none is added, because the one candidate
+/// stands for all impls.
 fn tell_ways(story: &Story<'_>, telling: &mut Telling) {
     if story.is_unknown(0) {
         return;

@@ -1,4 +1,4 @@
-//! What is said of a header that breaks the orphan rule.
+//! The text for a header that breaks the orphan rule.
 
 ghost use Rattle.std.specs.Prelude.{IfSome};
 ghost use Rattle.type_terms.specs.Terms.{Has, types};
@@ -36,7 +36,7 @@ impl<'w> Refused<'w> {
     }
 }
 
-/// For what types a foreign trait would be implemented, as the original says it.
+/// The kinds of types for which a foreign trait would be implemented, in rustc's words.
 fn sort_of_types(cx: &Interner, ty: Ty) -> &'static str
     requires { Has cx.now.entries types ty.0 }
 {
@@ -78,7 +78,7 @@ fn homeless_said<'s>(name: &'s str) -> Sentence<'s> {
     with_one(template, Piece::Text(name))
 }
 
-/// Where a type that is called so comes from.
+/// The sentence for where a type with this name comes from.
 fn home_said<'s>(texts: Texts<'s>, cx: &Interner, ty: Ty, name: &'s str) -> Sentence<'s>
     requires { Has cx.now.entries types ty.0 }
 {
@@ -91,7 +91,7 @@ fn home_said<'s>(texts: Texts<'s>, cx: &Interner, ty: Ty, name: &'s str) -> Sent
     }
 }
 
-/// Tells what is said of a type that the walk met.
+/// Adds the note for a type that the orphan walk met.
 fn tell_met_type(refused: Refused<'_>, cx: &Interner, ty: Ty, telling: &mut Telling)
     requires { Has cx.now.entries types ty.0 }
 {
@@ -101,7 +101,7 @@ fn tell_met_type(refused: Refused<'_>, cx: &Interner, ty: Ty, telling: &mut Tell
     }
 }
 
-/// Tells what is said of each type that the walk met.
+/// Adds the notes for the types that the orphan walk met.
 fn tell_met(
     refused: Refused<'_>,
     cx: &Interner,
@@ -119,7 +119,7 @@ fn tell_met(
     }
 }
 
-/// Marks the header of the impl, if it stands in the text.
+/// Marks the header of the impl, if it is in the text.
 fn mark_header(refused: Refused<'_>, label: Sentence<'_>, telling: &mut Telling) {
     if let Some(found) = impl_line(refused.texts, refused.id) {
         telling.mark(found.header(), label);
@@ -189,7 +189,7 @@ fn tell_elsewhere(refused: Refused<'_>, telling: &mut Telling) {
     telling.help(with_two(template, home, own));
 }
 
-/// The message where no type of the header is of the crate.
+/// The message if no type of the header is local.
 fn nonlocal_message(cx: &Interner, types: &[(Ty, IsFirstInputType)]) -> Sentence<'static>
     requires { LeavesHeld cx.now.entries types.now }
 {
@@ -203,7 +203,7 @@ fn nonlocal_message(cx: &Interner, types: &[(Ty, IsFirstInputType)]) -> Sentence
     )
 }
 
-/// What is said where no type of the header is of the crate.
+/// The diagnostic if no type of the header is local.
 fn nonlocal(
     alloc: Global,
     refused: Refused<'_>,
@@ -225,7 +225,7 @@ fn nonlocal(
     telling.finish()
 }
 
-/// The message where a parameter comes before the first local type, or there is no such type.
+/// The message if a parameter comes before the first local type, or if there is no local type.
 fn uncovered_message<'s>(param: &'s str, local: Option<&'s str>) -> Sentence<'s> {
     let param = Piece::Text(param);
     match local {
@@ -242,7 +242,7 @@ fn uncovered_message<'s>(param: &'s str, local: Option<&'s str>) -> Sentence<'s>
     }
 }
 
-/// What is said of the header where a parameter comes before the first local type, or there is no such type.
+/// The label of the header if a parameter comes before the first local type, or if there is no local type.
 fn uncovered_label<'s>(param: &'s str, has_local: bool) -> Sentence<'s> {
     let template = if has_local {
         "type parameter `{}` comes before the first local type"
@@ -284,7 +284,7 @@ fn tell_covers_nothing(refused: Refused<'_>, telling: &mut Telling) {
     }
 }
 
-/// What is said where a parameter comes before the first local type, or there is no such type.
+/// The diagnostic for one such parameter.
 fn uncovered_param(
     alloc: Global,
     refused: Refused<'_>,
@@ -306,7 +306,7 @@ fn uncovered_param(
     telling.finish()
 }
 
-/// What is said where a parameter comes before the first local type, or there is no such type.
+/// The diagnostic if a parameter comes before the first local type, or if there is no local type.
 fn uncovered(
     alloc: Global,
     refused: Refused<'_>,
@@ -327,7 +327,7 @@ fn uncovered(
     }
 }
 
-/// What is said of a header that breaks the orphan rule.
+/// The diagnostic for a header that breaks the orphan rule.
 pub fn orphan(
     alloc: Global,
     texts: Texts<'_>,

@@ -27,9 +27,9 @@ pub(crate) enum Reason {
     Added(Adder),
     /// It needs itself.
     Cycle,
-    /// The search met its depth limit.
+    /// The search reached its depth limit.
     Depth,
-    /// The search met a limit, and it is not seen that it was that of the depth.
+    /// The search reached a limit, which need not be that of the depth.
     Limits,
     /// The search met a limit, and the walk took what it may before it was seen which.
     Either,

@@ -8,16 +8,16 @@ use diagnostics::LIST_LIMIT;
 use evaluation::CandidateSource;
 use goal_walk::CandidateNode;
 
-/// How goals are refused.
+/// In which sense goals are refused.
 #[derive(Clone, Copy)]
 pub(crate) enum Refusal {
-    /// They were not proved.
+    /// The search found no proof of them.
     NotProved,
-    /// No crate that may be linked with the asking one can give them.
+    /// They have no proof in any linked set with the crate.
     NoCrate,
 }
 
-/// What is said of a goal that is refused so, and where that was not checked, this too.
+/// The words for a goal that is refused in this sense. They say so if it was not checked.
 fn why_said(story: &Story<'_>, place: usize, refusal: Refusal) -> &'static str {
     match refusal {
         Refusal::NotProved => "which was not proved",
@@ -31,7 +31,8 @@ fn why_said(story: &Story<'_>, place: usize, refusal: Refusal) -> &'static str {
     }
 }
 
-/// Why a candidate is refused: what it needs, and what is to be said of that. Where it was not checked that it fits, that is said too.
+/// The sentence for a refused candidate: what it needs, and what is known of that. It says so if it was not checked that the candidate
+/// fits.
 fn candidate_said<'s>(
     story: &'s Story<'_>,
     candidate: &CandidateNode,
@@ -63,7 +64,7 @@ fn candidate_said<'s>(
     }
 }
 
-/// Tells why each candidate of a goal is refused.
+/// Adds why each candidate of a goal is refused.
 pub(crate) fn tell_refused(
     story: &Story<'_>,
     place: usize,

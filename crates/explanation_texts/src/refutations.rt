@@ -1,4 +1,4 @@
-//! What is said of a question that was answered no.
+//! The text for a query that was answered `no`.
 
 use crate::items::{Texts, has_rules, is_fundamental, trait_name};
 use crate::refused::{Refusal, tell_refused};
@@ -11,7 +11,7 @@ use orphan_check::errors::Conflict;
 use session_walks::Adder;
 use std::alloc::{AllocError, Global};
 
-/// That nothing fits, and where that was not checked, this too.
+/// The sentence that nothing fits. It says so if that was not checked.
 fn nothing_fits<'s>(story: &Story<'s>, spoken: &Spoken) -> Sentence<'s> {
     let texts = story.texts;
     let template = if !has_rules(texts, spoken.trait_id) {
@@ -28,7 +28,7 @@ fn nothing_fits<'s>(story: &Story<'s>, spoken: &Spoken) -> Sentence<'s> {
     with_one(template, Piece::Name(trait_name(texts, spoken.trait_id)))
 }
 
-/// Why no crate that is not seen may add an impl.
+/// Why no crate outside the view may add an impl.
 fn known_said<'s>(texts: Texts<'s>, spoken: &'s Spoken) -> Sentence<'s> {
     let name = Piece::Name(trait_name(texts, spoken.trait_id));
     let reference = spoken.reference_piece();
@@ -46,7 +46,7 @@ fn known_said<'s>(texts: Texts<'s>, spoken: &'s Spoken) -> Sentence<'s> {
     }
 }
 
-/// Why an impl that a crate that is not seen may add changes nothing.
+/// Why an impl that a crate outside the view may add changes nothing.
 fn unseen_said<'s>(texts: Texts<'s>, spoken: &'s Spoken, adder: Option<Adder>) -> Sentence<'s> {
     let template = match adder {
         Some(Adder::Owner(_)) =>
@@ -60,7 +60,7 @@ fn unseen_said<'s>(texts: Texts<'s>, spoken: &'s Spoken, adder: Option<Adder>) -
     with_three(template, spoken.bound_piece(), spoken.subject_piece(), name)
 }
 
-/// Why nothing that is not seen proves the reference.
+/// Why nothing outside the view proves the trait reference.
 fn unseen_why<'s>(
     texts: Texts<'s>,
     spoken: &'s Spoken,
@@ -73,7 +73,7 @@ fn unseen_why<'s>(
     }
 }
 
-/// Tells why nothing that is seen, and nothing that is not, proves the reference.
+/// Adds why nothing in the view, and nothing outside it, proves the trait reference.
 fn tell_whys(story: &Story<'_>, telling: &mut Telling) {
     tell_refused(story, 0, Refusal::NoCrate, telling);
     let Some(spoken) = story.spoken(0) else {
@@ -87,7 +87,7 @@ fn tell_whys(story: &Story<'_>, telling: &mut Telling) {
     }
 }
 
-/// What is said of a question that was answered no, at a span.
+/// The diagnostic for a query that was answered `no`, at this span.
 pub fn refuted(alloc: Global, story: &Story<'_>, span: Span) -> Result<Diagnostic, AllocError> {
     let message = with_one(
         "no crate that may be linked with this one can make `{}` hold",

@@ -1,20 +1,20 @@
 //! Sentences as data, and how they are written.
 //!
-//! A sentence borrows what it speaks of and owns nothing, so what chooses one asks for no memory and cannot fail. What is told takes sentences
-//! (`Telling`), and writes them.
+//! A sentence borrows its parts and owns nothing. So choosing one takes no memory and cannot fail. `Telling` takes sentences and writes
+//! them.
 
 use crate::items::Name;
 use diagnostics::{TYPE_LIMIT, TextWriter};
 use std::alloc::{AllocError, Global};
 
-/// What stands in a place of a sentence.
+/// A part that is put into a sentence.
 #[derive(Clone, Copy)]
 pub enum Piece<'t> {
     Text(&'t str),
     /// A name of the text.
     Name(Name<'t>),
     Number(usize),
-    /// A reference, by its self type and its bound.
+    /// A trait reference, by its self type and its bound.
     Reference(&'t str, &'t str),
     /// An impl of the text, by its line.
     ImplAtLine(u32),
@@ -22,17 +22,17 @@ pub enum Piece<'t> {
     ImplOfCore(u32),
 }
 
-/// A sentence: a template, and what stands in its places, which are written `{}`, in order.
+/// A sentence: a template, and the parts that replace its `{}`, in order.
 #[derive(Clone, Copy)]
 pub struct Sentence<'t> {
     template: &'static str,
     pieces: [Piece<'t>; 4],
 }
 
-/// What stands in a place that a template has not, and of what there is not.
+/// The part for a `{}` that has none.
 pub(crate) const NONE: Piece<'static> = Piece::Text("");
 
-/// A sentence without places.
+/// A sentence without parts.
 pub fn plain(template: &'static str) -> Sentence<'static> {
     Sentence {
         template,
@@ -40,7 +40,7 @@ pub fn plain(template: &'static str) -> Sentence<'static> {
     }
 }
 
-/// A sentence with one place.
+/// A sentence with one part.
 pub fn with_one<'t>(template: &'static str, first: Piece<'t>) -> Sentence<'t> {
     Sentence {
         template,
@@ -48,7 +48,7 @@ pub fn with_one<'t>(template: &'static str, first: Piece<'t>) -> Sentence<'t> {
     }
 }
 
-/// A sentence with two places.
+/// A sentence with two parts.
 pub fn with_two<'t>(template: &'static str, first: Piece<'t>, second: Piece<'t>) -> Sentence<'t> {
     Sentence {
         template,
@@ -56,7 +56,7 @@ pub fn with_two<'t>(template: &'static str, first: Piece<'t>, second: Piece<'t>)
     }
 }
 
-/// A sentence with three places.
+/// A sentence with three parts.
 pub fn with_three<'t>(
     template: &'static str,
     first: Piece<'t>,
@@ -69,12 +69,12 @@ pub fn with_three<'t>(
     }
 }
 
-/// A sentence with four places.
+/// A sentence with four parts.
 pub fn with_four<'t>(template: &'static str, pieces: [Piece<'t>; 4]) -> Sentence<'t> {
     Sentence { template, pieces }
 }
 
-/// Appends a name, cut where it is long.
+/// Appends a name, cut if it is long.
 fn push_name(out: &mut TextWriter, name: Name<'_>) {
     let shown = name.bytes.get(..TYPE_LIMIT).unwrap_or(name.bytes);
     out.push_shown(shown);
@@ -83,7 +83,7 @@ fn push_name(out: &mut TextWriter, name: Name<'_>) {
     }
 }
 
-/// Appends what stands in a place.
+/// Appends a part.
 fn push_piece(out: &mut TextWriter, piece: Piece<'_>) {
     match piece {
         Piece::Text(text) => out.push_str(text),

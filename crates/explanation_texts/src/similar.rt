@@ -1,4 +1,4 @@
-//! Names that are like one that is not known.
+//! Names that are similar to one that is not declared.
 
 use crate::items::{Name, name_of};
 use diagnostics::{TYPE_LIMIT, cut_text};
@@ -15,7 +15,7 @@ fn near(name: &str) -> usize {
     }
 }
 
-/// The name that is most like another one so far.
+/// The most similar name so far.
 #[derive(Clone, Copy)]
 struct Nearest<'w> {
     name: Option<Name<'w>>,
@@ -46,7 +46,7 @@ fn compare<'w>(
     }
 }
 
-/// The struct or trait with the name that is most like a text, if one is near.
+/// The struct or trait whose name is most similar to a text, if one is near.
 fn nearest_name<'w>(
     alloc: Global,
     workspace: &'w Workspace,
@@ -65,7 +65,7 @@ fn nearest_name<'w>(
     Ok(best.name)
 }
 
-/// The struct or trait with the name that is most like this one, if one is near.
+/// The struct or trait whose name is most similar to this one, if one is near.
 pub(crate) fn similar_name<'w>(
     alloc: Global,
     workspace: &'w Workspace,

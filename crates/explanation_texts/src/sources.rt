@@ -1,4 +1,4 @@
-//! By what a candidate holds, in words.
+//! The sources of candidates, in words.
 
 use crate::items::{Texts, impl_piece};
 use crate::sentences::Piece;
@@ -14,7 +14,7 @@ fn rule_name(source: BuiltinImplSource) -> &'static str {
     }
 }
 
-/// By what a candidate holds, as in "by a built-in rule".
+/// The source of a candidate, as in "by a built-in rule".
 pub fn source_piece(texts: Texts<'_>, source: CandidateSource) -> Piece<'static> {
     match source {
         CandidateSource::Impl(id) => impl_piece(texts, id),

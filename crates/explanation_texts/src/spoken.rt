@@ -1,4 +1,4 @@
-//! References as text.
+//! Trait references, rendered as text.
 
 ghost use Rattle.std.specs.Prelude.{IfSome};
 ghost use Rattle.type_terms.specs.Kinds.{ArgHeld};
@@ -15,22 +15,22 @@ use type_terms::TraitId;
 use type_terms::interner::Interner;
 use type_terms::kinds::{GenericArgKind, Ty, TyKind};
 
-/// A reference with its self type and its bound, as texts.
+/// A rendered trait reference: its self type and its bound as texts.
 pub struct Spoken {
-    /// `V<u8>`
+    /// The self type: `V<u8>`.
     subject: String,
-    /// `Show`
+    /// The trait with its further arguments: `Show`.
     bound: String,
-    /// The first argument that is an unknown, the self type among them: `?x`. Empty where none is.
+    /// The first argument that is a variable, with the self type: `?x`. Empty if there is none.
     pub(crate) unknown: String,
     pub trait_id: TraitId,
-    /// Whether the self type is an unknown.
+    /// Whether the self type is a variable.
     pub is_unknown: bool,
-    /// Whether the self type is a parameter of what asks.
+    /// Whether the self type is a parameter of the query or impl.
     pub is_param: bool,
 }
 
-// Written, so that what owns one drops it by one call at each way out, and not field by field.
+// Hand-written so that the prover sees one drop call: docs/PROVING.md#drop.
 impl Drop for Spoken {
     fn drop(self) {
         let Spoken {
@@ -45,12 +45,12 @@ impl Drop for Spoken {
 }
 
 impl Spoken {
-    /// The whole reference, in a sentence.
+    /// The whole trait reference, for a sentence.
     pub fn reference_piece(&self) -> Piece<'_> {
         Piece::Reference(self.subject.as_str(), self.bound.as_str())
     }
 
-    /// The bound, in a sentence.
+    /// The bound, for a sentence.
     pub fn bound_piece(&self) -> Piece<'_> {
         Piece::Text(self.bound.as_str())
     }
@@ -60,13 +60,13 @@ impl Spoken {
         self.subject.as_bytes() == subject.bytes && self.bound.as_bytes() == bound.bytes
     }
 
-    /// The self type, in a sentence.
+    /// The self type, for a sentence.
     pub fn subject_piece(&self) -> Piece<'_> {
         Piece::Text(self.subject.as_str())
     }
 }
 
-/// Appends an argument of a trait behind its self type, with what stands before it.
+/// Appends an argument of a trait after its self type, with what comes before it.
 fn push_arg(
     cx: &Interner,
     names: &ShownNames<'_>,
@@ -92,7 +92,7 @@ fn push_arg(
     }
 }
 
-/// The trait of a reference with its arguments behind the self type.
+/// The trait of a trait reference, with its arguments after the self type.
 fn bound_text(
     alloc: Global,
     cx: &Interner,
@@ -115,7 +115,7 @@ fn bound_text(
     cut_text(alloc, &out, TYPE_LIMIT)
 }
 
-/// The self type of a reference, its first argument.
+/// The self type of a trait reference, its first argument.
 fn self_type(cx: &Interner, reference: TraitRef) -> Option<Ty>
     requires { Has cx.now.entries args_lists reference.args.0 }
     ensures { IfSome result (λ ty. Has cx.now.entries types ty.0) }
@@ -126,7 +126,7 @@ fn self_type(cx: &Interner, reference: TraitRef) -> Option<Ty>
     }
 }
 
-/// The self type of a reference as text.
+/// The self type of a trait reference as text.
 fn subject_text(
     alloc: Global,
     cx: &Interner,
@@ -141,7 +141,7 @@ fn subject_text(
     }
 }
 
-/// Whether the self type of a reference is an unknown.
+/// Whether the self type of a trait reference is a variable.
 fn is_unknown(cx: &Interner, reference: TraitRef) -> bool
     requires { Has cx.now.entries args_lists reference.args.0 }
 {
@@ -151,7 +151,7 @@ fn is_unknown(cx: &Interner, reference: TraitRef) -> bool
     }
 }
 
-/// An argument as text where it is a type that is an unknown, else empty.
+/// An argument as text if it is a type variable, and otherwise an empty text.
 fn text_if_unknown(
     alloc: Global,
     cx: &Interner,
@@ -169,7 +169,7 @@ fn text_if_unknown(
     }
 }
 
-/// The first argument of a reference that is an unknown, as text; empty where none is.
+/// The first argument of a trait reference that is a variable, as text. Empty if there is none.
 fn unknown_text(
     alloc: Global,
     cx: &Interner,
@@ -187,7 +187,7 @@ fn unknown_text(
     Ok(String::new(alloc))
 }
 
-/// Whether the self type of a reference is a placeholder.
+/// Whether the self type of a trait reference is a placeholder.
 fn is_param(cx: &Interner, reference: TraitRef) -> bool
     requires { Has cx.now.entries args_lists reference.args.0 }
 {
@@ -197,7 +197,7 @@ fn is_param(cx: &Interner, reference: TraitRef) -> bool
     }
 }
 
-/// A reference as text.
+/// Renders a trait reference. Fails only if memory is refused.
 pub fn speak(
     alloc: Global,
     cx: &Interner,

@@ -1,4 +1,4 @@
-//! A walk with its references as texts.
+//! A trace with its trait references rendered.
 
 ghost use Rattle.goal_walk.specs.Walking.{ReferencesHeld};
 ghost use Rattle.session_walks.specs.Claims.{ClaimsHold};
@@ -16,7 +16,7 @@ use std::alloc::{AllocError, Global};
 use term_folds::predicate::TraitRef;
 use type_terms::interner::Interner;
 
-/// A walk of a text's goal, with its references as texts. Its goals are named by their places.
+/// A trace of a text's goal, with its trait references rendered, and what is claimed of it. Goals are named by their indices.
 pub struct Story<'w> {
     pub texts: Texts<'w>,
     spoken: Vec<Spoken>,
@@ -24,7 +24,7 @@ pub struct Story<'w> {
     claims: &'w Claims,
 }
 
-// Written, so that what owns one drops it by one call at each way out, and not field by field.
+// Hand-written so that the prover sees one drop call: docs/PROVING.md#drop.
 impl Drop for Story<'_> {
     fn drop(self) {
         let Story {
@@ -36,7 +36,7 @@ impl Drop for Story<'_> {
     }
 }
 
-/// The references as texts.
+/// Renders all trait references.
 fn speak_all(
     alloc: Global,
     cx: &Interner,
@@ -53,8 +53,8 @@ fn speak_all(
     Ok(spoken)
 }
 
-/// A walk of a session, told, with what is claimed of it: what the crate's view does not make true cannot be handed on here, and so is not
-/// told as checked.
+/// Renders a trace of a session, with what is claimed of it. The caller must prove the claims, so what the crate's view does not make true
+/// cannot be stated as checked.
 pub fn tell<'w>(
     alloc: Global,
     texts: Texts<'w>,
@@ -75,7 +75,7 @@ pub fn tell<'w>(
     })
 }
 
-/// Whether the candidate of a goal with a number is among these.
+/// Whether the candidate with this number, of this goal, is among these.
 fn is_among(candidates: &[(usize, usize)], place: usize, number: usize) -> bool {
     for candidate in candidates {
         if candidate.0 == place && candidate.1 == number {
@@ -91,12 +91,12 @@ impl Story<'_> {
         self.walk.nodes.len()
     }
 
-    /// The reference of a goal.
+    /// The rendered trait reference of a goal.
     pub fn spoken(&self, place: usize) -> Option<&Spoken> {
         self.spoken.get(place)
     }
 
-    /// The reference of a goal, in a sentence.
+    /// The trait reference of a goal, for a sentence.
     pub fn reference(&self, place: usize) -> Piece<'_> {
         match self.spoken(place) {
             Some(spoken) => spoken.reference_piece(),
@@ -104,7 +104,7 @@ impl Story<'_> {
         }
     }
 
-    /// The self type of a goal, in a sentence.
+    /// The self type of a goal, for a sentence.
     pub(crate) fn subject(&self, place: usize) -> Piece<'_> {
         match self.spoken(place) {
             Some(spoken) => spoken.subject_piece(),
@@ -112,7 +112,7 @@ impl Story<'_> {
         }
     }
 
-    /// The bound of a goal, in a sentence.
+    /// The bound of a goal, for a sentence.
     pub(crate) fn bound(&self, place: usize) -> Piece<'_> {
         match self.spoken(place) {
             Some(spoken) => spoken.bound_piece(),
@@ -120,7 +120,7 @@ impl Story<'_> {
         }
     }
 
-    /// Whether the self type of a goal is an unknown.
+    /// Whether the self type of a goal is a variable.
     pub(crate) fn is_unknown(&self, place: usize) -> bool {
         match self.spoken(place) {
             Some(spoken) => spoken.is_unknown,
@@ -128,7 +128,7 @@ impl Story<'_> {
         }
     }
 
-    /// The first argument of a goal that is an unknown; empty where none is.
+    /// The first argument of a goal that is a variable. Empty if there is none.
     pub(crate) fn unknown(&self, place: usize) -> &str {
         match self.spoken(place) {
             Some(spoken) => spoken.unknown.as_str(),
@@ -144,15 +144,17 @@ impl Story<'_> {
         }
     }
 
+    /// Whether a goal is refused.
     pub(crate) fn is_refused(&self, place: usize) -> bool {
         self.answer(place) == Answer::Refused
     }
 
+    /// Whether a goal is ambiguous.
     pub(crate) fn is_unsure(&self, place: usize) -> bool {
         matches!(self.answer(place), Answer::Maybe(_))
     }
 
-    /// How a goal stands to the others.
+    /// Whether the candidates of a goal are displayed, and where.
     pub(crate) fn standing(&self, place: usize) -> Standing {
         match self.walk.node(place) {
             Some(node) => node.standing,
@@ -160,7 +162,7 @@ impl Story<'_> {
         }
     }
 
-    /// Whether a goal is asked in the course of itself.
+    /// Whether a goal is a nested goal of itself.
     pub(crate) fn is_cycle(&self, place: usize) -> bool {
         matches!(self.standing(place), Standing::Cycle(_))
     }
@@ -188,7 +190,7 @@ impl Story<'_> {
         }
     }
 
-    /// The place at which the candidates of a goal stand: another one, where the same goal is shown already.
+    /// The index that has the candidates of a goal. It is another one if the same goal is displayed already.
     pub(crate) fn shown_at(&self, place: usize) -> usize {
         match self.standing(place) {
             Standing::Same(earlier) => earlier,
@@ -196,7 +198,7 @@ impl Story<'_> {
         }
     }
 
-    /// The candidates of a goal that tell why it is answered so.
+    /// The candidates of a goal that explain its answer.
     pub fn candidates(&self, place: usize) -> &[CandidateNode] {
         match self.walk.node(self.shown_at(place)) {
             Some(node) => &node.candidates,
@@ -204,12 +206,12 @@ impl Story<'_> {
         }
     }
 
-    /// Whether the candidate of a goal with a number is claimed to be a rule.
+    /// Whether it is claimed that the candidate with this number, of this goal, is a rule.
     pub(crate) fn is_rule(&self, place: usize, number: usize) -> bool {
         is_among(&self.claims.candidates.rules, self.shown_at(place), number)
     }
 
-    /// Whether it is claimed that the candidate of a goal with a number may apply.
+    /// Whether it is claimed that the candidate with this number, of this goal, may apply.
     pub(crate) fn may_apply(&self, place: usize, number: usize) -> bool {
         is_among(
             &self.claims.candidates.chances,
@@ -218,7 +220,7 @@ impl Story<'_> {
         )
     }
 
-    /// Whether it is claimed that a goal has no proof in any linked set with the asking crate.
+    /// Whether it is claimed that a goal has no proof in any linked set with the crate.
     pub(crate) fn is_refused_everywhere(&self, place: usize) -> bool {
         self.claims.refused.contains(&place)
     }
@@ -228,7 +230,7 @@ impl Story<'_> {
         self.claims.held.contains(&place)
     }
 
-    /// Which crates that are not seen may have an impl for a goal, where that is claimed; none of them, where all impls for it are known.
+    /// Which crates outside the view may have an impl for a goal, if that is claimed. The inner `None` says that the goal is knowable.
     pub fn unseen(&self, place: usize) -> Option<Option<Conflict>> {
         for found in &self.claims.unseen {
             if found.0 == place {
@@ -248,17 +250,17 @@ impl Story<'_> {
         None
     }
 
-    /// Whether it is claimed that no impl fits the goal at place 0.
+    /// Whether it is claimed that no impl fits the goal at index 0.
     pub(crate) fn has_no_impl(&self) -> bool {
         self.claims.no_impl
     }
 
-    /// Whether it is claimed that no built-in rule fits the goal at place 0.
+    /// Whether it is claimed that no built-in rule fits the goal at index 0.
     pub(crate) fn has_no_built_in_rule(&self) -> bool {
         self.claims.no_built_in_rule
     }
 
-    /// The candidate of a goal, if there is just one.
+    /// The candidate of a goal, if there is exactly one.
     pub(crate) fn only_candidate(&self, place: usize) -> Option<&CandidateNode> {
         match self.candidates(place) {
             [candidate] => Some(candidate),
@@ -267,7 +269,7 @@ impl Story<'_> {
     }
 }
 
-/// The last goal that a candidate asks, if it is refused.
+/// The last nested goal of a candidate, if it is refused.
 pub(crate) fn refused_premise(story: &Story<'_>, candidate: &CandidateNode) -> Option<usize> {
     match candidate.premises.last() {
         Some(premise) if story.is_refused(*premise) => Some(*premise),
@@ -275,7 +277,7 @@ pub(crate) fn refused_premise(story: &Story<'_>, candidate: &CandidateNode) -> O
     }
 }
 
-/// The first goal that a candidate asks of which it is not known whether it holds.
+/// The first nested goal of a candidate that is ambiguous.
 pub(crate) fn unsure_premise(story: &Story<'_>, candidate: &CandidateNode) -> Option<usize> {
     for premise in &candidate.premises {
         if story.is_unsure(*premise) {

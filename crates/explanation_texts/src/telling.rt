@@ -1,4 +1,4 @@
-//! Diagnostics that are being told.
+//! Diagnostics that are being written.
 
 ghost use Rattle.std.specs.Prelude.{◌≡◌, ◌+◌, vec_len, false, true, IfNone, IfOk, IfSome, OnOk, OnSome};
 ghost use Rattle.std.specs.declared.result.Result.TheVariants.{Ok};
@@ -7,15 +7,15 @@ use crate::sentences::{Piece, Sentence, impl_line_in, plain, sentence_text, with
 use diagnostics::{Diagnostic, ErrCode, Level, ProofRow, Span, SpanLabel, Subdiagnostic};
 use std::alloc::{AllocError, Global};
 
-/// A diagnostic that is being told. When a request for memory is refused it is kept in mind, and nothing is told from then on: so who tells
-/// goes on, and asks once, at the end.
+/// A diagnostic that is being written. It remembers that a request for memory was refused, and adds nothing from then on. So a caller does
+/// not check each call, and asks once, in `finish`.
 pub struct Telling {
     alloc: Global,
     told: Diagnostic,
     is_refused: bool,
 }
 
-// Written, so that what owns one drops it by one call at each way out, and not field by field.
+// Hand-written so that the prover sees one drop call: docs/PROVING.md#drop.
 impl Drop for Telling {
     fn drop(self) {
         let Telling {
@@ -48,7 +48,7 @@ impl Telling {
         }
     }
 
-    /// What was told, if no request was refused.
+    /// The diagnostic as it was written, if no request for memory was refused.
     pub fn finish(self) -> Result<Diagnostic, AllocError>
         ensures whole { IfOk result (λ d. d ≡ self.told) }
         ensures granted { OnOk result (self.is_refused ≡ false) }
@@ -65,12 +65,12 @@ impl Telling {
         }
     }
 
-    /// Where memory is asked for.
+    /// The allocator, for other requests.
     pub fn alloc(&self) -> Global {
         self.alloc
     }
 
-    /// What was asked for beside the telling; where it was refused this is kept in mind.
+    /// The value of another request. If it was refused, this is remembered.
     pub fn granted<T>(&mut self, asked: Result<T, AllocError>) -> Option<T>
         ensures value { IfSome result (λ given. asked ≡ Ok given) }
         ensures refused { IfNone result (self.new.is_refused ≡ true) }
@@ -99,7 +99,7 @@ impl Telling {
         self.granted(asked)
     }
 
-    /// Adds a mark to the message, with what is said beside it.
+    /// Adds a mark with a label to the message.
     fn add_mark(&mut self, span: Span, is_primary: bool, label: Sentence<'_>)
         ensures told { self.new.is_refused ≡ false → vec_len self.new.told.spans ≡ vec_len self.old.told.spans + 1 }
         ensures stays { self.new.is_refused ≡ false → self.old.is_refused ≡ false }
@@ -114,7 +114,7 @@ impl Telling {
         }
     }
 
-    /// Marks what the message is about, with what is said beside it.
+    /// Marks what the message is about, with a label.
     pub fn mark(&mut self, span: Span, label: Sentence<'_>)
         ensures told { self.new.is_refused ≡ false → vec_len self.new.told.spans ≡ vec_len self.old.told.spans + 1 }
         ensures stays { self.new.is_refused ≡ false → self.old.is_refused ≡ false }
@@ -122,7 +122,7 @@ impl Telling {
         self.add_mark(span, true, label);
     }
 
-    /// Marks what stands beside what the message is about, with what is said there.
+    /// Marks another part, with a label.
     pub fn mark_beside(&mut self, span: Span, label: Sentence<'_>)
         ensures told { self.new.is_refused ≡ false → vec_len self.new.told.spans ≡ vec_len self.old.told.spans + 1 }
         ensures stays { self.new.is_refused ≡ false → self.old.is_refused ≡ false }
@@ -130,7 +130,7 @@ impl Telling {
         self.add_mark(span, false, label);
     }
 
-    /// Adds a child without a place.
+    /// Adds a child without a span.
     fn add_child(&mut self, level: Level, message: Sentence<'_>)
         ensures told { self.new.is_refused ≡ false → vec_len self.new.told.children ≡ vec_len self.old.told.children + 1 }
         ensures stays { self.new.is_refused ≡ false → self.old.is_refused ≡ false }
@@ -141,7 +141,7 @@ impl Telling {
         }
     }
 
-    /// Adds a note without a place.
+    /// Adds a note without a span.
     pub fn note(&mut self, message: Sentence<'_>)
         ensures told { self.new.is_refused ≡ false → vec_len self.new.told.children ≡ vec_len self.old.told.children + 1 }
         ensures stays { self.new.is_refused ≡ false → self.old.is_refused ≡ false }
@@ -149,7 +149,7 @@ impl Telling {
         self.add_child(Level::Note, message);
     }
 
-    /// Adds a help without a place.
+    /// Adds a help without a span.
     pub fn help(&mut self, message: Sentence<'_>)
         ensures told { self.new.is_refused ≡ false → vec_len self.new.told.children ≡ vec_len self.old.told.children + 1 }
         ensures stays { self.new.is_refused ≡ false → self.old.is_refused ≡ false }
@@ -157,7 +157,7 @@ impl Telling {
         self.add_child(Level::Help, message);
     }
 
-    /// Adds a mark to the last child, with what is said beside it.
+    /// Adds a mark with a label to the last child.
     fn mark_last(&mut self, span: Span, is_primary: bool, label: Sentence<'_>)
         ensures { self.new.is_refused ≡ false → self.old.is_refused ≡ false }
     {
@@ -173,14 +173,14 @@ impl Telling {
         }
     }
 
-    /// Marks what the last child is about, with nothing beside it.
+    /// Marks what the last child is about, without a label.
     pub fn mark_child(&mut self, span: Span)
         ensures { self.new.is_refused ≡ false → self.old.is_refused ≡ false }
     {
         self.mark_last(span, true, plain(""));
     }
 
-    /// Marks what stands beside what the last child is about, with what is said there.
+    /// Marks another part in the last child, with a label.
     pub(crate) fn mark_child_beside(&mut self, span: Span, label: Sentence<'_>)
         ensures { self.new.is_refused ≡ false → self.old.is_refused ≡ false }
     {
@@ -198,7 +198,7 @@ impl Telling {
         }
     }
 
-    /// Adds a row of a proof: what holds, how deep below the first row it stands, and by what it holds.
+    /// Adds a row of a proof: what holds, how deep it is below the first row, and why it holds.
     pub fn row(&mut self, depth: usize, goal: Piece<'_>, reason: Sentence<'_>)
         ensures told { self.new.is_refused ≡ false → vec_len self.new.told.proof ≡ vec_len self.old.told.proof + 1 }
         ensures stays { self.new.is_refused ≡ false → self.old.is_refused ≡ false }

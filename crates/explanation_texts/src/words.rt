@@ -8,7 +8,7 @@ use std::alloc::{AllocError, Global};
 use type_terms::interner::Interner;
 use type_terms::kinds::Ty;
 
-/// A type as text, cut where it is long.
+/// A type as text, cut if it is long.
 pub(crate) fn type_text<N: PrintNames>(
     alloc: Global,
     cx: &Interner,
