@@ -31,7 +31,7 @@ SIZES = {
     "docs/PROMISES.md": 4000,
     "docs/PROVING.md": 3000,
     "docs/RELEASES.md": 1050,
-    "docs/RUSTDOC.md": 5566,
+    "docs/RUSTDOC.md": 3500,
     "docs/TUTORIAL.md": 2000,
 }
 OTHER = 1500
