@@ -51,4 +51,4 @@ TellsNumber n _ = Unit {0}
 
 -- There is a reason, which the word and the number tell.
 abbrev pub IsUnanswered : Slot → List ℕ → ℕ → ℕ → Type 0
-IsUnanswered slot line word number = IfAsked slot (λ a. (f : AskFault) × IsAskFault a line f × (word ≡ fault_word f) × TellsNumber number f)
+IsUnanswered slot line word number = IfAsked slot (λ a. (f : AskFault) × IsAskFault a.declarations a.text_length line f × (word ≡ fault_word f) × TellsNumber number f)
