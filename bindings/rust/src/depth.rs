@@ -26,7 +26,7 @@ impl Depth {
         }
     }
 
-    /// A depth from 1 to 255; none at 0. At more than 128 each call starts a thread, which takes some 50 µs.
+    /// A depth from 1 to 255; none at 0. At more than 128 each call starts a thread.
     pub const fn deep(levels: u8) -> Option<Depth> {
         if levels == 0 {
             None

@@ -61,7 +61,7 @@ impl Workspace {
         self.depth
     }
 
-    /// A session for a crate of the text, or for `core`. The text is read again for it, which takes some 5 µs a line.
+    /// A session for a crate of the text, or for `core`. The text is read again for it.
     ///
     /// The error is [`Error::NoSuchCrate`] or [`Error::Memory`].
     pub fn session<'w>(&'w self, name: &str) -> Result<Session<'w>, Error> {
