@@ -63,19 +63,15 @@ def read_span(span: Any) -> None:
     need(1 <= text["highlight_start"] <= text["highlight_end"] <= len(text["text"]) + 1, "marks outside their line", span)
 
 
-def line_of(parts: Mapping[str, Any], subject: str) -> str:
-    """The line of an answer, put together again of its parts."""
+def line_of(answer: str, parts: Mapping[str, Any], subject: str) -> str:
+    """The line of an answer, put together again of its parts, its values in the order of that line."""
     words = [parts["kind"], *(f"{key} {parts[key]}" for key in ("impl", "clause", "uncovered", "before") if key in parts)]
     words += ["nonlocal"] if "nonlocal" in parts else []
     words += [f"with {parts['with']} {parts['with_impl']}"] if "with" in parts else []
     words += [str(parts["fault"])] if "fault" in parts else []
-    return f"{parts['answered']} {parts[subject]}: {' '.join(words)}"
-
-
-def are_values(told: str, values: Mapping[str, str]) -> bool:
-    """Whether these are the values behind a yes. An object does not keep their order."""
-    named = [f"{name} = {it}" for name, it in values.items()]
-    return all(it in told for it in named) and len(told) == len(", ".join(named))
+    named = parts.get("values", {})
+    values = ", ".join(f"{name} = {named[name]}" for name in sorted(named, key=lambda it: answer.find(f"{it} = ")))
+    return f"{parts['answered']} {parts[subject]}: {' '.join(words)}" + (f" {values}" if values else "")
 
 
 def read_parts(answer: str, parts: Any) -> None:
@@ -84,9 +80,7 @@ def read_parts(answer: str, parts: Any) -> None:
     need(bool(subject), "parts of no answer", parts)
     head: Mapping[str, Kind] = {"answered": str, subject: kind, "kind": str}
     need(any(set(parts) == {*head, *it} for it in PARTS.get(parts.get("kind"), ())), "other keys in the parts of an answer", parts)
-    line = line_of(parts, subject)
-    is_line = answer == line if not parts.get("values") else answer.startswith(line + " ") and are_values(answer[len(line) + 1:], parts["values"])
-    need(is_line, f"parts that are not those of {answer!r}", parts)
+    need(line_of(answer, parts, subject) == answer, f"parts that are not those of {answer!r}", parts)
 
 
 def count_rows(rows: Any) -> int:

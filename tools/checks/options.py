@@ -302,7 +302,7 @@ def try_places(tally: Tally, room: Room) -> None:
     ended = run(["good.txt", "\x1b[1m"], cwd=room.path)
     tally.expect("a name with an escape above its answer", ended.is_like(0, "== good.txt\ncrate a: accepted\n== ?[1m\ncrate a: accepted\n"), ended)
     ended = run(["--explain", "fault.txt", "--file", "\x1b[1m"], cwd=room.path)
-    tally.expect("a name with an escape beside a line", "--> ?[1m:3:1\n" in ended.output and "\x1b" not in ended.output, ended)
+    tally.expect("a name with an escape beside a line", "--> ?[1m:3:7\n" in ended.output and "\x1b" not in ended.output, ended)
     both = room.run("--explain good.txt mixed.txt")
     tally.expect("two explained files", both.output == f"== good.txt\ncrate a: accepted\n== mixed.txt\n{wanted.output}", both)
 
@@ -431,7 +431,7 @@ def try_with(tally: Tally, room: Room) -> None:
     tally.expect("a fault in front", ended.is_like(1, "fault.txt: line 3: fault 2\n"), ended)
     ended = room.run("--explain --with front.txt --with fault.txt good.txt")
     wanted = "fault.txt: line 3: fault 2\nerror: "
-    tally.expect("a fault in front, explained", ended.status == 1 and ended.output.startswith(wanted) and "\n  --> fault.txt:3:1\n" in ended.output
+    tally.expect("a fault in front, explained", ended.status == 1 and ended.output.startswith(wanted) and "\n  --> fault.txt:3:7\n" in ended.output
                  and "\n3  | struct\n" in ended.output, ended)
     ended = room.run("--with front.txt folder good.txt")
     tally.expect("a folder behind", ended.is_like(3, "== folder\n== good.txt\ncrate std: accepted\ncrate a: accepted\n", "celtisdarts: folder: is a folder\n"), ended)

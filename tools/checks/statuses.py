@@ -137,6 +137,8 @@ def try_explained(cases: Cases) -> None:
     told = read_lines(cases.run("--json", "8", text=TEXT.text).output)
     cases.expect("accepted crates as JSON", [(it.answer, it.message) for it in told] == [(it, None) for it in TEXT.expected().decode().splitlines()])
     cases.expect("accepted crates as JSON, the status", cases.last.status == 0)
+    named = cases.run("8", "--file", "\x1b[1m\n", text=FAULTY.text).output
+    cases.expect("a name with an escape and a line feed", b"--> ?[1m?:" in named and b"\x1b" not in named)
     for name, file in (("a folder as a file", "."), ("no file", "none")):
         cases.run("8", file)
         cases.gave(name, 3)
