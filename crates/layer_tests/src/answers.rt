@@ -9,6 +9,7 @@ ghost use Rattle.solver_context.specs.Searching.{solver_meaning};
 ghost use Rattle.text_definitions.specs.Text.{TextGives};
 ghost use Rattle.candidate_assembly.specs.Ready as solver;
 
+use crate::handlers::HandsOn;
 use crate::solver::{Evaluated, Solving, begin, evaluate};
 use crate::texts::{add_question, goal_at, read, view};
 use candidate_assembly::solver::Solver;
@@ -167,6 +168,13 @@ fn found_in(alloc: Global, text: &[u8], mode: TypingMode) -> Result<Found, Fault
     evaluate_first(alloc, interner, solver, posed, mode)
 }
 
+/// What another handler finds of the first question of a text.
+fn found_in_by_another(alloc: Global, text: &[u8], mode: TypingMode) -> Result<Found, Fault> {
+    let mut interner = Interner::new(alloc, 10000);
+    let Case { solver, posed } = read_case(alloc, &mut interner, text)?;
+    evaluate_first(alloc, interner, HandsOn { solver }, posed, mode)
+}
+
 /// What is declared, and behind it the two questions.
 fn text_of(alloc: Global, declared: &[u8], asked: &[u8], becomes: &[u8]) -> Result<Vec<u8>, Fault> {
     let mut text = Vec::from_slice(alloc, declared)?;
@@ -185,4 +193,15 @@ pub(crate) fn found(
 ) -> Result<Found, Fault> {
     let text = text_of(alloc, declared, asked, becomes)?;
     found_in(alloc, &text, mode)
+}
+
+/// What another handler finds of a goal, which is to stay as it is.
+pub(crate) fn found_by_another(
+    alloc: Global,
+    declared: &[u8],
+    mode: TypingMode,
+    asked: &[u8],
+) -> Result<Found, Fault> {
+    let text = text_of(alloc, declared, asked, asked)?;
+    found_in_by_another(alloc, &text, mode)
 }

@@ -96,7 +96,7 @@ pub(crate) fn question(
 }
 
 /// The candidate that the call of the trait's own rule makes of the goal, if there is one.
-fn by_trait(
+pub(crate) fn by_trait(
     alloc: Global,
     cx: &mut Interner,
     decls: &Declarations,

@@ -15,6 +15,8 @@ mod first_steps;
 #[cfg(test)]
 mod goals;
 #[cfg(test)]
+mod handlers;
+#[cfg(test)]
 mod merges;
 #[cfg(test)]
 mod rounds;
@@ -32,6 +34,8 @@ mod solver;
 mod stores;
 #[cfg(test)]
 mod texts;
+#[cfg(test)]
+mod unsizing;
 #[cfg(test)]
 mod usages;
 #[cfg(test)]
