@@ -4,7 +4,6 @@ use Rattle.std.specs.Prelude.{codes}
 use Rattle.std.specs.List.{AllZip}
 use Rattle.std.proofs.lemmas.List.{append_cancel_left}
 use Rattle.text_definitions.specs.Declarations.{Declarations, of_supers}
-use Rattle.language_definitions.proofs.SameTexts.{text-gives}
 use Rattle.sessions.specs.CoherentTexts.{CratesAreAccepted, CratesAreHeld, AcceptedTextsAreCoherent, HeldTextsAreCoherent}
 use Rattle.coherence.specs.Lines.{crate_text}
 use Rattle.coherence.specs.Told.{crate_topic, check_topic, topics, line_of_crate, TellsTopic, AllSayAccepted, AllSayHeld, SupertraitsStand, AcceptedTextsHold}
@@ -31,8 +30,8 @@ module _ (limit : ℕ) (d : Declarations) (ls : List (List ℕ)) (told : AllZip 
 
 pub accepted-texts-hold : AcceptedTextsAreCoherent → AcceptedTextsHold SupertraitsStand
 accepted-texts-hold coherent limit bytes d ls says told accepted supers =
-    text-holds limit d (coherent d (bytes, text-gives bytes (Ok d) says) (all-accepted limit d ls told accepted) supers limit)
+    text-holds limit d (coherent d (bytes, says) (all-accepted limit d ls told accepted) supers limit)
 
 pub held-texts-hold : HeldTextsAreCoherent → AcceptedTextsHold AllSayHeld
 held-texts-hold coherent limit bytes d ls says told accepted held =
-    text-holds limit d (coherent d (bytes, text-gives bytes (Ok d) says) (all-accepted limit d ls told accepted) (all-held limit d ls told held) limit)
+    text-holds limit d (coherent d (bytes, says) (all-accepted limit d ls told accepted) (all-held limit d ls told held) limit)

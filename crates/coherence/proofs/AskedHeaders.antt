@@ -19,6 +19,7 @@ use Rattle.sessions.specs.Subjects.{IsOfText}
 use Rattle.coherence.specs.CheckAnswers.{asked_header, header_supers}
 use Rattle.coherence.proofs.OpaqueHeaders.{opaque-same, plain-is-erased}
 use Rattle.coherence.proofs.SupersInTurn.{turns_of, supertraits-in-turn, turns-by-traits}
+use Rattle.sessions.proofs.GivenTexts.{text-given}
 
 map-where : {A B : Type 0} (f g : A → B) (xs : List A) → ((x : A) → In x xs → f x ≡ g x) → map f xs ≡ map g xs
 map-where f g [] h = refl
@@ -35,7 +36,7 @@ module _ (d : Declarations) (text : IsOfText d) (c : ℕ) where
   traits = (view_of (world_of d) c).traits
 
   declared : is_declared_view P ≡ true
-  declared = left (is_declared_view P) _ (texts-seen-well text.0 d text.1 c)
+  declared = left (is_declared_view P) _ (texts-seen-well text.0 d (text-given d text) c)
 
   -- the bounds of traits hold no lifetime but those that are erased
   bound-same : (x : TraitDecl) → In x traits → (b : Reference) → In b x.bounds → plain_reference none_kept b ≡ erased_reference b

@@ -28,6 +28,7 @@ use Rattle.coherence.specs.declared.ask_fault.AskFault.{AskFault}
 use Rattle.coherence.specs.declared.ask_fault.AskFault.TheVariants as faults
 use Rattle.coherence.specs.declared.status.RunFault.{RunFault}
 use Rattle.coherence.specs.declared.status.RunFault.TheVariants as run_faults
+use Rattle.sessions.proofs.GivenTexts.{given-text}
 
 -- ---- the view of a crate, which no question is of
 view-asked : (d : Declarations) (q : Question) (c handles : ℕ) (v : SeenView) → IsViewOf d c handles v → IsViewOf (with_question d q) c handles v
@@ -101,13 +102,14 @@ pub length-fits : (d : Declarations) (n handles : ℕ) (view : Option SeenView) 
 length-fits d n handles view s = let (bytes, t, len) = s.text in omega (arith, len, text-short bytes d t)
 
 pub served : (d : Declarations) (n handles : ℕ) (view : Option SeenView) → Serves d n handles view → IsOfText d
-served d n handles view s = (s.text.0, s.text.1)
+served d n handles view s = given-text s.text.0 d s.text.1
 
 pub parsed-behind : LinesBehindTexts → (d : Declarations) (n handles : ℕ) (view : Option SeenView) → Serves d n handles view → (line : List ℕ) (q : QuestionEntry)
     → IsQueryBehind d n line q → IsOfText (with_question d (question_of q))
 parsed-behind laws d n handles view s line q h =
     let (bytes, t, len) = s.text in
-    (behind bytes line, (laws bytes line d t h.alone (subst (λ k. k + 1 + length line ≤ text_limit) (sym len) h.room)).0 (with_question d (question_of q)) h.gives)
+    let e = with_question d (question_of q) in
+    given-text (behind bytes line) e ((laws bytes line d t h.alone (subst (λ k. k + 1 + length line ≤ text_limit) (sym len) h.room)).0 e h.gives)
 
 pub last-line : LinesBehindTexts → (limit : ℕ) (d : Declarations) (n : ℕ) (line : List ℕ) (q : QuestionEntry) → IsQueryBehind d n line q → (r : Result (Vec ℕ Global) AskFault)
     → IfOk r (λ text. IsAnswerBehind limit d (question_of q) text.items)

@@ -28,6 +28,7 @@ use Rattle.coherence.specs.ProvedAnswers.{QuestionAnswer, says_yes, says_unprove
 use Rattle.coherence.proofs.AskedHeaders.{supers-are-asked}
 use Rattle.coherence.proofs.ImplPlaces.{HaveNumbers, impls-have-numbers}
 use Rattle.coherence.proofs.SolvedQuestions.{to-yes, to-no}
+use Rattle.sessions.proofs.GivenTexts.{text-given}
 
 -- ---- texts
 behind-clause : (x a b c e : List ℕ) → x ++ (a ++ b ++ c ++ e) ≡ x ++ a ++ b ++ c ++ e
@@ -49,7 +50,7 @@ module _ (d : Declarations) (text : IsOfText d) (c : ℕ) where
   U = view_in d c
 
   places : HaveNumbers d.impls
-  places = impls-have-numbers text.0 d text.1
+  places = impls-have-numbers text.0 d (text-given d text)
 
   at-number : (x : ImplDecl) → In x (view_of (world_of d) c).impls → (n : NamedImpl) × (slice_get d.impls x.name ≡ Some n) × (n.item ≡ x)
   at-number x i =

@@ -28,10 +28,11 @@ use Rattle.type_terms.proofs.NoHolds.{member-each}
 use Rattle.coherence.proofs.ImplParams.{unmapped, knows, header-ok}
 use Rattle.coherence.proofs.ImplPlaces.{HaveNumbers, impls-have-numbers}
 use Rattle.coherence.proofs.OrphanReasons.{params_at, error_text, reason-is}
+use Rattle.language_definitions.proofs.SameTexts.{text-gives}
 
 -- ---- an impl that a crate sees, in the text
 numbered : (d : Declarations) → IsOfText d → HaveNumbers d.impls
-numbered d (bytes, t) = impls-have-numbers bytes d t
+numbered d (bytes, t) = impls-have-numbers bytes d (text-gives bytes (Ok d) t)
 
 -- as it stands there without its lifetimes
 pub erased : (d : Declarations) (c : ℕ) (i : ImplDecl) → IsOfText d → In i (view_in d c).impls → (n : NamedImpl) × (slice_get d.impls i.name ≡ Some n) × (erased_impl n.item ≡ i)
@@ -195,7 +196,7 @@ module _ (d : Declarations) (c : ℕ) (text : IsOfText d) where
 
 pub crate-answer : (limit : ℕ) (d : Declarations) (c : ℕ) (v : verdicts.Verdict) → IsOfText d → IsVerdictOf limit d c v
     → (t : List ℕ) × CrateAnswer limit d c t × (answer_text (verdict_line d c v) ≡ crate_start (crate_text d c) ++ t)
-crate-answer limit d c v (bytes, t) h = answer-of d c (bytes, t) limit (λ k n e. member-each is_good_impl d.impls n (texts-are-well bytes d t).impls (k, e)) v h
+crate-answer limit d c v (bytes, t) h = answer-of d c (bytes, t) limit (λ k n e. member-each is_good_impl d.impls n (texts-are-well bytes d (text-gives bytes (Ok d) t)).impls (k, e)) v h
 
 -- the text `accepted` is that of an accepted crate alone
 no-other : (xs ys : List ℕ) → codes "orphan impl " ++ xs ≡ codes "accepted" → ⊥

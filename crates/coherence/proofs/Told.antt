@@ -17,6 +17,7 @@ use Rattle.coherence.specs.Told.{LineTopic, fault_topic, crate_topic, check_topi
 use Rattle.coherence.proofs.CheckAnswersHold.{check-answer, question-answer}
 use Rattle.coherence.proofs.CrateAnswersHold.{crate-answer}
 use Rattle.coherence.proofs.Topics.{take-more, get-range, get-enumerated, get-behind, one-more}
+use Rattle.sessions.proofs.GivenTexts.{given-text}
 
 -- the first n lines
 pub data FirstLines (limit : ℕ) (t : Result Declarations (ℕ × ℕ)) : ℕ → List Answer → Type 0 where
@@ -78,7 +79,7 @@ module _ (limit : ℕ) (d : Declarations) (of_text : IsOfText d) where
 
 module _ (limit : ℕ) (bytes : List ℕ) where
   told-at : (t : Result Declarations (ℕ × ℕ)) → TextGives bytes t → (n : ℕ) (l : Answer) → IsAnswerAt limit t n l → TellsOf limit t n l
-  told-at (Ok d) g n l is = told-of limit d (bytes, g) n l is
+  told-at (Ok d) g n l is = told-of limit d (given-text bytes d g) n l is
   told-at (Err f) g n l is = (
     fault_topic f,
     ap (λ k. slice_get (fault_topic f ∷ []) k) is.0,
@@ -103,7 +104,7 @@ module _ (limit : ℕ) (bytes : List ℕ) where
   as-lines ls = sym (flat_map-map (λ (l : List ℕ). l ++ 10 ∷ []) answer_text ls)
 
   counted : (t : Result Declarations (ℕ × ℕ)) → TextGives bytes t → length (topics t) ≡ line_count t
-  counted (Ok d) g = count-is limit d (bytes, g)
+  counted (Ok d) g = count-is limit d (given-text bytes d g)
   counted (Err f) g = refl
 
   -- at the end each is given

@@ -1,5 +1,5 @@
 -- A text whose crates are all accepted is coherent, where the supertraits of headers are proved.
-use Rattle.std.proofs.Common.{◌≡◌, ◌<◌, ◌⊎◌, inl, inr, ℕ, zero, suc, List, [], ◌∷◌, map, length, pred, None, Some, refl, sym, ap, subst, arith}
+use Rattle.std.proofs.Common.{◌≡◌, ◌<◌, ◌⊎◌, inl, inr, ℕ, zero, suc, List, [], ◌∷◌, map, length, pred, None, Some, refl, sym, ap, subst, arith, Ok}
 use Rattle.std.proofs.lemmas.Option.{same_Some}
 use Rattle.type_terms.specs.Label.{Sort}
 use Rattle.type_terms.specs.Trees.{Trees}
@@ -21,6 +21,7 @@ use Rattle.sessions.specs.CoherentTexts.{CratesAreAccepted, CratesAreHeld, TextI
 use Rattle.sessions.proofs.OwnValues.{solved}
 use Rattle.sessions.proofs.KeptTexts.{AllKept, texts-are-kept}
 use Rattle.sessions.proofs.JoinedTexts.{joined, home-below, of-core, core-or-later, map-at}
+use Rattle.language_definitions.proofs.SameTexts.{text-gives}
 
 -- the numbers from 1 up to n
 abbrev up_to : ℕ → List ℕ
@@ -123,7 +124,7 @@ module _ (d : Declarations) (a : AllKept d) (accepted : CratesAreAccepted d) whe
     }
 
 pub accepted-texts-are-coherent : HeadlineHolds → AnswersHoldEverywhere → AcceptedTextsAreCoherent
-accepted-texts-are-coherent headline answers d (bytes, t) accepted supers limit = coherent d (texts-are-kept bytes d t) accepted headline answers supers limit
+accepted-texts-are-coherent headline answers d (bytes, t) accepted supers limit = coherent d (texts-are-kept bytes d (text-gives bytes (Ok d) t)) accepted headline answers supers limit
 
 pub held-texts-are-coherent : HeadlineHolds → AnswersHoldEverywhere → HeldTextsAreCoherent
 held-texts-are-coherent headline answers d (bytes, t) accepted held limit =

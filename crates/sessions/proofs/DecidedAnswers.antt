@@ -37,6 +37,7 @@ use Rattle.sessions.proofs.SeenPlainly.{plain-erased, map-again, reference-erase
 use Rattle.sessions.proofs.TextAnswers.{well, answered-by-view}
 use Rattle.sessions.proofs.TextQuestions.{written-if-closed}
 use Rattle.sessions.proofs.WithoutLifetimes.{erased-is}
+use Rattle.sessions.proofs.GivenTexts.{text-given}
 
 -- the search of a session
 abbrev session_handles : Handles (SolverCx Solver) InputId (Option ResponseId) GoalFrame Solving (GoalInMode frame_tables solver_goals) (Option AnswerTrees)
@@ -78,13 +79,13 @@ module _ (d : Declarations) (text : IsOfText d) (c : ℕ) (s : Solving) (of : Is
   cs = (view_in d c).crates
 
   begin : SelfTypesBegin V
-  begin = subst SelfTypesBegin (sym of.seen.written) (seen-begin text.0 d text.1 c)
+  begin = subst SelfTypesBegin (sym of.seen.written) (seen-begin text.0 d (text-given d text) c)
 
   -- by what the crate sees, without lifetimes and as it is written
   view-is : view_in d c ≡ without_lifetimes V cs
   view-is =
       ap (λ W. with_crates W cs) (sym (rules-are es decls d c of.seen.written))
-      ∙ erased-is V (well session_handles text.0 d text.1 c es decls of.seen) cs
+      ∙ erased-is V (well session_handles text.0 d (text-given d text) c es decls of.seen) cs
 
   abbrev own : List Reference
   own = map erased_reference E
@@ -92,7 +93,7 @@ module _ (d : Declarations) (text : IsOfText d) (c : ℕ) (s : Solving) (of : Is
   only-right : (a : Option AnswerTrees) → IsOnlyAnswer session_handles s PostAnalysis (depth + 1) (goal_of (elaborate s.view E) r) a → IsRightOf (view_in d c) own (erased_reference r) a
   only-right a only =
       subst (λ W. IsRightOf W own (erased_reference r) a) (sym view-is)
-      (answered-by-view session_handles text.0 d text.1 c es decls of.seen begin cs E r q depth (depth + 1) (one-more depth) (subst (λ W. SingleWay depth W own (erased_reference r)) view-is single) a
+      (answered-by-view session_handles text.0 d (text-given d text) c es decls of.seen begin cs E r q depth (depth + 1) (one-more depth) (subst (λ W. SingleWay depth W own (erased_reference r)) view-is single) a
       (subst (λ (x : Solving). IsOnlyAnswer session_handles x PostAnalysis (depth + 1) (goal_of (elaborate x.view E) r) a) of.is only))
 
   answered : IsAnsweredRightly s depth (view_in d c) E r
@@ -127,7 +128,7 @@ module _ (d : Declarations) (text : IsOfText d) (n : ℕ) (q : Question) (is : I
 
   pub formed-so : IsFormedAsWritten (written of.entries of.declarations) (sorts_in of.declarations) clauses asked
   formed-so =
-      written-if-closed text.0 d text.1 (n - 1) q is.there of.entries of.declarations of.seen
+      written-if-closed text.0 d (text-given d text) (n - 1) q is.there of.entries of.declarations of.seen
       (ap (some_node is_variable) (plain-erased all_kept q.asked.args) ∙ not-so (some_node is_variable (erase q.asked.args)) decided.0)
 
   pub single : SingleWay depth (view_in d q.asker) (map erased_reference clauses) (erased_reference asked)

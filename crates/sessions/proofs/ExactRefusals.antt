@@ -47,6 +47,7 @@ use Rattle.sessions.proofs.SeenPlainly.{rules-are, seen-begin, seen-erased}
 use Rattle.sessions.proofs.TextAnswers.{well, formed, told-possible}
 use Rattle.sessions.proofs.TextQuestions.{question-fits}
 use Rattle.sessions.proofs.WithoutLifetimes.{FieldsAreErased, erased-is, bounded-same, possible-same}
+use Rattle.sessions.proofs.GivenTexts.{text-given}
 
 -- ---- of a closed reference no type and no constant is open
 fixed-label : (l : Label) → stands_free l ≡ true → is_open (erase_label l) ≡ false → is_fixed l ≡ true
@@ -118,13 +119,13 @@ module _ (d : Declarations) (text : IsOfText d) (c : ℕ) (s : Solving) (of : Is
   q = erased_reference r
 
   well-declared : IsDeclaredWell V
-  well-declared = well session_handles text.0 d text.1 c es decls of.seen
+  well-declared = well session_handles text.0 d (text-given d text) c es decls of.seen
 
   well-formed : IsFormedView V sorts
-  well-formed = formed session_handles text.0 d text.1 c es decls of.seen
+  well-formed = formed session_handles text.0 d (text-given d text) c es decls of.seen
 
   begin : SelfTypesBegin V
-  begin = subst SelfTypesBegin (sym of.seen.written) (seen-begin text.0 d text.1 c)
+  begin = subst SelfTypesBegin (sym of.seen.written) (seen-begin text.0 d (text-given d text) c)
 
   erased : FieldsAreErased V
   erased = subst FieldsAreErased (sym of.seen.written) (seen-erased d c)
@@ -152,7 +153,7 @@ module _ (d : Declarations) (text : IsOfText d) (c : ℕ) (s : Solving) (of : Is
   tells : (a : Option AnswerTrees) → IsOnlyAnswer session_handles s Coherence (depth + 1) (goal_of [] r) a → TellsPossible V c depth q a
   tells a only =
       subst (λ n. TellsPossible V n depth q a) of.local
-      (told-possible session_handles text.0 d text.1 c es decls of.seen r question depth (depth + 1) (one-more depth) (ap (λ n. is_bounded depth V n q) of.local ∙ bounded-there) a
+      (told-possible session_handles text.0 d (text-given d text) c es decls of.seen r question depth (depth + 1) (one-more depth) (ap (λ n. is_bounded depth V n q) of.local ∙ bounded-there) a
       (subst (λ (x : Solving). IsOnlyAnswer session_handles x Coherence (depth + 1) (goal_of [] r) a) of.is only))
 
   told : IsToldPossible s depth (view_in d c) c r
@@ -203,7 +204,7 @@ module _ (ks : List Sort) where
 pub question-formed : (d : Declarations) → IsOfText d → (n : ℕ) (q : Question) → IsQuestion d n q → HasVariablesAlone q → is_made is_in_range terms (unbound_reference q.asked).args ≡ true
     → (es : List Entry) (decls : Items) → AreSeen es decls d q.asker → HasFormedTerms (written es decls) (sorts_in decls) (unbound_reference q.asked)
 question-formed d text n q is alone made es decls seen =
-    let fit = question-fits text.0 d text.1 (n - 1) q is.there es decls seen in
+    let fit = question-fits text.0 d (text-given d text) (n - 1) q is.there es decls seen in
     record {
       terms = all-better is_in_range stands_free (is_unfree (variable_kinds q)) (both-free (variable_kinds q)) terms (unbound_reference q.asked).args made (free-terms (variable_kinds q) q.asked.args alone);
       nodes = fit.nodes;

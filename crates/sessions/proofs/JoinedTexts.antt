@@ -1,5 +1,5 @@
 -- The crates of a text without a fault are a joined set.
-use Rattle.std.proofs.Common.{◌≡◌, ◌<◌, ◌⊎◌, inl, inr, ℕ, zero, suc, Bool, true, false, cond, ◌&&◌, ◌==◌, List, [], ◌∷◌, ◌++◌, map, length, filter, Some, refl, sym, ap, ◌∙◌, subst, arith}
+use Rattle.std.proofs.Common.{◌≡◌, ◌<◌, ◌⊎◌, inl, inr, ℕ, zero, suc, Bool, true, false, cond, ◌&&◌, ◌==◌, List, [], ◌∷◌, ◌++◌, map, length, filter, Some, refl, sym, ap, ◌∙◌, subst, arith, Ok}
 use Rattle.std.proofs.lemmas.Bool.Decides.{Decides-ltb}
 use Rattle.std.proofs.lemmas.Option.{same_Some, slice_get_within}
 use Rattle.std.specs.Prelude.{slice_get, nat_lt}
@@ -45,6 +45,7 @@ use Rattle.sessions.proofs.CoveredClauses.{covered}
 use Rattle.sessions.proofs.SeenPlainly.{plain-erased}
 use Rattle.sessions.proofs.RisingBounds.{Rises}
 use Rattle.sessions.proofs.KeptTexts.{AtHome, HeaderKept, ImplRises, AllKept, texts-are-kept}
+use Rattle.language_definitions.proofs.SameTexts.{text-gives}
 
 -- ---- lists
 pub map-at : {A B : Type 0} (f : A → B) (xs : List A) (y : B) → In y (map f xs) → (k : ℕ) × (x : A) × (slice_get xs k ≡ Some x) × (y ≡ f x)
@@ -455,7 +456,7 @@ module _ (d : Declarations) (a : AllKept d) where
   joined orphan cs = joined-of-four W (map (view_at W) cs) (λ n. n) (record { rules = text-obeys; order = text-is-ordered; orphans = orphan-rule orphan; answers = hold-views W cs })
 
 pub texts-are-joined : TextsAreJoined
-texts-are-joined d (bytes, t) h cs = joined d (texts-are-kept bytes d t) h cs
+texts-are-joined d (bytes, t) h cs = joined d (texts-are-kept bytes d (text-gives bytes (Ok d) t)) h cs
 
 pub texts-list-in-order : TextsListInOrder
-texts-list-in-order d (bytes, t) = dyns-rise d (texts-are-kept bytes d t)
+texts-list-in-order d (bytes, t) = dyns-rise d (texts-are-kept bytes d (text-gives bytes (Ok d) t))

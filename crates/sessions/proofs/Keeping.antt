@@ -43,6 +43,7 @@ use Rattle.sessions.proofs.ExactRefusals.{refusals-are-exact, question-formed, c
 use Rattle.sessions.proofs.LifetimesAlone.{refusal-is}
 use Rattle.sessions.proofs.Refusals.{refuted, plain-erased}
 use Rattle.sessions.proofs.SelfTypes.{self-types-begin}
+use Rattle.sessions.proofs.GivenTexts.{text-given}
 
 -- limits that are kept are those that were given
 pub limits-stay : (handles : ℕ) (c d : SolverCx Solver) → HasLimits handles c → KeepsLimits c d → HasLimits handles d
@@ -112,7 +113,7 @@ module _ (d : Declarations) (c depth : ℕ) (cx : SolverCx Solver) (graph : Sear
   -- what is refused in coherence has no solution by the crate's view alone, nor in a linked set with the crate
   pub refused-is-refuted : RefutationsHaveVariablesAlone → (n : ℕ) (q : Question) → AsksRefutation d c n q → (HasVariablesAlone q → HasNoProof (solver_for (solved cx)) (goal_alone (unbound_reference q.asked))) → IsRefutedQuestion d q
   refused-is-refuted alone n q a h =
-      let own : HasVariablesAlone q = alone is.text.0 d is.text.1 (n - 1) q a.asks.question.there a.refutes in
+      let own : HasVariablesAlone q = alone is.text.0 d (text-given d is.text) (n - 1) q a.asks.question.there a.refutes in
       refuted applies_always same_answer d q own (meaning_for (solved cx) (canonical_form (goal_alone (unbound_reference q.asked)))) (is.view.rules ∙ ap (rules_seen_from d) (sym a.asks.asker)) (is.view.local ∙ sym a.asks.asker) (h own)
       (self-types-begin (entries_of cx) cx.handler.declarations is.rest.ready.handler.held)
 
@@ -137,7 +138,7 @@ module _ (d : Declarations) (c depth : ℕ) (cx : SolverCx Solver) (graph : Sear
 
   module _ (alone : RefutationsHaveVariablesAlone) (n : ℕ) (q : Question) (a : AsksRefutation d c n q) where
     own-alone : HasVariablesAlone q
-    own-alone = alone is.text.0 d is.text.1 (n - 1) q a.asks.question.there a.refutes
+    own-alone = alone is.text.0 d (text-given d is.text) (n - 1) q a.asks.question.there a.refutes
 
     solves : IsSolvingOf d q.asker (solved cx)
     solves = subst (λ k. IsSolvingOf d k (solved cx)) (sym a.asks.asker) is.solving

@@ -35,6 +35,7 @@ use Rattle.sessions.proofs.FormedViews.{each-in, map-in}
 use Rattle.sessions.proofs.KeptTexts.{IsOfSection, AllKept, texts-are-kept}
 use Rattle.sessions.proofs.ScopedTexts.{later-scoped}
 use Rattle.sessions.proofs.SeenPlainly.{reference-erased}
+use Rattle.language_definitions.proofs.SameTexts.{text-gives}
 
 -- ---- lists
 every-more : {A : Type 0} (P : A → Type 0) (xs : List A) (n : ℕ) (x : A) → slice_get xs n ≡ Some x → Every P (take n xs) → P x → Every P (take (suc n) xs)
@@ -173,5 +174,5 @@ module _ (d : Declarations) (a : AllKept d) (c k : ℕ) (s : IsSectionOf d c k) 
 pub answered-here : (d : Declarations) (t : IsOfText d) (c k : ℕ) → IsSectionOf d c k → (V : World) (l : ℕ) → V ≡ rules_seen_from d c → l ≡ c
     → (r : Result LaterAnswer Fault) → IfOk r (λ x. IsAnswerOn V l (section_headers d k) (later_of x)) → IfOk r (λ x. IsLaterAnswer d c k (later_of x))
 answered-here d (bytes, t) c k s V l e f (Ok x) h =
-    answered d (texts-are-kept bytes d t) c k s (later_of x) (subst (λ n. IsAnswerOn (rules_seen_from d c) n (section_headers d k) (later_of x)) f (subst (λ U. IsAnswerOn U l (section_headers d k) (later_of x)) e h))
+    answered d (texts-are-kept bytes d (text-gives bytes (Ok d) t)) c k s (later_of x) (subst (λ n. IsAnswerOn (rules_seen_from d c) n (section_headers d k) (later_of x)) f (subst (λ U. IsAnswerOn U l (section_headers d k) (later_of x)) e h))
 answered-here d t c k s V l e f (Err x) h = h

@@ -1,5 +1,6 @@
 pub mod Settled
 mod ClosedValues
+pub mod GivenTexts
 pub mod LeftViews
 pub mod ShortCalls
 mod FramesStarted

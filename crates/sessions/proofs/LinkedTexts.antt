@@ -1,5 +1,5 @@
 -- Crates of any texts that were accepted and held are a linked set.
-use Rattle.std.proofs.Common.{inl, inr, [], ◌++◌}
+use Rattle.std.proofs.Common.{inl, inr, [], ◌++◌, Ok}
 use Rattle.type_terms.specs.Proofs.{In}
 use Rattle.type_terms.specs.Renumbering.{View}
 use Rattle.type_terms.specs.LinkedSet.{LinkedSet}
@@ -15,9 +15,10 @@ use Rattle.sessions.proofs.JoinedTexts.{text-obeys}
 use Rattle.sessions.proofs.FourRecords.{joined-of-four}
 use Rattle.sessions.proofs.AnsweredInOrder.{SeesText, answered-obey}
 use Rattle.sessions.proofs.AnsweredSets.{answered-joined}
+use Rattle.language_definitions.proofs.SameTexts.{text-gives}
 
 pub texts-obey-their-rules : TextsObeyTheirRules
-texts-obey-their-rules d (bytes, t) = text-obeys d (texts-are-kept bytes d t)
+texts-obey-their-rules d (bytes, t) = text-obeys d (texts-are-kept bytes d (text-gives bytes (Ok d) t))
 
 sees-text : (v : View) → IsAcceptedAndHeld v → SeesText v
 sees-text v a = record { text = text_world a.text; rules = texts-obey-their-rules a.text a.of_text; seen = a.seen }

@@ -34,6 +34,7 @@ use Rattle.sessions.proofs.ElaboratedClauses.{IsFormedClause, all-are-fixed, ela
 use Rattle.sessions.proofs.FormedViews.{texts-views-are-formed, texts-impls-are-formed}
 use Rattle.sessions.proofs.OpaqueTerms.{opaque-made, opaque-nodes, opaque-sorts}
 use Rattle.sessions.proofs.SolversClauses.{applied-alike}
+use Rattle.sessions.proofs.GivenTexts.{text-given}
 
 module _ (d : Declarations) (text : IsOfText d) (c : _) (es : List Entry) (decls : Items) (seen : AreSeen es decls d c) where
   abbrev V : World
@@ -43,10 +44,10 @@ module _ (d : Declarations) (text : IsOfText d) (c : _) (es : List Entry) (decls
   sorts = sorts_in decls
 
   pub declared-well : IsDeclaredWell V
-  declared-well = tests-tell V (ap is_declared_well seen.written ∙ texts-seen-well text.0 d text.1 c)
+  declared-well = tests-tell V (ap is_declared_well seen.written ∙ texts-seen-well text.0 d (text-given d text) c)
 
   pub formed-view : IsFormedView V sorts
-  formed-view = texts-views-are-formed text.0 d text.1 c es decls seen
+  formed-view = texts-views-are-formed text.0 d (text-given d text) c es decls seen
 
   opaque-formed : (r : Reference) → are_terms r.args ≡ true → FitsSorts V sorts r → IsFormedClause V sorts (opaque_reference r)
   opaque-formed r t f = record {
@@ -59,7 +60,7 @@ module _ (d : Declarations) (text : IsOfText d) (c : _) (es : List Entry) (decls
     header = opaque_reference i.header
 
     pub header-formed : IsFormedClause V sorts header
-    header-formed = opaque-formed i.header (header-declared V declared-well.terms i stands) (texts-impls-are-formed text.0 d text.1 c es decls seen i stands)
+    header-formed = opaque-formed i.header (header-declared V declared-well.terms i stands) (texts-impls-are-formed text.0 d (text-given d text) c es decls seen i stands)
 
     pub clauses-formed : (x : Reference) → In x (opaque_clauses i) → IsFormedClause V sorts x
     clauses-formed x j =

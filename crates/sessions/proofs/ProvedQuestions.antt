@@ -75,6 +75,7 @@ use Rattle.sessions.proofs.QuestionTerms.{is_own, so-below}
 use Rattle.sessions.proofs.Refusals.{plain-erased}
 use Rattle.sessions.proofs.FormedViews.{texts-views-are-formed}
 use Rattle.sessions.proofs.TextQuestions.{fixed, clause-formed}
+use Rattle.sessions.proofs.GivenTexts.{text-given}
 
 -- ---- trees of good labels
 abbrev pub AllGood : (Label → Bool) → Trees → Type 0
@@ -240,10 +241,10 @@ module _ (d : Declarations) (text : IsOfText d) (c : ℕ) (items : List Entry) (
 
   -- by the clauses alone
   declared : IsDeclaredWell V
-  declared = tests-tell V (ap is_declared_well seen.written ∙ texts-seen-well text.0 d text.1 c)
+  declared = tests-tell V (ap is_declared_well seen.written ∙ texts-seen-well text.0 d (text-given d text) c)
 
   formed : IsFormedView V sorts
-  formed = texts-views-are-formed text.0 d text.1 c items decls seen
+  formed = texts-views-are-formed text.0 d (text-given d text) c items decls seen
 
   all-fixed : AreFixedReferences all
   all-fixed = all-are-fixed V sorts declared formed E each all (elaborated-formed V sorts declared formed E each)
@@ -259,7 +260,7 @@ module _ (d : Declarations) (text : IsOfText d) (c : ℕ) (items : List Entry) (
 
   -- ---- up to lifetimes
   begin : SelfTypesBegin V
-  begin = subst SelfTypesBegin (sym seen.written) (seen-begin text.0 d text.1 c)
+  begin = subst SelfTypesBegin (sym seen.written) (seen-begin text.0 d (text-given d text) c)
 
   erased : FieldsAreErased V
   erased = subst FieldsAreErased (sym seen.written) (seen-erased d c)
@@ -409,10 +410,10 @@ module _ (d : Declarations) (text : IsOfText d) (n : ℕ) (q : Question) (is : I
   W = written of.entries of.declarations
 
   pub own : is_made (is_own kinds) terms asked.args ≡ true
-  own = (fixed text.0 d text.1 (n - 1) q is.there of.entries of.declarations of.seen).own
+  own = (fixed text.0 d (text-given d text) (n - 1) q is.there of.entries of.declarations of.seen).own
 
   each : (x : Reference) → In x E → IsFormedClause W (sorts_in of.declarations) x
-  each = clause-formed text.0 d text.1 (n - 1) q is.there of.entries of.declarations of.seen
+  each = clause-formed text.0 d (text-given d text) (n - 1) q is.there of.entries of.declarations of.seen
 
   abbrev U : World
   U = view_in d q.asker

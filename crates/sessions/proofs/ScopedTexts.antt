@@ -1,6 +1,6 @@
 -- The header and the where-clauses of each impl of a text without a fault, of those that later versions add too, name only what its
 -- crate sees, by the crate's own view.
-use Rattle.std.proofs.Common.{◌≡◌, ◌⊎◌, inl, inr, ℕ, Bool, true, ◌==◌, map, refl, sym, subst}
+use Rattle.std.proofs.Common.{◌≡◌, ◌⊎◌, inl, inr, ℕ, Bool, true, ◌==◌, map, refl, sym, subst, Ok}
 use Rattle.type_terms.specs.Label.{Label, adt, principal, auto_trait, of_trait, predicate}
 use Rattle.type_terms.specs.Trees.{Trees, none, tree}
 use Rattle.type_terms.specs.Worlds.{World, StructDecl, TraitDecl, Reference, sees, structs_named, traits_named, view_of}
@@ -19,6 +19,7 @@ use Rattle.sessions.proofs.FormedViews.{each-in, map-in}
 use Rattle.sessions.proofs.KeptTexts.{HeaderKept, AllKept, texts-are-kept}
 use Rattle.sessions.proofs.JoinedTexts.{ordered, uses-there, scope-of, clause-scope-of}
 use Rattle.sessions.proofs.Seeing.{seen-in-view}
+use Rattle.language_definitions.proofs.SameTexts.{text-gives}
 
 -- ---- what is well written with some names is so with more
 module _ (S P S' P' : ℕ → Bool) (structs : (s : ℕ) → S s ≡ true → S' s ≡ true) (traits : (t : ℕ) → P t ≡ true → P' t ≡ true) where
@@ -102,4 +103,4 @@ module _ (d : Declarations) (a : AllKept d) where
       by (inr i) = let q = map-in (λ (x : LaterImpl). x.added) d.later_impls n i in subst (IsInScope d) (sym q.2) (later-scoped q.0 q.1)
 
 pub impls-are-in-scope : ImplsAreInScope
-impls-are-in-scope d (bytes, t) n m = all-scoped d (texts-are-kept bytes d t) n m
+impls-are-in-scope d (bytes, t) n m = all-scoped d (texts-are-kept bytes d (text-gives bytes (Ok d) t)) n m

@@ -59,6 +59,7 @@ use Rattle.sessions.proofs.SeenPlainly.{rules-are, seen-begin, seen-erased}
 use Rattle.sessions.proofs.StrictSupertraits.{strict-among}
 use Rattle.sessions.proofs.WithoutLifetimes.{FieldsAreErased, erased-is, supers-same}
 use Rattle.assembly_laws.specs.Meaning.{SelfTypesBegin}
+use Rattle.sessions.proofs.GivenTexts.{text-given}
 
 -- ---- lists
 every-in : {A : Type 0} (P : A → Type 0) (xs : List A) → Every P xs → (x : A) → In x xs → P x
@@ -197,7 +198,7 @@ module _ (d : Declarations) (text : IsOfText d) (c : ℕ) (items : List Entry) (
     well = declared-well d text c items decls seen
 
     begin : SelfTypesBegin V
-    begin = subst SelfTypesBegin (sym seen.written) (seen-begin text.0 d text.1 c)
+    begin = subst SelfTypesBegin (sym seen.written) (seen-begin text.0 d (text-given d text) c)
 
     erased : FieldsAreErased V
     erased = subst FieldsAreErased (sym seen.written) (seen-erased d c)

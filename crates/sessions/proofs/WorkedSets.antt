@@ -35,6 +35,7 @@ use Rattle.sessions.specs.AnsweredSets.{IsAcceptedAndHeld, WasAsked, IsOfAskedCr
 use Rattle.sessions.specs.WorkedSets.{text_with_aside, text_with_second, CratesOfTwoTextsAreASet}
 use Rattle.sessions.proofs.KeptTexts.{texts-are-kept}
 use Rattle.sessions.proofs.JoinedTexts.{text-is-ordered, of-core}
+use Rattle.language_definitions.proofs.SameTexts.{text-says}
 
 -- ---- the lines
 abbrev crate : List ℕ → List (List ℕ) → Line
@@ -244,8 +245,8 @@ set = record {
   holds = (first-stands, (second-stands, tt));
   crates = crates;
   answered = of-one-of-two IsAcceptedAndHeld
-      (record { text = with-aside; of_text = (text_with_aside, gives-aside); seen = refl; accepted = accepted of-first.world 2 first-passes; held = held of-first.world 2 first-passes })
-      (record { text = with-second; of_text = (text_with_second, gives-second); seen = refl; accepted = accepted (view_of W 2) 2 second-passes; held = held (view_of W 2) 2 second-passes });
+      (record { text = with-aside; of_text = (text_with_aside, text-says text_with_aside (Ok with-aside) gives-aside); seen = refl; accepted = accepted of-first.world 2 first-passes; held = held of-first.world 2 first-passes })
+      (record { text = with-second; of_text = (text_with_second, text-says text_with_second (Ok with-second) gives-second); seen = refl; accepted = accepted (view_of W 2) 2 second-passes; held = held (view_of W 2) 2 second-passes });
 }
 
 pub crates-of-two-texts : CratesOfTwoTextsAreASet

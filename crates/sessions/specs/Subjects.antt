@@ -3,7 +3,7 @@ use Rattle.std.specs.Prelude.{◌≡◌, ℕ, true, false, List, Ok, refl}
 use Rattle.std.specs.Coded.{Coded, code_by, coded_ℕ, coded×, coded_list}
 use Rattle.type_terms.specs.Terms.{Entry, entry_code, Keeps}
 use Rattle.text_definitions.specs.Declarations.{Declarations, Question}
-use Rattle.text_definitions.specs.Text.{TextGives}
+use Rattle.language_definitions.specs.TextSays.{TextSays}
 use Rattle.workspace.specs.Stored.{declarations_code}
 use Rattle.view_lowering.specs.Questions.{IsQuestion}
 
@@ -38,7 +38,7 @@ pub record StaysOn (old new : Subject) : Type 0 where
 
 -- Some text declares them.
 abbrev pub IsOfText : Declarations → Type 0
-IsOfText d = (bytes : List ℕ) × TextGives bytes (Ok d)
+IsOfText d = (bytes : List ℕ) × TextSays bytes (Ok d)
 
 -- Query number n, counted from 1, is q, and its crate is c.
 pub record Asks (d : Declarations) (c n : ℕ) (q : Question) : Type 0 where

@@ -10,6 +10,7 @@ use Rattle.workspace.specs.Views.{question_of}
 use Rattle.coherence.proofs.ErasedValues.{values-same}
 use Rattle.coherence.proofs.Places.{entry-of}
 use Rattle.coherence.proofs.TermVariables.{term-variables}
+use Rattle.sessions.proofs.GivenTexts.{text-given}
 use Rattle.coherence.proofs.lines.yes_line.Goals as goal
 
 pub returns : goal.returns
@@ -25,6 +26,6 @@ returns c q is =
     let at = slice_get_read es (length es) _ entry refl (omega arith) c.index-question_entries-number.is in
     let same : question_of entry ≡ q = same_Some _ _ (sym (entry-of question_of es d.questions c.question_entries.ensures.items _ entry at) ∙ is.there) in
     let values : map value_of c.in_ok-texts.texts.items ≡ answer_values d q (map (arg_trees terms) vs) = c.in_ok-texts.ensures ∙ ap (λ (x : Question). answer_values d x (map (arg_trees terms) vs)) same in
-    let kinds = term-variables c.requires.parsed.0 d c.requires.parsed.1 _ q is.there in
+    let kinds = term-variables c.requires.parsed.0 d (text-given d c.requires.parsed) _ q is.there in
     let printed = ap (map value_of) c.deref.ensures.value ∙ values ∙ sym (values-same d q terms vs c.lawful.ensures c.requires.held kinds) in
     c.in_ok-line.ensures ∙ ap (λ (xs : List output.ValueText). output.output_text (output.yes n xs)) printed

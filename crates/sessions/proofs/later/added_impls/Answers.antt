@@ -1,9 +1,10 @@
 use Rattle.std.proofs.Common.{refl}
 use Rattle.sessions.proofs.LaterChecks.{headers-ok, few-ok}
+use Rattle.sessions.proofs.GivenTexts.{text-given}
 use Rattle.sessions.proofs.later.added_impls.Goals as goal
 
 pub lower_later-impls-requires : goal.lower_later-impls-requires
-lower_later-impls-requires c = c.later_impls_begin_declared.ensures c.requires.text.0 c.args.workspace.now c.requires.text.1
+lower_later-impls-requires c = c.later_impls_begin_declared.ensures c.requires.text.0 c.args.workspace.now (text-given c.args.workspace.now c.requires.text)
 
 pub returns-clause-advances : goal.returns-clause-advances
 returns-clause-advances c =

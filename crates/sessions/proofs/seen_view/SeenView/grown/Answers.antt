@@ -6,13 +6,14 @@ use Rattle.view_lowering.specs.Ready.{AreSeen}
 use Rattle.solver_context.proofs.Shortages.{handed}
 use Rattle.sessions.proofs.SeenViews.{new-are-fewer}
 use Rattle.sessions.proofs.ShortCalls.{at-err, many-terms}
+use Rattle.sessions.proofs.GivenTexts.{text-given}
 use Rattle.sessions.proofs.seen_view.SeenView.grown.Goals as goal
 
 pub lower_behind-requires : goal.lower_behind-requires
 lower_behind-requires c = record {
   earlier = c.requires.view.declared;
   there = c.requires.declared;
-  begin = c.impls_begin_declared.ensures c.requires.text.0 c.args.workspace.now c.requires.text.1;
+  begin = c.impls_begin_declared.ensures c.requires.text.0 c.args.workspace.now (text-given c.args.workspace.now c.requires.text);
   begins = c.requires.begins;
   written = c.requires.view.seen.written;
   struct_sorts = c.requires.view.seen.structs;
@@ -41,7 +42,7 @@ returns-clause-view c =
       seen = seen;
       rules = view.rules;
       local = view.local;
-      ready = c.declarations_are_ready.ensures c.requires.text.0 c.args.workspace.now c.requires.text.1 c.args.crate_id.index es decls seen view.held;
+      ready = c.declarations_are_ready.ensures c.requires.text.0 c.args.workspace.now (text-given c.args.workspace.now c.requires.text) c.args.crate_id.index es decls seen view.held;
       limit = view.terms.grew.limit ∙ c.requires.view.limit;
       declared = c.requires.declared;
     }

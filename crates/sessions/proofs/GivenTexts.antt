@@ -1,0 +1,12 @@
+-- What a text says by the definitions that a reader follows is what it gives by those in which the reader of texts is proved.
+use Rattle.std.proofs.Common.{ℕ, List, Ok}
+use Rattle.text_definitions.specs.Declarations.{Declarations}
+use Rattle.text_definitions.specs.Text.{TextGives}
+use Rattle.language_definitions.proofs.SameTexts.{text-gives, text-says}
+use Rattle.sessions.specs.Subjects.{IsOfText}
+
+pub text-given : (d : Declarations) (text : IsOfText d) → TextGives text.0 (Ok d)
+text-given d text = text-gives text.0 (Ok d) text.1
+
+pub given-text : (bytes : List ℕ) (d : Declarations) → TextGives bytes (Ok d) → IsOfText d
+given-text bytes d gives = (bytes, text-says bytes (Ok d) gives)
