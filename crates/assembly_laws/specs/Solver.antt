@@ -136,9 +136,11 @@ module _ (applicable : AnswerTrees → Bool) (same : AnswerTrees → AnswerTrees
 abbrev pub greatest : {A : Type 0} → (A → ℕ) → List A → ℕ
 greatest f xs = fold max zero (map f xs)
 
+-- The greater of the number of nodes and the width of the reference's terms.
 abbrev pub width_of : Reference → ℕ
 width_of r = max (count r.args) (width r.args)
 
+-- How many strict supertraits the trait has.
 abbrev pub supers_of : World → TraitDecl → ℕ
 supers_of V x = length (strict_supertraits V (record { trait = x.name; args = none }))
 
@@ -149,6 +151,7 @@ declared_width V =
     (max (greatest (λ (x : TraitDecl). max (supers_of V x) (max (length x.bounds) (greatest width_of x.bounds))) V.traits)
     (greatest (λ (i : ImplDecl). max (width_of i.header) (greatest width_of i.clauses)) V.impls))
 
+-- How many where-clauses all impls of the world have together.
 abbrev pub clauses_in : World → ℕ
 clauses_in V = fold ◌+◌ zero (map (λ (i : ImplDecl). length i.clauses) V.impls)
 

@@ -15,6 +15,7 @@ abbrev pub line_count : Result Declarations (ℕ × ℕ) → ℕ
 line_count (Ok d) = length d.crates - 1 + length d.checks + length d.questions
 line_count (Err f) = 1
 
+-- `Done` for a text without fault, else `TextFault`.
 abbrev pub status_of : Result Declarations (ℕ × ℕ) → Status
 status_of (Ok d) = statuses.Done
 status_of (Err f) = statuses.TextFault

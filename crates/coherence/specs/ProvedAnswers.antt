@@ -25,6 +25,7 @@ with_values vs none = none
 with_values vs (tree (infer s i) c o) = unwrap_or (slice_get (map (λ v. v.1) (filter (λ v. is_sort v.0 s) vs)) i) (leaf (infer s i)) +++ with_values vs o
 with_values vs (tree l c o) = tree l (with_values vs c) (with_values vs o)
 
+-- The trait reference with these values, each of its kind, in the places of the variables.
 abbrev pub reference_with : List Sort → List Trees → Reference → Reference
 reference_with ks ts r = record { trait = r.trait; args = with_values (zip ks ts) r.args }
 

@@ -29,6 +29,7 @@ topics (Err f) = fault_topic f ∷ []
 topics (Ok d) =
     map (crate_topic d) (range_with_len 1 (length d.crates - 1)) ++ (map (check_topic d) d.checks ++ map (question_topic d) (enumerate_from 1 d.questions))
 
+-- `crate NAME: VERDICT`.
 abbrev pub line_of_crate : Declarations → ℕ → List ℕ → List ℕ
 line_of_crate d c t = codes "crate " ++ crate_text d c ++ codes ": " ++ t
 
@@ -39,6 +40,7 @@ TellsTopic limit (crate_topic d c) l = (t : List ℕ) × CrateAnswer limit d c t
 TellsTopic limit (check_topic d x) l = CheckAnswer limit d x l
 TellsTopic limit (question_topic d q) l = QuestionAnswer limit d q.0 q.1 l
 
+-- The lines, each with its line end.
 abbrev pub with_ends : List (List ℕ) → List ℕ
 with_ends ls = flat_map (λ l. l ++ 10 ∷ []) ls
 
@@ -56,6 +58,7 @@ BeginsToldText limit bytes text =
 abbrev pub TellsAll : ℕ → List ℕ → Status → Option (List ℕ) → Option (List ℕ) → Type 0
 TellsAll limit bytes status old new = (text : List ℕ) × IsToldText limit bytes status text × Appends old new text
 
+-- Nothing was appended to the output, or a prefix of the first lines for the text.
 abbrev pub TellsSome : ℕ → List ℕ → Option (List ℕ) → Option (List ℕ) → Type 0
 TellsSome limit bytes old new = Keeps old new ⊎ ((text : List ℕ) × BeginsToldText limit bytes text × AppendsPrefix old new text)
 

@@ -91,20 +91,24 @@ abbrev mutual
       enclosed "for<" "," ">" (map (name_with "'") b) ++ literal "fn(" ++ enclosed "" "," "" (types_tests ts) ++ literal ")->" ++ type_tests r
   type_tests (dyn_of i is) = enclosed "dyn" "+" "" (item_tests i ∷ items_tests is)
 
+  -- The tests of each type.
   pub types_tests : Types → List PieceTests
   types_tests no_types = []
   types_tests (and_type t ts) = type_tests t ∷ types_tests ts
 
+  -- The tests of each argument: a lifetime, a number or a type.
   pub args_tests : Args → List PieceTests
   args_tests no_args = []
   args_tests (and_arg (lifetime_arg n) args) = name_with "'" n ∷ args_tests args
   args_tests (and_arg (number_arg n) args) = numeral n ∷ args_tests args
   args_tests (and_arg (type_arg t) args) = type_tests t ∷ args_tests args
 
+  -- The tests of one bound of a `dyn`: a trait with its arguments, or a lifetime.
   pub item_tests : Item → PieceTests
   item_tests (bound_item b n args) = enclosed "for<" "," ">" (map (name_with "'") b) ++ name_with "" n ++ enclosed "<" "," ">" (args_tests args)
   item_tests (lifetime_item n) = name_with "'" n
 
+  -- The tests of each bound of a `dyn`.
   pub items_tests : Items → List PieceTests
   items_tests no_items = []
   items_tests (and_item i is) = item_tests i ∷ items_tests is

@@ -70,6 +70,7 @@ faults_by_kind d _ = []
 abbrev pub lifetimes_in_scope : Line → List (List (List ℕ)) → List (List ℕ)
 lifetimes_in_scope l s = codes "static" ∷ ((line_params l).lifetimes ++ flat_map (λ b. b) s)
 
+-- The name is no parameter of the line and not declared.
 abbrev pub is_unknown_name : Declarations → Line → List ℕ → Bool
 is_unknown_name d l n = not (is_among n ((line_params l).types ++ (line_params l).consts) || is_some (known d n))
 
@@ -80,6 +81,7 @@ is_out_of_sight d (prove_line c ps a ks) h = option_map_or (λ k. not (sees (wor
 is_out_of_sight d (refute_line c ps a) h = option_map_or (λ k. not (sees (world_of d) k.item.name h)) (find (λ k. bytes_eq k.text c) d.crates) false
 is_out_of_sight d l h = not (sees (world_of d) (impl_owner d) h)
 
+-- The name is declared in a crate that the line's crate does not see.
 abbrev pub is_unseen_name : Declarations → Line → List ℕ → Bool
 is_unseen_name d l n = stands_for d n (λ k. elim k [ a_struct _ h _ ↦ is_out_of_sight d l h | a_trait _ h _ _ ↦ is_out_of_sight d l h | _ ↦ false ])
 

@@ -67,6 +67,7 @@ abbrev mutual
       else tree (principal (length b) (means d n).0) (as_args d own vs (b ∷ s) (means d n).1 args) (dyn_end d own s [] is)) none
   as_tree d own vs s p _ = leaf never
 
+  -- The terms of the types, in their order.
   pub as_trees : Declarations → (Sort → List ℕ → Option Label) → List Variable → List (List (List ℕ)) → Types → List Trees
   as_trees d own vs s no_types = []
   as_trees d own vs s (and_type t ts) = as_tree d own vs s of_type t ∷ as_trees d own vs s ts
@@ -83,6 +84,7 @@ abbrev mutual
 abbrev pub bound_meaning : Declarations → (Sort → List ℕ → Option Label) → List Variable → Trees → Bound → Reference
 bound_meaning d own vs self b = record { trait = (means d b.trait).0; args = self +++ as_args d own vs [] (means d b.trait).1 b.args }
 
+-- The trait reference of a where-clause: its bound, with its subject as the self type.
 abbrev pub clause_meaning : Declarations → (Sort → List ℕ → Option Label) → List Variable → Clause → Reference
 clause_meaning d own vs k = bound_meaning d own vs (as_tree d own vs [] of_type k.subject) k.bound
 

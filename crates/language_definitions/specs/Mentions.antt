@@ -6,6 +6,7 @@ use Rattle.type_terms.specs.Label.{Sort, of_type, of_const, of_lifetime}
 use Rattle.text_definitions.specs.Syntax.{TypeTree, variable_type, named, reference_to, pointer_to, slice_of, array_of, tuple_of, fn_of, fn_to, dyn_of, Types, no_types, and_type, Args, no_args, and_arg, Arg, lifetime_arg, number_arg, type_arg, Item, bound_item, lifetime_item, Items, no_items, and_item, number_length, name_length, variable_length, Params, Bound, Clause, Line, crate_line, struct_line, trait_line, impl_line, prove_line, refute_line, later_line, supers_line}
 use Rattle.text_definitions.specs.Declarations.{Declarations, a_struct, a_trait, known}
 
+-- What a line mentions, with what is needed to judge it.
 pub data Mention : Type 0 where
   -- a crate's name
   crate_mention : List ℕ → Mention
@@ -30,9 +31,11 @@ pub data Mention : Type 0 where
 abbrev pub struct_kinds : Declarations → List ℕ → List Sort
 struct_kinds d n = option_map_or (λ w. elim w [ a_struct i h kinds ↦ kinds | _ ↦ [] ]) (known d n) []
 
+-- The kinds of the parameters of the trait with this name. A trait that is not declared has none.
 abbrev pub trait_kinds : Declarations → List ℕ → List Sort
 trait_kinds d n = option_map_or (λ w. elim w [ a_trait i h a kinds ↦ kinds | _ ↦ [] ]) (known d n) []
 
+-- The bounds of a `dyn` as a list.
 abbrev pub item_list : Items → List Item
 item_list no_items = []
 item_list (and_item i is) = i ∷ item_list is
@@ -60,6 +63,7 @@ abbrev mutual
   type_mentions d s k p (dyn_of i is) = dyn_mention (i ∷ item_list is) ∷ (item_mentions d s k i ++ items_mentions d s k is)
   type_mentions d s k p _ = []
 
+  -- What each type mentions.
   pub types_mentions : Declarations → List (List (List ℕ)) → ℕ → Types → List (List Mention)
   types_mentions d s k no_types = []
   types_mentions d s k (and_type t ts) = (type_mention k ∷ type_mentions d s (suc k) of_type t) ∷ types_mentions d s k ts
@@ -80,14 +84,17 @@ abbrev mutual
   arg_mentions d s k p (number_arg n) = number_mention n ∷ misfit_mention ∷ []
   arg_mentions d s k p (type_arg t) = misfit_mention ∷ type_mentions d s (suc k) p t
 
+  -- What one bound of a `dyn` mentions.
   pub item_mentions : Declarations → List (List (List ℕ)) → ℕ → Item → List Mention
   item_mentions d s k (bound_item b n args) = binder_mention s b ∷ led_by (trait_mention n) (args_mentions d (b ∷ s) k (trait_kinds d n) args)
   item_mentions d s k (lifetime_item n) = lifetime_mention s n ∷ []
 
+  -- What the bounds of a `dyn` mention, from left to right.
   pub items_mentions : Declarations → List (List (List ℕ)) → ℕ → Items → List Mention
   items_mentions d s k no_items = []
   items_mentions d s k (and_item i is) = item_mentions d s k i ++ items_mentions d s k is
 
+-- What a bound mentions: its trait, and what its arguments mention.
 abbrev pub bound_mentions : Declarations → Bound → List Mention
 bound_mentions d b = led_by (trait_mention b.trait) (args_mentions d [] 1 (trait_kinds d b.trait) b.args)
 
@@ -116,6 +123,7 @@ asked_mentions d (prove_line c ps a ks) = clause_mentions d a
 asked_mentions d (refute_line c ps a) = clause_mentions d a
 asked_mentions d _ = []
 
+-- The parameters that the line declares.
 abbrev pub line_params : Line → Params
 line_params (struct_line f n ps fs) = ps
 line_params (trait_line f a n ps bs) = ps

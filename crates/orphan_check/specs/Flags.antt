@@ -6,6 +6,7 @@ use Rattle.type_terms.specs.declared.kinds.Ty.{Ty}
 use Rattle.orphan_check.specs.declared.errors.IsFirstInputType.{IsFirstInputType}
 use Rattle.orphan_check.specs.declared.errors.IsFirstInputType.TheVariants.{No, Yes}
 
+-- Whether the type is the first input type (`IsFirstInputType`).
 abbrev pub is_first : IsFirstInputType → Bool
 is_first No = false
 is_first Yes = true

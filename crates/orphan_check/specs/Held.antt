@@ -11,6 +11,7 @@ use Rattle.orphan_check.specs.declared.walk.Met.TheVariants.{Entered, Local as M
 use Rattle.orphan_check.specs.declared.walk.End.{End}
 use Rattle.orphan_check.specs.declared.walk.End.TheVariants.{Local as EndLocal, Uncovered as EndUncovered, NonLocal as EndNonLocal}
 
+-- The type is of this interner.
 abbrev pub TypeHeld : List Entry → Ty → Type 0
 TypeHeld es t = Has es types t.0
 
@@ -20,6 +21,7 @@ MetHeld es (MetLocal t) = TypeHeld es t
 MetHeld es (MetUncovered t) = TypeHeld es t
 MetHeld es (MetNonLocal t first) = TypeHeld es t
 
+-- The types of these leaves are of this interner.
 abbrev pub LeavesHeld : List Entry → List (Ty × IsFirstInputType) → Type 0
 LeavesHeld es ps = Each (λ (p : Ty × IsFirstInputType). TypeHeld es p.0) ps
 

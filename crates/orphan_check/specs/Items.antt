@@ -56,5 +56,6 @@ error_at (Some (local_item t)) is = None
 error_at (Some (open_item t)) is = Some (uncovered t (first_local is))
 error_at _ is = Some (nonlocal (foreign_leaves is))
 
+-- The error of the orphan rule for a header with these arguments, in crate c: none if the rule is kept.
 abbrev pub orphan_error : World → ℕ → Trees → Option OrphanError
 orphan_error V c args = let is = items V (Some c) true args in error_at (decisive is) is

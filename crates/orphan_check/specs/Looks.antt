@@ -10,6 +10,7 @@ use Rattle.type_terms.specs.Walks.{struct_is, trait_is, is_home}
 pub data Look : Type 0 where
   local_type open_type leaf_type passage : Look
 
+-- What the walk does at a struct: it is a local type, it is passed through as a fundamental one, or it is a leaf.
 abbrev pub struct_look : World → Option ℕ → ℕ → Look
 struct_look V d s = if struct_is (λ x. is_home d x.home) V s then local_type else if struct_is (λ x. x.is_fundamental) V s then passage else leaf_type
 

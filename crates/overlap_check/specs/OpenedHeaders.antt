@@ -20,5 +20,6 @@ with_variables h none = none
 with_variables h (tree (param s i) c o) = tree (infer s (params_below h s i)) none (with_variables h o)
 with_variables h (tree l c o) = tree l (with_variables h c) (with_variables h o)
 
+-- The trait reference with a variable for each parameter.
 abbrev pub opened : Reference → Reference
 opened r = record { trait = r.trait; args = with_variables r.args r.args }

@@ -27,6 +27,7 @@ filled ks ts none = none
 filled ks ts (tree (infer s i) c o) = unwrap_or (slice_get (of_kind s ks ts) i) (leaf (infer s i)) +++ filled ks ts o
 filled ks ts (tree l c o) = tree l (filled ks ts c) (filled ks ts o)
 
+-- The trait reference with these values, each of its kind, in the places of the variables.
 abbrev pub filled_reference : List Sort → List Trees → Reference → Reference
 filled_reference ks ts r = record { trait = r.trait; args = filled ks ts r.args }
 

@@ -39,6 +39,7 @@ pub record AnswersHold (limit : ℕ) (W : World) (asked_views : List View) : Typ
   pub yes_holds : (v : View) → In v asked_views → (ks : List Sort) (ts : List Trees) (r : Reference) → IsProveAnswer limit v.world ks [] r (yes ts)
       → HasProof W [] (renumbered_reference v.numbers (filled_reference ks ts r))
 
+-- What answers say holds in each linked set with the views by which they were given.
 abbrev pub AnswersHoldEverywhere : Type 0
 AnswersHoldEverywhere = (limit : ℕ) (W : World) (asked_views : List View) (rank : ℕ → ℕ) → LinkedSet W asked_views rank → AnswersHold limit W asked_views
 

@@ -63,6 +63,7 @@ pub data Verdict : Type 0 where
   orphan : ℕ → OrphanError → Verdict
   overlap : ℕ → ℕ → Verdict
 
+-- Each impl of the crate keeps the orphan rule, and each pair that the crate brings together is cleared.
 pub record IsAccepted (V : World) (c : ℕ) : Type 0 where
   pub keeps : KeepsOrphanRule V c
   pub cleared : (i j : ImplDecl) → IsPair V c i j → IsCleared V c i j

@@ -31,14 +31,17 @@ answer_in es (Yes values) = answers.yes (map (λ v. erase (arg_trees es v)) valu
 answer_in es Maybe = answers.maybe
 answer_in es Unproved = answers.unproved
 
+-- The answer to `refute`, as the definitions name it.
 abbrev pub refutation_of : RefuteAnswer → answers.RefuteAnswer
 refutation_of No = answers.no
 refutation_of Open = answers.unrefuted
 
+-- The answer to `later`, as the definitions name it.
 abbrev pub later_of : LaterAnswer → releases.LaterAnswer
 later_of Compatible = releases.compatible
 later_of (Breaking n) = releases.breaking n
 
+-- The answer to `supers`, as the definitions name it.
 abbrev pub supers_of : SupersAnswer → releases.SupersAnswer
 supers_of Held = releases.held
 supers_of (Missing k j) = releases.missing k.index j

@@ -35,6 +35,7 @@ pub record IsFirstBreaking (d : Declarations) (c k n : ℕ) : Type 0 where
   pub breaks : is_addable (view_in d c) c (erased_impl found.item).header ≡ false
   pub before : Every (MayBeAdded d c) (take (n - 1) (section_impls d k))
 
+-- `compatible`: each impl of the section may be added. `breaking n`: the n-th is the first that may not.
 abbrev pub IsLaterAnswer : Declarations → ℕ → ℕ → LaterAnswer → Type 0
 IsLaterAnswer d c k compatible = Every (MayBeAdded d c) (section_impls d k)
 IsLaterAnswer d c k (breaking n) = IsFirstBreaking d c k n

@@ -14,11 +14,13 @@ pub record NamedCrate : Type 0 where
   pub text : List ℕ
   pub item : CrateDecl
 
+-- A struct with its name and the kinds of its parameters.
 pub record NamedStruct : Type 0 where
   pub text : List ℕ
   pub kinds : List Sort
   pub item : StructDecl
 
+-- A trait with its name and the kinds of its parameters, the self type first.
 pub record NamedTrait : Type 0 where
   pub text : List ℕ
   pub kinds : List Sort
@@ -76,6 +78,7 @@ world_of d = record { crates = map (λ c. c.item) d.crates; structs = map (λ s.
 abbrev pub kinds_of : Params → List Sort
 kinds_of p = map (λ _. of_lifetime) p.lifetimes ++ map (λ _. of_type) p.types ++ map (λ _. of_const) p.consts
 
+-- The names of the parameters: lifetimes, then types, then constants.
 abbrev pub names_of : Params → List (List ℕ)
 names_of p = p.lifetimes ++ p.types ++ p.consts
 
@@ -92,12 +95,15 @@ pub data Known : Type 0 where
   a_struct : (number home : ℕ) (kinds : List Sort) → Known
   a_trait : (number home : ℕ) (is_auto : Bool) (kinds : List Sort) → Known
 
+-- What the name stands for among these crates.
 abbrev pub crate_known : List NamedCrate → List ℕ → Option Known
 crate_known cs n = option_map (λ c. a_crate c.item.name) (find (λ c. bytes_eq c.text n) cs)
 
+-- What the name stands for among these structs.
 abbrev pub struct_known : List NamedStruct → List ℕ → Option Known
 struct_known ss n = option_map (λ s. a_struct s.item.name s.item.home s.kinds) (find (λ s. bytes_eq s.text n) ss)
 
+-- What the name stands for among these traits.
 abbrev pub trait_known : List NamedTrait → List ℕ → Option Known
 trait_known ts n = option_map (λ t. a_trait t.item.name t.item.home t.item.is_auto t.kinds) (find (λ t. bytes_eq t.text n) ts)
 

@@ -15,6 +15,7 @@ use Rattle.text_definitions.specs.Uses.{ItemShape, bound_shape, lifetime_shape, 
 abbrev pub is_among : List ℕ → List (List ℕ) → Bool
 is_among n ns = list_any (λ m. bytes_eq m n) ns
 
+-- Some name occurs twice.
 abbrev pub repeats : List (List ℕ) → Bool
 repeats [] = false
 repeats (n ∷ ns) = is_among n ns || repeats ns
@@ -23,9 +24,11 @@ repeats (n ∷ ns) = is_among n ns || repeats ns
 abbrev pub own_struct : Declarations → Bool → List ℕ → Params → NamedStruct
 own_struct d f n ps = record { text = n; kinds = kinds_of ps; item = record { name = length d.structs; home = last_crate d; is_fundamental = f; fields = [] } }
 
+-- The trait of the line itself, without its bounds.
 abbrev pub own_trait : Declarations → Bool → Bool → List ℕ → Params → NamedTrait
 own_trait d f a n ps = record { text = n; kinds = kinds_of ps; item = record { name = length d.traits; home = last_crate d; is_fundamental = f; is_auto = a; bounds = [] } }
 
+-- The declarations with the struct or trait of the line itself, which the line may name.
 abbrev pub with_own : Declarations → Line → Declarations
 with_own d (struct_line f n ps fs) = record d { structs = d.structs ++ own_struct d f n ps ∷ [] }
 with_own d (trait_line f a n ps bs) = record d { traits = d.traits ++ own_trait d f a n ps ∷ [] }

@@ -29,6 +29,7 @@ mutual
     fn_to : (binder : List (List ℕ)) → Types → TypeTree → TypeTree
     dyn_of : Item → Items → TypeTree
 
+  -- A list of types.
   pub data Types : Type 0 where
     no_types : Types
     and_type : TypeTree → Types → Types
@@ -38,15 +39,18 @@ mutual
     no_args : Args
     and_arg : Arg → Args → Args
 
+  -- An argument: a lifetime, a number, or a type.
   pub data Arg : Type 0 where
     lifetime_arg : List ℕ → Arg
     number_arg : ℕ → Arg
     type_arg : TypeTree → Arg
 
+  -- A bound of a `dyn`: a trait with its arguments, perhaps under `for<..>`, or a lifetime.
   pub data Item : Type 0 where
     bound_item : (binder : List (List ℕ)) (name : List ℕ) → Args → Item
     lifetime_item : List ℕ → Item
 
+  -- The bounds of a `dyn` after its first.
   pub data Items : Type 0 where
     no_items : Items
     and_item : Item → Items → Items
@@ -154,6 +158,7 @@ pub record Params : Type 0 where
 abbrev pub no_params : Params
 no_params = record { lifetimes = []; types = []; consts = [] }
 
+-- A trait with its arguments.
 pub record Bound : Type 0 where
   pub trait : List ℕ
   pub args : Args
@@ -163,6 +168,7 @@ pub record Clause : Type 0 where
   pub subject : TypeTree
   pub bound : Bound
 
+-- A line that declares or asks something, with its parts as they are written.
 pub data Line : Type 0 where
   crate_line : (name : List ℕ) (uses : List (List ℕ)) → Line
   struct_line : (is_fundamental : Bool) (name : List ℕ) (params : Params) (fields : Types) → Line

@@ -66,15 +66,19 @@ abbrev pub arranged : Arrangement → Trees → Trees
 arranged a none = none
 arranged a (tree l c o) = tree l (children_in_order a l c (arranged a c)) (arranged a o)
 
+-- The trait reference, with the auto traits of each `dyn` in that order.
 abbrev pub arranged_reference : Arrangement → Reference → Reference
 arranged_reference a r = record { trait = r.trait; args = arranged a r.args }
 
+-- The struct, with the auto traits of each `dyn` in that order.
 abbrev pub arranged_struct : Arrangement → StructDecl → StructDecl
 arranged_struct a x = record x { fields = map (arranged a) x.fields }
 
+-- The trait, with the auto traits of each `dyn` in that order.
 abbrev pub arranged_trait : Arrangement → TraitDecl → TraitDecl
 arranged_trait a x = record x { bounds = map (arranged_reference a) x.bounds }
 
+-- The impl, with the auto traits of each `dyn` in that order.
 abbrev pub arranged_impl : Arrangement → ImplDecl → ImplDecl
 arranged_impl a x = record x { header = arranged_reference a x.header; clauses = map (arranged_reference a) x.clauses }
 

@@ -63,6 +63,7 @@ region_label (RePlaceholder i) = placeholder of_lifetime i
 region_label (ReBound k v) = bound_label of_lifetime k v
 region_label (ReVar v) = infer of_lifetime v.index
 
+-- A lifetime is one leaf.
 abbrev pub region_trees : Region → Trees
 region_trees r = leaf (region_label r.kind)
 
@@ -132,6 +133,7 @@ abbrev pub BinderHeld : BoundVarIndexKind → Type 0
 BinderHeld (KBinder k) = k.index < MAX_INDEX
 BinderHeld KCanonical = Unit {0}
 
+-- A bound lifetime has a binder number that fits. Other lifetimes always do.
 abbrev pub RegionHeld : RegionKind → Type 0
 RegionHeld (ReBound k v) = BinderHeld k
 RegionHeld _ = Unit {0}
@@ -152,11 +154,13 @@ abbrev pub ConstHeld : ConstKind → Type 0
 ConstHeld (CBound k v) = BinderHeld k
 ConstHeld _ = Unit {0}
 
+-- The argument is of this interner.
 abbrev pub ArgHeld : List Entry → GenericArgKind → Type 0
 ArgHeld es (Lifetime r) = RegionHeld r.kind
 ArgHeld es (AType t) = Has es types t.0
 ArgHeld es (AConst c) = Has es consts c.0
 
+-- Each argument is of this interner.
 abbrev pub ArgsHeld : List Entry → List GenericArgKind → Type 0
 ArgsHeld es [] = Unit {0}
 ArgsHeld es (a ∷ rest) = ArgHeld es a × ArgsHeld es rest

@@ -36,6 +36,7 @@ terms_code =
 abbrev pub types : ℕ
 types = 0
 
+-- The number of the kind of constants.
 abbrev pub consts : ℕ
 consts = 1
 
@@ -45,6 +46,7 @@ args_lists = 2
 abbrev pub type_lists : ℕ
 type_lists = 3
 
+-- The number of the kind of the lists of bounds of a `dyn`.
 abbrev pub bounds_lists : ℕ
 bounds_lists = 4
 
@@ -56,6 +58,7 @@ Is es kind i t = slice_get es i ≡ Some (term kind t)
 abbrev pub Has : List Entry → ℕ → ℕ → Type 0
 Has es kind i = (t : Trees) × Is es kind i t
 
+-- The trees of an entry. No entry has none.
 abbrev trees_in : Option Entry → Trees
 trees_in None = none
 trees_in (Some e) = e.trees

@@ -16,10 +16,12 @@ plain_label kept (fn_ptr n) = fn_ptr zero
 plain_label kept (principal n t) = principal zero t
 plain_label kept l = l
 
+-- The term without lifetimes and binder counts, but for the lifetime parameters that are kept.
 abbrev pub plain : (ℕ → Bool) → Trees → Trees
 plain kept none = none
 plain kept (tree l c o) = tree (plain_label kept l) (plain kept c) (plain kept o)
 
+-- The trait reference without lifetimes, but for the parameters that are kept.
 abbrev pub plain_reference : (ℕ → Bool) → Reference → Reference
 plain_reference kept r = record { trait = r.trait; args = plain kept r.args }
 
@@ -27,6 +29,7 @@ plain_reference kept r = record { trait = r.trait; args = plain kept r.args }
 abbrev pub all_kept : ℕ → Bool
 all_kept i = true
 
+-- The trait reference with all its lifetime parameters, and no others.
 abbrev pub unbound_reference : Reference → Reference
 unbound_reference r = plain_reference all_kept r
 
@@ -46,15 +49,19 @@ is_lifetime i l = false
 abbrev pub stands_in : Trees → ℕ → Bool
 stands_in t i = some_node (is_lifetime i) t
 
+-- The struct without lifetimes in its fields.
 abbrev pub plain_struct : StructDecl → StructDecl
 plain_struct x = record x { fields = map (plain none_kept) x.fields }
 
+-- The trait without lifetimes in its bounds.
 abbrev pub plain_trait : TraitDecl → TraitDecl
 plain_trait x = record x { bounds = map (plain_reference none_kept) x.bounds }
 
+-- The impl without lifetimes, but for those parameters in its where-clauses that stand in its header.
 abbrev pub plain_impl : ImplDecl → ImplDecl
 plain_impl i = record i { header = unbound_reference i.header; clauses = map (plain_reference (stands_in i.header.args)) i.clauses }
 
+-- The world without lifetimes, but for parameters of impls that stand in their headers.
 abbrev pub plain_world : World → World
 plain_world W = record W { structs = map plain_struct W.structs; traits = map plain_trait W.traits; impls = map plain_impl W.impls }
 
