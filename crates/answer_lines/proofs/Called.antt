@@ -1,5 +1,5 @@
 -- Names of parameters and variables of one kind.
-use Rattle.std.proofs.Common.{◌≡◌, ℕ, suc, ◌+◌, arith, Bool, true, false, cond, List, [], ◌∷◌, ◌++◌, map, Option, Some, None, refl, sym, ap, ◌∙◌}
+use Rattle.std.proofs.Common.{◌≡◌, ℕ, suc, ◌+◌, Bool, true, false, cond, List, [], ◌∷◌, ◌++◌, map, Option, Some, None, refl, sym, ap, ◌∙◌}
 use Rattle.std.proofs.lemmas.Option.{slice_get-map}
 use Rattle.std.specs.Prelude.{slice_get, filter, codes, length}
 use Rattle.std.specs.Option.{option_map, option_map_or}
@@ -11,6 +11,7 @@ use Rattle.text_definitions.specs.Declarations.{Variable}
 use Rattle.text_definitions.specs.Names.{of_kind, text_at, param_texts}
 use Rattle.workspace.specs.Views.{sort_of_kind, sorted_params, variable_of}
 use Rattle.workspace.specs.declared.declared.Param.{Param}
+use Rattle.type_terms.proofs.NumberBasics.{plus-one as one-up}
 
 abbrev pub of_sort : Sort → List Param → List Param
 of_sort s ps = filter (λ p. is_sort (sort_of_kind p.kind) s) ps
@@ -47,9 +48,6 @@ question-called s vs i other o e =
     ap (λ z. option_map_or (λ (p : Param). codes "?" ++ p.name.items) z other) e ∙ read-or variable_of (λ (v : Variable). codes "?" ++ v.text) (slice_get (of_sort s vs) i) other
     ∙ ap (λ z. option_map_or (λ (v : Variable). codes "?" ++ v.text) z other) (sym (slice_get-map variable_of (of_sort s vs) i))
     ∙ ap (λ l. option_map_or (λ (v : Variable). codes "?" ++ v.text) (slice_get l i) other) (sym (filter-read variable_of (λ (v : Variable). is_sort v.kind s) vs))
-
-one-up : (n : ℕ) → n + 1 ≡ suc n
-one-up n = omega arith
 
 pub numbered-called : (us : List (Sort × ℕ)) (s : Sort) (i n : ℕ) → n ≡ place_in s i us → codes "?" ++ decimal (n + 1) ≡ unknown_text us s i
 numbered-called us s i n e = ap (λ m. codes "?" ++ decimal m) (one-up n ∙ ap suc e)

@@ -21,7 +21,7 @@ use Rattle.answer_lines.specs.declared.piece.Piece.{Piece}
 use Rattle.answer_lines.specs.Pieces.{load, Prints, PrintsTrees, PrintsPrincipal, PrintsAutos}
 use Rattle.answer_lines.proofs.Texts.{texts-append, load-append}
 use Rattle.answer_lines.proofs.Steps.{nothing}
-use Rattle.answer_lines.proofs.Lists.{trees-of}
+use Rattle.type_terms.proofs.TermBasics.{trees-of}
 
 -- the same step, of a text that is equal, with no less to do
 pub same : {N : Names} {es : List Entry} {so sn : List Piece} {oo on t u : List ℕ} {l m : ℕ} → Prints N es t l so sn oo on → t ≡ u → l ≤ m → Prints N es u m so sn oo on

@@ -15,6 +15,7 @@ use Rattle.workspace.specs.declared.declared.Param.{Param}
 use Rattle.answer_lines.specs.declared.listed.Listed.{Listed}
 use Rattle.answer_lines.specs.declared.listed.Counts.{Counts}
 use Rattle.answer_lines.specs.Listed.{ListHeld, own_number, counted, valued_one}
+use Rattle.type_terms.proofs.ListBasics.{empty, next-behind}
 
 -- with the unknowns that stand for variables behind these counts
 abbrev pub valued_from : List Entry → Counts → List Param → List GenericArgKind → List (Variable × Trees)
@@ -51,11 +52,6 @@ list-held-at es (k ∷ ls) zero l h g e = subst (λ (m : Listed). ArgHeld es m.v
 list-held-at es (k ∷ ls) (suc i) l h g e = list-held-at es ls i l h.1 (omega (arith, g)) e
 
 -- ---- a turn of the loop
-next-behind : {A : Type 0} (xs : List A) (i : ℕ) (x : A) → i < length xs → x ≡ get_or xs i x → drop i xs ≡ x ∷ drop (suc i) xs
-next-behind [] i x h e = absurd (omega (arith, h))
-next-behind (y ∷ xs) zero x h e = ap (λ z. z ∷ xs) (sym e)
-next-behind (y ∷ xs) (suc i) x h e = next-behind xs i x (omega (arith, h)) e
-
 one-up : (i : ℕ) → suc i ≡ i + 1
 one-up i = omega arith
 
@@ -91,11 +87,6 @@ listed-on es ps i k p n m rest others a all before after h e r f g was put =
     ∙ ap (λ c. (before ++ valued_one es p a (own_number p.kind n)) ++ valued_from es c (drop (i + 1) ps) others) (sym g)
     ∙ ap (λ j. (before ++ valued_one es p a j) ++ valued_from es m (drop (i + 1) ps) others) (sym f)
     ∙ ap (λ l. l ++ valued_from es m (drop (i + 1) ps) others) (sym put)
-
--- ... where no value is left
-empty : {A : Type 0} (xs : List A) → length xs ≡ 0 → xs ≡ []
-empty [] e = refl
-empty (x ∷ xs) e = absurd (omega (arith, e))
 
 pub listed-out : (es : List Entry) (ps : List Param) (n : Counts) (rest : List GenericArgKind) (all before : List (Variable × Trees))
     → length rest ≡ 0 → all ≡ before ++ valued_from es n ps rest → before ≡ all

@@ -15,6 +15,7 @@ use Rattle.answer_lines.specs.declared.piece.Piece.TheVariants.{Ty as PTy, Const
 use Rattle.answer_lines.specs.Pieces.{text_behind, load, PushesTypes, PushesOutput, PrintsPrincipal, PrintsAutos, PrintsTrees}
 use Rattle.answer_lines.proofs.Texts.{texts-append, load-append, type-one, const-one}
 use Rattle.answer_lines.proofs.Steps.{nothing, one, before, both, list-text, single-text, inputs-of, last-of}
+use Rattle.type_terms.proofs.TermBasics.{trees-of}
 
 -- ---- texts
 array-texts : (u v : List ℕ) (ts : List (List ℕ)) → ts ≡ u ∷ v ∷ [] → codes "[" ++ (u ++ codes "; " ++ v ++ codes "]") ≡ codes "[" ++ between (codes "; ") ts ++ codes "]"
@@ -28,9 +29,6 @@ row-assoc none y z = refl
 row-assoc (tree l c o) y z = ap (λ t. tree l c t) (row-assoc o y z)
 
 -- ---- handles
-pub trees-of : (es : List Entry) (k i : ℕ) (t : Trees) → Is es k i t → trees_at es i ≡ t
-trees-of es k i t h = rw h refl
-
 pub is-type : (es : List Entry) (i : ℕ) → Lawful es → Has es types i → IsA of_type (trees_at es i)
 is-type es i L h = subst (IsA of_type) (sym (trees-of es types i h.0 h.1)) ((L.sorted i (term types h.0) h.1).as_type refl)
 
@@ -132,10 +130,6 @@ pub tuple-step : (N : Names) (es : List Entry) → Lawful es → (so s1 s2 : Lis
 tuple-step N es L so s1 s2 oo on ts last h a b e s P = before (Text last) (codes "(") e s (P N on) (tuple-texts N es L ts h last.now a b) tt (omega arith)
 
 -- ---- fns
-pub unit-yes : (es : List Entry) → (i u : ℕ) (ts : List Ty) → Is es types i (tree tuple (trees_at es u) none) → Is es type_lists u (tys_trees es ts) → length ts ≡ 0 → true ≡ ends_in_unit (trees_at es i)
-unit-yes es i u [] h k e = rw (trees-of es types i (tree tuple (trees_at es u) none) h) (rw (trees-of es type_lists u none k) refl)
-unit-yes es i u (t ∷ ts) h k e = absurd (omega arith)
-
 not-none : (x y : Trees) → IsA of_type x → is_no_tree (x +++ y) ≡ false
 not-none none y h = elim h [ ]
 not-none (tree l c o) y h = refl

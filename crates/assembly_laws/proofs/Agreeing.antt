@@ -14,7 +14,7 @@ use Rattle.evaluation.specs.FrameTables.{kind_at}
 use Rattle.evaluation.specs.TableAnswers.{is_kind_of}
 use Rattle.evaluation.specs.Variables.{is_variable_over}
 use Rattle.assembly_laws.specs.Cover.{padded}
-use Rattle.assembly_laws.proofs.Reading.{true-false}
+use Rattle.type_terms.proofs.BooleanBasics.{true-false}
 
 module _ (good : Label → Bool) (xs ys : List Trees) (same : (l : Label) → good l ≡ true → given xs l ≡ given ys l) where
   abbrev Same : Trees → Type 0

@@ -8,9 +8,11 @@ use Rattle.type_terms.proofs.Applies.{same-complete}
 use Rattle.evaluation.specs.Instances.{read_with}
 use Rattle.evaluation.specs.Content.{given}
 use Rattle.declarations.specs.Apart.{is_fixed, are_apart, levels}
-use Rattle.declarations.proofs.Fixed.{top, child, next, no-flags, some-flag, three, fixed-label, fixed-erased, fixed-instance}
+use Rattle.declarations.proofs.Fixed.{top, child, next, no-flags, some-flag, fixed-label, fixed-erased, fixed-instance}
 use Rattle.declarations.proofs.MeetingLaws.{Reads, ReadNode, instantiate-reads, meet, erased-meet, not-apart, may-be-one}
-use Rattle.assembly_laws.proofs.Reading.{begins, true-false}
+use Rattle.assembly_laws.proofs.Reading.{begins}
+use Rattle.type_terms.proofs.TermBasics.{three}
+use Rattle.type_terms.proofs.BooleanBasics.{true-false}
 
 -- no label without flags stands for a term
 read-itself : (ts : List Trees) (l : Label) (c o : Trees) → label_flags l ≡ 0 → read_with (given ts) (tree l c o) ≡ tree (erase_label l) (read_with (given ts) c) (read_with (given ts) o)

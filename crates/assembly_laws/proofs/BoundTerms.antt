@@ -25,15 +25,13 @@ use Rattle.assembly_laws.proofs.Cover.{asked-by}
 use Rattle.assembly_laws.proofs.Elaborating.{elaborated-so}
 use Rattle.assembly_laws.proofs.EquationTerms.{IsOpenTerms, made-open, plain-made, first-made, principal-terms, all-are-terms}
 use Rattle.assembly_laws.proofs.LawfulCandidates.{asked-clauses}
+use Rattle.type_terms.proofs.TermBasics.{gone}
 
 -- ---- no children
 no-children : (b : Bool) (f : Trees → Trees) → f none ≡ none → (c : Trees) → (not b || is_no_tree c) ≡ true → (not b || is_no_tree (f c)) ≡ true
 no-children false f e c h = refl
 no-children true f e none h = ap is_no_tree e
 no-children true f e (tree l c o) h = absurd (false-true h)
-
-gone : (f : Trees → Trees) → f none ≡ none → (c : Trees) → c ≡ none → is_no_tree (f c) ≡ true
-gone f e c h = subst (λ z. is_no_tree (f z) ≡ true) (sym h) (ap is_no_tree e)
 
 last-is : (l : Label) (c o : Trees) → is_open_label l ≡ true → is_sort (sort_of l) of_lifetime ≡ true → is_no_tree c ≡ true → is_no_tree o ≡ true
     → (is_open_label l && (is_sort (sort_of l) of_lifetime && (is_no_tree c && is_no_tree o))) ≡ true

@@ -23,10 +23,11 @@ use Rattle.assembly_laws.specs.Asking.{GoalOverKinds, clauses, is_rigid, with_pl
 use Rattle.assembly_laws.specs.Candidates.{Candidate, premise, by_rule, as_written, unsure, misc, if_so, by_clauses, built_in, by_sized, by_copy, by_auto, by_tuple, by_fn_ptr, by_call, by_unsize, by_impls, by_objects}
 use Rattle.assembly_laws.specs.Solver.{IsSolution}
 use Rattle.assembly_laws.specs.Cover.{slots, nested_at, SolvesEquations, all_candidates}
-use Rattle.assembly_laws.proofs.Reading.{read_reference, true-false}
+use Rattle.assembly_laws.proofs.Reading.{read_reference}
 use Rattle.assembly_laws.proofs.Supers.{Proved, open-none}
 use Rattle.assembly_laws.proofs.HavingViews.{ProvesBy}
 use Rattle.assembly_laws.proofs.Rows.{read_rule, sized-natural, copy-natural, auto-natural, tuple-natural, fn-ptr-natural}
+use Rattle.type_terms.proofs.BooleanBasics.{true-false}
 
 -- ---- lists
 pub some-left : {A : Type 0} (P : A → Type 0) (xs ys : List A) → SomeOf P xs → SomeOf P (xs ++ ys)

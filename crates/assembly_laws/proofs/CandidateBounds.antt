@@ -25,7 +25,9 @@ use Rattle.assembly_laws.proofs.Premises.{CandidatesAreFew, PremisesAreFew}
 use Rattle.assembly_laws.proofs.Cover.{IsAsked, asked-by}
 use Rattle.assembly_laws.proofs.DeclaredWidths.{greatest-at}
 use Rattle.assembly_laws.proofs.Recording.{length-recorded, nested-recorded}
-use Rattle.assembly_laws.proofs.CandidateNumbers.{length-append, nested-append, map-length, last-few, autos-few, principal-few, sized-few, copy-few, auto-few, tuple-few, fn-ptr-few, to-dyn-few, FewCandidates, none-few, if-few, both-few, written-few, upcasts-few, structs-few, from-bounds-few, asked-supers-few, elaborated-few}
+use Rattle.assembly_laws.proofs.CandidateNumbers.{nested-append, last-few, autos-few, principal-few, sized-few, copy-few, auto-few, tuple-few, fn-ptr-few, to-dyn-few, FewCandidates, none-few, if-few, both-few, written-few, upcasts-few, structs-few, from-bounds-few, asked-supers-few, elaborated-few}
+use Rattle.type_terms.proofs.ListBasics.{map-length, length-append}
+use Rattle.type_terms.proofs.NumberBasics.{in-goal}
 
 -- ---- where-clauses and impls
 clauses-few : (V : World) (a : GoalOverKinds) (rs : List Reference) → (length (by_clauses V a rs) ≤ length rs) × (nested_in frame_tables (by_clauses V a rs) ≡ 0)
@@ -177,9 +179,6 @@ first-below p q s t n h = omega (arith, h)
 
 second-below : (p q r s t n : ℕ) → max p q ≤ s → p ≤ max n (max r (max s t))
 second-below p q r s t n h = omega (arith, h)
-
-in-goal : (e p d c k : ℕ) → p ≡ max c (max k 0) → (c ≤ max (max e p) d) × (k ≤ max (max e p) d)
-in-goal e p d c k h = (omega (arith, h), omega (arith, h))
 
 module _ (m : ViewMeaning) (one : StructsAreOne m.view) (f : CanonicalForm) (a : GoalOverKinds) (is : goal_over_kinds m.view f ≡ Some a) where
   abbrev V : World

@@ -1,12 +1,9 @@
 -- How many bounds and supertraits there are.
-use Rattle.std.proofs.Common.{◌≡◌, ℕ, zero, suc, ◌+◌, ◌≤◌, List, [], ◌∷◌, ◌++◌, length, arith}
+use Rattle.std.proofs.Common.{ℕ, zero, suc, ◌≤◌, List, [], ◌∷◌, length, arith}
 use Rattle.type_terms.specs.Worlds.{World, Reference}
 use Rattle.type_terms.specs.Rules.{strict_supertraits}
 use Rattle.declarations.specs.Elaboration.{off_stack, all_levels, elaborate, new_of, pushed, rest_of, supertraits}
-
-length-append : {A : Type 0} (xs ys : List A) → length (xs ++ ys) ≡ length xs + length ys
-length-append [] ys = omega arith
-length-append (x ∷ xs) ys = let e = length-append xs ys in omega (arith, e)
+use Rattle.type_terms.proofs.ListBasics.{length-append}
 
 -- no more references come off the stack than there is fuel
 pub off-few : (n : ℕ) (V : World) (before stack : List Reference) → length (off_stack n V before stack) ≤ n

@@ -17,10 +17,7 @@ use Rattle.assembly_laws.specs.Asking.{GoalOverKinds, clauses, self_of, next_of,
 use Rattle.assembly_laws.specs.Candidates.{Candidate, all_equal, clause_source, by_rule, by_the_impl, unsure, by_clauses, as_written, if_so, misc, by_sized, by_copy, by_auto, by_tuple, by_fn_ptr, call_of, by_call, unsize_array_of, upcast_source, upcasts_from, upcasts_to, upcasts_of, unsize_by_struct, unsize_struct_of, unsize_known, recording, unsizing_outlives, unsize_recording, built_in, by_impls, can_match, bounds_from, object_source, written_source, objects_of}
 use Rattle.assembly_laws.specs.Cover.{all_candidates}
 use Rattle.assembly_laws.proofs.Recording.{every-recorded}
-
-pub every-append : {A : Type 0} (P : A → Type 0) (xs ys : List A) → Every P xs → Every P ys → Every P (xs ++ ys)
-every-append P [] ys a b = b
-every-append P (x ∷ xs) ys a b = (a.0, every-append P xs ys a.1 b)
+use Rattle.evaluation.proofs.Basics.{every-append}
 
 pub every-split : {A : Type 0} (P : A → Type 0) (xs ys : List A) → Every P (xs ++ ys) → Every P xs × Every P ys
 every-split P [] ys e = (tt, e)

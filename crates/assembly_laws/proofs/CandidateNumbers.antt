@@ -19,23 +19,12 @@ use Rattle.assembly_laws.specs.Solver.{supers_of}
 use Rattle.assembly_laws.proofs.CandidateCounts.{elaborate-few, supertraits-few}
 use Rattle.assembly_laws.proofs.CandidateWidths.{count-instance}
 use Rattle.assembly_laws.proofs.Unsizing.{traits_of, within-same}
+use Rattle.type_terms.proofs.ListBasics.{map-length, length-append}
 
 -- ---- lists
-pub length-append : {A : Type 0} (xs ys : List A) → length (xs ++ ys) ≡ length xs + length ys
-length-append [] ys = omega arith
-length-append (x ∷ xs) ys = let e = length-append xs ys in omega (arith, e)
-
 pub nested-append : (xs ys : List Candidate) → nested_in frame_tables (xs ++ ys) ≡ nested_in frame_tables xs + nested_in frame_tables ys
 nested-append [] ys = omega arith
 nested-append (x ∷ xs) ys = let e = nested-append xs ys in omega (arith, e)
-
-pub length-if : (b : Bool) (xs : List Candidate) (n : ℕ) → length xs ≤ n → length (if_so b xs) ≤ n
-length-if true xs n h = h
-length-if false xs n h = omega arith
-
-pub nested-if : (b : Bool) (xs : List Candidate) (n : ℕ) → nested_in frame_tables xs ≤ n → nested_in frame_tables (if_so b xs) ≤ n
-nested-if true xs n h = h
-nested-if false xs n h = omega arith
 
 -- ---- rules
 -- how many premises the rules have together
@@ -180,10 +169,6 @@ to-dyn-few V w (tree l c (tree m d o)) h g = no-rules 1 (suc w)
 pub written-length : (V : World) (a : GoalOverKinds) (source : CandidateSource) (us : List Rule) → length (as_written V a source us) ≡ length us
 written-length V a source [] = refl
 written-length V a source (u ∷ us) = ap suc (written-length V a source us)
-
-pub map-length : {A B : Type 0} (f : A → B) (xs : List A) → length (map f xs) ≡ length xs
-map-length f [] = refl
-map-length f (x ∷ xs) = ap suc (map-length f xs)
 
 pub written-nested : (V : World) (a : GoalOverKinds) (source : CandidateSource) (us : List Rule) → nested_in frame_tables (as_written V a source us) ≡ premises_in us
 written-nested V a source [] = refl

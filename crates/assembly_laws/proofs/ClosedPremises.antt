@@ -22,10 +22,10 @@ use Rattle.type_terms.specs.Made.{terms, is_made, is_leaf_label}
 use Rattle.type_terms.specs.Made.{bounds}
 use Rattle.type_terms.specs.Made.{traits}
 use Rattle.assembly_laws.specs.Declared.{is_declared, is_counted, are_terms, is_declared_view}
-use Rattle.assembly_laws.proofs.Reading.{true-false}
 use Rattle.assembly_laws.proofs.Instances.{Shut}
 use Rattle.assembly_laws.proofs.Supers.{plain-shut, open-none, none-open}
 use Rattle.assembly_laws.proofs.DeclaredParts.{clause-declared, bound-declared}
+use Rattle.type_terms.proofs.BooleanBasics.{true-false}
 
 -- what a closed reference leads to is closed
 abbrev pub LeadsToClosed : World → ℕ → Type 0

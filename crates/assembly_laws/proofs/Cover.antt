@@ -1,5 +1,5 @@
 -- In every linked set with the crate each solution of a goal is one by a candidate.
-use Rattle.std.proofs.Common.{◌≡◌, Bool, true, false, not, ◌&&◌, ◌||◌, ◌==◌, List, [], ◌∷◌, refl, sym, ◌∙◌, ap, subst, Option, Some, None}
+use Rattle.std.proofs.Common.{◌≡◌, true, false, not, ◌&&◌, ◌||◌, ◌==◌, List, [], ◌∷◌, refl, sym, ◌∙◌, ap, subst, Option, Some, None}
 use Rattle.type_terms.specs.Label.{of_trait, predicate}
 use Rattle.type_terms.specs.Trees.{Trees, none, tree}
 use Rattle.type_terms.specs.Worlds.{World, Reference}
@@ -20,7 +20,7 @@ use Rattle.declarations.specs.Elaboration.{supertraits}
 use Rattle.assembly_laws.specs.Meaning.{ViewMeaning}
 use Rattle.assembly_laws.specs.Knowing.{is_knowable}
 use Rattle.assembly_laws.specs.Declared.{is_declared_view}
-use Rattle.assembly_laws.specs.Asking.{GoalOverKinds, asked_if, asked_with, with_first, all_known, are_clauses, begins_with_type, next_of}
+use Rattle.assembly_laws.specs.Asking.{GoalOverKinds, asked_with, with_first, all_known, are_clauses, begins_with_type, next_of}
 use Rattle.evaluation.specs.Variables.{is_variable_over}
 use Rattle.assembly_laws.specs.Candidates.{premise, unknowable}
 use Rattle.assembly_laws.specs.Solver.{IsSolution}
@@ -30,6 +30,7 @@ use Rattle.assembly_laws.proofs.Knowing.{instances-are-known}
 use Rattle.assembly_laws.proofs.Reading.{read_reference}
 use Rattle.assembly_laws.proofs.Agreeing.{own-read}
 use Rattle.assembly_laws.proofs.Supers.{Proved, supertraits-proved}
+use Rattle.assembly_laws.proofs.TypeBasics.{if-asked}
 
 -- ---- what is asked
 pub record IsAsked (V : World) (environment asks : Trees) (kinds : Option (List CanonicalVarKind)) (a : GoalOverKinds) : Type 0 where
@@ -40,13 +41,6 @@ pub record IsAsked (V : World) (environment asks : Trees) (kinds : Option (List 
   pub over : is_made (is_variable_over a.kinds) terms a.reference.args ≡ true
   pub begins : begins_with_type a.reference.args ≡ true
   pub target : (not (a.reference.trait == unsize) || begins_with_type (next_of a.reference.args)) ≡ true
-
-if-asked : (b : Bool) (a c : GoalOverKinds) → asked_if b a ≡ Some c → (b ≡ true) × (a ≡ c)
-if-asked true a c e = (refl, some-is e)
-  where
-    some-is : Some a ≡ Some c → a ≡ c
-    some-is f = cc
-if-asked false a c e = absurd (cc)
 
 pub asked-by : (V : World) (environment asks : Trees) (kinds : Option (List CanonicalVarKind)) (a : GoalOverKinds) → asked_with V environment asks kinds ≡ Some a → IsAsked V environment asks kinds a
 asked-by V environment (tree (predicate (of_trait t)) args none) (Some ks) a e =

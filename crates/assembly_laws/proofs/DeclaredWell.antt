@@ -13,12 +13,9 @@ use Rattle.assembly_laws.specs.Candidates.{is_param}
 use Rattle.assembly_laws.specs.Declared.{is_declared_view, BoundsAreErased, is_lifetime_parameter, parameters_are_sorted, LeadDown}
 use Rattle.assembly_laws.specs.Determined.{ImplsAreDetermined}
 use Rattle.assembly_laws.specs.DeclaredWell.{is_loose, impls_are_determined, bounds_are_erased, height_in, bounds_lead_down, are_distinct, is_single, TestsTell, CoreIsDeclaredWell}
-use Rattle.assembly_laws.proofs.Reading.{true-false}
 use Rattle.assembly_laws.proofs.ReadOff.{none-passes}
-
-not-not : (b : Bool) → not b ≡ false → b ≡ true
-not-not true e = refl
-not-not false e = absurd (true-false e)
+use Rattle.type_terms.proofs.BooleanBasics.{true-false}
+use Rattle.assembly_laws.proofs.ErasedReading.{not-no as not-not}
 
 pub determined-told : (V : World) → impls_are_determined V ≡ true → ImplsAreDetermined V
 determined-told V e i r j k s n st =

@@ -11,7 +11,7 @@ use Rattle.infer_table.specs.declared.canonical.CanonicalVarKind.{CanonicalVarKi
 use Rattle.infer_table.specs.declared.canonical.CanonicalVarKind.TheVariants.{Ty, PlaceholderTy, Const, PlaceholderConst, Region}
 use Rattle.evaluation.specs.Lists.{Every}
 use Rattle.evaluation.specs.Instances.{read_with, goal_read, put_in, of_sort, term_at}
-use Rattle.evaluation.specs.Content.{Values, fits, given, Fact, ChosenTerms, trait_of}
+use Rattle.evaluation.specs.Content.{Values, fits, given, ChosenTerms, trait_of}
 use Rattle.evaluation.specs.FrameTables.{kind_at, FrameTable, Allows, Nested, fact, EquationIsMet, is_open_label}
 use Rattle.type_terms.proofs.Made.{false-true}
 use Rattle.type_terms.proofs.Walking.{left, right}
@@ -26,9 +26,8 @@ use Rattle.assembly_laws.specs.Candidates.{premise, rules_behind, is_param, move
 use Rattle.evaluation.proofs.Readings.{Agree, AgreeIn, made-leaves, reads-agree, reads-determine}
 use Rattle.evaluation.proofs.Slots.{own_slot, slot-is, slots-agree, each-stands}
 use Rattle.assembly_laws.proofs.Moving.{made-moved, stands-back, stands-on, met-reads, Came}
-
-pub same-fact : (trait : Option ℕ) (g k : GoalTrees) (p q : Bool) → g ≡ k → p ≡ q → ◌≡◌ {A = Fact} (record { trait = trait; goal = g; proper = p }) (record { trait = trait; goal = k; proper = q })
-same-fact trait g k p q e f = cc
+use Rattle.evaluation.proofs.Basics.{nothing-at}
+use Rattle.evaluation.proofs.TypeBasics.{same-fact}
 
 -- ---- steps
 pub premises-step : (a : GoalOverKinds) (kind : Bool) (rs : List Reference) → Every (λ (n : Nested). n.coinductive ≡ kind) (map (premise a kind) rs)
@@ -36,10 +35,6 @@ premises-step a kind [] = tt
 premises-step a kind (r ∷ rs) = (refl, premises-step a kind rs)
 
 -- ---- no unknowns of its own
-nothing-at : (i : ℕ) → term_at [] i ≡ none
-nothing-at zero = refl
-nothing-at (suc i) = nothing-at i
-
 past-end : (f : Label → Trees) (a b c p : ℕ) (ks : List CanonicalVarKind) (i : ℕ) → kind_at ks i ≡ None → term_at (map f (labels_from a b c p ks ++ [])) i ≡ none
 past-end f a b c p [] i e = nothing-at i
 past-end f a b c p (k ∷ ks) zero e = absurd (cc)

@@ -7,15 +7,12 @@ use Rattle.type_terms.specs.Proofs.{In}
 use Rattle.type_terms.proofs.Members.{here, there, in-filter}
 use Rattle.evaluation.specs.Lists.{Every}
 use Rattle.declarations.specs.Elaboration.{is_put, new_of, pushed, off_stack, all_levels, elaborate, rest_of, supertraits}
-use Rattle.assembly_laws.proofs.Rowwise.{both-lists}
+use Rattle.evaluation.proofs.ListLaws.{Every-map as every-map}
+use Rattle.evaluation.proofs.Basics.{both-lists}
 
 pub every-in : {A : Type 0} (P : A → Type 0) (xs : List A) → ((x : A) → In x xs → P x) → Every P xs
 every-in P [] f = tt
 every-in P (x ∷ xs) f = (f x (here x xs), every-in P xs (λ y i. f y (there y x xs i)))
-
-pub every-map : {A B : Type 0} (P : B → Type 0) (f : A → B) (xs : List A) → Every (λ x. P (f x)) xs → Every P (map f xs)
-every-map P f [] h = tt
-every-map P f (x ∷ xs) h = (h.0, every-map P f xs h.1)
 
 pub every-flat : {A B : Type 0} (P : B → Type 0) (f : A → List B) (xs : List A) → ((x : A) → In x xs → Every P (f x)) → Every P (flat_map f xs)
 every-flat P f [] h = tt

@@ -27,6 +27,7 @@ use Rattle.evaluation.specs.Variables.{is_variable_over}
 use Rattle.assembly_laws.specs.Candidates.{first_value, all_equal, moved}
 use Rattle.assembly_laws.specs.Cover.{AreTermsOf, BoundsAreTerms, all_candidates}
 use Rattle.assembly_laws.proofs.Rowwise.{AreRows, all-so}
+use Rattle.type_terms.proofs.BooleanBasics.{both}
 
 abbrev pub IsOpenTerms : Trees → Type 0
 IsOpenTerms t = is_made is_open_label terms t ≡ true
@@ -41,9 +42,6 @@ one-of true true false w h = absurd (false-true h)
 and-true : (x y : Bool) → x && y ≡ true → x && true ≡ true
 and-true true y h = refl
 and-true false y h = absurd (false-true h)
-
-both : (x y : Bool) → x ≡ true → y ≡ true → x && y ≡ true
-both x y p q = rw (p, q) refl
 
 rests : (x y z w : Bool) → x && (y && (z && w)) ≡ true → (z ≡ true) × (w ≡ true)
 rests x y z w h = let q = right y (z && w) (right x (y && (z && w)) h) in (left z w q, right z w q)

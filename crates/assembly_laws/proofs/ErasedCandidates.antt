@@ -22,8 +22,9 @@ use Rattle.assembly_laws.specs.Asking.{GoalOverKinds}
 use Rattle.assembly_laws.specs.Candidates.{Candidate, premise, clause_source, by_rule, by_clauses, as_written, misc, if_so, all_equal, kinds_of_params, kind_of_param, is_param, call_of, unsize_array_of, upcasts_of, upcasts_to, upcasts_from, upcast_source, unsize_by_struct, bounds_from, object_source, written_source, objects_of, unknowable}
 use Rattle.assembly_laws.specs.Solver.{IsSolution}
 use Rattle.assembly_laws.specs.Cover.{slots, nested_at, SolvesEquations}
-use Rattle.assembly_laws.proofs.Reading.{true-false, read_reference, read-append}
+use Rattle.assembly_laws.proofs.Reading.{read_reference, read-append}
 use Rattle.assembly_laws.proofs.ErasedReading.{instance-erased}
+use Rattle.type_terms.proofs.BooleanBasics.{true-false}
 
 -- ---- lists
 pub some-map : {A : Type 0} (P : A → Type 0) (xs ys zs ws : List A) → (SomeOf P xs → SomeOf P zs) → (SomeOf P ys → SomeOf P ws) → SomeOf P (xs ++ ys) → SomeOf P (zs ++ ws)

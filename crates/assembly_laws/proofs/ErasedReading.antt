@@ -2,15 +2,17 @@
 use Rattle.std.proofs.Common.{◌≡◌, ℕ, suc, ◌+◌, Bool, true, false, not, ◌&&◌, List, refl, sym, ◌∙◌, ap}
 use Rattle.type_terms.specs.Label.{Label, of_type, of_const, of_lifetime, static, fn_ptr, principal, param, placeholder, infer, canonical, bound}
 use Rattle.type_terms.specs.Trees.{Trees, none, tree, leaf, ◌+++◌, is_a, is_no_tree, is_sort, sort_of, nth, instantiate, shift, some_node, erase}
-use Rattle.type_terms.proofs.Fitting.{child-shut, next-shut, no-left}
+use Rattle.type_terms.proofs.Fitting.{child-shut, next-shut}
 use Rattle.type_terms.proofs.Walking.{left, right}
 use Rattle.evaluation.specs.Instances.{read_with, put_in, of_sort, term_at}
 use Rattle.evaluation.specs.Content.{given}
 use Rattle.assembly_laws.specs.Candidates.{moved}
 use Rattle.assembly_laws.specs.Lifetimes.{lacks_lifetime}
-use Rattle.assembly_laws.proofs.Reading.{true-false, read-append}
+use Rattle.assembly_laws.proofs.Reading.{read-append}
+use Rattle.type_terms.proofs.Matching.{or-false-left as no-left}
+use Rattle.type_terms.proofs.BooleanBasics.{true-false}
 
-not-no : (b : Bool) → not b ≡ false → b ≡ true
+pub not-no : (b : Bool) → not b ≡ false → b ≡ true
 not-no true e = refl
 not-no false e = absurd (true-false e)
 

@@ -9,7 +9,6 @@ use Rattle.type_terms.specs.Erased.{erased_reference, erased_impl}
 use Rattle.type_terms.specs.Rules.{same_head, sized, sized_struct, auto_struct, copy, clone, tuple_trait, fn_ptr_trait, is_fn_trait, unsize, is_auto, is_coinductive, is_written, sized_rules, copy_rules, auto_rules, auto_rules_plain, tuple_rules, fn_ptr_rules, unsize_to_dyn_rules, last_asked, each_asked}
 use Rattle.type_terms.specs.Proofs.{In}
 use Rattle.type_terms.proofs.Members.{here, there, same-number}
-use Rattle.type_terms.proofs.Fitting.{no-left}
 use Rattle.type_terms.proofs.Walking.{left, right}
 use Rattle.declarations.specs.Heads.{begins_declared}
 use Rattle.declarations.specs.Apart.{are_apart}
@@ -26,7 +25,7 @@ use Rattle.assembly_laws.specs.Asking.{GoalOverKinds, clauses, self_of, next_of,
 use Rattle.assembly_laws.specs.Candidates.{Candidate, by_clauses, by_the_impl, by_impls, as_written, misc, if_so, unsure, is_relevant_to, can_match, all_equal, rules_behind, by_sized, by_copy, by_auto, by_tuple, by_fn_ptr, by_call, by_unsize, unsize_known, unsizing_outlives, unsize_recording, unsize_array_of, upcasts_of, unsize_struct_of, unsize_by_struct, built_in, by_objects}
 use Rattle.assembly_laws.specs.Slots.{as_slots}
 use Rattle.assembly_laws.specs.Cover.{slots, SolvesEquations, all_candidates}
-use Rattle.assembly_laws.proofs.Reading.{true-false, begins, read_reference, read-each-asked, read-last-asked}
+use Rattle.assembly_laws.proofs.Reading.{begins, read_reference, read-each-asked, read-last-asked}
 use Rattle.assembly_laws.proofs.Impls.{pairwise}
 use Rattle.assembly_laws.proofs.Apart.{erased-apart}
 use Rattle.assembly_laws.proofs.ErasedHeads.{erased-struct}
@@ -34,6 +33,8 @@ use Rattle.assembly_laws.proofs.PlainRules.{is_wild, tame}
 use Rattle.assembly_laws.proofs.ErasedReading.{moved-erased}
 use Rattle.assembly_laws.proofs.Recording.{some-recorded, some-unrecorded, gives-recorded, gives-unrecorded}
 use Rattle.assembly_laws.proofs.ErasedCandidates.{without_lifetimes, some-map, kinds-same, solved, written-same, clauses-same, call-same, array-same, to-dyn-same, upcasts-same, objects-same, by-same, struct-rows, struct-unsizes}
+use Rattle.type_terms.proofs.Matching.{or-false-left as no-left}
+use Rattle.type_terms.proofs.BooleanBasics.{true-false}
 
 where-so : (b x : Bool) → b ≡ true → (not b || x) ≡ true → x ≡ true
 where-so true x e f = f

@@ -3,11 +3,13 @@ use Rattle.std.proofs.Common.{◌≡◌, zero, Bool, true, false, not, ◌&&◌,
 use Rattle.type_terms.specs.Label.{Label, Sort, of_type, of_const, of_lifetime, dynamic, principal, auto_trait, predicate, param, placeholder, infer, canonical, bound}
 use Rattle.type_terms.specs.Trees.{Trees, none, tree, erase, erase_label, sort_of, is_sort, is_no_tree, some_node, Single}
 use Rattle.type_terms.specs.LinkedSet.{is_stray}
-use Rattle.type_terms.proofs.Fitting.{child-shut, next-shut, no-left, or-no}
+use Rattle.type_terms.proofs.Fitting.{child-shut, next-shut, or-no}
 use Rattle.type_terms.specs.Made.{Standing, terms, bounds, traits, is_leaf_label, is_made}
 use Rattle.type_terms.proofs.Made.{left, right, both, false-true, is_ordinary, made-ordinary, makes-ordinary, last-bound, last-trait, never-dynamic, never-dynamic-bound, never-principal}
 use Rattle.assembly_laws.specs.Declared.{is_declared, is_counted, are_terms, is_lifetime_parameter}
-use Rattle.assembly_laws.proofs.Reading.{true-false}
+use Rattle.type_terms.proofs.Matching.{or-false-left as no-left}
+use Rattle.type_terms.proofs.BooleanBasics.{true-false}
+use Rattle.type_terms.proofs.TermBasics.{erased-empty}
 
 -- ---- labels without lifetimes
 -- what is kept, and what is gone
@@ -47,10 +49,6 @@ own-label : (l : Label) (c o : Trees) → some_node is_stray (tree l c o) ≡ fa
 own-label l c o e = not-stray l (no-left (is_stray l) (some_node is_stray c) (no-left (is_stray l || some_node is_stray c) (some_node is_stray o) e))
 
 -- ---- terms
-erased-empty : (t : Trees) → is_no_tree (erase t) ≡ is_no_tree t
-erased-empty none = refl
-erased-empty (tree l c o) = refl
-
 erased-none : (t : Trees) → t ≡ none → is_no_tree (erase t) ≡ true
 erased-none t e = ap (λ z. is_no_tree (erase z)) e
 

@@ -16,7 +16,7 @@ use Rattle.type_terms.specs.Walks.{Met, local, entered, struct_leaf, open_place,
 use Rattle.type_terms.proofs.Members.{here, there, in-map}
 use Rattle.type_terms.proofs.ProofEntries.{map-in}
 use Rattle.type_terms.proofs.NoHolds.{each-member}
-use Rattle.type_terms.proofs.Fitting.{no-left, child-shut, next-shut}
+use Rattle.type_terms.proofs.Fitting.{child-shut, next-shut}
 use Rattle.type_terms.proofs.Walking.{left, right, both}
 use Rattle.type_terms.proofs.RenumberedRules.{any-over}
 use Rattle.type_terms.proofs.TermRules.{filter-map}
@@ -36,7 +36,6 @@ use Rattle.assembly_laws.specs.Solver.{has_placeholder, IsSolution}
 use Rattle.assembly_laws.specs.Asking.{GoalOverKinds, goal_over_kinds, asked_if, asked_with, all_known, are_clauses, begins_with_type, next_of, self_of, begins_unknown}
 use Rattle.assembly_laws.specs.Candidates.{is_param, unknowable}
 use Rattle.assembly_laws.specs.Cover.{SolutionsAreByCandidates, SolvesEquations, all_candidates, goal_fact}
-use Rattle.assembly_laws.proofs.Reading.{true-false}
 use Rattle.assembly_laws.proofs.DeclaredParts.{header-declared, bound-declared}
 use Rattle.assembly_laws.proofs.Instances.{none-either}
 use Rattle.assembly_laws.proofs.ErasedTerms.{declared-stays, erased-lifetimes}
@@ -48,6 +47,9 @@ use Rattle.assembly_laws.proofs.NumberedViews.{proves-by, auto-of-struct}
 use Rattle.assembly_laws.proofs.ViewProofs.{view-proves}
 use Rattle.type_terms.specs.Renumbering.{HoldsView}
 use Rattle.assembly_laws.proofs.Solver.{solutions-by-candidates}
+use Rattle.type_terms.proofs.Matching.{or-false-left as no-left}
+use Rattle.type_terms.proofs.BooleanBasics.{true-false}
+use Rattle.type_terms.proofs.TermBasics.{if-same}
 
 -- ---- the bounds of traits are up to lifetimes
 stays : (t : Trees) → some_node is_wild t ≡ false → some_node is_lifetime_parameter t ≡ false → erase t ≡ t
@@ -120,10 +122,6 @@ module _ (V : World) (cs : List CrateDecl) where
   dyn-same d (tree (principal n t) c o) = refl
   dyn-same d none = refl
   dyn-same d (tree l c o) = refl
-
-  if-same : (p q x y : Bool) (u w : List Met) (s : ℕ) → p ≡ q → x ≡ y → u ≡ w
-      → (if p then local ∷ [] else if x then entered s ∷ u else struct_leaf s ∷ []) ≡ (if q then local ∷ [] else if y then entered s ∷ w else struct_leaf s ∷ [])
-  if-same p q x y u w s e f g = cc
 
   visited-same : (d : Option ℕ) (t : Trees) → visited U d t ≡ visited V d t
   visited-same d none = refl

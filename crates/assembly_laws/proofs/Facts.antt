@@ -7,16 +7,14 @@ use Rattle.type_terms.specs.Rules.{rules, is_coinductive}
 use Rattle.type_terms.specs.Proofs.{In}
 use Rattle.evaluation.specs.Lists.{Every, IsAmong}
 use Rattle.evaluation.specs.Proof.{FactHasProof, facts, EntriesContinue}
-use Rattle.evaluation.proofs.ListLaws.{Every-mono, Every-at, both-left, both-right}
+use Rattle.evaluation.proofs.ListLaws.{Every-mono, Every-at, both-right}
 use Rattle.type_terms.proofs.Matching.{same-sound}
 use Rattle.type_terms.proofs.Members.{self-number}
 use Rattle.evaluation.specs.ByRules.{HasRule, HasProofByRules}
 use Rattle.evaluation.proofs.ByRules.{proofs_are_proofs}
 use Rattle.evaluation.specs.Content.{Fact}
 use Rattle.assembly_laws.specs.Facts.{clauses_of, reference_in, beside, is_plain, FollowsByView, is_coinductive_trait, is_coinductive_fact, ProofsOfFactsAreProofs, ReferencesComeBack}
-
-true-false : true ≡ false → ⊥
-true-false e = cc
+use Rattle.type_terms.proofs.BooleanBasics.{true-false, both-left}
 
 pub references-come-back : ReferencesComeBack
 references-come-back [] = refl

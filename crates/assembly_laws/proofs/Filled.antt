@@ -11,11 +11,11 @@ use Rattle.type_terms.proofs.Made.{false-true}
 use Rattle.evaluation.specs.FrameTables.{labels_from}
 use Rattle.evaluation.specs.TableOperations.{begin}
 use Rattle.evaluation.specs.TableOperations.{fresh}
-use Rattle.evaluation.proofs.Reading.{cons}
 use Rattle.evaluation.proofs.Unplaced.{IsNotPlace, both-kinds, filled_with, filled-with-allowed, whole, whole-allowed, whole-values}
 use Rattle.assembly_laws.specs.Slots.{own_slot, as_slots}
 use Rattle.assembly_laws.specs.Solver.{has_placeholder}
 use Rattle.assembly_laws.specs.Cover.{padded}
+use Rattle.type_terms.proofs.ListBasics.{cons}
 
 -- ---- kinds without places
 pub no-placeholder : (ks : List CanonicalVarKind) → has_placeholder ks ≡ false → Every IsNotPlace ks

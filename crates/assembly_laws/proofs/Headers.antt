@@ -17,17 +17,15 @@ use Rattle.evaluation.specs.Content.{given}
 use Rattle.assembly_laws.specs.Declared.{is_declared, is_counted, IsDeclared}
 use Rattle.assembly_laws.specs.Candidates.{is_param, moved}
 use Rattle.assembly_laws.specs.Cover.{padded}
-use Rattle.assembly_laws.proofs.Reading.{true-false}
 use Rattle.assembly_laws.proofs.Instances.{Shut, shift-shut, nth-shut}
+use Rattle.type_terms.proofs.BooleanBasics.{true-false}
+use Rattle.evaluation.proofs.Basics.{nothing-at}
+use Rattle.assembly_laws.proofs.ErasedCandidates.{not-true as not-false}
 
 -- ---- trees as a list
 abbrev pub as_list : Trees → List Trees
 as_list none = []
 as_list (tree l c o) = tree l c none ∷ as_list o
-
-nothing-at : (i : ℕ) → term_at [] i ≡ none
-nothing-at zero = refl
-nothing-at (suc i) = nothing-at i
 
 not-const : IsA of_const (leaf never) → ⊥
 not-const a = no a.0
@@ -251,10 +249,6 @@ module _ (ks : List CanonicalVarKind) (ts : List Trees) (A : Trees) (closed : Sh
     behind-traits d (tree (canonical k i) c o) m e h = absurd (true-false (sym m))
     behind-traits d (tree (bound k j i) c o) m e h = absurd (true-false (sym m))
     behind-traits d (tree l c o) m e h = absurd (true-false (sym (left (is_sort (sort_of l) of_lifetime) (is_no_tree c && is_no_tree o) (right (is_declared l) (is_sort (sort_of l) of_lifetime && (is_no_tree c && is_no_tree o)) m))))
-
-  not-false : (b : Bool) → not b ≡ true → b ≡ false
-  not-false true e = absurd (true-false (sym e))
-  not-false false e = refl
 
   pub behind-read : (t : Trees) → IsDeclared t → Sorted t → read t ≡ instantiate zero A t
   behind-read t e h =

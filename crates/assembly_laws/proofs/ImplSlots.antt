@@ -18,9 +18,10 @@ use Rattle.assembly_laws.specs.Solver.{has_placeholder}
 use Rattle.assembly_laws.specs.Declared.{is_declared}
 use Rattle.assembly_laws.specs.Candidates.{is_param, kind_of_param, kinds_of_params, moved}
 use Rattle.assembly_laws.specs.Cover.{padded}
-use Rattle.assembly_laws.proofs.Reading.{true-false}
 use Rattle.assembly_laws.proofs.Headers.{behind-at, child-some, next-some, here-some}
 use Rattle.type_terms.proofs.Walking.{left, right}
+use Rattle.type_terms.proofs.BooleanBasics.{true-false}
+use Rattle.type_terms.proofs.ListBasics.{cons}
 
 -- ---- slots have their sort
 pub sort-again : (k : Sort) (t : Trees) → is_a k (leaf (default_label k)) ≡ true → of_sort k (of_sort k t) ≡ of_sort k t
@@ -43,9 +44,6 @@ slot-again Const t = sort-again of_const t refl
 slot-again PlaceholderTy t = place-again of_type t refl
 slot-again PlaceholderConst t = place-again of_const t refl
 slot-again Region t = refl
-
-cons : {A : Type 0} (x y : A) (xs ys : List A) → x ≡ y → xs ≡ ys → x ∷ xs ≡ y ∷ ys
-cons x y xs ys e f = cc
 
 pub slots-again : (ks : List CanonicalVarKind) (ts : List Trees) → as_slots ks (as_slots ks ts) ≡ as_slots ks ts
 slots-again [] ts = refl

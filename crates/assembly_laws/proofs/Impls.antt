@@ -30,12 +30,13 @@ use Rattle.evaluation.specs.Variables.{is_variable_over}
 use Rattle.assembly_laws.specs.Candidates.{Candidate, premise, all_equal, is_param, kind_of_param, kinds_of_params, moved, rules_behind, by_the_impl, is_relevant_to, can_match, by_impls}
 use Rattle.assembly_laws.specs.Solver.{IsSolution}
 use Rattle.assembly_laws.specs.Cover.{slots, nested_at, SolvesEquations}
-use Rattle.assembly_laws.proofs.Reading.{true-false, IsOne, begins, read_reference}
+use Rattle.assembly_laws.proofs.Reading.{IsOne, begins, read_reference}
 use Rattle.assembly_laws.proofs.Agreeing.{own-read}
 use Rattle.assembly_laws.proofs.Headers.{as_list, behind-read}
 use Rattle.assembly_laws.proofs.ImplSlots.{slots-again, own-slots-read}
 use Rattle.assembly_laws.proofs.Facts.{same-numbers-self}
 use Rattle.assembly_laws.proofs.Supers.{Proved, open-none}
+use Rattle.type_terms.proofs.BooleanBasics.{true-false}
 
 -- ---- sorts
 same-sort : (k s : Sort) → is_sort k s ≡ true → k ≡ s

@@ -3,7 +3,7 @@ use Rattle.std.proofs.Common.{◌≡◌, ℕ, zero, suc, Bool, true, false, not,
 use Rattle.type_terms.specs.Label.{Label, Sort, of_type, of_const, of_lifetime, dynamic, static, fn_ptr, auto_trait, principal, param, placeholder, infer, canonical, bound, predicate}
 use Rattle.type_terms.specs.Trees.{Trees, none, tree, leaf, ◌+++◌, is_no_tree, is_sort, sort_of, nth, instantiate, shift, some_node}
 use Rattle.type_terms.specs.Answers.{is_open}
-use Rattle.type_terms.proofs.Fitting.{head-shut, child-shut, next-shut, no-left}
+use Rattle.type_terms.proofs.Fitting.{head-shut, child-shut, next-shut}
 use Rattle.type_terms.proofs.Walking.{left, right}
 use Rattle.type_terms.specs.Made.{terms}
 use Rattle.type_terms.specs.Made.{bounds}
@@ -12,7 +12,10 @@ use Rattle.type_terms.specs.Made.{is_leaf_label, is_made}
 use Rattle.evaluation.specs.Instances.{read_with, default_label, of_sort, term_at}
 use Rattle.evaluation.specs.Content.{given}
 use Rattle.assembly_laws.specs.Declared.{is_declared, is_counted, IsDeclared}
-use Rattle.assembly_laws.proofs.Reading.{true-false, begins, read-append, read-nth}
+use Rattle.assembly_laws.proofs.Reading.{begins, read-append, read-nth}
+use Rattle.type_terms.proofs.Matching.{or-false-left as no-left}
+use Rattle.type_terms.proofs.BooleanBasics.{true-false}
+use Rattle.assembly_laws.proofs.ErasedCandidates.{not-true as not-false}
 
 abbrev pub Shut : Trees → Type 0
 Shut t = some_node is_open t ≡ false
@@ -95,10 +98,6 @@ module _ (ts : List Trees) where
     for-argument d i s c o e =
         read-append ts (shift zero d (nth A i)) (instantiate d A o) ∙ ap (λ z. z +++ read (instantiate d A o)) (argument d i) ∙ ap (λ z. shift zero d (nth (read A) i) +++ z) e
 
-    no-children : (c : Trees) → is_no_tree c ≡ true → c ≡ none
-    no-children none e = refl
-    no-children (tree l c o) e = absurd (true-false (sym e))
-
     parts : (x y z w : Bool) → x && (y && (z && w)) ≡ true → (y ≡ true) × (z ≡ true) × (w ≡ true)
     parts x y z w m =
         let r = right x (y && (z && w)) m in
@@ -177,10 +176,6 @@ module _ (ts : List Trees) where
       read-traits d (tree (canonical k i) c o) m e = absurd (true-false (sym m))
       read-traits d (tree (bound k j i) c o) m e = absurd (true-false (sym m))
       read-traits d (tree l c o) m e = absurd (true-false (sym (left (is_sort (sort_of l) of_lifetime) (is_no_tree c && is_no_tree o) (right (is_declared l) (is_sort (sort_of l) of_lifetime && (is_no_tree c && is_no_tree o)) m))))
-
-    not-false : (b : Bool) → not b ≡ true → b ≡ false
-    not-false true e = absurd (true-false (sym e))
-    not-false false e = refl
 
     pub read-unbound : (t : Trees) → IsDeclared t → read (instantiate zero A t) ≡ instantiate zero (read A) t
     read-unbound t e =

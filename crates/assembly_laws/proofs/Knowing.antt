@@ -17,9 +17,7 @@ use Rattle.evaluation.specs.Instances.{read_with, default_label, of_sort, term_a
 use Rattle.evaluation.specs.Content.{given}
 use Rattle.assembly_laws.specs.Knowing.{is_knowable}
 pub use Rattle.assembly_laws.specs.Cover.{read_reference}
-
-true-false : true ≡ false → ⊥
-true-false e = cc
+use Rattle.type_terms.proofs.BooleanBasics.{true-false}
 
 any-left : {A : Type 0} (p : A → Bool) (xs ys : List A) → list_any p (xs ++ ys) ≡ false → list_any p xs ≡ false
 any-left p [] ys e = refl

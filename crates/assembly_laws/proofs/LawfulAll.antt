@@ -9,12 +9,13 @@ use Rattle.assembly_laws.specs.Asking.{GoalOverKinds, goal_over_kinds, self_of, 
 use Rattle.assembly_laws.specs.Candidates.{Candidate, built_in, by_sized, by_copy, by_auto, by_tuple, by_fn_ptr, by_call, by_unsize, by_impls, by_objects, unsure, misc, if_so, as_written, unsize_array_of, upcasts_of, unsize_struct_of, unsize_known, unsizing_outlives, unsize_recording}
 use Rattle.assembly_laws.specs.Lawful.{IsSoundFor}
 use Rattle.assembly_laws.proofs.Premises.{other_candidates, premised_candidates, SoundAndNarrowIsLawful}
-use Rattle.assembly_laws.proofs.CandidateKinds.{every-append, every-split}
+use Rattle.assembly_laws.proofs.CandidateKinds.{every-split}
 use Rattle.assembly_laws.proofs.LawfulCandidates.{each-lawful}
 use Rattle.assembly_laws.proofs.Recording.{every-recorded}
 use Rattle.assembly_laws.proofs.SoundRows.{sized-sound, copy-sound, auto-sound, tuple-sound, fn-ptr-sound}
 use Rattle.assembly_laws.proofs.SoundCalls.{call-sound}
 use Rattle.assembly_laws.proofs.SoundUnsizing.{unsizing-is-sound}
+use Rattle.evaluation.proofs.Basics.{every-append}
 
 module _ (m : ViewMeaning) (declared : is_declared_view m.view ≡ true) (f : CanonicalForm) (a : GoalOverKinds) (is : goal_over_kinds m.view f ≡ Some a) where
   abbrev Sound : Candidate → Type 0

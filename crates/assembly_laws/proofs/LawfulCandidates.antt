@@ -24,14 +24,13 @@ use Rattle.evaluation.proofs.ListLaws.{Every-both, among-all}
 use Rattle.evaluation.specs.Content.{ChosenTerms, trait_of}
 use Rattle.evaluation.specs.FrameTables.{kinds_known, Allows, EquationIsMet, Nested, fact}
 use Rattle.evaluation.specs.Widths.{width, count, width_of_predicates}
-use Rattle.assembly_laws.proofs.CandidateKinds.{every-append}
 use Rattle.evaluation.specs.TableOperations.{begin}
 use Rattle.evaluation.specs.TableOperations.{fresh}
 use Rattle.evaluation.specs.Tables.{frame_tables}
 use Rattle.evaluation.specs.Handler.{CandidateIsLawful}
 use Rattle.assembly_laws.specs.Facts.{is_coinductive_trait, clauses_of}
 use Rattle.assembly_laws.specs.Meaning.{ViewMeaning}
-use Rattle.assembly_laws.specs.Asking.{GoalOverKinds, goal_over_kinds, asked_if, asked_with, all_known, are_clauses, begins_with_type, next_of, clauses}
+use Rattle.assembly_laws.specs.Asking.{GoalOverKinds, goal_over_kinds, asked_with, all_known, are_clauses, begins_with_type, next_of, clauses}
 use Rattle.evaluation.specs.Variables.{is_variable_over}
 use Rattle.assembly_laws.specs.Candidates.{Candidate, premise, by_rule, by_the_impl, unknowable, by_clauses, rules_behind, clause_source, all_equal}
 use Rattle.assembly_laws.specs.Declared.{are_terms, are_references, is_declared_view, is_declared, is_counted}
@@ -45,15 +44,10 @@ use Rattle.assembly_laws.proofs.Determined.{premises-step, facts-same, clause-fa
 use Rattle.assembly_laws.proofs.CandidateWidths.{equal-within}
 use Rattle.assembly_laws.proofs.CandidateKinds.{IsMadeAs, all-made}
 use Rattle.assembly_laws.proofs.LawfulClauses.{clause-sound}
+use Rattle.evaluation.proofs.Basics.{every-append}
+use Rattle.assembly_laws.proofs.TypeBasics.{if-asked}
 
 -- ---- what is asked has where-clauses over its variables
-if-asked : (b : Bool) (a c : GoalOverKinds) → asked_if b a ≡ Some c → (b ≡ true) × (a ≡ c)
-if-asked true a c e = (refl, some-is e)
-  where
-    some-is : Some a ≡ Some c → a ≡ c
-    some-is f = cc
-if-asked false a c e = absurd (cc)
-
 pub asked-clauses : (V : World) (environment asks : Trees) (kinds : Option (List CanonicalVarKind)) (a : GoalOverKinds) → asked_with V environment asks kinds ≡ Some a → are_clauses a.kinds a.environment ≡ true
 asked-clauses V environment (tree (predicate (of_trait t)) args none) (Some ks) a e =
     let own : GoalOverKinds = record { kinds = ks; environment = environment; reference = record { trait = t; args = args } } in
@@ -149,9 +143,6 @@ module _ (applicable : AnswerTrees → Bool) (same : AnswerTrees → AnswerTrees
 
   clause-is-sound : (r : Reference) → In r (clauses_of a.environment) → (r.trait == a.reference.trait) ≡ true → IsSoundFor m f a (of_clause r)
   clause-is-sound r i q y s l e proper plain = clause-sound V f a parts are r i q s l proper e
-
-  greater : (x y z w : ℕ) → max x (max y (max z w)) ≤ max x (max y (max z w))
-  greater x y z w = omega arith
 
   goal-width : width a.reference.args ≤ h.widest
   goal-width = by (width_of_predicates f.goal.environment) (declared_width V) (count a.reference.args) (width a.reference.args) (width_of_predicates f.goal.predicate) (ap width_of_predicates parts.predicate_is)

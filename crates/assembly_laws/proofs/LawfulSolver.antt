@@ -1,11 +1,10 @@
 -- The solver is a lawful handler, where its candidates are lawful, cover each solution and are not too many.
-use Rattle.std.proofs.Common.{◌≡◌, suc, ◌+◌, ◌≤◌, Bool, true, false, not, ◌&&◌, ◌||◌, if◌then◌else◌, List, [], ◌∷◌, ◌++◌, length, inl, refl, ap, subst, arith, Option, Some, None}
+use Rattle.std.proofs.Common.{◌≡◌, suc, ◌+◌, ◌≤◌, Bool, true, false, not, ◌||◌, if◌then◌else◌, List, [], ◌∷◌, ◌++◌, length, inl, refl, subst, arith, Option, Some, None}
 use Rattle.infer_table.specs.Canonical.{CanonicalForm}
 use Rattle.infer_table.specs.declared.certainty.Certainty.{Certainty}
 use Rattle.infer_table.specs.declared.certainty.TypingMode.{TypingMode}
 use Rattle.infer_table.specs.declared.certainty.TypingMode.TheVariants.{Coherence, PostAnalysis}
 use Rattle.infer_table.specs.Responses.{AnswerTrees}
-use Rattle.type_terms.proofs.Walking.{left, right}
 use Rattle.evaluation.specs.Lists.{Every}
 use Rattle.evaluation.specs.Law.{Realizes}
 use Rattle.evaluation.specs.Handler.{Handled, IsHandler}
@@ -21,17 +20,18 @@ use Rattle.evaluation.proofs.Plans.{plan_is_lawful}
 use Rattle.evaluation.proofs.PlanAnswers.{list_keeps}
 use Rattle.assembly_laws.specs.Meaning.{ViewMeaning, proved_at}
 use Rattle.assembly_laws.specs.Lifetimes.{GivesLifetimes, goal_gives_lifetimes}
-use Rattle.assembly_laws.specs.Asking.{GoalOverKinds, goal_over_kinds, clauses, self_of, begins_unknown, all_known}
+use Rattle.assembly_laws.specs.Asking.{GoalOverKinds, goal_over_kinds, clauses, self_of, begins_unknown}
 use Rattle.assembly_laws.specs.Candidates.{Candidate, unsure, unknowable, by_clauses, built_in, by_impls, by_objects}
 use Rattle.assembly_laws.specs.Solver.{solver_planned, solver_handled, most_candidates, number_at, widest_of, plan_for, by_mode, everything, in_coherence, outside_coherence}
 use Rattle.assembly_laws.proofs.CandidateKinds.{every-split}
 use Rattle.assembly_laws.proofs.Realizing.{by-candidates, by-unknowable, unsure-realizes}
 use Rattle.assembly_laws.specs.Cover.{AreTermsOf, GivenIsRealized, all_candidates, SolutionsAreCandidates}
 use Rattle.assembly_laws.proofs.Premises.{SolverPremises, SolverIsLawful}
-use Rattle.assembly_laws.proofs.Reading.{true-false}
 use Rattle.evaluation.proofs.FirstAnswers.{begin-says-nothing}
-use Rattle.assembly_laws.proofs.Cover.{asked-by, known-kinds}
 use Rattle.assembly_laws.proofs.Plans.{coherence_keeps, outside_keeps, Realized}
+use Rattle.type_terms.proofs.BooleanBasics.{true-false}
+use Rattle.assembly_laws.proofs.Basics.{append-assoc}
+use Rattle.assembly_laws.proofs.CandidateNumbers.{nested-append}
 
 -- an unsure candidate says nothing
 pub unsure-lawful : (h : Handled frame_tables) → CandidateIsLawful frame_tables h unsure
@@ -47,9 +47,6 @@ module _ (applicable : AnswerTrees → Bool) (is_test : IsTest frame_tables appl
 
     begins_within : frame_tables.TableWithin h.widest h.begin
     begins_within = begins-within h.widest (kinds_known f.kinds)
-
-    fitting : (v : Values) → (v.proper && fits f.kinds v.terms) ≡ true → (v.proper ≡ true) × (fits f.kinds v.terms ≡ true)
-    fitting v e = (left v.proper (fits f.kinds v.terms) e, right v.proper (fits f.kinds v.terms) e)
 
     -- whoever is searched, the unsure candidate is a way to the solution
     unsure-realized : (w : h.World) (v : Values) → h.Proves w (h.goal v) → Realizes frame_tables (h.Proves w) h.begin v unsure
@@ -69,9 +66,6 @@ module _ (applicable : AnswerTrees → Bool) (is_test : IsTest frame_tables appl
 
     -- ---- goals that are decided
     module _ (a : GoalOverKinds) (is : goal_over_kinds m.view f ≡ Some a) (known : begins_unknown a.kinds (self_of a) ≡ false) (given : goal_gives_lifetimes m.view a ≡ true) (covers : SolutionsAreCandidates m) (terms : Every AreTermsOf (all_candidates m.view a)) where
-      kinds-are : kinds_known f.kinds ≡ a.kinds
-      kinds-are = known-kinds f.kinds a.kinds (asked-by m.view f.goal.environment f.goal.predicate (all_known f.kinds) a is).kinds_are
-
       abbrev inside : Handled frame_tables
       inside = solver_handled applicable same m Coherence f
 
@@ -95,17 +89,9 @@ module _ (applicable : AnswerTrees → Bool) (is_test : IsTest frame_tables appl
         abbrev late : List Candidate
         late = by_impls m.view a m.view.impls ++ by_objects m.view a
 
-        nested-append : (xs ys : List Candidate) → nested_in frame_tables (xs ++ ys) ≡ nested_in frame_tables xs + nested_in frame_tables ys
-        nested-append [] ys = omega arith
-        nested-append (x ∷ xs) ys = let e = nested-append xs ys in omega (arith, e)
-
         length-append : (xs ys : List Candidate) → length (xs ++ ys) ≡ length xs + length ys
         length-append [] ys = omega arith
         length-append (x ∷ xs) ys = let e = length-append xs ys in omega (arith, e)
-
-        append-assoc : (xs ys zs : List Candidate) → xs ++ (ys ++ zs) ≡ (xs ++ ys) ++ zs
-        append-assoc [] ys zs = refl
-        append-assoc (x ∷ xs) ys zs = ap (λ l. x ∷ l) (append-assoc xs ys zs)
 
         all-is : all_candidates m.view a ≡ early ++ late
         all-is = append-assoc (by_clauses m.view a (clauses a)) (built_in m.view a) late

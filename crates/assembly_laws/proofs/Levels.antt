@@ -1,6 +1,5 @@
 -- The supertraits through all levels are closed: bounds lead to traits of lower rank, so that the number of traits is enough steps.
 use Rattle.std.proofs.Common.{◌≡◌, ℕ, zero, suc, ◌<◌, ◌≤◌, Bool, true, false, ◌==◌, cond, List, [], ◌∷◌, length, ◌⊎◌, inl, inr, refl, sym, ap, subst, arith, ltb}
-use Rattle.std.proofs.lemmas.Bool.Decides.{nat_tests}
 use Rattle.type_terms.specs.Worlds.{World, Reference, TraitDecl, traits_named, with_args, all_with_args}
 use Rattle.type_terms.specs.Rules.{written_supertraits, strict_supertraits, strict_supertraits_within}
 use Rattle.type_terms.specs.Proofs.{In}
@@ -9,9 +8,7 @@ use Rattle.type_terms.proofs.ProofEntries.{map-in}
 use Rattle.type_terms.proofs.Below.{below, below-length, below-strict}
 use Rattle.declarations.specs.Elaboration.{all_levels}
 pub use Rattle.assembly_laws.specs.Declared.{LeadDown}
-
-less-kept : (n a b : ℕ) → a ≤ b → ltb n a ≡ true → ltb n b ≡ true
-less-kept n a b h e = grind (arith, nat_tests)
+use Rattle.type_terms.proofs.NumberBasics.{less-kept}
 
 -- a greater rank has no fewer below it
 below-grows : {A : Type 0} (key : A → ℕ) (a b : ℕ) (xs : List A) → a ≤ b → below key a xs ≤ below key b xs

@@ -1,3 +1,5 @@
+pub mod TypeBasics
+pub mod Basics
 pub mod Plain
 pub mod Views
 pub mod Knowing

@@ -21,6 +21,8 @@ use Rattle.assembly_laws.specs.Candidates.{moved, first_value, all_equal, is_par
 use Rattle.assembly_laws.proofs.Reading.{begins}
 use Rattle.evaluation.proofs.Readings.{HasLeaves}
 use Rattle.evaluation.specs.Variables.{LabelStandsIn}
+use Rattle.type_terms.proofs.TermBasics.{is_sort-self as sort-self}
+use Rattle.type_terms.proofs.NumberBasics.{number-self}
 
 -- ---- how they are made
 open-behind : (n : ℕ) → PutsLeaves is_declared is_open_label (moved n)
@@ -44,14 +46,6 @@ made-moved n t h = made-put-in is_declared is_open_label (moved n) (open-behind 
 -- ---- which variables stand there
 same-sort : (s k : Sort) (x i : ℕ) → canonical s x ≡ canonical k i → (s ≡ k) × (x ≡ i)
 same-sort s k x i e = (cc, cc)
-
-sort-self : (k : Sort) → is_sort k k ≡ true
-sort-self of_type = refl
-sort-self of_const = refl
-sort-self of_lifetime = refl
-
-number-self : (i : ℕ) → (i == i) ≡ true
-number-self i = grind (arith, nat_tests)
 
 number-is : (i j : ℕ) → (i == j) ≡ true → i ≡ j
 number-is i j h = grind (arith, nat_tests, h)

@@ -23,12 +23,13 @@ use Rattle.assembly_laws.specs.Solver.{greatest, width_of, supers_of, declared_w
 use Rattle.assembly_laws.proofs.Premises.{IsNarrow, CandidatesAreNarrow}
 use Rattle.assembly_laws.proofs.Cover.{IsAsked, asked-by}
 use Rattle.assembly_laws.proofs.Recording.{every-recorded}
-use Rattle.assembly_laws.proofs.Rowwise.{both-lists}
 use Rattle.assembly_laws.proofs.CandidateWidths.{equal-within, premises-within}
 use Rattle.assembly_laws.proofs.CandidateBounds.{plain-within, plain-count}
 use Rattle.assembly_laws.proofs.DeclaredWidths.{greatest-at, impl-narrow}
 use Rattle.assembly_laws.proofs.Elaborating.{every-in}
 use Rattle.assembly_laws.proofs.NarrowRows.{IsField, args-within, AskShort, sized-short, copy-short, auto-short, tuple-short, fn-ptr-short, to-dyn-short, last-short, last-unsizes-short, principal-short, autos-short, elaborated-short, supertraits-short, but-last-within, but-last-count, unsizing-within}
+use Rattle.evaluation.proofs.Basics.{both-lists}
+use Rattle.type_terms.proofs.NumberBasics.{in-goal}
 
 module _ (V : World) (n : ℕ) (fields : (x : StructDecl) → In x V.structs → Every (IsField n) x.fields) (bounds : (x : TraitDecl) → In x V.traits → (b : Reference) → In b x.bounds → width_of b ≤ n) (a : GoalOverKinds) (environment : width_of_predicates a.environment ≤ n)
     (count_is : count a.reference.args ≤ n) (goal : IsWithin n a.reference.args) where
@@ -185,10 +186,6 @@ module _ (V : World) (n : ℕ) (fields : (x : StructDecl) → In x V.structs →
       (tt, premises-within n a false environment (supertraits V a.reference) supers_short),
       both-lists Narrow (built_in V a) _ built-in-narrow (both-lists Narrow (by_impls V a V.impls) (by_objects V a) (impls-narrow V.impls (λ i j. j)) (objects-narrow (self_of a) self_within self_count)),
     )
-
--- ---- what is declared
-in-goal : (e p d c k : ℕ) → p ≡ max c (max k 0) → (c ≤ max (max e p) d) × (k ≤ max (max e p) d)
-in-goal e p d c k h = (omega (arith, h), omega (arith, h))
 
 module _ (V : World) (n : ℕ) (h : declared_width V ≤ n) where
   fields-within : FieldsAreOne V → (x : StructDecl) → In x V.structs → Every (IsField n) x.fields

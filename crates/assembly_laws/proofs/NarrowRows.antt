@@ -13,7 +13,7 @@ use Rattle.declarations.specs.Elaboration.{elaborate, supertraits}
 use Rattle.assembly_laws.specs.Solver.{width_of}
 use Rattle.assembly_laws.proofs.CandidateWidths.{count-instance, within-instance, instance-within}
 use Rattle.assembly_laws.proofs.Elaborating.{every-flat, elaborated-so, supertraits-so}
-use Rattle.assembly_laws.proofs.Rowwise.{both-lists}
+use Rattle.evaluation.proofs.Basics.{both-lists}
 
 -- what is one term at most, and within n
 abbrev pub IsField : ℕ → Trees → Type 0

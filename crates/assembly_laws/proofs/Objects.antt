@@ -26,7 +26,6 @@ use Rattle.declarations.specs.Elaboration.{supertraits, elaborate}
 use Rattle.assembly_laws.specs.Asking.{GoalOverKinds}
 use Rattle.assembly_laws.specs.Candidates.{by_rule, all_equal, if_so, bounds_from, object_source, written_source, objects_of}
 use Rattle.assembly_laws.specs.Cover.{slots, SolvesEquations, Proved, read_reference}
-use Rattle.assembly_laws.proofs.Reading.{true-false}
 use Rattle.assembly_laws.proofs.Instances.{Shut, read-declared}
 use Rattle.assembly_laws.proofs.Supers.{plain-shut}
 use Rattle.assembly_laws.proofs.Unsizing.{map-append, compatible-same, principal-read, autos-read, traits-stay}
@@ -36,6 +35,7 @@ use Rattle.assembly_laws.proofs.EqualRows.{one-row, each-row}
 use Rattle.assembly_laws.proofs.ByView.{some-left, some-right}
 use Rattle.assembly_laws.proofs.Levels.{LeadDown}
 use Rattle.assembly_laws.proofs.Stack.{elaborated-all}
+use Rattle.type_terms.proofs.BooleanBasics.{true-false}
 
 -- declarations hold no open place but parameters
 abbrev pub BoundsArePlain : World → Type 0

@@ -3,11 +3,6 @@ use Rattle.std.proofs.Common.{◌≡◌, true, refl}
 use Rattle.type_terms.specs.Label.{Sort, of_type, of_const, of_lifetime}
 use Rattle.type_terms.specs.Trees.{is_sort}
 
-pub sort-self : (k : Sort) → is_sort k k ≡ true
-sort-self of_type = refl
-sort-self of_const = refl
-sort-self of_lifetime = refl
-
 pub is-sort : (j k : Sort) → is_sort j k ≡ true → j ≡ k
 is-sort of_type of_type h = refl
 is-sort of_const of_const h = refl

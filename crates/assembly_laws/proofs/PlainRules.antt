@@ -8,7 +8,7 @@ use Rattle.type_terms.specs.Worlds.{World, Reference, StructDecl, structs_named}
 use Rattle.type_terms.specs.Rules.{Rule, row, sized, sized_struct, auto_struct, sized_rules, copy_rules, auto_rules, auto_rules_plain, is_written, tuple_rules, fn_ptr_rules, last_asked, each_asked, fields_of, together}
 use Rattle.type_terms.specs.Proofs.{In}
 use Rattle.type_terms.proofs.Members.{here, there, in-filter}
-use Rattle.type_terms.proofs.Fitting.{append-shut, head-shut, child-shut, next-shut, no-left, or-no}
+use Rattle.type_terms.proofs.Fitting.{append-shut, head-shut, child-shut, next-shut, or-no}
 use Rattle.type_terms.proofs.Walking.{left, right}
 use Rattle.type_terms.specs.Made.{terms}
 use Rattle.type_terms.specs.Made.{bounds}
@@ -17,10 +17,12 @@ use Rattle.type_terms.specs.Made.{is_leaf_label, is_made}
 use Rattle.evaluation.specs.Lists.{Every}
 use Rattle.assembly_laws.specs.Facts.{is_unerased}
 use Rattle.assembly_laws.specs.Declared.{is_declared, is_counted, are_terms, is_declared_view}
-use Rattle.assembly_laws.proofs.Reading.{true-false}
 use Rattle.assembly_laws.proofs.Instances.{Unbound, is_bound, none-either, shift-unbound}
 use Rattle.assembly_laws.proofs.Rows.{fields-declared}
-use Rattle.assembly_laws.proofs.CandidateKinds.{every-append}
+use Rattle.type_terms.proofs.Matching.{or-false-left as no-left}
+use Rattle.type_terms.proofs.BooleanBasics.{true-false}
+use Rattle.evaluation.proofs.Basics.{every-append}
+use Rattle.assembly_laws.proofs.ErasedCandidates.{not-true as not-false}
 
 abbrev pub Plain : Trees → Type 0
 Plain t = some_node is_unerased t ≡ false
@@ -104,14 +106,10 @@ mutual
   tame-traits (tree (principal n i) c o) m e = absurd (true-false (sym m))
   tame-traits (tree l c o) m e = let x = ended c o (last-place l c o m) in node-none is_wild l c o refl x.0 x.1
 
-not-false : (b : Bool) → not b ≡ true → b ≡ false
-not-false true e = absurd (true-false (sym e))
-not-false false e = refl
-
 pub tame : (t : Trees) → are_terms t ≡ true → some_node is_wild t ≡ false
 tame t e = tame-terms t (left (is_made is_declared terms t) (not (some_node is_counted t)) e) (not-false (some_node is_counted t) (right (is_made is_declared terms t) (not (some_node is_counted t)) e))
 
-nth-plain : (t : Trees) (i : ℕ) → Plain t → Plain (nth t i)
+pub nth-plain : (t : Trees) (i : ℕ) → Plain t → Plain (nth t i)
 nth-plain none i h = refl
 nth-plain (tree l c o) zero h = head-shut is_unerased l c o h
 nth-plain (tree l c o) (suc i) h = nth-plain o i (next-shut is_unerased l c o h)

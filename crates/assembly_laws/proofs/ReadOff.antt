@@ -5,8 +5,8 @@ use Rattle.std.proofs.lemmas.Bool.Decides.{nat_tests}
 use Rattle.type_terms.specs.Label.{Label, Sort, of_type, of_const, of_lifetime, static, fn_ptr, principal, param, placeholder, infer, canonical, bound, inside}
 use Rattle.type_terms.specs.Label.{never}
 use Rattle.type_terms.specs.Trees.{Trees, none, tree, leaf, ◌+++◌, is_a, is_sort, fits, nth, instantiate, some_node, first_of, standing_at, arguments_from, arguments}
-use Rattle.type_terms.proofs.Fitting.{not-true, append-shut, child-shut, next-shut, first-shut, standing-shut, no-left, or-no}
-use Rattle.type_terms.proofs.Matching.{first-left, nth-arguments}
+use Rattle.type_terms.proofs.Fitting.{not-true, append-shut, child-shut, next-shut, first-shut, standing-shut, or-no}
+use Rattle.type_terms.proofs.Matching.{first-left, nth-arguments, or-false-left as no-left}
 use Rattle.type_terms.proofs.Members.{self-number, same-number}
 use Rattle.evaluation.specs.Instances.{read_with, put_in, default_label, of_sort, term_at}
 use Rattle.evaluation.specs.Content.{given}
@@ -16,13 +16,15 @@ use Rattle.assembly_laws.specs.Facts.{is_unerased}
 use Rattle.assembly_laws.specs.Declared.{is_declared, is_counted, are_terms, is_otherwise, is_unsorted}
 use Rattle.type_terms.specs.Made.{terms, is_made}
 use Rattle.assembly_laws.specs.Candidates.{is_param, moved}
-use Rattle.assembly_laws.proofs.Plain.{is-sort, sort-self}
-use Rattle.assembly_laws.proofs.Reading.{true-false, begins, append-none}
+use Rattle.assembly_laws.proofs.Plain.{is-sort}
+use Rattle.assembly_laws.proofs.Reading.{begins}
 use Rattle.assembly_laws.proofs.Instances.{Unbound, shift-unbound, nth-unbound}
 use Rattle.assembly_laws.proofs.Headers.{child-some, next-some, here-some}
 use Rattle.evaluation.proofs.Readings.{HasLeaves, made-leaves}
 use Rattle.assembly_laws.proofs.PlainRules.{Plain}
 use Rattle.type_terms.proofs.Walking.{left, right, both, or-cases}
+use Rattle.type_terms.proofs.BooleanBasics.{true-false}
+use Rattle.type_terms.proofs.TermBasics.{is_sort-self as sort-self, append-none}
 
 -- ---- what is declared, node by node
 -- a label that instances and readings leave as it is

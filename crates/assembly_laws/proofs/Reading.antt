@@ -8,13 +8,7 @@ use Rattle.type_terms.specs.Rules.{asked, each_asked, last_asked}
 use Rattle.evaluation.specs.Instances.{read_with, default_label, of_sort, term_at}
 use Rattle.evaluation.specs.Content.{given}
 pub use Rattle.assembly_laws.specs.Cover.{read_reference}
-
-pub true-false : true ≡ false → ⊥
-true-false e = cc
-
-pub append-none : (t : Trees) → t +++ none ≡ t
-append-none none = refl
-append-none (tree l c o) = ap (λ z. tree l c z) (append-none o)
+use Rattle.type_terms.proofs.BooleanBasics.{true-false}
 
 pub append-assoc : (x y z : Trees) → (x +++ y) +++ z ≡ x +++ (y +++ z)
 append-assoc none y z = refl

@@ -26,7 +26,6 @@ use Rattle.evaluation.specs.Variables.{is_variable_over}
 use Rattle.assembly_laws.specs.Candidates.{Candidate, unsure, unknowable}
 use Rattle.assembly_laws.specs.Solver.{has_placeholder, Searched, IsSolution}
 use Rattle.assembly_laws.specs.Cover.{AreTermsOf, BoundsAreTerms, SolvesEquations, all_candidates, goal_fact, SolutionsAreCandidates}
-use Rattle.assembly_laws.proofs.Reading.{true-false}
 use Rattle.assembly_laws.proofs.Agreeing.{agree-terms}
 use Rattle.assembly_laws.proofs.Cover.{IsAsked, asked-by, known-kinds}
 use Rattle.assembly_laws.proofs.Filled.{no-placeholder, filled, filled-allowed}
@@ -36,18 +35,12 @@ use Rattle.assembly_laws.proofs.Given.{given-is-realized}
 use Rattle.assembly_laws.proofs.Rowwise.{AreRows, all-so}
 use Rattle.assembly_laws.proofs.EquationTerms.{IsOpenTerms, all-are-terms}
 use Rattle.assembly_laws.proofs.Worlds.{asked-bare}
+use Rattle.type_terms.proofs.BooleanBasics.{both, true-false}
+use Rattle.evaluation.proofs.Basics.{every-of, every-unit}
 
 -- ---- candidates have no placeholders of their own
 abbrev HasNone : Candidate → Type 0
 HasNone c = has_placeholder c.kinds ≡ false
-
-every-of : {A : Type 0} {Q : A → Type 0} → ((x : A) → Q x) → (xs : List A) → Every Q xs
-every-of f [] = tt
-every-of f (x ∷ xs) = (f x, every-of f xs)
-
-every-unit : {A : Type 0} (xs : List A) → Every (λ x. Unit {0}) xs
-every-unit [] = tt
-every-unit (x ∷ xs) = (tt, every-unit xs)
 
 none-own : (V : World) (a : GoalOverKinds) → Every HasNone (all_candidates V a)
 none-own V a = all-so V a HasNone (λ es. Unit {0}) rows
@@ -81,9 +74,6 @@ const-fits x = by (is_a of_const x) refl
     by : (b : Bool) → is_a of_const x ≡ b → is_a of_const (if b then x else leaf (default_label of_const)) ≡ true
     by true e = e
     by false e = refl
-
-both : (x y : Bool) → x ≡ true → y ≡ true → x && y ≡ true
-both x y p q = rw (p, q) refl
 
 slots-fit : (ks : List CanonicalVarKind) → Every IsNotPlace ks → (ts : List Trees) → fits (map Some ks) (as_slots ks ts) ≡ true
 slots-fit [] h ts = refl

@@ -84,10 +84,6 @@ module _ (V : World) (declared : is_declared_view V ≡ true) (xs : List Trees) 
   fn-ptr-natural (fn_ptr n) c o = refl
   fn-ptr-natural l c o = refl
 
-  -- the one element of a pointer, an array or a slice
-  element : (t : ℕ) (l : Label) (c o : Trees) → (asked t (read (tree l c none)) ∷ []) ≡ map (read_reference xs) (asked t (tree l c none) ∷ [])
-  element t l c o = refl
-
   auto-plain : (t : ℕ) (l : Label) (c o : Trees) → is_rigid l ≡ true → some_node is_bound (read c) ≡ false → Natural (auto_rules_plain V t) l c o
   auto-plain t tuple c o r h = ap (λ ps. row auto_tuple ps) (read-each-asked xs t c)
   auto-plain t (adt s) c o r h = by-fields auto_struct (each_asked t) (λ z. read-each-asked xs t z) s c h

@@ -1,5 +1,5 @@
 -- What holds of each row of candidates holds of all candidates of a goal.
-use Rattle.std.proofs.Common.{◌≡◌, ℕ, suc, Bool, true, false, not, ◌&&◌, ◌||◌, ◌==◌, if◌then◌else◌, List, [], ◌∷◌, ◌++◌, refl}
+use Rattle.std.proofs.Common.{◌≡◌, ℕ, suc, Bool, true, false, not, ◌&&◌, ◌||◌, ◌==◌, if◌then◌else◌, List, [], ◌∷◌, refl}
 use Rattle.std.specs.List.{flat_map}
 use Rattle.type_terms.specs.Label.{Label, tuple, dynamic, array, slice, adt, fn_ptr}
 use Rattle.type_terms.specs.Trees.{Trees, none, tree}
@@ -16,10 +16,7 @@ use Rattle.assembly_laws.specs.Asking.{GoalOverKinds, clauses, self_of, next_of,
 use Rattle.assembly_laws.specs.Candidates.{Candidate, all_equal, by_rule, unsure, clause_source, by_clauses, by_the_impl, can_match, by_impls, as_written, misc, if_so, by_sized, by_copy, by_auto, by_tuple, by_fn_ptr, call_of, by_call, unsize_array_of, upcast_source, upcasts_from, upcasts_to, upcasts_of, unsize_by_struct, unsize_struct_of, unsize_known, recording, unsizing_outlives, unsize_recording, by_unsize, built_in, bounds_from, object_source, written_source, objects_of, by_objects}
 use Rattle.assembly_laws.specs.Cover.{all_candidates}
 use Rattle.assembly_laws.proofs.Recording.{every-recorded}
-
-pub both-lists : {A : Type 0} (P : A → Type 0) (xs ys : List A) → Every P xs → Every P ys → Every P (xs ++ ys)
-both-lists P [] ys h g = g
-both-lists P (x ∷ xs) ys h g = (h.0, both-lists P xs ys h.1 g)
+use Rattle.evaluation.proofs.Basics.{both-lists}
 
 module _ (V : World) (a : GoalOverKinds) (P : Candidate → Type 0) (E : List Equation → Type 0) where
   -- candidates of rules are so where their equations are; the equations of each row; impls; what is not decided; and what is recorded does

@@ -1,5 +1,5 @@
 -- Each solution of a goal in a linked set is one by a candidate.
-use Rattle.std.proofs.Common.{◌≡◌, ℕ, zero, suc, Bool, true, false, not, ◌&&◌, ◌||◌, ◌==◌, if◌then◌else◌, List, [], ◌∷◌, ◌++◌, map, ◌⊎◌, inl, inr, refl, sym, ◌∙◌, ap, subst, Option, Some, None}
+use Rattle.std.proofs.Common.{◌≡◌, ℕ, zero, suc, Bool, true, false, not, ◌&&◌, ◌||◌, ◌==◌, if◌then◌else◌, List, [], ◌∷◌, ◌++◌, map, ◌⊎◌, inl, inr, refl, sym, ◌∙◌, ap, subst, Some}
 use Rattle.type_terms.specs.Label.{Label, of_type, of_const, of_lifetime, dynamic, slice, adt, principal, auto_trait, fn_ptr, param, placeholder, infer, canonical, bound, predicate}
 use Rattle.type_terms.specs.Trees.{Trees, none, tree, is_no_tree, erase_label, some_node}
 use Rattle.type_terms.specs.Worlds.{World, Reference}
@@ -22,13 +22,13 @@ use Rattle.assembly_laws.specs.Facts.{reference_in, children_of, trait_or_first}
 use Rattle.assembly_laws.specs.Meaning.{ViewMeaning}
 use Rattle.assembly_laws.specs.Declared.{is_declared_view}
 use Rattle.assembly_laws.specs.Determined.{ImplsAreDetermined}
-use Rattle.assembly_laws.specs.Asking.{all_known, is_rigid, begins_with_type, with_plain_head, next_of, self_of, is_unknown_kind, begins_unknown}
+use Rattle.assembly_laws.specs.Asking.{all_known, is_rigid, begins_with_type, with_plain_head, next_of, self_of, begins_unknown}
 use Rattle.evaluation.specs.Variables.{is_variable_over}
 use Rattle.assembly_laws.specs.Candidates.{Candidate, by_unsize, call_of, unsize_array_of, upcasts_of, unsize_struct_of, unsize_known, recording, unsizing_outlives, unsize_recording, as_written, misc, unsure, if_so, by_objects, objects_of}
 use Rattle.assembly_laws.specs.Solver.{has_placeholder}
 use Rattle.assembly_laws.specs.Cover.{slots, SolvesEquations, goal_fact}
 use Rattle.assembly_laws.proofs.HavingViews.{ViewRulesAreCandidates, ThereAreCandidates}
-use Rattle.assembly_laws.proofs.Reading.{read_reference, true-false}
+use Rattle.assembly_laws.proofs.Reading.{read_reference}
 use Rattle.assembly_laws.proofs.Agreeing.{own-read}
 use Rattle.assembly_laws.proofs.Supers.{Proved, open-none}
 use Rattle.assembly_laws.proofs.Cover.{IsAsked, asked-by, known-kinds, solutions-are-candidates}
@@ -44,6 +44,8 @@ use Rattle.assembly_laws.proofs.Upcasts.{upcasts-at, upcasts-other}
 use Rattle.assembly_laws.proofs.StructUnsizing.{structs-at, structs-other}
 use Rattle.type_terms.proofs.Members.{in-nothing, in-append}
 use Rattle.assembly_laws.proofs.Impls.{impl-row}
+use Rattle.type_terms.proofs.BooleanBasics.{true-false}
+use Rattle.assembly_laws.proofs.SoundToDyn.{unknown-or-place}
 
 -- ---- the self type is known
 -- its outermost constructor
@@ -64,14 +66,6 @@ placeholder-there (Const ∷ ks) zero e = absurd (cc)
 placeholder-there (Const ∷ ks) (suc i) e = placeholder-there ks i e
 placeholder-there (Region ∷ ks) zero e = absurd (cc)
 placeholder-there (Region ∷ ks) (suc i) e = placeholder-there ks i e
-
-unknown-or-place : (o : Option CanonicalVarKind) → is_kind_of of_type o ≡ true → is_unknown_kind o ≡ false → o ≡ Some PlaceholderTy
-unknown-or-place None e f = absurd (true-false (sym e))
-unknown-or-place (Some Ty) e f = absurd (true-false f)
-unknown-or-place (Some PlaceholderTy) e f = refl
-unknown-or-place (Some Const) e f = absurd (true-false (sym e))
-unknown-or-place (Some PlaceholderConst) e f = absurd (true-false (sym e))
-unknown-or-place (Some Region) e f = absurd (true-false (sym e))
 
 head-of : (ks : List CanonicalVarKind) (t : Trees) → begins_with_type t ≡ true → is_made (is_variable_over ks) terms t ≡ true → begins_unknown ks (with_plain_head t) ≡ false → has_placeholder ks ≡ false → Head t
 head-of ks none b m u p = absurd (true-false (sym b))

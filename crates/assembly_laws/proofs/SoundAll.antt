@@ -8,11 +8,11 @@ use Rattle.assembly_laws.specs.Asking.{self_of}
 use Rattle.assembly_laws.specs.Candidates.{Candidate, misc, if_so, as_written, upcasts_of, by_impls, by_objects}
 use Rattle.assembly_laws.specs.Lawful.{IsSoundFor}
 use Rattle.assembly_laws.proofs.Premises.{CandidatesAreSound}
-use Rattle.assembly_laws.proofs.CandidateKinds.{every-append}
 use Rattle.assembly_laws.proofs.SoundImpls.{impls-sound}
 use Rattle.assembly_laws.proofs.SoundObjects.{objects-sound}
 use Rattle.assembly_laws.proofs.SoundUpcasts.{upcasts-sound}
 use Rattle.assembly_laws.proofs.SoundToDyn.{to-dyn-sound}
+use Rattle.evaluation.proofs.Basics.{every-append}
 
 under : (P : Candidate → Type 0) (b : Bool) (cs : List Candidate) → (b ≡ true → Every P cs) → Every P (if_so b cs)
 under P true cs e = e refl

@@ -26,13 +26,14 @@ use Rattle.assembly_laws.specs.Candidates.{all_equal, misc, if_so, call_of, by_s
 use Rattle.assembly_laws.specs.Cover.{read_reference}
 use Rattle.assembly_laws.specs.Lawful.{IsSoundFor, row_candidates, RowsAreSound}
 use Rattle.assembly_laws.proofs.Facts.{same-self}
-use Rattle.assembly_laws.proofs.Reading.{Begins, begins, true-false, read-last-asked}
+use Rattle.assembly_laws.proofs.Reading.{Begins, begins, read-last-asked}
 use Rattle.assembly_laws.proofs.ByView.{rigid-read}
 use Rattle.assembly_laws.proofs.Calls.{but-last-read}
-use Rattle.assembly_laws.proofs.CandidateKinds.{every-append}
 use Rattle.assembly_laws.proofs.Moving.{met-reads}
 use Rattle.assembly_laws.proofs.PlainRules.{Plain, IsPlainReference, plain-last}
 use Rattle.assembly_laws.proofs.SoundRows.{Unknown, Rigid, unknown-or-rigid, Held, IsPlainAt, is, rule-sound, plain-back, in-calls, each-row-sound}
+use Rattle.type_terms.proofs.BooleanBasics.{true-false}
+use Rattle.evaluation.proofs.Basics.{every-append}
 
 -- ---- made terms before others
 other-rest : (g r m n p : Bool) → g && (r && (m && n)) ≡ true → p ≡ true → g && (r && (m && p)) ≡ true

@@ -27,7 +27,7 @@ use Rattle.assembly_laws.specs.Cover.{goal_fact, read_reference}
 use Rattle.assembly_laws.proofs.Cover.{IsAsked}
 use Rattle.evaluation.proofs.Readings.{AgreeIn, reads-agree}
 use Rattle.evaluation.proofs.Slots.{own-slots-agree}
-use Rattle.assembly_laws.proofs.Determined.{same-fact}
+use Rattle.evaluation.proofs.TypeBasics.{same-fact}
 
 -- kinds that are all known
 pub kinds-whole : (os : List (Option CanonicalVarKind)) (ks : List CanonicalVarKind) → all_known os ≡ Some ks → map Some ks ≡ os

@@ -25,12 +25,10 @@ use Rattle.assembly_laws.specs.Asking.{GoalOverKinds, goal_over_kinds, all_known
 use Rattle.assembly_laws.specs.Candidates.{premise, by_rule, all_equal, if_so, bounds_from, object_source, written_source, objects_of, by_objects}
 use Rattle.assembly_laws.specs.Cover.{read_reference}
 use Rattle.assembly_laws.specs.Lawful.{IsSoundFor, ObjectBoundsAreSound}
-use Rattle.assembly_laws.proofs.Reading.{true-false}
 use Rattle.assembly_laws.proofs.ByView.{rigid-read}
 use Rattle.assembly_laws.proofs.Levels.{LeadDown}
 use Rattle.assembly_laws.proofs.Stack.{elaborated-only}
 use Rattle.assembly_laws.proofs.Unsizing.{compatible-same, principal-read, autos-read, traits-stay}
-use Rattle.assembly_laws.proofs.CandidateKinds.{every-append}
 use Rattle.assembly_laws.proofs.LawfulCandidates.{asked-clauses}
 use Rattle.assembly_laws.proofs.BoundTerms.{bounds-are-left}
 use Rattle.assembly_laws.proofs.Moving.{met-reads}
@@ -40,6 +38,9 @@ use Rattle.assembly_laws.proofs.SoundRows.{Unknown, Rigid, unknown-or-rigid, Hel
 use Rattle.assembly_laws.proofs.SoundCalls.{open-made}
 use Rattle.assembly_laws.proofs.SoundImpls.{same-one}
 use Rattle.assembly_laws.proofs.OpenLevels.{PlainRead, strict-open, elaborated-open, supertraits-plain, strict-in-supertraits, principal-plain}
+use Rattle.type_terms.proofs.BooleanBasics.{true-false}
+use Rattle.evaluation.proofs.Basics.{every-append}
+use Rattle.type_terms.proofs.TermBasics.{same-references}
 
 pub member-of : {A : Type 0} (P : A → Type 0) (xs : List A) (x : A) → Every P xs → In x xs → P x
 member-of P [] x e i = absurd (in-nothing x i)
@@ -132,9 +133,6 @@ module _ (m : ViewMeaning) (declared : is_declared_view m.view ≡ true) (f : Ca
 
   trait-declared : is_declared V a.reference.trait ≡ true
   trait-declared = left (is_declared V a.reference.trait) (not (some_node (is_undeclared V) a.reference.args)) (is m declared f a is_asked).written
-
-  same-references : (t u : ℕ) (x y : Trees) → t ≡ u → x ≡ y → ◌≡◌ {A = Reference} (record { trait = t; args = x }) (record { trait = u; args = y })
-  same-references t u x y e g = cc
 
   -- a bound of the goal's trait whose arguments are equated is read as the goal
   pub met-bound : (r : Reference) → (r.trait == a.reference.trait) ≡ true → is_made is_open_label terms r.args ≡ true → (s : ChosenTerms) → Every (λ e. EquationIsMet e s) (all_equal a.reference.args r.args) → read_reference s.slots r ≡ instance s

@@ -1,5 +1,5 @@
 -- The built-in rules that read the outermost types alone are sound candidates: the rule of an instance is the instance of the rule.
-use Rattle.std.proofs.Common.{◌≡◌, ℕ, Bool, true, false, not, ◌&&◌, ◌||◌, ◌==◌, if◌then◌else◌, List, [], ◌∷◌, ◌++◌, map, ◌⊎◌, inl, inr, refl, sym, ◌∙◌, ap, subst, Some}
+use Rattle.std.proofs.Common.{◌≡◌, ℕ, Bool, true, false, ◌&&◌, ◌||◌, ◌==◌, if◌then◌else◌, List, [], ◌∷◌, ◌++◌, map, ◌⊎◌, inl, inr, refl, sym, ◌∙◌, ap, subst, Some}
 use Rattle.std.specs.List.{flat_map}
 use Rattle.type_terms.specs.Label.{Label, of_type, canonical, of_trait, predicate}
 use Rattle.type_terms.specs.Trees.{Trees, none, tree, erase_label, some_node}
@@ -26,14 +26,15 @@ use Rattle.assembly_laws.specs.Candidates.{by_rule, as_written, misc, if_so, by_
 use Rattle.assembly_laws.specs.Cover.{goal_fact, read_reference}
 use Rattle.assembly_laws.specs.Lawful.{IsSoundFor}
 use Rattle.assembly_laws.proofs.Cover.{IsAsked, asked-by}
-use Rattle.assembly_laws.proofs.Reading.{true-false}
 use Rattle.assembly_laws.proofs.ByView.{rigid-read, rigid-head}
 use Rattle.assembly_laws.proofs.Instances.{is_bound}
 use Rattle.assembly_laws.proofs.Rows.{read_rule, sized-unbound, copy-natural, auto-unbound, tuple-natural, fn-ptr-natural}
-use Rattle.assembly_laws.proofs.CandidateKinds.{every-append}
 use Rattle.assembly_laws.proofs.LawfulCandidates.{asked-clauses}
 use Rattle.assembly_laws.proofs.SoundCandidates.{goal-is, follows-by}
 use Rattle.assembly_laws.proofs.PlainRules.{Plain, IsPlainReference, HavePlainPremises, plain-unbound, plain-sized, plain-copy, plain-auto, plain-tuple, plain-fn-ptr}
+use Rattle.type_terms.proofs.BooleanBasics.{true-false}
+use Rattle.evaluation.proofs.Basics.{every-append}
+use Rattle.assembly_laws.proofs.ErasedCandidates.{not-true as not-true-false}
 
 -- ---- the self type is a variable, or has a head that is known
 pub record Rigid (t : Trees) : Type 0 where
@@ -53,10 +54,6 @@ pub unknown-or-rigid : (t : Trees) → begins_with_type t ≡ true → Unknown t
 unknown-or-rigid none e = absurd (true-false (sym e))
 unknown-or-rigid (tree (canonical of_type i) c o) e = inl (record { number = i; children = c; others = o; is = refl })
 unknown-or-rigid (tree l c o) e = inr (record { label = l; children = c; others = o; is = refl; rigid = e })
-
-not-true-false : (b : Bool) → not b ≡ true → b ≡ false
-not-true-false true e = absurd (true-false (sym e))
-not-true-false false e = refl
 
 module _ (m : ViewMeaning) (declared : is_declared_view m.view ≡ true) (f : CanonicalForm) (a : GoalOverKinds) (is_asked : goal_over_kinds m.view f ≡ Some a) where
   abbrev V : World

@@ -28,15 +28,17 @@ use Rattle.assembly_laws.specs.Asking.{GoalOverKinds, goal_over_kinds, is_rigid,
 use Rattle.assembly_laws.specs.Candidates.{as_written, misc, if_so}
 use Rattle.assembly_laws.specs.Cover.{read_reference}
 use Rattle.assembly_laws.specs.Lawful.{IsSoundFor, ToDynIsSound}
-use Rattle.assembly_laws.proofs.Reading.{true-false, begins, append-none}
+use Rattle.assembly_laws.proofs.Reading.{begins}
 use Rattle.assembly_laws.proofs.ByView.{rigid-read, rigid-head}
 use Rattle.evaluation.proofs.Slots.{slot-is}
 use Rattle.assembly_laws.proofs.Unsizing.{map-append, compatible-same, principal-read, autos-read, traits-stay}
-use Rattle.assembly_laws.proofs.CandidateKinds.{every-append}
 use Rattle.assembly_laws.proofs.PlainRules.{Plain, IsPlainReference}
 use Rattle.assembly_laws.proofs.SoundRows.{Unknown, Rigid, unknown-or-rigid, Held, is, rule-sound, plain-back, in-unsizes}
 use Rattle.assembly_laws.proofs.SoundCalls.{open-made, made-rest}
 use Rattle.assembly_laws.proofs.OpenLevels.{principal-plain, autos-plain}
+use Rattle.type_terms.proofs.BooleanBasics.{true-false}
+use Rattle.type_terms.proofs.TermBasics.{append-none}
+use Rattle.evaluation.proofs.Basics.{every-append}
 
 -- ---- what stands for a placeholder is no `dyn`
 starts_dyn : Trees → Bool
@@ -69,7 +71,7 @@ head-not-dyn : (l : Label) (c t : Trees) → t ≡ tree l c none → starts_dyn 
 unfolding starts_dyn
 head-not-dyn l c t e h = sym (ap starts_dyn e) ∙ h
 
-unknown-or-place : (o : Option CanonicalVarKind) → is_kind_of of_type o ≡ true → is_unknown_kind o ≡ false → o ≡ Some PlaceholderTy
+pub unknown-or-place : (o : Option CanonicalVarKind) → is_kind_of of_type o ≡ true → is_unknown_kind o ≡ false → o ≡ Some PlaceholderTy
 unknown-or-place None e f = absurd (true-false (sym e))
 unknown-or-place (Some Ty) e f = absurd (true-false f)
 unknown-or-place (Some PlaceholderTy) e f = refl

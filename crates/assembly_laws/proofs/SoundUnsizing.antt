@@ -25,15 +25,16 @@ use Rattle.assembly_laws.specs.Candidates.{by_rule, all_equal, misc, if_so, unsi
 use Rattle.assembly_laws.specs.Cover.{read_reference}
 use Rattle.assembly_laws.specs.Lawful.{IsSoundFor, unsizing_candidates, UnsizingIsSound}
 use Rattle.assembly_laws.proofs.Facts.{same-self}
-use Rattle.assembly_laws.proofs.Reading.{begins, true-false}
+use Rattle.assembly_laws.proofs.Reading.{begins}
 use Rattle.assembly_laws.proofs.ByView.{rigid-read}
 use Rattle.assembly_laws.proofs.Rows.{fields-declared}
 use Rattle.assembly_laws.proofs.StructUnsizing.{some-read, with-read, last-unbound}
-use Rattle.assembly_laws.proofs.CandidateKinds.{every-append}
 use Rattle.assembly_laws.proofs.Moving.{met-reads}
 use Rattle.assembly_laws.proofs.PlainRules.{Plain, IsPlainReference, plain-unbound, plain-instance, every-flat}
 use Rattle.assembly_laws.proofs.SoundRows.{Unknown, Rigid, unknown-or-rigid, Held, IsPlainAt, is, rule-sound, plain-back, in-unsizes}
 use Rattle.assembly_laws.proofs.SoundCalls.{first-before, made-rest, open-made}
+use Rattle.type_terms.proofs.BooleanBasics.{true-false}
+use Rattle.evaluation.proofs.Basics.{every-append}
 
 -- ---- terms
 pub made-unsizing : (fs : List Trees) (k : ℕ) (t s : Trees) → is_made is_open_label terms t ≡ true → is_made is_open_label terms s ≡ true → is_made is_open_label terms (with_unsizing fs k t s) ≡ true

@@ -24,7 +24,6 @@ use Rattle.assembly_laws.specs.Asking.{GoalOverKinds, goal_over_kinds, is_rigid,
 use Rattle.assembly_laws.specs.Candidates.{by_rule, all_equal, misc, if_so, upcast_source, upcasts_from, upcasts_to, upcasts_of}
 use Rattle.assembly_laws.specs.Cover.{read_reference}
 use Rattle.assembly_laws.specs.Lawful.{IsSoundFor, UpcastsAreSound}
-use Rattle.assembly_laws.proofs.Reading.{true-false}
 use Rattle.assembly_laws.proofs.ByView.{rigid-read}
 use Rattle.assembly_laws.proofs.Levels.{LeadDown}
 use Rattle.assembly_laws.proofs.Stack.{elaborated-all, supertraits-only}
@@ -39,6 +38,8 @@ use Rattle.assembly_laws.proofs.SoundCalls.{open-made}
 use Rattle.assembly_laws.proofs.SoundImpls.{same-one}
 use Rattle.assembly_laws.proofs.SoundObjects.{member-of, row-of-equal}
 use Rattle.assembly_laws.proofs.OpenLevels.{PlainRead, strict-open, principal-plain}
+use Rattle.type_terms.proofs.BooleanBasics.{true-false}
+use Rattle.type_terms.proofs.TermBasics.{same-references}
 
 module _ (m : ViewMeaning) (declared : is_declared_view m.view ≡ true) (erased : BoundsAreErased m.view) (rank : ℕ → ℕ) (down : LeadDown m.view rank) (f : CanonicalForm) (a : GoalOverKinds) (is_asked : goal_over_kinds m.view f ≡ Some a) where
   abbrev V : World
@@ -49,9 +50,6 @@ module _ (m : ViewMeaning) (declared : is_declared_view m.view ≡ true) (erased
 
   abbrev Alone : Way → Rule
   Alone w = record { way = w; premises = [] }
-
-  same-references : (t u : ℕ) (x y : Trees) → t ≡ u → x ≡ y → ◌≡◌ {A = Reference} (record { trait = t; args = x }) (record { trait = u; args = y })
-  same-references t u x y e g = cc
 
   module _ (is_unsize : (a.reference.trait == unsize) ≡ true) where
     of-upcasts : (s : ChosenTerms) (u : Rule) → In u (unsize_upcast_rules V (Read s a.reference.args)) → In u (built_in_rules V (read_reference s.slots a.reference))

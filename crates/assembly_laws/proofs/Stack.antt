@@ -3,24 +3,18 @@ use Rattle.std.proofs.Common.{◌≡◌, ℕ, zero, suc, ◌+◌, ◌≤◌, Boo
 use Rattle.type_terms.specs.Worlds.{World, Reference}
 use Rattle.type_terms.specs.Rules.{same_reference, written_supertraits, strict_supertraits, strict_supertraits_within}
 use Rattle.type_terms.specs.Proofs.{In}
-use Rattle.type_terms.proofs.Members.{here, there, in-nothing, in-cases, in-append, in-flat, flat-in, some-member, self-number}
+use Rattle.type_terms.proofs.Members.{here, there, in-nothing, in-cases, in-append, in-flat, flat-in, some-member}
 use Rattle.type_terms.proofs.Fitting.{same-reference-sound}
 use Rattle.declarations.specs.Elaboration.{is_put, new_of, pushed, off_stack, all_levels, elaborate, supertraits}
-use Rattle.type_terms.specs.Trees.{Trees, none, tree}
-use Rattle.type_terms.specs.Codes.{same, same_label, numbers}
-use Rattle.assembly_laws.proofs.Facts.{same-numbers-self}
-use Rattle.assembly_laws.proofs.Reading.{true-false}
+use Rattle.type_terms.specs.Codes.{same}
 use Rattle.assembly_laws.proofs.Levels.{LeadDown, strict-closed, all-closed}
+use Rattle.declarations.proofs.Basics.{length-pushed, put-move}
+use Rattle.declarations.proofs.Stacks.{pushed-in}
+use Rattle.type_terms.proofs.BooleanBasics.{true-false}
+use Rattle.assembly_laws.proofs.SoundImpls.{same-one}
 
 put-in : (r : Reference) (rs : List Reference) → is_put r rs ≡ true → In r rs
 put-in r rs e = let m = some-member (same_reference r) rs e in subst (λ z. In z rs) (sym (same-reference-sound r m.0 m.2)) m.1
-
-same-self : (t : Trees) → same t t ≡ true
-same-self none = refl
-same-self (tree l c o) = let p : same_label l l ≡ true = same-numbers-self (numbers l) in let q = same-self c in let r = same-self o in rw (p, q, r) refl
-
-same-one : (r : Reference) → same_reference r r ≡ true
-same-one r = let p = self-number r.trait in let q = same-self r.args in rw (p, q) refl
 
 -- ---- how many of a list were not put yet
 abbrev missing : List Reference → List Reference → ℕ
@@ -60,17 +54,6 @@ missing-less (x ∷ xs) b r i e = by (in-cases r x xs i) (λ j. missing-less xs 
     by (inl q) go =
         this (same_reference x r) (is_put x b) (subst (λ z. same_reference z r ≡ true) (sym q) (same-one r)) (subst (λ z. is_put z b ≡ false) (sym q) e) (missing-fewer xs b r)
     by (inr j) go = later (same_reference x r) (is_put x b) (go j)
-
--- the order in which references were put does not matter
-put-move : (x r : Reference) (ys b : List Reference) → is_put x (r ∷ (ys ++ b)) ≡ is_put x (ys ++ (r ∷ b))
-put-move x r [] b = refl
-put-move x r (y ∷ ys) b = swap (same_reference x r) (same_reference x y) (is_put x (ys ++ b)) ∙ ap (λ z. same_reference x y || z) (put-move x r ys b)
-  where
-    swap : (p q z : Bool) → p || (q || z) ≡ q || (p || z)
-    swap true true z = refl
-    swap true false z = refl
-    swap false true z = refl
-    swap false false z = refl
 
 -- each new one was missing
 new-fewer : (xs before rs : List Reference) → ((x : Reference) → In x rs → In x xs) → length (new_of before rs) + missing xs (new_of before rs ++ before) ≤ missing xs before
@@ -116,10 +99,6 @@ in-new before (r ∷ rs) x i = by (is_put r before) refl (in-cases x r rs i) (λ
     by false e (inl q) f g = inl (subst (λ z. In z (r ∷ new)) q (here r new))
     by false e (inr j) f g = later (g j)
 
-length-pushed : (rs stack : List Reference) → length (pushed rs stack) ≡ length rs + length stack
-length-pushed [] stack = omega arith
-length-pushed (r ∷ rs) stack = let h = length-pushed rs (r ∷ stack) in h ∙ omega arith
-
 in-stack : (rs stack : List Reference) (x : Reference) → In x stack → In x (pushed rs stack)
 in-stack [] stack x i = i
 in-stack (r ∷ rs) stack x i = in-stack rs (r ∷ stack) x (there x r stack i)
@@ -127,14 +106,6 @@ in-stack (r ∷ rs) stack x i = in-stack rs (r ∷ stack) x (there x r stack i)
 in-pushed : (rs stack : List Reference) (x : Reference) → In x rs → In x (pushed rs stack)
 in-pushed [] stack x i = absurd (in-nothing x i)
 in-pushed (r ∷ rs) stack x i = elim (in-cases x r rs i) [ inl q ↦ in-stack rs (r ∷ stack) x (subst (λ z. In z (r ∷ stack)) q (here r stack)) | inr j ↦ in-pushed rs (r ∷ stack) x j ]
-
-pushed-in : (rs stack : List Reference) (x : Reference) → In x (pushed rs stack) → In x rs ⊎ In x stack
-pushed-in [] stack x i = inr i
-pushed-in (r ∷ rs) stack x i = by (pushed-in rs (r ∷ stack) x i)
-  where
-    by : In x rs ⊎ In x (r ∷ stack) → In x (r ∷ rs) ⊎ In x stack
-    by (inl j) = inl (there x r rs j)
-    by (inr j) = elim (in-cases x r stack j) [ inl q ↦ inl (subst (λ z. In z (r ∷ rs)) q (here r rs)) | inr k ↦ inr k ]
 
 -- ---- off the stack
 -- all of the stack is taken, and what is written above what was taken is taken or was put before
@@ -243,23 +214,6 @@ module _ (V : World) (rank : ℕ → ℕ) (down : LeadDown V rank) (rs : List Re
   elaborated-all s i =
       let m = in-flat (λ r. r ∷ strict_supertraits V r) rs s i in
       elim (in-cases s m.0 (strict_supertraits V m.0) m.2) [ inl q ↦ subst (λ z. In z (elaborate V rs)) q (own-out m.0 m.1) | inr g ↦ within-out (length V.traits) m.0 s (own-out m.0 m.1) g ]
-
--- ---- how many come off
-off-length : (V : World) (n : ℕ) (before stack : List Reference) → length (off_stack n V before stack) ≤ n
-off-length V zero before stack = omega arith
-off-length V (suc n) before [] = omega arith
-off-length V (suc n) before (r ∷ stack) = let h = off-length V n (new_of before (written_supertraits V r) ++ before) (pushed (new_of before (written_supertraits V r)) stack) in omega (arith, h)
-
--- no more than there are paths of written bounds
-pub no-more-elaborated : (V : World) (rs : List Reference) → length (elaborate V rs) ≤ length (all_levels V rs)
-no-more-elaborated V rs = off-length V (length (all_levels V rs)) (new_of [] rs) (pushed (new_of [] rs) [])
-
-pub no-more-supertraits : (V : World) (r : Reference) → length (supertraits V r) ≤ length (strict_supertraits V r)
-no-more-supertraits V r = let h = no-more-elaborated V (r ∷ []) in let e = same-length (strict_supertraits V r) in omega (arith, h, e)
-  where
-    same-length : (rs : List Reference) → length (rs ++ []) ≡ length rs
-    same-length [] = refl
-    same-length (s ∷ rs) = ap suc (same-length rs)
 
 -- ---- nothing else comes off
 module _ (V : World) (xs : List Reference) (closed : (s t : Reference) → In s xs → In t (written_supertraits V s) → In t xs) where

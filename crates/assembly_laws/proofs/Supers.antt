@@ -1,15 +1,14 @@
 -- The supertraits of a solution are solutions.
-use Rattle.std.proofs.Common.{◌≡◌, ℕ, zero, suc, Bool, true, false, not, ◌||◌, ◌==◌, if◌then◌else◌, List, [], ◌∷◌, ◌++◌, filter, length, ◌⊎◌, inl, inr, refl, sym, ◌∙◌, ap, subst}
+use Rattle.std.proofs.Common.{◌≡◌, ℕ, zero, suc, Bool, true, false, not, ◌||◌, ◌==◌, if◌then◌else◌, List, [], ◌∷◌, ◌++◌, filter, length, refl, sym, ◌∙◌, ap, subst}
 use Rattle.std.specs.List.{flat_map}
 use Rattle.type_terms.specs.Label.{Label, param, placeholder, infer, canonical, bound, inside, shift_label}
 use Rattle.type_terms.specs.Trees.{Trees, none, tree, nth, instantiate, shift, some_node}
 use Rattle.type_terms.specs.Worlds.{World, Reference, TraitDecl, traits_named, with_args, all_with_args}
 use Rattle.type_terms.specs.Rules.{written_supertraits, strict_supertraits, strict_supertraits_within}
 use Rattle.type_terms.specs.Proofs.{In}
-use Rattle.type_terms.specs.Proofs as Model
 use Rattle.type_terms.specs.Answers.{is_closed, is_open}
 use Rattle.type_terms.specs.LinkedSet.{is_stray}
-use Rattle.type_terms.proofs.Members.{here, there, in-nothing, in-cases, in-flat, flat-in, in-map, in-filter}
+use Rattle.type_terms.proofs.Members.{here, there, in-nothing, in-flat, flat-in, in-map, in-filter}
 use Rattle.type_terms.proofs.ProofEntries.{map-in}
 use Rattle.type_terms.proofs.Fitting.{head-shut, child-shut, next-shut, append-shut, or-no}
 use Rattle.evaluation.specs.Lists.{Every}
@@ -20,16 +19,14 @@ use Rattle.assembly_laws.proofs.HavingViews.{ProvesBy}
 use Rattle.assembly_laws.proofs.DeclaredParts.{bound-declared}
 pub use Rattle.assembly_laws.specs.Cover.{Proved}
 use Rattle.declarations.specs.Elaboration.{is_put, new_of, pushed, off_stack, all_levels, elaborate, rest_of, supertraits}
-use Rattle.assembly_laws.proofs.Reading.{true-false, read_reference}
+use Rattle.assembly_laws.proofs.Reading.{read_reference}
 use Rattle.assembly_laws.proofs.Instances.{read-declared}
+use Rattle.type_terms.proofs.TermBasics.{label-kept}
+use Rattle.type_terms.proofs.BooleanBasics.{true-false}
 
 -- ---- what is made of closed terms and declarations is closed
 abbrev Shuts : Trees → Type 0
 Shuts t = some_node is_open t ≡ false
-
-label-kept : (d a : ℕ) (l : Label) → is_open (shift_label d a l) ≡ is_open l
-label-kept d a (bound s k v) = refl
-label-kept d a l = refl
 
 or-cong : (a b c x y z : Bool) → a ≡ x → b ≡ y → c ≡ z → a || b || c ≡ x || y || z
 or-cong a b c x y z p q r = cc
@@ -73,14 +70,6 @@ none-open t e = ap not e
 each : {A : Type 0} (P : A → Type 0) (xs : List A) → ((x : A) → In x xs → P x) → Every P xs
 each P [] f = tt
 each P (x ∷ xs) f = (f x (here x xs), each P xs (λ y i. f y (there y x xs i)))
-
-member : {A : Type 0} (P : A → Type 0) (xs : List A) (x : A) → Model.Every P xs → In x xs → P x
-member P [] x e i = absurd (in-nothing x i)
-member P (y ∷ xs) x e i = by (in-cases x y xs i) (λ j. member P xs x e.1 j)
-  where
-    by : (y ≡ x) ⊎ In x xs → (In x xs → P x) → P x
-    by (inl q) go = subst P q e.0
-    by (inr j) go = go j
 
 -- a written supertrait is a strict one
 written-strict : (V : World) (r s : Reference) → In s (written_supertraits V r) → In s (strict_supertraits V r)

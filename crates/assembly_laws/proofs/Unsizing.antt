@@ -13,8 +13,9 @@ use Rattle.type_terms.specs.Made.{is_made}
 use Rattle.evaluation.specs.Instances.{read_with}
 use Rattle.evaluation.specs.Content.{given}
 use Rattle.assembly_laws.specs.Declared.{is_declared_view}
-use Rattle.assembly_laws.proofs.Reading.{true-false, read-append, read_reference}
+use Rattle.assembly_laws.proofs.Reading.{read-append, read_reference}
 use Rattle.assembly_laws.proofs.Rows.{read_rule}
+use Rattle.type_terms.proofs.BooleanBasics.{true-false}
 
 -- ---- which traits are supertraits depends on the trait alone
 abbrev pub traits_of : List Reference → List ℕ

@@ -22,7 +22,6 @@ use Rattle.declarations.specs.Elaboration.{supertraits}
 use Rattle.assembly_laws.specs.Asking.{GoalOverKinds}
 use Rattle.assembly_laws.specs.Candidates.{by_rule, all_equal, misc, if_so, upcast_source, upcasts_from, upcasts_to, upcasts_of}
 use Rattle.assembly_laws.specs.Cover.{slots, SolvesEquations, read_reference}
-use Rattle.assembly_laws.proofs.Reading.{true-false}
 use Rattle.assembly_laws.proofs.Unsizing.{traits_of, map-append, spread-same, within-same, all-declared, principal-read, autos-read, traits-stay}
 use Rattle.assembly_laws.proofs.Impls.{pairwise}
 use Rattle.assembly_laws.proofs.Calls.{gives-equal}
@@ -31,6 +30,7 @@ use Rattle.assembly_laws.proofs.Levels.{LeadDown}
 use Rattle.assembly_laws.proofs.Stack.{elaborated-all}
 use Rattle.assembly_laws.proofs.Instances.{Shut}
 use Rattle.assembly_laws.proofs.Objects.{BoundsArePlain, strict-read, principal-shut, dyn-shut}
+use Rattle.type_terms.proofs.BooleanBasics.{true-false}
 
 -- ---- auto traits are compared by name alone
 any-named : (t : ℕ) (rs : List Reference) → list_any (λ (q : Reference). q.trait == t) rs ≡ list_any (λ j. j == t) (traits_of rs)

@@ -38,6 +38,7 @@ use Rattle.assembly_laws.proofs.Filled.{no-placeholder}
 use Rattle.evaluation.proofs.Unplaced.{place-kind}
 use Rattle.assembly_laws.proofs.Rowwise.{AreRows, all-so}
 use Rattle.assembly_laws.proofs.Considering.{ConsidersOnly, after-only, wanted-only, each-only, first-only}
+use Rattle.evaluation.proofs.Basics.{every-of, every-unit}
 
 -- the question has no where-clauses and no placeholders
 abbrev IsBare : NestedQuestion → Type 0
@@ -91,14 +92,6 @@ module _ (V : World) (a : GoalOverKinds) (no_clauses : a.environment ≡ none) w
   premises-bare : (kind : Bool) (rs : List Reference) → Every (AreSo frame_tables IsBare HasNone) (map (premise a kind) rs)
   premises-bare kind [] = tt
   premises-bare kind (r ∷ rs) = (bare-question (premise a kind r) no_clauses, premises-bare kind rs)
-
-  every-of : {A : Type 0} {Q : A → Type 0} → ((x : A) → Q x) → (xs : List A) → Every Q xs
-  every-of f [] = tt
-  every-of f (x ∷ xs) = (f x, every-of f xs)
-
-  every-unit : {A : Type 0} (xs : List A) → Every (λ x. Unit {0}) xs
-  every-unit [] = tt
-  every-unit (x ∷ xs) = (tt, every-unit xs)
 
   rows : AreRows V a AreBare (λ es. Unit {0})
   rows = record {

@@ -1,8 +1,8 @@
 -- Calls of `fn` pointers.
-use Rattle.std.proofs.Common.{◌≡◌, false, List, [], ◌∷◌, ◌++◌, Some, None, refl, sym, ap, subst, ◌∙◌}
+use Rattle.std.proofs.Common.{◌≡◌, false, List, [], ◌∷◌, ◌++◌, Some, refl, sym, ap, subst, ◌∙◌}
 use Rattle.std.specs.List.{slice_get}
 use Rattle.std.proofs.lemmas.Option.{same_Some}
-use Rattle.type_terms.specs.Label.{Label, Sort, of_type, of_const, of_lifetime, tuple, fn_ptr, param, placeholder, infer, canonical, bound}
+use Rattle.type_terms.specs.Label.{Label, Sort, of_type, tuple, fn_ptr}
 use Rattle.type_terms.specs.Trees.{Trees, none, tree, ◌+++◌, IsA, nth, is_no_tree}
 use Rattle.type_terms.specs.Worlds.{World}
 use Rattle.type_terms.specs.Rules.{but_last, last_asked, sized}
@@ -33,26 +33,6 @@ second-first es law (x ∷ y ∷ xs) h = (h.1.0, args_trees es xs, ap (λ z. nex
 
 -- ---- the candidates
 module _ (V : World) (a : GoalOverKinds) where
-  pub no-signature : (T : Trees) → signature_of T ≡ None → [] ≡ call_of V a (with_plain_head T)
-  no-signature none e = refl
-  no-signature (tree (fn_ptr n) c o) e = absurd cc
-  no-signature (tree (param of_type i) c o) e = refl
-  no-signature (tree (param of_const i) c o) e = refl
-  no-signature (tree (param of_lifetime i) c o) e = refl
-  no-signature (tree (placeholder of_type i) c o) e = refl
-  no-signature (tree (placeholder of_const i) c o) e = refl
-  no-signature (tree (placeholder of_lifetime i) c o) e = refl
-  no-signature (tree (infer of_type i) c o) e = refl
-  no-signature (tree (infer of_const i) c o) e = refl
-  no-signature (tree (infer of_lifetime i) c o) e = refl
-  no-signature (tree (canonical of_type i) c o) e = refl
-  no-signature (tree (canonical of_const i) c o) e = refl
-  no-signature (tree (canonical of_lifetime i) c o) e = refl
-  no-signature (tree (bound of_type i j) c o) e = refl
-  no-signature (tree (bound of_const i j) c o) e = refl
-  no-signature (tree (bound of_lifetime i j) c o) e = refl
-  no-signature (tree l c o) e = refl
-
   pub no-second : (T ts : Trees) → Some ts ≡ signature_of T → next_of T ≡ none → [] ≡ call_of V a (with_plain_head T)
   no-second none ts e f = absurd cc
   no-second (tree (fn_ptr n) c none) ts e f = refl

@@ -1,5 +1,5 @@
 -- What is asked of declarations and goals stays true as the interner grows.
-use Rattle.std.proofs.Common.{◌≡◌, List, [], ◌∷◌, map, sym, subst, true}
+use Rattle.std.proofs.Common.{◌≡◌, List, map, sym, subst, true}
 use Rattle.std.specs.Prelude.{◌==◌}
 use Rattle.type_terms.specs.Trees.{Trees}
 use Rattle.type_terms.specs.Rules.{unsize}
@@ -24,10 +24,7 @@ use Rattle.built_in_candidates.specs.BuiltIn.{HavePlainHeads}
 use Rattle.built_in_candidates.specs.Objects.{ObjectIsApplied}
 use Rattle.built_in_candidates.specs.Unsizing.{CanUnsize}
 use Rattle.built_in_candidates.proofs.Asking.{asked-later}
-
-both : {A : Type 0} (P Q : A → Type 0) (xs : List A) → Each P xs → Each Q xs → Each (λ x. P x × Q x) xs
-both P Q [] h g = tt
-both P Q (x ∷ xs) h g = ((h.0, g.0), both P Q xs h.1 g.1)
+use Rattle.declarations.proofs.Basics.{both}
 
 module _ (old new : List Entry) (k : Keeps old new) where
   fields-speak : (x : AdtId × AdtDef) → StructHeld old x.1 → Each (λ (f : Ty). SpeaksOf (map sort_of_param x.1.params.items) (trees_at old f.0)) x.1.fields.items

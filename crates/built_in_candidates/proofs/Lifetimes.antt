@@ -7,8 +7,8 @@ use Rattle.term_folds.specs.Signatures.{StartsWithType}
 use Rattle.assembly_laws.specs.Asking.{next_of}
 use Rattle.assembly_laws.specs.Candidates.{Candidate, recording, last_of, lifetime_of, outlives, unsizing_outlives}
 use Rattle.assembly_laws.proofs.CandidateKinds.{with_regions}
-use Rattle.assembly_laws.proofs.Reading.{append-none}
 use Rattle.built_in_candidates.specs.Unsizing.{BeginsWith}
+use Rattle.type_terms.proofs.TermBasics.{append-none}
 
 -- the last of a list of trees that ends with a leaf
 pub last-is : (b : Trees) (l : Label) → last_of (b +++ leaf l) ≡ leaf l

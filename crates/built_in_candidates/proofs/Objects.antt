@@ -1,5 +1,5 @@
 -- `dyn` types: what is read off their bounds, and the bounds of one trait as candidates.
-use Rattle.std.proofs.Common.{◌≡◌, ℕ, zero, suc, ◌+◌, ◌-◌, ◌<◌, ◌≤◌, Bool, true, false, ◌&&◌, ◌||◌, not, if◌then◌else◌, List, [], ◌∷◌, ◌++◌, map, length, drop, get_or, count_by, Option, Some, None, refl, sym, ap, ◌∙◌, subst, inl, inr, arith}
+use Rattle.std.proofs.Common.{◌≡◌, ℕ, zero, suc, ◌-◌, ◌<◌, ◌≤◌, Bool, true, false, ◌&&◌, ◌||◌, not, if◌then◌else◌, List, [], ◌∷◌, ◌++◌, map, length, count_by, Option, Some, None, refl, sym, ap, ◌∙◌, subst, inl, inr, arith}
 use Rattle.std.specs.Prelude.{◌==◌, option_map, filter, ◌⊎◌}
 use Rattle.std.specs.List.{slice_get, list_any, list_all}
 use Rattle.std.proofs.lemmas.List.{map-append}
@@ -7,7 +7,7 @@ use Rattle.std.proofs.lemmas.List.Sums.{length-filter}
 use Rattle.std.proofs.lemmas.List.Folds.{list_any-append}
 use Rattle.std.proofs.lemmas.Option.{same_Some, slice_get-map}
 use Rattle.type_terms.specs.Label.{Label, of_type, of_lifetime, of_const, dynamic, principal, auto_trait, param, placeholder, infer, canonical, bound}
-use Rattle.type_terms.specs.Trees.{Trees, none, tree, leaf, nth, ◌+++◌, IsA, sort_of}
+use Rattle.type_terms.specs.Trees.{Trees, none, tree, leaf, nth, ◌+++◌, sort_of}
 use Rattle.type_terms.specs.Worlds.{World, Reference, TraitDecl, traits_named}
 use Rattle.type_terms.specs.Rules.{asked, sized, principal_with, autos_with, are_declared, are_dyn_compatible, upcasts_autos, elaborated}
 use Rattle.type_terms.specs.Proofs.{In}
@@ -20,7 +20,6 @@ use Rattle.type_terms.specs.declared.kinds.BoundsData.{BoundsData}
 use Rattle.type_terms.specs.Kept.{trees-is}
 use Rattle.term_folds.specs.Signatures.{StartsWithType}
 use Rattle.term_folds.specs.declared.predicate.TraitRef.{TraitRef}
-use Rattle.infer_table.proofs.Values.{cut-at}
 use Rattle.evaluation.specs.Merge.{if_there}
 use Rattle.evaluation.specs.declared.candidate.CandidateSource.TheVariants.{BuiltinImpl}
 use Rattle.evaluation.specs.declared.candidate.BuiltinImplSource.{BuiltinImplSource}
@@ -175,28 +174,6 @@ module _ (es : List Entry) (d : Items) (h : HaveBounds es d) where
           ∙ sym (list_any-append (λ (q : Reference). q.trait == b.index) (autos_asked self autos) (elaborated (written es d) ps))
 
 -- ---- one reference after the other
-pub first-numbered : (t i : ℕ) (x d : TraitRef) (rs : List TraitRef) → i < length rs → x ≡ get_or rs i d → (x.def_id.index == t) ≡ true → Some (i, x) ≡ slice_get (numbered_to t i (drop i rs)) 0
-first-numbered t i x d rs lt is e =
-    sym (ap (λ l. slice_get (numbered_to t i l) 0) (cut-at rs i d lt ∙ ap (λ z. z ∷ drop (i + 1) rs) (sym is))
-    ∙ ap (λ b. slice_get (if b then (i, x) ∷ numbered_to t (suc i) (drop (i + 1) rs) else numbered_to t (suc i) (drop (i + 1) rs)) 0) e)
-
-plus-one : (i : ℕ) → i + 1 ≡ suc i
-plus-one i = omega arith
-
-pub next-numbered : (t i n : ℕ) (x d : TraitRef) (rs : List TraitRef) → i < length rs → x ≡ get_or rs i d → (x.def_id.index == t) ≡ true
-    → slice_get (numbered_to t (i + 1) (drop (i + 1) rs)) n ≡ slice_get (numbered_to t i (drop i rs)) (suc n)
-next-numbered t i n x d rs lt is e =
-    ap (λ m. slice_get (numbered_to t m (drop (i + 1) rs)) n) (plus-one i)
-    ∙ sym (ap (λ l. slice_get (numbered_to t i l) (suc n)) (cut-at rs i d lt ∙ ap (λ z. z ∷ drop (i + 1) rs) (sym is))
-    ∙ ap (λ b. slice_get (if b then (i, x) ∷ numbered_to t (suc i) (drop (i + 1) rs) else numbered_to t (suc i) (drop (i + 1) rs)) (suc n)) e)
-
-pub other-numbered : (t i n : ℕ) (x d : TraitRef) (rs : List TraitRef) → i < length rs → x ≡ get_or rs i d → (x.def_id.index == t) ≡ false
-    → slice_get (numbered_to t (i + 1) (drop (i + 1) rs)) n ≡ slice_get (numbered_to t i (drop i rs)) n
-other-numbered t i n x d rs lt is e =
-    ap (λ m. slice_get (numbered_to t m (drop (i + 1) rs)) n) (plus-one i)
-    ∙ sym (ap (λ l. slice_get (numbered_to t i l) n) (cut-at rs i d lt ∙ ap (λ z. z ∷ drop (i + 1) rs) (sym is))
-    ∙ ap (λ b. slice_get (if b then (i, x) ∷ numbered_to t (suc i) (drop (i + 1) rs) else numbered_to t (suc i) (drop (i + 1) rs)) n) e)
-
 pub numbered-held : (es : List Entry) (t i n : ℕ) (rs : List TraitRef) (k : ℕ) (r : TraitRef) → TraitRefsHeld es rs → Some (k, r) ≡ slice_get (numbered_to t i rs) n → ReferenceHeld es r
 numbered-held es t i n [] k r h e = absurd cc
 numbered-held es t i n (x ∷ rs) k r h e = by (x.def_id.index == t) n e (λ m g. numbered-held es t (suc i) m rs k r h.1 g)
@@ -430,18 +407,6 @@ upcast-level V es t n o p same other rs found all e r at =
     ∙ ap (λ l. slice_get (upcast_bounds V t l) n) (sym ps)
 
 -- ---- a `dyn` and its target
-pub no-source : (V : World) (a : GoalOverKinds) (S T : Trees) → IsA of_type S → bounds_of S ≡ None → upcasts_of V a (S +++ T) ≡ []
-no-source V a none T h e = absurd h
-no-source V a (tree dynamic c o) T h e = absurd cc
-no-source V a (tree l c o) T h e = refl
-
-pub no-target : (V : World) (a : GoalOverKinds) (S T b : Trees) → S ≡ tree dynamic b none → bounds_of T ≡ None → upcasts_of V a (S +++ T) ≡ []
-no-target V a S T b f e = ap (λ z. upcasts_of V a (z +++ T)) f ∙ by T e
-  where
-    by : (t : Trees) → bounds_of t ≡ None → upcasts_of V a (tree dynamic b t) ≡ []
-    by none e = refl
-    by (tree dynamic c o) e = absurd cc
-    by (tree l c o) e = refl
 
 pub between-read : (V : World) (a : GoalOverKinds) (S T b d : Trees) → S ≡ tree dynamic b none → T ≡ tree dynamic d none → upcasts_between V a S b d ≡ upcasts_of V a (S +++ T)
 between-read V a S T b d e f = ap (λ z. upcasts_between V a z b d) e ∙ sym (ap (λ z. upcasts_of V a (z +++ T)) e ∙ ap (λ z. upcasts_of V a (tree dynamic b z)) f)

@@ -1,14 +1,11 @@
 -- Arguments as values, and equations between them.
 use Rattle.std.proofs.Common.{◌≡◌, true, false, List, [], ◌∷◌, ◌++◌, refl, sym, ap, subst, ◌∙◌, map}
-use Rattle.type_terms.specs.Label.{Label, Sort, of_type, of_const, of_lifetime}
+use Rattle.type_terms.specs.Label.{Label, Sort, of_type, of_const}
 use Rattle.type_terms.specs.Trees.{Trees, none, tree, ◌+++◌, IsA, sort_of}
 use Rattle.type_terms.specs.Terms.{Entry, Keeps, Lawful, consts, trees_at}
 use Rattle.type_terms.specs.Kinds.{ArgHeld, ArgsHeld, arg_trees, args_trees, region_label}
 use Rattle.type_terms.specs.declared.kinds.GenericArgKind.{GenericArgKind}
 use Rattle.type_terms.specs.declared.kinds.GenericArgKind.TheVariants.{Lifetime, Ty, Const}
-use Rattle.type_terms.specs.declared.region.RegionKind.{RegionKind}
-use Rattle.type_terms.specs.declared.region.RegionKind.TheVariants.{ReStatic, ReEarlyParam, RePlaceholder, ReBound, ReVar}
-use Rattle.type_terms.specs.declared.number.BoundVarIndexKind.TheVariants.{Bound as KBinder, Canonical as KCanonical}
 use Rattle.type_terms.specs.Kept.{trees-is, arg-trees-later, arg-held-later}
 use Rattle.infer_table.specs.declared.terms.Equation as Code
 use Rattle.infer_table.specs.Values.{Value, value_of, sort_of_arg}
@@ -21,6 +18,7 @@ use Rattle.evaluation.proofs.Contexts.{every-more}
 use Rattle.infer_table.proofs.BindFacts.{type-is}
 use Rattle.built_in_candidates.specs.Equations.{ArePaired}
 use Rattle.built_in_candidates.proofs.Lists.{map-push}
+use Rattle.type_terms.proofs.TypeBasics.{region-sort}
 
 -- an argument is one tree of its sort
 pub record IsOneTree (s : Sort) (t : Trees) : Type 0 where
@@ -36,14 +34,6 @@ type-tree (tree l c o) h = record { label = l; children = c; is = ap (λ z. tree
 const-tree : (t : Trees) → IsA of_const t → IsOneTree of_const t
 const-tree none h = absurd h
 const-tree (tree l c o) h = record { label = l; children = c; is = ap (λ z. tree l c z) h.1; sort = h.0 }
-
-region-sort : (k : RegionKind) → sort_of (region_label k) ≡ of_lifetime
-region-sort ReStatic = refl
-region-sort (ReEarlyParam i) = refl
-region-sort (RePlaceholder i) = refl
-region-sort (ReBound (KBinder k) v) = refl
-region-sort (ReBound KCanonical v) = refl
-region-sort (ReVar v) = refl
 
 pub arg-tree : (es : List Entry) → Lawful es → (a : GenericArgKind) → ArgHeld es a → IsOneTree (sort_of_arg a) (arg_trees es a)
 arg-tree es law (Lifetime r) h = record { label = region_label r.kind; children = none; is = refl; sort = region-sort r.kind }

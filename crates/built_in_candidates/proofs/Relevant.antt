@@ -1,10 +1,9 @@
 -- The impls that can match a goal, by the heads of their self types, are those that do.
 use Rattle.std.proofs.Common.{◌≡◌, ℕ, Bool, true, false, cond, ◌&&◌, List, [], ◌∷◌, refl, ap, ◌∙◌}
 use Rattle.std.specs.Prelude.{◌==◌, map, filter}
-use Rattle.type_terms.specs.Label.{Label, param}
+use Rattle.type_terms.specs.Label.{Label}
 use Rattle.type_terms.specs.Trees.{Trees, none, tree, nth, erase, erase_label}
 use Rattle.type_terms.specs.Worlds.{ImplDecl}
-use Rattle.type_terms.specs.Rules.{same_head}
 use Rattle.type_terms.specs.Erased.{erased_impl}
 use Rattle.type_terms.specs.Terms.{Entry, trees_at}
 use Rattle.term_folds.specs.Signatures.{StartsWithType}
@@ -14,21 +13,12 @@ use Rattle.declarations.specs.Relevant.{relevant_in}
 use Rattle.assembly_laws.specs.Asking.{GoalOverKinds, self_of, with_plain_head}
 use Rattle.assembly_laws.specs.Candidates.{is_relevant_to}
 use Rattle.built_in_candidates.specs.BuiltIn.{HavePlainHeads}
+use Rattle.assembly_laws.proofs.Basics.{plain-head}
 
 abbrev pub names : List ImplDecl → List ℕ
 names is = map (λ (i : ImplDecl). i.name) is
 
 -- ---- impls match by their heads, with lifetimes or without
-head-alone : (k m : Label) (c o d q : Trees) → same_head k (tree m c o) ≡ same_head k (tree m d q)
-head-alone k (param s i) c o d q = refl
-head-alone k m c o d q = refl
-
-label-is : (m n : Label) (c o d q : Trees) → tree m c o ≡ tree n d q → m ≡ n
-label-is m n c o d q h = cc
-
-plain-head : (k : Label) (H : Trees) → with_plain_head H ≡ H → same_head k (erase H) ≡ same_head k H
-plain-head k none h = refl
-plain-head k (tree m d q) h = head-alone k (erase_label m) (erase d) (erase q) d q ∙ ap (λ x. same_head k (tree x d q)) (label-is (erase_label m) m d q d q h)
 
 module _ (t : ℕ) (l : Label) (c o : Trees) where
   abbrev relevant : ImplDecl → Bool

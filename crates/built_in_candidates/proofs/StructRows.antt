@@ -20,7 +20,7 @@ use Rattle.assembly_laws.specs.Candidates.{by_rule, misc, all_equal, if_so, unsi
 use Rattle.built_in_candidates.specs.Constituents.{AreArguments}
 use Rattle.built_in_candidates.specs.Unsizing.{begins_struct, replaced, tail_asked, FitsStruct}
 use Rattle.built_in_candidates.proofs.Pairs.{arg-tree}
-use Rattle.built_in_candidates.proofs.Lists.{append-none}
+use Rattle.type_terms.proofs.ListBasics.{append-none}
 
 -- ---- which parameters are unsizing
 -- from number k on, of n

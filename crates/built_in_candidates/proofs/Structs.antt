@@ -1,5 +1,5 @@
 -- Structs with the arguments of a type.
-use Rattle.std.proofs.Common.{◌≡◌, ℕ, Bool, true, false, cond, List, [], ◌∷◌, ◌++◌, Some, None, sym, subst}
+use Rattle.std.proofs.Common.{◌≡◌, ℕ, Bool, true, false, cond, List, [], ◌∷◌, Some, None, sym, subst}
 use Rattle.std.specs.Prelude.{◌==◌, map, IfSome}
 use Rattle.std.proofs.lemmas.Option.{same_Some}
 use Rattle.type_terms.specs.Trees.{Trees}
@@ -20,10 +20,6 @@ at-found P n def (x ∷ xs) h e = by (n == x.0.index) e (at-found P n def xs h.1
     by : (b : Bool) → Some def ≡ cond b (Some x.1) (struct_at n xs) → (Some def ≡ struct_at n xs → (id : AdtId) × P (id, def)) → (id : AdtId) × P (id, def)
     by true f go = (x.0, subst (λ z. P (x.0, z)) (sym (same_Some def x.1 f)) h.0)
     by false f go = go f
-
-pub each-end : {A : Type 0} (P : A → Type 0) (xs : List A) (x : A) → Each P (xs ++ x ∷ []) → P x
-each-end P [] x h = h.0
-each-end P (y ∷ xs) x h = each-end P xs x h.1
 
 -- each field has an argument for each of its parameters
 pub fields-fit : (es : List Entry) (d : Items) (s : ℕ) (A : Trees) (def : AdtDef) → HaveFields es d → AreArguments d s A → Some def ≡ struct_at s d.structs

@@ -4,14 +4,11 @@ use Rattle.type_terms.specs.Label.{Label, of_type, of_lifetime, dynamic, param, 
 use Rattle.type_terms.specs.Trees.{Trees, none, tree, leaf, ◌+++◌, IsA, sort_of, erase_label}
 use Rattle.type_terms.specs.Worlds.{World, Reference}
 use Rattle.type_terms.specs.Rules.{asked, sized, is_dyn, row, unsize_to_dyn, unsize_to_dyn_rules, are_dyn_compatible, principal_with, autos_with}
-use Rattle.type_terms.specs.Kinds.{bound_label, principal_trees, autos_trees, bounds_trees}
+use Rattle.type_terms.specs.Kinds.{principal_trees, autos_trees, bounds_trees}
 use Rattle.type_terms.specs.Terms.{Entry}
 use Rattle.type_terms.specs.declared.TraitId.{TraitId}
 use Rattle.type_terms.specs.declared.kinds.Principal.{Principal}
 use Rattle.type_terms.specs.declared.kinds.BoundsData.{BoundsData}
-use Rattle.type_terms.specs.declared.number.BoundVar.{BoundVar}
-use Rattle.type_terms.specs.declared.number.BoundVarIndexKind.{BoundVarIndexKind}
-use Rattle.type_terms.specs.declared.number.BoundVarIndexKind.TheVariants.{Bound as KBinder, Canonical as KCanonical}
 use Rattle.term_folds.specs.declared.predicate.TraitRef.{TraitRef}
 use Rattle.declarations.specs.Items.{Items, reference_in}
 use Rattle.declarations.specs.Merges.{Each}
@@ -22,10 +19,6 @@ use Rattle.built_in_candidates.specs.Objects.{bounds_of, AreArgumentsOf}
 use Rattle.built_in_candidates.specs.Unsizing.{traits_asked, to_dyn, TargetIsApplied}
 
 -- ---- the head
-pub variable-plain : (k : BoundVarIndexKind) (v : BoundVar) → leaf (bound_label of_type k v) ≡ with_plain_head (leaf (bound_label of_type k v))
-variable-plain (KBinder k) v = refl
-variable-plain KCanonical v = refl
-
 pub no-dyn : (l : Label) (c o : Trees) → bounds_of (tree l c o) ≡ None → is_dyn (erase_label l) ≡ false
 no-dyn dynamic c o e = absurd cc
 no-dyn (param of_lifetime i) c o e = refl

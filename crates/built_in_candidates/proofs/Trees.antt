@@ -2,7 +2,6 @@
 use Rattle.std.proofs.Common.{◌≡◌, ℕ, List, [], ◌∷◌, ◌++◌, refl, sym, ap, subst, ◌∙◌, map}
 use Rattle.type_terms.specs.Label.{of_type}
 use Rattle.type_terms.specs.Trees.{Trees, none, tree, ◌+++◌, IsA, instantiate}
-use Rattle.type_terms.specs.Worlds.{Reference}
 use Rattle.type_terms.specs.Rules.{asked, each_asked, last_asked, together}
 use Rattle.type_terms.specs.Terms.{Entry, Lawful, trees_at}
 use Rattle.type_terms.specs.Kinds.{TysHeld, tys_trees}
@@ -10,6 +9,7 @@ use Rattle.type_terms.specs.declared.kinds.Ty.{Ty}
 use Rattle.infer_table.proofs.BindFacts.{type-is}
 use Rattle.type_terms.proofs.TreeLaws.{append-none}
 use Rattle.built_in_candidates.specs.Constituents.{types_asked, TypesHeld, last_of}
+use Rattle.type_terms.proofs.TermBasics.{skipped}
 
 pub one-asked : (t : ℕ) (x y : Trees) → IsA of_type x → each_asked t (x +++ y) ≡ asked t x ∷ each_asked t y
 one-asked t none y h = absurd h
@@ -31,13 +31,6 @@ held-last es (x ∷ y ∷ ts) h = held-last es (y ∷ ts) h.1
 pub one-last : (t : ℕ) (x : Trees) → IsA of_type x → last_asked t x ≡ asked t x ∷ []
 one-last t none h = absurd h
 one-last t (tree l c o) h = subst (λ z. last_asked t (tree l c z) ≡ asked t (tree l c z) ∷ []) (sym h.1) refl
-
--- what stands before others does not count
-pub skipped : (t : ℕ) (x y : Trees) (r : Reference) → last_asked t y ≡ r ∷ [] → last_asked t (x +++ y) ≡ r ∷ []
-skipped t x none r e = absurd cc
-skipped t none (tree m d p) r e = e
-skipped t (tree l c none) (tree m d p) r e = e
-skipped t (tree l c (tree n b o)) (tree m d p) r e = skipped t (tree n b o) (tree m d p) r e
 
 pub tys-last : (es : List Entry) → Lawful es → (t : ℕ) (ts : List Ty) → TysHeld es ts → last_asked t (tys_trees es ts) ≡ types_asked es t (last_of ts)
 tys-last es law t [] h = refl

@@ -18,9 +18,9 @@ use Rattle.built_in_candidates.specs.Goals.{candidate_of}
 use Rattle.built_in_candidates.specs.Constituents.{StructIsApplied, candidates_of}
 use Rattle.built_in_candidates.specs.Objects.{bounds_of}
 use Rattle.built_in_candidates.specs.Unsizing.{BeginsWith, TargetIsApplied}
-use Rattle.built_in_candidates.proofs.Lists.{append-none}
 use Rattle.built_in_candidates.proofs.Pairs.{IsOneTree}
 use Rattle.built_in_candidates.proofs.ToDyn.{no-dyn, to-other}
+use Rattle.type_terms.proofs.ListBasics.{append-none}
 
 -- ---- the candidate at a place
 pub place-first : (V : World) (t : ℕ) (es : List Entry) (o : Option CandidateSpec) (n : ℕ) → n ≡ 0 → option_map (candidate_of V t es) o ≡ slice_get (candidates_of V t es o) n

@@ -7,8 +7,8 @@ use Rattle.evaluation.specs.Merge.{or_else}
 use Rattle.evaluation.specs.Table.{Tables, workings}
 use Rattle.evaluation.specs.Candidate.{Spec, Considered, Next, consider, answer}
 use Rattle.evaluation.specs.Plans.{Plan, answers, told, after, wanted, came, each_of, if_refused, first_alone}
-use Rattle.built_in_candidates.proofs.Lists.{append-none}
 use Rattle.candidate_assembly.proofs.Taken.{count, rest_of, AreIn, AreOut, front, past, still-counted, or-none}
+use Rattle.type_terms.proofs.ListBasics.{append-none}
 
 empty-back : {A : Type 0} (xs ys : List A) → xs ++ ys ≡ [] → ys ≡ []
 empty-back [] ys e = e

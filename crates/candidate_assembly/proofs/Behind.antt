@@ -1,8 +1,7 @@
 -- An impl's terms with variables in the place of its parameters.
 use Rattle.std.proofs.Math.Bridge.{le_prop}
-use Rattle.std.proofs.Common.{◌≡◌, ℕ, zero, suc, ◌+◌, ◌≤◌, subst, arith, Bool, true, false, List, [], ◌∷◌, map, refl, sym, ap, ◌∙◌, Option, Some, None}
+use Rattle.std.proofs.Common.{◌≡◌, ℕ, zero, suc, ◌+◌, ◌≤◌, subst, arith, Bool, true, false, List, [], ◌∷◌, map, refl, sym, ap, ◌∙◌, Some, None}
 use Rattle.std.specs.Prelude.{cond}
-use Rattle.std.specs.Option.{option_or}
 use Rattle.type_terms.specs.Label.{Sort, canonical, param, inside}
 use Rattle.type_terms.specs.Trees.{Trees, none, tree, leaf, ◌+++◌, nth, shift, instantiate, is_sort, outer_binder}
 use Rattle.type_terms.specs.Worlds.{Reference, with_args, all_with_args}
@@ -14,7 +13,6 @@ use Rattle.declarations.specs.Applied.{TraitRefsHeld, sort_of_param, sorts_of, S
 use Rattle.type_terms.specs.Kinds.{args_trees, arg_trees}
 use Rattle.type_terms.specs.declared.kinds.GenericArgKind.{GenericArgKind}
 use Rattle.term_folds.specs.Arguments.{sort_at, misfit, first_misfit}
-use Rattle.term_folds.specs.declared.instantiate.InstantiateError.{InstantiateError}
 use Rattle.term_folds.specs.declared.instantiate.InstantiateError.TheVariants.{ParamKind}
 use Rattle.infer_table.specs.declared.canonical.CanonicalVarKind.{CanonicalVarKind}
 use Rattle.infer_table.specs.Raw.{sort_of_kind, variables_from}
@@ -27,8 +25,9 @@ use Rattle.declarations.specs.Merges.{Each}
 use Rattle.term_folds.specs.declared.predicate.TraitRef.{TraitRef}
 use Rattle.evaluation.specs.Instances.{put_in}
 use Rattle.assembly_laws.specs.Candidates.{moved, rules_behind, impl_id}
-use Rattle.term_folds.proofs.ParamFacts.{tree-cong}
 use Rattle.candidate_assembly.specs.Headers.{var_kind}
+use Rattle.type_terms.proofs.TermBasics.{below-node as tree-cong}
+use Rattle.term_folds.proofs.TypeBasics.{left-none, right-none}
 
 -- the trees of values, one after the other
 abbrev joined : List Value → Trees
@@ -64,14 +63,6 @@ plus-zero n = omega arith
 
 plus-next : (n i : ℕ) → (n + 1) + i ≡ n + suc i
 plus-next n i = omega arith
-
-pub left-none : (a b : Option InstantiateError) → option_or a b ≡ None → a ≡ None
-left-none None b h = refl
-left-none (Some e) b h = cc
-
-pub right-none : (a b : Option InstantiateError) → option_or a b ≡ None → b ≡ None
-right-none None b h = h
-right-none (Some e) b h = absurd cc
 
 fits-sort : (s r : Sort) → misfit s (Some r) ≡ None → r ≡ s
 fits-sort s r h = by (is_sort s r) refl h

@@ -1,5 +1,5 @@
 -- Where-clauses of a goal, found by place.
-use Rattle.std.proofs.Common.{◌≡◌, ℕ, zero, suc, Bool, true, false, List, [], ◌∷◌, Some, None, refl, ap, subst}
+use Rattle.std.proofs.Common.{◌≡◌, ℕ, zero, suc, Bool, true, false, List, [], ◌∷◌, Some, None, refl, subst}
 use Rattle.std.specs.Prelude.{◌==◌, option_map, if◌then◌else◌}
 use Rattle.std.specs.List.{slice_get}
 use Rattle.type_terms.specs.Worlds.{World}
@@ -15,17 +15,9 @@ use Rattle.declarations.specs.Applied.{TraitRefsHeld}
 use Rattle.assembly_laws.specs.Facts.{clauses_of}
 use Rattle.assembly_laws.specs.Asking.{GoalOverKinds}
 use Rattle.assembly_laws.specs.Candidates.{Candidate, by_rule, by_clauses, clause_source, all_equal}
-use Rattle.candidate_assembly.specs.Clauses.{reference_of, with_reference, references_to}
+use Rattle.candidate_assembly.specs.Clauses.{with_reference, references_to}
 
 -- ---- one clause after the other
-pub known-next : (t n : ℕ) (c : Clause) (cs : List Clause) (r : TraitRef) → Some r ≡ reference_of t c → slice_get (references_to t cs) n ≡ slice_get (references_to t (c ∷ cs)) (suc n)
-known-next t n c cs r e = ap (λ o. slice_get (with_reference o (references_to t cs)) (suc n)) e
-
-pub other-next : (t n : ℕ) (c : Clause) (cs : List Clause) → None ≡ reference_of t c → slice_get (references_to t cs) n ≡ slice_get (references_to t (c ∷ cs)) n
-other-next t n c cs e = ap (λ o. slice_get (with_reference o (references_to t cs)) n) e
-
-pub first-known : (t : ℕ) (c : Clause) (cs : List Clause) (r : TraitRef) → Some r ≡ reference_of t c → Some r ≡ slice_get (references_to t (c ∷ cs)) 0
-first-known t c cs r e = ap (λ o. slice_get (with_reference o (references_to t cs)) 0) e
 
 -- ---- their terms
 pub references-held : (es : List Entry) (t : ℕ) (cs : List Clause) → ClausesHeld es cs → TraitRefsHeld es (references_to t cs)

@@ -24,7 +24,6 @@ use Rattle.declarations.proofs.Growth.{reference-same, args-same, all-written}
 use Rattle.assembly_laws.specs.Asking.{GoalOverKinds, goal_over_kinds, self_of}
 use Rattle.assembly_laws.specs.Candidates.{Candidate, by_impls, by_objects}
 use Rattle.assembly_laws.specs.Solver.{SolverPast, is_impl}
-use Rattle.candidate_assembly.proofs.Settled.{some-length}
 use Rattle.candidate_assembly.proofs.Counted.{shown-next}
 use Rattle.built_in_candidates.specs.Constituents.{StructIsApplied, CanBeConsidered}
 use Rattle.candidate_assembly.specs.Counted.{ForEachPast}
@@ -41,6 +40,7 @@ use Rattle.candidate_assembly.specs.Solving.{Solving, meaning_for, solver_for}
 use Rattle.built_in_candidates.specs.Unsizing.{CanUnsize}
 use Rattle.built_in_candidates.proofs.Asking.{asked-later}
 use Rattle.candidate_assembly.proofs.GoingOn.{walks-go-on}
+use Rattle.type_terms.proofs.NumberBasics.{some-length}
 
 -- ---- what candidates ask of a goal
 module _ (es : List Entry) (d : Items) (g : CanonicalInput) (h : IsWellPosedGoal es d g) where
@@ -124,9 +124,6 @@ second-of x y o e f = f ∙ ap (λ z. or_else z y) e
 -- ---- sections
 abbrev pub next_impl : World → GoalOverKinds → SolverPast → Option Candidate
 next_impl V a seen = slice_get (by_impls V a V.impls) (considered_from is_impl seen)
-
-abbrev pub impl_behind : World → GoalOverKinds → SolverPast → Option Candidate
-impl_behind V a seen = slice_get (by_impls V a (impls_above (last_impl seen) V.impls)) 0
 
 abbrev pub next_bound : World → GoalOverKinds → SolverPast → Option Candidate
 next_bound V a seen = slice_get (by_objects V a) (considered_from (is_bound (misc_is_bound a)) seen)

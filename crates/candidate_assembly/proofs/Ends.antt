@@ -32,6 +32,8 @@ use Rattle.candidate_assembly.specs.declared.merge.Sources.TheVariants.{All, Tri
 use Rattle.candidate_assembly.specs.Merging.{is_among, from_sources, end_in, clause_taken, IsEnd, MergesFrom, AreRemaining}
 use Rattle.candidate_assembly.specs.Shown.{first_yes, other_clauses, first_bound_gives_none}
 use Rattle.candidate_assembly.proofs.Shown.{holds, answers, same-filter, all-kept, bound, as_taken, taken_of, clauses_of, yes-shown, others-shown}
+use Rattle.type_terms.proofs.TypeBasics.{some-is}
+use Rattle.type_terms.proofs.BooleanBasics.{twice}
 
 pub ok-map : {A E : Type 0} (P Q : A → Type 0) → ((a : A) → P a → Q a) → (x : Result A E) → IfOk x P → IfOk x Q
 ok-map P Q f (Ok a) h = f a h
@@ -60,9 +62,6 @@ end-all es new ks done step m = λ seen h kind.
     ∙ ap (λ z. merge_or_flounder frame_tables applies_always same_answer (begin ks) (responses frame_tables z)) (all-kept seen))
 
 -- ---- where-clauses
-some-is : {A : Type 0} (x y : A) → Some x ≡ Some y → x ≡ y
-some-is x y e = cc
-
 pair-parts : (a c : Option AnswerTrees) (b d : ℕ) → ◌≡◌ {A = Option (Option AnswerTrees × ℕ)} (Some (a, b)) (Some (c, d)) → (a ≡ c) × (b ≡ d)
 pair-parts a c b d e = let p = some-is {A = Option AnswerTrees × ℕ} (a, b) (c, d) e in (ap (λ (z : Option AnswerTrees × ℕ). z.0) p, ap (λ (z : Option AnswerTrees × ℕ). z.1) p)
 
@@ -152,10 +151,6 @@ module _ (es new : List Entry) (ks : List CanonicalVarKind) (done : List InCode.
       else if holds_from is_non_global seen then clause_taken ks seen else kept_end ks remains seen)) (sym (sym (holds is_trivial es done seen h) ∙ e))
 
 -- ---- a bound that was met
-twice : (b : Bool) → not (not b) ≡ b
-twice true = refl
-twice false = refl
-
 pub bound-here : (es : List Entry) (done : List InCode.Considered) (i : ℕ) (x : InCode.Considered) (r : CanonicalResponse) (b total : Bool) → i < length done → x ≡ get_or done i x → is_object x.source ≡ true → x.result ≡ Some r
     → ConsideredFits es (drop i done) → first_bound_gives_none false (map (shown_by es) (drop i done)) ≡ total → b ≡ is_identity_modulo_regions 0 (values_of es r.var_values.items) → b ≡ total
 bound-here es done i x r b total lt is object here fits e q =

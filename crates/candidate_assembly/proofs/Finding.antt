@@ -23,6 +23,7 @@ use Rattle.infer_table.specs.declared.canonical.CanonicalVarKind.{CanonicalVarKi
 use Rattle.type_terms.proofs.Made.{false-true, left, right, no-tree, made-ordinary, last-bound, last-trait, never-dynamic, never-dynamic-bound, never-principal}
 use Rattle.evaluation.specs.Variables.{is_variable_over}
 use Rattle.candidate_assembly.specs.Finding.{BreaksAt, at_root, some_root, is_foreign, names_undeclared}
+use Rattle.type_terms.proofs.BooleanBasics.{behind-test, below-test, here-test, and-true, de-morgan}
 
 -- ---- a visit that breaks at some trees
 says-pass : (B : Type 0) (m : Bool) → BreaksAt {B = B} m Pass → ⊥
@@ -36,15 +37,6 @@ says-enter B false h = refl
 says-break : {B : Type 0} (m : Bool) (b : B) → BreaksAt m (Break b) → m ≡ true
 says-break true b h = refl
 says-break false b h = absurd h
-
-here-test : (p q r : Bool) → p ≡ true → true ≡ (p || q || r)
-here-test p q r h = rw h refl
-
-below-test : (p q r : Bool) → p ≡ false → true ≡ q → true ≡ (p || q || r)
-below-test p q r h k = rw (h, ← k) refl
-
-behind-test : (a p q r : Bool) → p ≡ false → false ≡ q → a ≡ r → a ≡ (p || q || r)
-behind-test a p q r h k e = rw (h, ← k) e
 
 -- one of the trees, each without those behind it, passes the test
 abbrev pub some_tree : (Trees → Bool) → Trees → Bool
@@ -69,16 +61,12 @@ visits-find {V = V} p (broken_below {l = l} {c = c} s a) =
     (i.0 ∙ s.0, below-test _ _ _ (says-enter _ _ s.1) (i.1 ∙ ap (λ (z : V). some_tree (p z) c) s.0))
 
 -- a test of labels
-some-at-root : (p : Label → Bool) (t : Trees) → some_tree (at_root p) t ≡ some_node p t
+pub some-at-root : (p : Label → Bool) (t : Trees) → some_tree (at_root p) t ≡ some_node p t
 some-at-root p none = refl
 some-at-root p (tree l c o) =
     ap (λ x. p l || x || some_tree (at_root p) o) (some-at-root p c) ∙ ap (λ x. p l || some_node p c || x) (some-at-root p o)
 
 -- ---- what is made, and holds nothing foreign
-de-morgan : (a b : Bool) → (not a && not b) ≡ not (a || b)
-de-morgan true b = refl
-de-morgan false b = refl
-
 two : (a b x y : Bool) → x ≡ not a → y ≡ not b → (x && y) ≡ not (a || b)
 two a b x y e f = ap (λ z. z && y) e ∙ ap (λ z. not a && z) f ∙ de-morgan a b
 
@@ -288,10 +276,6 @@ module _ (V : World) where
       by (tree dynamic c o) h = let e : of_type ≡ of_const = h.0 in absurd cc
       by (tree l c o) h = refl
 
-pub not-not : (b : Bool) → not (not b) ≡ b
-not-not true = refl
-not-not false = refl
-
 -- ---- terms one after the other
 module _ (good : Label → Bool) where
   regroup : (g s x a b : Bool) → (g && (s && (x && (a && b)))) ≡ ((g && (s && (x && a))) && b)
@@ -313,10 +297,6 @@ module _ (good : Label → Bool) where
   made-then (tree l c o) y =
       ap (λ z. good l && ((not (is_leaf_label l) || is_no_tree c) && (is_made good terms c && z))) (made-then o y)
       ∙ regroup (good l) (not (is_leaf_label l) || is_no_tree c) (is_made good terms c) (is_made good terms o) (is_made good terms y)
-
-  and-true : (b : Bool) → (b && true) ≡ b
-  and-true true = refl
-  and-true false = refl
 
   pub region-made : (k : RegionKind) → is_made good terms (leaf (region_label k)) ≡ good (region_label k)
   region-made ReStatic = and-true (good static)

@@ -16,13 +16,11 @@ use Rattle.assembly_laws.specs.Asking.{begins_with_type, begins_unknown, with_pl
 use Rattle.built_in_candidates.specs.FnPointers.{IsFirst}
 use Rattle.candidate_assembly.specs.Fitting.{type_fits}
 use Rattle.built_in_candidates.proofs.Pairs.{IsOneTree, arg-tree}
+use Rattle.type_terms.proofs.BooleanBasics.{true-false}
 
 -- an argument that is there
 pub first-is : (es : List Entry) (t : Trees) (o : Option GenericArgKind) (x y : GenericArgKind) → o ≡ Some x → x ≡ y → IsFirst es t o → IsFirst es t (Some y)
 first-is es t o x y e f h = subst (IsFirst es t) (e ∙ ap Some f) h
-
-true-false : true ≡ false → ⊥
-true-false e = cc
 
 -- it does not matter what stands behind the first tree
 module _ (F : Trees → Bool) (alone : (l : Label) (c o : Trees) → F (tree l c o) ≡ F (tree l c none)) where

@@ -21,9 +21,9 @@ use Rattle.assembly_laws.specs.Declared.{is_declared, are_terms}
 use Rattle.assembly_laws.specs.DeclaredWell.{IsDeclaredWell}
 use Rattle.assembly_laws.specs.Lifetimes.{lacks_lifetime, are_given, gives_lifetimes}
 use Rattle.candidate_assembly.proofs.Fitting.{second-part}
-use Rattle.candidate_assembly.proofs.Behind.{left-none, right-none}
 use Rattle.built_in_candidates.specs.Constituents.{AreArguments, StructIsApplied, HaveFields}
 use Rattle.built_in_candidates.specs.Unsizing.{TargetIsApplied}
+use Rattle.term_folds.proofs.TypeBasics.{left-none, right-none}
 
 neither : (a b c : Bool) → a ≡ false → b ≡ false → c ≡ false → a || b || c ≡ false
 neither false false c x y z = z

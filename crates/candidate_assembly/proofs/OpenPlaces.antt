@@ -9,6 +9,7 @@ use Rattle.type_terms.proofs.ScanFacts.{scan-tree}
 use Rattle.infer_table.specs.declared.canonical.CanonicalVarKind.{CanonicalVarKind}
 use Rattle.evaluation.specs.Variables.{is_variable_over}
 use Rattle.candidate_assembly.proofs.Finding.{foreign, foreign_label, made-over}
+use Rattle.type_terms.proofs.BooleanBasics.{join-tests}
 
 -- ---- an open place has one of these flags, and nothing else has
 open-flag : (l : Label) → is_open l ≡ has_flag 4095 l
@@ -32,9 +33,6 @@ open-flag (fn_ptr (suc n)) = refl
 open-flag (principal zero i) = refl
 open-flag (principal (suc n) i) = refl
 open-flag l = refl
-
-join-tests : (p q r p' q' r' : Bool) → p ≡ p' → q ≡ q' → r ≡ r' → (p || q || r) ≡ (p' || q' || r')
-join-tests p q r p' q' r' x y z = cc
 
 open-nodes : (t : Trees) → some_node is_open t ≡ some_node (has_flag 4095) t
 open-nodes none = refl

@@ -41,11 +41,11 @@ use Rattle.assembly_laws.proofs.Elaborating.{every-in}
 use Rattle.assembly_laws.proofs.LawfulCandidates.{asked-clauses}
 use Rattle.assembly_laws.proofs.Rows.{fields-declared}
 use Rattle.assembly_laws.proofs.Recording.{every-recorded}
-use Rattle.assembly_laws.proofs.Rowwise.{both-lists}
 use Rattle.goal_frames.proofs.RuleFitting.{rule-slots}
 use Rattle.candidate_assembly.proofs.Over.{ArePlain, declared-plain, goal-over, over-head, over-behind, over-plain-head, over-append, over-unsizing, AreOverSides, over-equal, over-reference}
 use Rattle.candidate_assembly.proofs.OverRows.{AreOverAll, AskOver, last-over, last-unsizes-over, sized-over, copy-over, auto-over, tuple-over, fn-ptr-over, principal-over, autos-over, to-dyn-over, elaborated-over, supertraits-over, but-last-over, unsizing-over}
 use Rattle.candidate_assembly.proofs.WellDeclared.{found, kind_for, kind-is, kinds-at, label-of, is-less}
+use Rattle.evaluation.proofs.Basics.{both-lists}
 
 -- ---- candidates
 -- the candidate's terms are over these variables

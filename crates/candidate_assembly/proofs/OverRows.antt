@@ -11,8 +11,8 @@ use Rattle.evaluation.specs.Lists.{Every}
 use Rattle.evaluation.specs.Fitting.{AreOver}
 use Rattle.declarations.specs.Elaboration.{elaborate, supertraits}
 use Rattle.assembly_laws.proofs.Elaborating.{every-flat, elaborated-so, supertraits-so}
-use Rattle.assembly_laws.proofs.Rowwise.{both-lists}
 use Rattle.candidate_assembly.proofs.Over.{ArePlain, over-head, over-append, over-instance}
+use Rattle.evaluation.proofs.Basics.{both-lists}
 
 module _ (V : World) (ls : List Label) (fields : (x : StructDecl) → In x V.structs → Every ArePlain x.fields) (bounds : (x : TraitDecl) → In x V.traits → (b : Reference) → In b x.bounds → ArePlain b.args) where
   abbrev pub AreOverAll : List Reference → Type 0

@@ -1,10 +1,8 @@
 -- The impls that can match a goal's reference, by heads and handles, are those that are considered for the goal.
-use Rattle.std.proofs.Common.{◌≡◌, Bool, true, false, cond, ◌&&◌, not, List, [], ◌∷◌, refl, ap, ◌∙◌}
+use Rattle.std.proofs.Common.{◌≡◌, Bool, true, false, cond, ◌&&◌, not, List, [], ◌∷◌, refl, ap}
 use Rattle.std.specs.Prelude.{◌==◌, filter, map}
-use Rattle.type_terms.specs.Label.{Label, param}
 use Rattle.type_terms.specs.Trees.{Trees, none, tree, erase, erase_label}
 use Rattle.type_terms.specs.Worlds.{ImplDecl}
-use Rattle.type_terms.specs.Rules.{same_head}
 use Rattle.type_terms.specs.Terms.{Entry, trees_at}
 use Rattle.term_folds.specs.Signatures.{StartsWithType}
 use Rattle.declarations.specs.Apart.{are_apart}
@@ -14,17 +12,7 @@ use Rattle.declarations.specs.Relevant as declared
 use Rattle.assembly_laws.specs.Asking.{GoalOverKinds, with_plain_head}
 use Rattle.assembly_laws.specs.Candidates.{is_relevant_to, can_match}
 use Rattle.candidate_assembly.specs.Headers.{matching_in}
-
-head-alone : (k m : Label) (c o d q : Trees) → same_head k (tree m c o) ≡ same_head k (tree m d q)
-head-alone k (param s i) c o d q = refl
-head-alone k m c o d q = refl
-
-label-is : (m n : Label) (c o d q : Trees) → tree m c o ≡ tree n d q → m ≡ n
-label-is m n c o d q h = cc
-
-plain-head : (k : Label) (H : Trees) → with_plain_head H ≡ H → same_head k (erase H) ≡ same_head k H
-plain-head k none h = refl
-plain-head k (tree m d q) h = head-alone k (erase_label m) (erase d) (erase q) d q ∙ ap (λ x. same_head k (tree x d q)) (label-is (erase_label m) m d q d q h)
+use Rattle.assembly_laws.proofs.Basics.{plain-head}
 
 same-relevance : (A H : Trees) → StartsWithType A → with_plain_head H ≡ H → declared.is_relevant_to (erase A) (erase H) ≡ is_relevant_to (with_plain_head A) H
 same-relevance none H s h = absurd s

@@ -1,6 +1,5 @@
 -- Whether a where-clause has settled a goal, read off what is shown of candidates.
-use Rattle.std.proofs.Common.{◌≡◌, ◌+◌, ◌<◌, ◌==◌, ℕ, suc, arith, Bool, true, false, ◌&&◌, ◌||◌, not, List, [], ◌∷◌, map, length, drop, get_or, reverse, refl, sym, ◌∙◌, ap, Some}
-use Rattle.std.proofs.lemmas.Bool.Decides.{nat_tests}
+use Rattle.std.proofs.Common.{◌≡◌, ◌+◌, ◌<◌, ◌==◌, ℕ, Bool, true, ◌&&◌, ◌||◌, not, List, [], ◌∷◌, map, length, drop, get_or, reverse, refl, sym, ◌∙◌, ap, Some}
 use Rattle.std.specs.List.{list_any}
 use Rattle.std.proofs.lemmas.List.{reverse-append}
 use Rattle.std.proofs.lemmas.List.Folds.{list_any-append}
@@ -18,13 +17,8 @@ use Rattle.evaluation.specs.TableAnswers.{has_values, IsWellFormed}
 use Rattle.evaluation.proofs.Filling.{same-values}
 use Rattle.evaluation.specs.StepReadings.{ShownCandidate, shown, shown_by, Shows}
 use Rattle.assembly_laws.specs.Solver.{SolverPast, is_non_global, says_nothing, is_settled}
-
-twice : (b : Bool) → not (not b) ≡ b
-twice true = refl
-twice false = refl
-
-pub some-length : (n : ℕ) → (suc n == 0) ≡ false
-some-length n = grind (arith, nat_tests)
+use Rattle.type_terms.proofs.NumberBasics.{some-length}
+use Rattle.type_terms.proofs.BooleanBasics.{turned, twice}
 
 no-constraint : (es : List Entry) (rs : List RegionConstraint) → (length rs == 0) ≡ is_no_tree (constraints_trees es rs)
 no-constraint es [] = refl
@@ -44,12 +38,6 @@ pub settled-here : (es : List Entry) (done : List InCode.Considered) (i : ℕ) (
 settled-here es done i x lt is h =
     ap (λ z. list_any settles_at (map (shown_by es) z)) (cut-at done i x lt ∙ ap (λ z. z ∷ drop (i + 1) done) (sym is))
     ∙ ap (λ b. b || list_any settles_at (map (shown_by es) (drop (i + 1) done))) h
-
-turned : (a b : Bool) → (a || (b || false)) ≡ b || a
-turned true true = refl
-turned true false = refl
-turned false true = refl
-turned false false = refl
 
 settled-shown : (seen : SolverPast) → list_any settles_at (reverse (map shown seen)) ≡ is_settled seen
 settled-shown [] = refl

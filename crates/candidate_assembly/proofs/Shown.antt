@@ -22,6 +22,8 @@ use Rattle.assembly_laws.specs.Solver.{SolverPast, from, is_clause, is_object, g
 use Rattle.candidate_assembly.proofs.Taken.{or-none}
 use Rattle.candidate_assembly.proofs.Counted.{shown-next}
 use Rattle.candidate_assembly.specs.Shown.{yes_of, clause_yes, first_yes, other_clauses, first_bound_gives_none}
+use Rattle.evaluation.proofs.TypeBasics.{map-else}
+use Rattle.type_terms.proofs.BooleanBasics.{turned}
 
 -- ---- whether some candidate from there holds
 module _ (P : CandidateSource → Bool) where
@@ -35,12 +37,6 @@ module _ (P : CandidateSource → Bool) where
   holds-read : (es : List Entry) (done : List InCode.Considered) → list_any (λ (d : InCode.Considered). P d.source && is_some d.result) done ≡ list_any holds_at (map (shown_by es) done)
   holds-read es [] = refl
   holds-read es (d ∷ done) = ap (λ b. (P d.source && b) || list_any (λ (d : InCode.Considered). P d.source && is_some d.result) done) (read-some es d.result) ∙ ap (λ b. holds_at (shown_by es d) || b) (holds-read es done)
-
-  turned : (a b : Bool) → (a || (b || false)) ≡ b || a
-  turned true true = refl
-  turned true false = refl
-  turned false true = refl
-  turned false false = refl
 
   holds-shown : (seen : SolverPast) → list_any holds_at (reverse (map shown seen)) ≡ holds_from P seen
   holds-shown [] = refl
@@ -128,10 +124,6 @@ as_taken x = (Some x.0, x.1)
 
 abbrev pub taken_of : Considered (workings frame_tables) → Option AnswerTrees × ℕ
 taken_of c = (c.response, c.number)
-
-map-else : {A B : Type 0} (f : A → B) (a b : Option A) → option_map f (or_else a b) ≡ or_else (option_map f a) (option_map f b)
-map-else f None b = refl
-map-else f (Some x) b = refl
 
 abbrev pub clauses_of : SolverPast → SolverPast
 clauses_of seen = filter (from is_clause) seen

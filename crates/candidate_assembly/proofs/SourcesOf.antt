@@ -14,9 +14,9 @@ use Rattle.assembly_laws.specs.Asking.{GoalOverKinds, self_of, next_of, begins_u
 use Rattle.assembly_laws.specs.Solver.{is_clause, is_non_global, is_impl}
 use Rattle.assembly_laws.specs.Candidates.{Candidate, unsure, all_equal, by_rule, clause_source, by_clauses, by_the_impl, can_match, by_impls, as_written, misc, if_so, by_sized, by_copy, by_auto, by_tuple, by_fn_ptr, call_of, by_call, unsize_array_of, upcast_source, upcasts_from, upcasts_to, upcasts_of, unsize_by_struct, unsize_struct_of, unsize_known, unsizing_outlives, unsize_recording, built_in, bounds_from, object_source, written_source, objects_of, by_objects}
 use Rattle.type_terms.proofs.Members.{same-number}
-use Rattle.assembly_laws.proofs.CandidateKinds.{every-append}
 use Rattle.assembly_laws.proofs.Recording.{every-recorded}
 use Rattle.candidate_assembly.specs.Sections.{begins_dyn, misc_is_bound, is_unknowable, is_built_in, is_bound, autos_of, sources_tell}
+use Rattle.evaluation.proofs.Basics.{every-append}
 
 -- ---- sources of different sections
 pub built-clause : (b : Bool) (s : CandidateSource) → is_built_in b s ≡ true → is_clause s ≡ false

@@ -28,11 +28,6 @@ module _ {A : Type 0} where
   same-rest : (x y : A) (xs ys : List A) → x ∷ xs ≡ y ∷ ys → xs ≡ ys
   same-rest x y xs ys h = cc
 
-  -- what is out of a section is not counted
-  pub none-counted : (p : A → Bool) (t : List A) → AreOut p t → count p t ≡ 0
-  none-counted p [] h = refl
-  none-counted p (x ∷ t) h = ap (λ b. length (cond b (x ∷ filter p t) (filter p t))) h.0 ∙ none-counted p t h.1
-
   pub all-left : (p : A → Bool) (t : List A) → AreOut p t → rest_of p t ≡ t
   all-left p [] h = refl
   all-left p (x ∷ t) h = ap (λ b. cond (not b) (x ∷ rest_of p t) (rest_of p t)) h.0 ∙ ap (λ l. x ∷ l) (all-left p t h.1)

@@ -1,5 +1,5 @@
 -- The step of a goal's frame: what comes next in each of its histories.
-use Rattle.std.proofs.Common.{◌≡◌, ℕ, zero, suc, Bool, true, false, not, ◌&&◌, ◌||◌, if◌then◌else◌, List, [], ◌∷◌, ◌++◌, map, refl, sym, ◌∙◌, ap, subst, Option, Some, None}
+use Rattle.std.proofs.Common.{◌≡◌, ℕ, zero, suc, Bool, true, false, not, ◌&&◌, ◌||◌, if◌then◌else◌, List, [], ◌∷◌, ◌++◌, refl, sym, ◌∙◌, ap, subst, Option, Some, None}
 use Rattle.std.specs.Prelude.{IfSome}
 use Rattle.std.specs.List.{slice_get}
 use Rattle.type_terms.specs.Worlds.{World}
@@ -47,6 +47,7 @@ use Rattle.candidate_assembly.specs.Solving.{meaning_for}
 use Rattle.candidate_assembly.proofs.Histories.{histories-tell}
 use Rattle.candidate_assembly.proofs.Over.{goal-over}
 use Rattle.candidate_assembly.proofs.OverCandidates.{all-fit, unknowable-fits}
+use Rattle.evaluation.proofs.Basics.{unmap}
 
 -- ---- what comes next
 module _ (es : List Entry) (d : Items) (g : CanonicalInput) where
@@ -87,10 +88,6 @@ module _ (es : List Entry) (d : Items) (g : CanonicalInput) where
     answers seen t e = ap (wanted frame_tables) (end-same seen) ∙ ap (λ o. or_end o (end seen)) e ∙ sym (next-is seen t)
 
 -- ---- candidates are over the goal's variables and their own
-unmap : {A B : Type 0} (P : B → Type 0) (f : A → B) (xs : List A) → Every P (map f xs) → Every (λ x. P (f x)) xs
-unmap P f [] h = tt
-unmap P f (x ∷ xs) h = (h.0, unmap P f xs h.1)
-
 is-over : (kinds : List CanonicalVarKind) (es : List Entry) (kind : Bool) (s : CandidateSpec) → IsOverSlots (slots_of kinds s.variables.items) (spec_read es kind s) → IsOver kinds es s
 is-over kinds es kind s h =
     let ls = slots_of kinds s.variables.items in

@@ -31,6 +31,8 @@ use Rattle.infer_table.proofs.SolutionLaws.{is_sort-equal}
 use Rattle.type_terms.proofs.Made.{left, right}
 use Rattle.assembly_laws.proofs.Headers.{child-some, next-some}
 use Rattle.candidate_assembly.specs.Headers.{var_kind, StandInHeader, CanBeCandidate, WellDeclaredHaveCandidates}
+use Rattle.type_terms.proofs.TermBasics.{sort-self as one-sort}
+use Rattle.type_terms.proofs.NumberBasics.{number-self as same-itself}
 
 -- ---- tests
 was-false : (x : Bool) → not x ≡ true → x ≡ false
@@ -78,20 +80,12 @@ none-passes p q f t h = by (some_node p t) refl
     by false e = refl
 
 -- ---- parameters
-one-sort : (s : Sort) → is_sort s s ≡ true
-one-sort of_type = refl
-one-sort of_const = refl
-one-sort of_lifetime = refl
-
 pub label-of : (s : Sort) (i : ℕ) (l : Label) → is_param s i l ≡ true → l ≡ param s i
 label-of s i (param r j) h =
     let first = is_sort-equal s r (left (is_sort s r) (i == j) h) in
     let second = same-number i j (right (is_sort s r) (i == j) h) in
     sym (ap (λ z. param z i) first ∙ ap (λ n. param r n) second)
 label-of s i l h = absurd cc
-
-same-itself : (i : ℕ) → (i == i) ≡ true
-same-itself i = grind (arith, nat_tests)
 
 pub itself : (s : Sort) (i : ℕ) → is_param s i (param s i) ≡ true
 itself s i = ap (λ b. b && (i == i)) (one-sort s) ∙ same-itself i

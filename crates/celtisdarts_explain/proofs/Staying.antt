@@ -2,10 +2,6 @@
 use Rattle.std.proofs.Common.{◌≡◌, ◌∙◌, ap, sym}
 use Rattle.sessions.specs.Promises.{view_in}
 use Rattle.sessions.specs.Subjects.{Subject, StaysOn}
-use Rattle.sessions.proofs.CheckedSubjects.{stays-on}
-
-pub stays_on : (a b c : Subject) → StaysOn a b → StaysOn b c → StaysOn a c
-stays_on a b c x y = stays-on a b c x y
 
 -- what a crate sees
 pub same-view : (a b : Subject) → StaysOn a b → view_in a.declarations a.of_crate ≡ view_in b.declarations b.of_crate

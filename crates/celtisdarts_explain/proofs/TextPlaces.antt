@@ -1,9 +1,8 @@
 -- Crates, checks and questions by their places.
-use Rattle.std.proofs.Common.{◌≡◌, ℕ, ◌+◌, ◌-◌, ◌<◌, Bool, List, map, length, get_or, Option, Some, None, refl, sym, ap, ◌∙◌, subst, arith}
+use Rattle.std.proofs.Common.{◌≡◌, ℕ, ◌+◌, ◌-◌, ◌<◌, Bool, List, map, length, get_or, Some, sym, ap, ◌∙◌, subst, arith}
 use Rattle.std.specs.List.{slice_get}
-use Rattle.std.specs.Option.{option_map}
 use Rattle.std.proofs.lemmas.List.{length-map}
-use Rattle.std.proofs.lemmas.Option.{same_Some, slice_get-get_or, slice_get-map}
+use Rattle.std.proofs.lemmas.Option.{slice_get-get_or, slice_get-map}
 use Rattle.type_terms.proofs.Lists as lists
 use Rattle.type_terms.specs.declared.CrateId.{CrateId}
 use Rattle.text_definitions.specs.Declarations.{Declarations, NamedCrate, Question}
@@ -12,10 +11,7 @@ use Rattle.workspace.specs.Views.{numbers_of, asked_of, asker_of, is_refute, che
 use Rattle.workspace.specs.declared.declared.Asked.{Asked}
 use Rattle.workspace.specs.declared.declared.Check.{Check}
 use Rattle.sessions.specs.Subjects.{Asks}
-
-pub mapped-some : {A B : Type 0} (f : A → B) (o : Option A) (y : B) → option_map f o ≡ Some y → (x : A) × (o ≡ Some x) × (f x ≡ y)
-mapped-some f None y e = absurd cc
-mapped-some f (Some x) y e = (x, refl, same_Some (f x) y e)
+use Rattle.type_terms.proofs.TypeBasics.{mapped-some}
 
 -- what an element becomes, an element of the other list becomes too
 pub same-at : {A B C : Type 0} (f : A → C) (g : B → C) (xs : List A) (ys : List B) → map f xs ≡ map g ys → (k : ℕ) (x : A) → slice_get xs k ≡ Some x → (y : B) × (slice_get ys k ≡ Some y) × (g y ≡ f x)

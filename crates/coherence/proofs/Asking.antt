@@ -5,7 +5,7 @@ use Rattle.std.proofs.Math.Seq.{take-append_seam}
 use Rattle.std.proofs.lemmas.List.{length-map}
 use Rattle.std.proofs.lemmas.Option.{same_Some}
 use Rattle.text_definitions.specs.Declarations.{Declarations, Question}
-use Rattle.text_definitions.specs.Text.{TextGives, fits, text_limit}
+use Rattle.text_definitions.specs.Text.{TextGives, text_limit}
 use Rattle.type_terms.specs.declared.CrateId.{CrateId}
 use Rattle.text_reader.specs.Behind.{FitsBehind, LinesBehindTexts, behind}
 use Rattle.text_reader.specs.Queries.{IsQueryLine}
@@ -29,6 +29,7 @@ use Rattle.coherence.specs.declared.ask_fault.AskFault.TheVariants as faults
 use Rattle.coherence.specs.declared.status.RunFault.{RunFault}
 use Rattle.coherence.specs.declared.status.RunFault.TheVariants as run_faults
 use Rattle.sessions.proofs.GivenTexts.{given-text}
+use Rattle.text_definitions.proofs.TypeBasics.{text-short}
 
 -- ---- the view of a crate, which no question is of
 view-asked : (d : Declarations) (q : Question) (c handles : ℕ) (v : SeenView) → IsViewOf d c handles v → IsViewOf (with_question d q) c handles v
@@ -95,9 +96,6 @@ last-of-output limit d q text h =
     (h.0, subst (λ n. IsAnswerOf limit e n h.0) place (of_question (length d.questions) q h.0 (last-there d.questions q) h.1), h.2)
 
 -- ---- what a line asks
-pub text-short : (bytes : List ℕ) (d : Declarations) → TextGives bytes (Ok d) → length bytes ≤ text_limit
-text-short bytes d (fits _ h g) = h
-
 pub length-fits : (d : Declarations) (n handles : ℕ) (view : Option SeenView) → Serves d n handles view → n ≤ text_limit
 length-fits d n handles view s = let (bytes, t, len) = s.text in omega (arith, len, text-short bytes d t)
 

@@ -2,8 +2,9 @@
 use Rattle.std.proofs.Common.{◌≡◌, ℕ, Bool, true, false, List, [], ◌∷◌, ◌++◌, refl, ap, ◌∙◌, codes}
 use Rattle.std.specs.Prelude.{if◌then◌else◌}
 use Rattle.type_terms.specs.Label.{Label, of_lifetime, fn_ptr, principal, param, placeholder, infer, canonical, bound, tuple, ref, raw_pointer}
-use Rattle.type_terms.specs.Trees.{Trees, none, tree, erase, erase_label, sort_of, is_sort, is_no_tree}
+use Rattle.type_terms.specs.Trees.{Trees, none, tree, erase, erase_label, sort_of, is_sort}
 use Rattle.text_definitions.specs.Output.{Names, texts, type_text, node_text, last_text, inputs, between, ends_in_unit, is_unit}
+use Rattle.type_terms.proofs.TermBasics.{erased-empty as erased-none}
 
 erased-sort : (l : Label) → sort_of (erase_label l) ≡ sort_of l
 erased-sort (fn_ptr n) = refl
@@ -14,10 +15,6 @@ erased-sort (infer of_lifetime i) = refl
 erased-sort (canonical of_lifetime i) = refl
 erased-sort (bound of_lifetime i j) = refl
 erased-sort l = refl
-
-erased-none : (t : Trees) → is_no_tree (erase t) ≡ is_no_tree t
-erased-none none = refl
-erased-none (tree l c o) = refl
 
 erased-unit : (l : Label) (c : Trees) → is_unit (erase_label l) (erase c) ≡ is_unit l c
 erased-unit tuple c = erased-none c

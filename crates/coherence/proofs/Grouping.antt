@@ -17,16 +17,6 @@ one-asker d b c n (q, e, f) (r, g, h) = sym f ∙ ap (λ (x : Question). x.asker
 pub one-checked : (d : Declarations) (b c n : ℕ) → IsCheckedIn d b n → IsCheckedIn d c n → b ≡ c
 one-checked d b c n (q, e, f) (r, g, h) = sym f ∙ ap (λ (x : Check). checked_crate x) (same_Some q r (sym e ∙ g)) ∙ h
 
--- no places
-pub none-yet : (Of : ℕ → Type 0) (places : List ℕ) → places ≡ [] → ArePlacesWhere 0 Of places
-none-yet Of places e = record {
-  only = λ i k h. absurd (nothing i k (subst (λ (ps : List ℕ). slice_get ps i ≡ Some k) e h));
-  all = λ k h a. absurd (omega arith);
-}
-  where
-    nothing : (i k : ℕ) → slice_get [] i ≡ Some k → ⊥
-    nothing i k h = cc
-
 -- one more, of this crate
 own-more : (Of : ℕ → Type 0) (n : ℕ) (ps : List ℕ) → ArePlacesWhere n Of ps → Of n → ArePlacesWhere (n + 1) Of (ps ++ n ∷ [])
 own-more Of n ps g a = record {

@@ -11,6 +11,8 @@ use Rattle.text_definitions.specs.Declarations.{Declarations}
 use Rattle.text_definitions.specs.Names.{struct_text, trait_text, text_at, param_texts, header_names}
 use Rattle.text_definitions.specs.Output.{Names, texts, type_text, node_text, last_text, inputs, between, ends_in_unit}
 use Rattle.overlap_check.specs.OpenedHeaders.{is_param, params_below, with_variables}
+use Rattle.type_terms.proofs.Made.{false-true as no-true}
+use Rattle.type_terms.proofs.TermBasics.{sort-self, sort-equal}
 
 -- ---- places in a filtered list
 abbrev passes : {A : Type 0} → (A → Bool) → Option A → Bool
@@ -47,29 +49,10 @@ mapped-at f (y ∷ ys) zero x e = ap Some (ap f (same_Some y x e))
 mapped-at f (y ∷ ys) (suc i) x e = mapped-at f ys i x e
 
 -- ---- parameters that stand in a header
-no-true : false ≡ true → ⊥
-no-true e = cc
-
 -- a type or const parameter stands there exactly where it is of the sort
 pub record KnowsParams (ps : List (List ℕ × Sort)) (h : Trees) : Type 0 where
   pub there : (s : Sort) (i : ℕ) → some_node (is_param s i) h ≡ true → (n : List ℕ) × (slice_get ps i ≡ Some (n, s))
   pub stands : (s : Sort) (i : ℕ) (n : List ℕ) → slice_get ps i ≡ Some (n, s) → is_sort s of_lifetime ≡ false → some_node (is_param s i) h ≡ true
-
-pub sort-self : (s : Sort) → is_sort s s ≡ true
-sort-self of_type = refl
-sort-self of_const = refl
-sort-self of_lifetime = refl
-
-pub sort-equal : (s r : Sort) → is_sort s r ≡ true → s ≡ r
-sort-equal of_type of_type h = refl
-sort-equal of_const of_const h = refl
-sort-equal of_lifetime of_lifetime h = refl
-sort-equal of_type of_const h = absurd cc
-sort-equal of_type of_lifetime h = absurd cc
-sort-equal of_const of_type h = absurd cc
-sort-equal of_const of_lifetime h = absurd cc
-sort-equal of_lifetime of_type h = absurd cc
-sort-equal of_lifetime of_const h = absurd cc
 
 module _ (ps : List (List ℕ × Sort)) (h : Trees) (knows : KnowsParams ps h) where
   stands-as : (s : Sort) → is_sort s of_lifetime ≡ false → (n : ℕ) → some_node (is_param s n) h ≡ passes (λ (p : List ℕ × Sort). is_sort p.1 s) (slice_get ps n)

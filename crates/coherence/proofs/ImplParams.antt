@@ -16,7 +16,9 @@ use Rattle.view_lowering.proofs.Tests.{is_good, all_stand, is_good_impl}
 use Rattle.view_lowering.specs.Plain.{plain, plain_label, all_kept}
 use Rattle.view_lowering.specs.Seen.{param_sorts}
 use Rattle.overlap_check.specs.OpenedHeaders.{is_param}
-use Rattle.coherence.proofs.HeaderNames.{KnowsParams, AllOk, sort-self, sort-equal, mapped-at}
+use Rattle.coherence.proofs.HeaderNames.{KnowsParams, AllOk, mapped-at}
+use Rattle.type_terms.proofs.TermBasics.{sort-self, sort-equal}
+use Rattle.type_terms.proofs.BooleanBasics.{same-three}
 
 -- ---- truth values
 or-all : (a b c : Bool) → a ≡ false → b ≡ false → c ≡ false → a || b || c ≡ false
@@ -112,9 +114,6 @@ label-kept of_const i v (infer of_lifetime j) = refl
 label-kept of_const i v (canonical of_lifetime j) = refl
 label-kept of_const i v (bound of_lifetime k j) = refl
 label-kept of_const i v l = refl
-
-same-three : {a b d x y z : Bool} → a ≡ x → b ≡ y → d ≡ z → (a || b || d) ≡ (x || y || z)
-same-three e f g = cc
 
 params-kept : (s : Sort) (i : ℕ) → is_sort s of_lifetime ≡ false → (t : Trees) → some_node (is_param s i) (erase t) ≡ some_node (is_param s i) t
 params-kept s i v none = refl

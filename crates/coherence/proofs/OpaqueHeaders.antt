@@ -6,6 +6,7 @@ use Rattle.type_terms.specs.Trees.{Trees, none, tree, erase, some_node}
 use Rattle.assembly_laws.proofs.PlainRules.{is_wild}
 use Rattle.view_lowering.specs.Plain.{plain, plain_label, all_kept, none_kept}
 use Rattle.coherence.specs.CheckAnswers.{asked_header}
+use Rattle.type_terms.proofs.BooleanBasics.{true-false as refuse}
 
 node : (l : Label) {c d o p : Trees} → c ≡ d → o ≡ p → tree l c o ≡ tree l d p
 node l e f = cc
@@ -15,9 +16,6 @@ all-no false false false h = (refl, refl, refl)
 all-no true b c h = absurd cc
 all-no false true c h = absurd cc
 all-no false false true h = absurd cc
-
-refuse : true ≡ false → ⊥
-refuse e = cc
 
 pub opaque-same : (t : Trees) → some_node is_wild (plain all_kept t) ≡ false → opaque (plain all_kept t) ≡ asked_header t
 opaque-same none h = refl

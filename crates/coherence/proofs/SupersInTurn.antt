@@ -8,6 +8,7 @@ use Rattle.type_terms.specs.Rules.{same_reference, elaborated, written_supertrai
 use Rattle.type_terms.proofs.Supertraits.{flat-same}
 use Rattle.declarations.specs.Elaboration.{is_put, new_of, pushed, off_stack, supertraits}
 use Rattle.coherence.specs.CheckAnswers.{supers_in_turn}
+use Rattle.type_terms.proofs.BooleanBasics.{either-deep}
 
 -- A reference's strict supertraits in turn.
 abbrev pub turns_of : World → Reference → List Reference
@@ -17,11 +18,6 @@ either-first : (a b c : Bool) → a || (b || c) ≡ b || (a || c)
 either-first true true c = refl
 either-first true false c = refl
 either-first false b c = refl
-
-either-deep : (a b c : Bool) → b || (a || c) ≡ (a || b) || c
-either-deep true true c = refl
-either-deep true false c = refl
-either-deep false b c = refl
 
 -- where an element stands does not matter
 any-moved : (p : Reference → Bool) (xs ys : List Reference) (x : Reference) → list_any p (xs ++ x ∷ ys) ≡ list_any p (x ∷ xs ++ ys)

@@ -1,10 +1,9 @@
 -- Lines, given one after the other, are those for the topics of a text.
-use Rattle.std.proofs.Common.{◌≡◌, ℕ, suc, ◌+◌, ◌-◌, ◌≤◌, ◌<◌, true, false, inl, inr, List, [], ◌∷◌, ◌++◌, length, map, take, Option, Some, Result, Ok, Err, refl, sym, ap, ◌∙◌, subst, arith}
+use Rattle.std.proofs.Common.{◌≡◌, ℕ, suc, ◌+◌, ◌-◌, ◌≤◌, true, false, inl, inr, List, [], ◌∷◌, ◌++◌, length, map, take, Option, Some, Result, Ok, Err, refl, sym, ap, ◌∙◌, subst, arith}
 use Rattle.std.specs.List.{flat_map, slice_get, range_with_len, enumerate_from, AllZip}
 use Rattle.std.proofs.lemmas.List.{length-append, length-map, take_all}
 use Rattle.std.proofs.lemmas.List.FromFn.{length-map-range_with_len, length-enumerate_from}
 use Rattle.std.proofs.lemmas.List.Folds.{flat_map-map}
-use Rattle.std.proofs.lemmas.Option.{slice_get_within}
 use Rattle.type_terms.proofs.Lists.{slice_get-append, slice_get-map}
 use Rattle.text_definitions.specs.Declarations.{Declarations}
 use Rattle.text_definitions.specs.Output.{Answer, answer_text, output_text}
@@ -123,16 +122,6 @@ module _ (limit : ℕ) (bytes : List ℕ) where
   pub some-lines : (t : Result Declarations (ℕ × ℕ)) → TextGives bytes t → (n : ℕ) (ls : List Answer) → FirstLines limit t n ls → (a b : Option (List ℕ)) → AppendsPrefix a b (flat_map output_text ls)
       → TellsSome limit bytes a b
   some-lines t g n ls p a b w = inr (flat_map output_text ls, (t, n, map answer_text ls, text-says bytes t g, told-lines t g n ls p, as-lines ls), w)
-
--- a line is one of them
-pub answer-within : (limit : ℕ) (t : Result Declarations (ℕ × ℕ)) (n : ℕ) (l : Answer) → IsAnswerAt limit t n l → n < line_count t
-answer-within limit (Ok d) n l is = by n l is
-  where
-    by : (m : ℕ) (a : Answer) → IsAnswerOf limit d m a → m < line_count (Ok d)
-    by _ _ (of_crate m v within h) = omega (arith, within)
-    by _ _ (of_check m x a at h) = omega (arith, slice_get_within d.checks m x at)
-    by _ _ (of_question m x a at h) = omega (arith, slice_get_within d.questions m x at)
-answer-within limit (Err f) n l is = omega (arith, is.0)
 
 -- where nothing is given and none has failed, all were
 pub all-given : (p : OutputProgress) → p.has_failed ≡ false → HasNoMore p → p.given ≡ line_count p.text

@@ -1,11 +1,10 @@
 -- References that are elaborated: what is declared of traits is read off handles.
 use Rattle.std.proofs.Common.{◌≡◌, ℕ, ◌<◌, ◌+◌, Bool, true, false, cond, List, [], ◌∷◌, ◌++◌, length, Some, None, refl, sym, ap, ◌∙◌, subst, ◌⊎◌, inl, inr}
 use Rattle.std.specs.Prelude.{◌==◌, map, IfSome}
-use Rattle.std.specs.List.{flat_map}
 use Rattle.std.proofs.lemmas.Option.{same_Some}
 use Rattle.type_terms.specs.Trees.{Trees, instantiate, outer_binder}
 use Rattle.type_terms.specs.Proofs.{In}
-use Rattle.type_terms.specs.Worlds.{World, Reference, TraitDecl, traits_named, with_args, all_with_args}
+use Rattle.type_terms.specs.Worlds.{World, Reference, TraitDecl, with_args, all_with_args}
 use Rattle.type_terms.specs.Rules.{written_supertraits, strict_supertraits}
 use Rattle.type_terms.proofs.Members.{here, there, in-cases, in-nothing, flat-in}
 use Rattle.type_terms.proofs.ProofEntries.{map-in}
@@ -25,7 +24,8 @@ use Rattle.declarations.proofs.Growth.{each-kept, references-kept, args-same, al
 use Rattle.declarations.proofs.Bounded.{all-same, all-put}
 use Rattle.declarations.proofs.Instances.{instance-closed, instance-sorts}
 use Rattle.declarations.proofs.Levels.{LeadDown, all-closed}
-use Rattle.declarations.proofs.Stacks.{missing, IsLeft, left-at-first, left-next, left-falls, left-nothing, pushed-append}
+use Rattle.declarations.proofs.Stacks.{missing, IsLeft, left-at-first, left-next, left-falls, pushed-append}
+use Rattle.declarations.proofs.Basics.{each-append, each-end, each-front}
 
 pub each-in : {A : Type 0} (P : A → Type 0) (xs : List A) → Each P xs → (x : A) → In x xs → P x
 each-in P [] h x i = absurd (in-nothing x i)
@@ -38,18 +38,6 @@ each-in P (y ∷ xs) h x i = by (in-cases x y xs i) (each-in P xs h.1 x)
 all-in : {A : Type 0} (P : A → Type 0) (xs : List A) → ((x : A) → In x xs → P x) → Each P xs
 all-in P [] h = tt
 all-in P (x ∷ xs) h = (h x (here x xs), all-in P xs (λ y i. h y (there y x xs i)))
-
-each-append : {A : Type 0} (P : A → Type 0) (xs ys : List A) → Each P xs → Each P ys → Each P (xs ++ ys)
-each-append P [] ys h g = g
-each-append P (x ∷ xs) ys h g = (h.0, each-append P xs ys h.1 g)
-
-each-front : {A : Type 0} (P : A → Type 0) (xs : List A) (x : A) → Each P (xs ++ x ∷ []) → Each P xs
-each-front P [] x h = tt
-each-front P (y ∷ xs) x h = (h.0, each-front P xs x h.1)
-
-each-end : {A : Type 0} (P : A → Type 0) (xs : List A) (x : A) → Each P (xs ++ x ∷ []) → P x
-each-end P [] x h = h.0
-each-end P (y ∷ xs) x h = each-end P xs x h.1
 
 -- ---- one trait
 -- what holds of each trait holds of the one that is found
@@ -108,18 +96,6 @@ bounds-applied old new d h r a def e rs are =
     let found = found-bounds old d h r.def_id.index def e in
     instances-applied old new d (trees_at old r.args.0) def.bounds.items rs a.closed (bounds-fit old d h r a def e)
     (each-kept (IsBoundOf old d h.rank found.0.index def) (IsApplied old d) (λ b g. g.applied) def.bounds.items found.1) are
-
-append-none : {A : Type 0} (xs : List A) → xs ++ [] ≡ xs
-append-none [] = refl
-append-none (x ∷ xs) = ap (λ l. x ∷ l) (append-none xs)
-
--- the written supertraits are the bounds of the only trait
-pub written-of-one : (es : List Entry) (d : Items) (r : TraitRef) (t : TraitDecl) → traits_named (written es d) r.def_id.index ≡ t ∷ []
-    → written_supertraits (written es d) (reference_in es r) ≡ all_with_args (trees_at es r.args.0) t.bounds
-written-of-one es d r t e = ap (flat_map (λ x. all_with_args (trees_at es r.args.0) x.bounds)) e ∙ append-none (all_with_args (trees_at es r.args.0) t.bounds)
-
-pub written-of-none : (es : List Entry) (d : Items) (r : TraitRef) → traits_named (written es d) r.def_id.index ≡ [] → [] ≡ written_supertraits (written es d) (reference_in es r)
-written-of-none es d r e = sym (ap (flat_map (λ x. all_with_args (trees_at es r.args.0) x.bounds)) e)
 
 -- ---- bounds lead down
 pub lead-down : (es : List Entry) (d : Items) (h : HaveBounds es d) → LeadDown (written es d) h.rank
@@ -308,20 +284,8 @@ module _ (es0 : List Entry) (d : Items) (references : List TraitRef) where
         (subst (λ l. length l + missing levels (put1 ++ added) < length (reference_in es1 next ∷ pushed stack1 []) + missing levels put1) (sym new-stack)
         (left-falls V levels put1 (pushed stack1 []) (reference_in es1 next) added closed (left1.among (reference_in es1 next) (here (reference_in es1 next) (pushed stack1 []))) added_is)))
 
-    pub next-is-held : ReferenceHeld es1 next
-    next-is-held = next_held
-
-    pub next-is-applied : IsApplied es1 d next
-    next-is-applied = each-end (IsApplied es1 d) mid.stack.items next old_applied
-
   pub popped-held : (es : List Entry) (e : Elaborator) (found rest : List TraitRef) (next : TraitRef) → Elaborates es e found → e.stack.items ≡ rest ++ next ∷ [] → ReferenceHeld es next
   popped-held es e found rest next h p = each-end (ReferenceHeld es) rest next (subst (TraitRefsHeld es) p h.stack_held)
 
   pub popped-applied : (es : List Entry) (e : Elaborator) (found rest : List TraitRef) (next : TraitRef) → Elaborates es e found → e.stack.items ≡ rest ++ next ∷ [] → IsApplied es d next
   popped-applied es e found rest next h p = each-end (IsApplied es d) rest next (subst (AreApplied es d) p h.stack_applied)
-
-  pub elaborates-last : (es : List Entry) (e : Elaborator) (found : List TraitRef) → Elaborates es e found → e.stack.items ≡ []
-      → references_in es found ≡ elaborate V (references_in es0 references)
-  elaborates-last es e found h s =
-      left-nothing V levels (references_in es e.visited.items) (references_in es found) (elaborate V (references_in es0 references))
-      (subst (λ l. IsLeft V levels (references_in es e.visited.items) (pushed (references_in es l) []) (references_in es found) (elaborate V (references_in es0 references))) s h.left)

@@ -14,9 +14,9 @@ use Rattle.declarations.specs.Items.{reference_in}
 use Rattle.declarations.specs.Held.{ReferenceHeld}
 use Rattle.declarations.specs.Elaboration.{is_put, new_of}
 use Rattle.declarations.specs.Applied.{references_in, TraitRefsHeld}
-use Rattle.declarations.specs.Stacked.{StacksUnseen}
 use Rattle.declarations.proofs.Bounded.{all-put}
 use Rattle.declarations.proofs.Stacks.{same-self, new-same, put-last}
+use Rattle.type_terms.proofs.ListBasics.{append-none}
 
 -- handles are equal exactly if their trees are
 numbers-tell : (es : List Entry) → Lawful es → (kind i j : ℕ) → Has es kind i → Has es kind j → (i == j) ≡ same (trees_at es i) (trees_at es j)
@@ -58,10 +58,6 @@ pub record Extending (es : List Entry) (references : List TraitRef) (old : Elabo
   pub visited : now.visited.items ≡ old.visited.items ++ added
   pub stack : now.stack.items ≡ old.stack.items ++ added
 
-append-none : {A : Type 0} (xs : List A) → xs ++ [] ≡ xs
-append-none [] = refl
-append-none (x ∷ xs) = ap (λ l. x ∷ l) (append-none xs)
-
 pub extending-first : (es : List Entry) (references : List TraitRef) (old : Elaborator) → TraitRefsHeld es references → TraitRefsHeld es old.visited.items → Extending es references old references old
 extending-first es references old h g = record {
   left_held = h;
@@ -72,15 +68,6 @@ extending-first es references old h g = record {
   are_new = refl;
   visited = sym (append-none old.visited.items);
   stack = sym (append-none old.stack.items);
-}
-
-pub extending-last : (es : List Entry) (references : List TraitRef) (old now : Elaborator) (left : List TraitRef) → left ≡ [] → Extending es references old left now → StacksUnseen es references old now
-extending-last es references old now left e h = record {
-  added = h.added;
-  among = h.among;
-  are_new = sym (append-none (references_in es h.added)) ∙ subst (λ l. references_in es h.added ++ new_of (references_in es now.visited.items) (references_in es l) ≡ new_of (references_in es old.visited.items) (references_in es references)) e h.are_new;
-  visited = h.visited;
-  stack = h.stack;
 }
 
 pub extending-known : (es : List Entry) (references : List TraitRef) (old now : Elaborator) (x : TraitRef) (left : List TraitRef)

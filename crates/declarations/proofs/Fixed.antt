@@ -7,6 +7,7 @@ use Rattle.type_terms.specs.Label.{Label, of_type, of_const, of_lifetime, static
 use Rattle.type_terms.specs.Trees.{Trees, none, tree, erase, erase_label, instantiate, flags, label_flags}
 use Rattle.type_terms.proofs.Members.{same-number}
 use Rattle.declarations.specs.Apart.{is_fixed}
+use Rattle.type_terms.proofs.TermBasics.{three}
 
 -- ---- a union without flags
 nothing-left : (x y : ℕ) → max x y ≡ 0 → x ≡ 0
@@ -39,9 +40,6 @@ no-flags t e = same-number (flags t) 0 e
 
 pub some-flag : (n : ℕ) → suc n ≡ zero → ⊥
 some-flag n e = cc
-
-pub three : {l m : Label} {c d o p : Trees} → l ≡ m → c ≡ d → o ≡ p → tree l c o ≡ tree m d p
-three e f g = cc
 
 -- ---- it stays
 pub fixed-label : (l : Label) → label_flags l ≡ 0 → erase_label l ≡ l

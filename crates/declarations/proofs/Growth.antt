@@ -18,13 +18,11 @@ use Rattle.declarations.specs.Merges.{Each}
 use Rattle.declarations.specs.Unsizing.{field_trees, unsizing_flags}
 use Rattle.declarations.specs.Items.{Items, HeldImpl, reference_in, struct_in, trait_in, impl_in, written, declared}
 use Rattle.declarations.specs.Held.{ReferenceHeld, StructHeld, TraitHeld, ImplHeld, AreHeld}
+use Rattle.type_terms.proofs.ListBasics.{next as joined}
 
 pub each-kept : {A : Type 0} (P Q : A → Type 0) → ((x : A) → P x → Q x) → (xs : List A) → Each P xs → Each Q xs
 each-kept P Q f [] h = tt
 each-kept P Q f (x ∷ xs) h = (f x h.0, each-kept P Q f xs h.1)
-
-joined : {A : Type 0} (x y : A) (xs ys : List A) → x ≡ y → xs ≡ ys → x ∷ xs ≡ y ∷ ys
-joined x y xs ys p q = cc
 
 read-same : {A B : Type 0} (P : A → Type 0) (f g : A → B) → ((x : A) → P x → f x ≡ g x) → (xs : List A) → Each P xs → map f xs ≡ map g xs
 read-same P f g e [] h = refl

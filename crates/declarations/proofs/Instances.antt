@@ -1,13 +1,13 @@
 -- Instances of trees: their sorts, and how far binder numbers lead out of them.
 use Rattle.std.proofs.Common.{◌≡◌, ℕ, zero, suc, ◌≤◌, max, Bool, true, false, cond, [], ◌∷◌, ◌++◌, Option, Some, None, refl, ap, ◌∙◌, arith}
-use Rattle.std.specs.Option.{option_or}
-use Rattle.type_terms.specs.Label.{Label, Sort, of_type, of_const, of_lifetime, inside, param, principal, fn_ptr, shift_label, bound}
+use Rattle.type_terms.specs.Label.{Label, Sort, inside, param, principal, fn_ptr, shift_label, bound}
 use Rattle.type_terms.specs.Trees.{Trees, none, tree, ◌+++◌, nth, shift, instantiate, sort_of, is_sort, outer_binder, own_binder, outside}
 use Rattle.type_terms.proofs.TreeLaws.{shift-closed, nth-binder}
 use Rattle.term_folds.specs.Arguments.{sort_at, misfit, first_misfit}
-use Rattle.term_folds.specs.declared.instantiate.InstantiateError.{InstantiateError}
 use Rattle.term_folds.specs.declared.instantiate.InstantiateError.TheVariants.{ParamKind}
 use Rattle.declarations.specs.Applied.{sorts_of}
+use Rattle.term_folds.proofs.TypeBasics.{left-none, right-none}
+use Rattle.type_terms.proofs.TermBasics.{same-sorts}
 
 -- ---- binders
 binder-append : (d : ℕ) (x y : Trees) → outer_binder x ≤ d → outer_binder y ≤ d → outer_binder (x +++ y) ≤ d
@@ -64,25 +64,6 @@ one-sort : (A : Trees) (i : ℕ) (s : Sort) → sort_at A i ≡ Some s → (d a 
 one-sort none i s e d a = absurd cc
 one-sort (tree l c o) zero s e d a = ap (λ r. r ∷ []) (shift-sort d a l) ∙ ap (λ r. r ∷ []) cc
 one-sort (tree l c o) (suc i) s e d a = one-sort o i s e d a
-
-same-sorts : (s r : Sort) → is_sort s r ≡ true → r ≡ s
-same-sorts of_type of_type h = refl
-same-sorts of_const of_const h = refl
-same-sorts of_lifetime of_lifetime h = refl
-same-sorts of_type of_const h = cc
-same-sorts of_type of_lifetime h = cc
-same-sorts of_const of_type h = cc
-same-sorts of_const of_lifetime h = cc
-same-sorts of_lifetime of_type h = cc
-same-sorts of_lifetime of_const h = cc
-
-left-none : (a b : Option InstantiateError) → option_or a b ≡ None → a ≡ None
-left-none None b h = refl
-left-none (Some e) b h = cc
-
-right-none : (a b : Option InstantiateError) → option_or a b ≡ None → b ≡ None
-right-none None b h = h
-right-none (Some e) b h = absurd cc
 
 fitting-sort : (s : Sort) (o : Option Sort) → misfit s o ≡ None → o ≡ Some s
 fitting-sort s None h = cc

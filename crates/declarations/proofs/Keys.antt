@@ -31,6 +31,7 @@ use Rattle.declarations.specs.declared.heads.ImplKey.TheVariants.{Headed, Open, 
 use Rattle.declarations.specs.Heads.{label_of, same_self}
 use Rattle.declarations.specs.Index.{ids_in, is_head, is_key, listed}
 use Rattle.declarations.proofs.Lookups.{lookup-agree, one-number}
+use Rattle.type_terms.proofs.BooleanBasics.{and-both}
 
 and-true : (b : Bool) → b ≡ (b && true)
 and-true true = refl
@@ -116,10 +117,6 @@ pub key-tells : (h k : ImplHead) → key.eq h k ≡ is_head h k
 key-tells h k = ap (λ t. (h.trait_id.index == k.trait_id.index) && t) (self-tells h.self_ty k.self_ty)
 
 -- ---- equal keys list the same
-and-both : (a b : Bool) → (a && b) ≡ true → (a ≡ true) × (b ≡ true)
-and-both true b h = (refl, h)
-and-both false b h = absurd cc
-
 same-self-sound : (a b : Option Label) → same_self a b ≡ true → a ≡ b
 same-self-sound None None h = refl
 same-self-sound None (Some m) h = absurd cc

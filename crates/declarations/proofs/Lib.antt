@@ -1,3 +1,5 @@
+pub mod TypeBasics
+pub mod Basics
 pub mod Lookups
 pub mod Keys
 pub mod Merging

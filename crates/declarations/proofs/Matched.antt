@@ -3,7 +3,7 @@ use Rattle.std.proofs.Common.{◌≡◌, ℕ, Bool, true, false, ◌&&◌, ◌||
 use Rattle.std.specs.Prelude.{◌==◌, map, filter}
 use Rattle.std.specs.Option.{option_map}
 use Rattle.type_terms.specs.Label.{Label}
-use Rattle.type_terms.specs.Trees.{Trees, none, tree, nth, erase}
+use Rattle.type_terms.specs.Trees.{Trees, none, tree, erase}
 use Rattle.type_terms.specs.Codes.{same}
 use Rattle.type_terms.proofs.Applies.{same-complete}
 use Rattle.type_terms.proofs.Made.{false-true}
@@ -197,8 +197,3 @@ module _ (es : List Entry) (law : Lawful es) (r : TraitRef) (held : ReferenceHel
 
   pub fixed-matching : (d : Items) → AreHeld es d → names_of (ids_of can_meet d.impls) ≡ matches_in es d (reference_in es r)
   fixed-matching d h = matched es r.def_id.index asked can_meet d.impls (each-fixed d.impls h.impls h.heads h.fixed)
-
--- the head of the self type is that of the arguments
-pub head-of-self : (A : Trees) → StartsWithType A → head_of (nth A 0) ≡ head_of A
-head-of-self none s = absurd s
-head-of-self (tree l c o) s = refl

@@ -1,6 +1,5 @@
 -- Whether trees can become one, node by node and argument by argument.
 use Rattle.std.proofs.Common.{◌≡◌, ℕ, zero, suc, Bool, true, false, ◌&&◌, ◌||◌, not, List, [], ◌∷◌, length, Option, Some, None, refl, sym, ap, ◌∙◌, arith}
-use Rattle.std.proofs.lemmas.Bool.Decides.{nat_tests}
 use Rattle.std.specs.Prelude.{◌==◌, if◌then◌else◌}
 use Rattle.std.specs.Cmp.Lexicographic.{pointwise}
 use Rattle.type_terms.specs.Label.{Label, of_type, of_const, of_lifetime, static, fn_ptr, auto_trait, value, principal, param, placeholder, infer, canonical, bound, predicate}
@@ -33,12 +32,11 @@ use Rattle.term_folds.specs.Arguments.{arg_sort}
 use Rattle.declarations.specs.Apart.{has_parts, tops_may_meet, may_meet, are_apart, is_fixed, levels}
 use Rattle.declarations.specs.Heads.{is_rigid, head_of}
 use Rattle.declarations.specs.Tops.{top_is_open}
+use Rattle.type_terms.proofs.BooleanBasics.{and-false, and-true}
+use Rattle.type_terms.proofs.TypeBasics.{region-sort, some-not-none}
+use Rattle.type_terms.proofs.NumberBasics.{some-length as some-items}
 
 -- ---- tests
-pub and-true : (b : Bool) → (b && true) ≡ b
-and-true true = refl
-and-true false = refl
-
 both : (a b : Bool) → a ≡ true → b ≡ true → (a && b) ≡ true
 both true true h g = refl
 both true false h g = g
@@ -47,9 +45,6 @@ both false b h g = h
 true-or : (b : Bool) → true ≡ (b || true)
 true-or true = refl
 true-or false = refl
-
-some-not-none : (l : Label) → Some l ≡ None → ⊥
-some-not-none l e = cc
 
 -- ---- labels
 sort-erased : (l : Label) → sort_of (erase_label l) ≡ sort_of l
@@ -152,9 +147,6 @@ none-right : (n : ℕ) (x v : Trees) → Single x → may_meet (suc n) (x +++ v)
 none-right n none v s = absurd s
 none-right n (tree l c o) v s = refl
 
-some-items : (n : ℕ) → (suc n == 0) ≡ false
-some-items n = grind (arith, nat_tests)
-
 pub no-items : {A : Type 0} (xs : List A) → length xs ≡ 0 → xs ≡ []
 no-items [] h = refl
 no-items (x ∷ xs) h = absurd (omega arith)
@@ -205,18 +197,7 @@ module _ (es : List Entry) (law : Lawful es) (n : ℕ) where
       parted n (trees_at es t) (trees_at es u) (trees_at es i) (trees_at es j) (type-is-one es law t h) (type-is-one es law u g)
       ∙ ap (λ z. may_meet (suc n) (trees_at es t) (trees_at es u) && z) e
 
-pub and-false : (b : Bool) → false ≡ (b && false)
-and-false true = refl
-and-false false = refl
-
 -- ---- constants
-pub values-meet : (n a b : ℕ) → (a == b) ≡ may_meet (suc n) (leaf (value a)) (leaf (value b))
-values-meet n a b = by (a == b)
-  where
-    by : (x : Bool) → x ≡ (((x && true) && true) && true)
-    by true = refl
-    by false = refl
-
 pub const-open : (k : ConstKind) → ((v : _) → k ≡ CValue v → ⊥) → true ≡ is_open (const_label k)
 const-open (CValue n) h = absurd (h n refl)
 const-open (CParam i) h = refl
@@ -228,26 +209,7 @@ const-open (CInfer v) h = refl
 pub open-leaf-left : (n : ℕ) (l m : Label) → true ≡ is_open l → true ≡ may_meet (suc n) (leaf l) (leaf m)
 open-leaf-left n l m h = sym (alone n l m none none ∙ open-left l m (may_meet n none none) (sym h))
 
-pub open-leaf-right : (n : ℕ) (l m : Label) → true ≡ is_open m → true ≡ may_meet (suc n) (leaf l) (leaf m)
-open-leaf-right n l m h = sym (alone n l m none none ∙ open-right l m (may_meet n none none) (sym h))
-
 -- ---- lifetimes
-pub region-open : (k : RegionKind) → (k ≡ ReStatic → ⊥) → true ≡ is_open (region_label k)
-region-open ReStatic h = absurd (h refl)
-region-open (ReEarlyParam i) h = refl
-region-open (RePlaceholder i) h = refl
-region-open (ReBound (KBinder k) v) h = refl
-region-open (ReBound KCanonical v) h = refl
-region-open (ReVar v) h = refl
-
-region-sort : (k : RegionKind) → sort_of (region_label k) ≡ of_lifetime
-region-sort ReStatic = refl
-region-sort (ReEarlyParam i) = refl
-region-sort (RePlaceholder i) = refl
-region-sort (ReBound (KBinder k) v) = refl
-region-sort (ReBound KCanonical v) = refl
-region-sort (ReVar v) = refl
-
 region-tops : (k j : RegionKind) (b : Bool) → tops_may_meet (region_label k) (region_label j) b ≡ true
 region-tops ReStatic ReStatic b = refl
 region-tops ReStatic (ReEarlyParam i) b = refl
@@ -287,19 +249,6 @@ before-lifetimes (suc n) r s (tree l c o) none =
 before-lifetimes (suc n) r s (tree l c o) (tree m d p) = ap (λ z. tops_may_meet l m (may_meet n c d) && z) (before-lifetimes (suc n) r s o p)
 
 -- ---- the bounds of a `dyn`
-principals-meet : (k l i j : ℕ) (b : Bool) → tops_may_meet (principal k i) (principal l j) b ≡ ((i == j) && b)
-principals-meet k l i j b = by (i == j)
-  where
-    by : (x : Bool) → ((x && true) && b) ≡ (x && b)
-    by true = refl
-    by false = refl
-
-pub one-principal : (n k l i j : ℕ) (x y : Trees) → (i == j) ≡ true → may_meet (suc n) (tree (principal k i) x none) (tree (principal l j) y none) ≡ may_meet n x y
-one-principal n k l i j x y e = alone n (principal k i) (principal l j) x y ∙ principals-meet k l i j (may_meet n x y) ∙ ap (λ z. z && may_meet n x y) e
-
-pub two-principals : (n k l i j : ℕ) (x y : Trees) → (i == j) ≡ false → may_meet (suc n) (tree (principal k i) x none) (tree (principal l j) y none) ≡ false
-two-principals n k l i j x y e = alone n (principal k i) (principal l j) x y ∙ principals-meet k l i j (may_meet n x y) ∙ ap (λ z. z && may_meet n x y) e
-
 pub autos-meet : (n : ℕ) (xs ys : List TraitId) → may_meet (suc n) (autos_trees xs) (autos_trees ys) ≡ pointwise trait.eq xs ys
 autos-meet n [] [] = refl
 autos-meet n [] (y ∷ ys) = refl
@@ -403,9 +352,6 @@ open-top x (l, c, e, r) h = by (is_open l) refl ∙ ap top_is_open (sym e)
     by true o = sym o
     by false o = let bad : true ≡ false = sym (r ∙ ap not o) ∙ closed in absurd cc
 
-pub closed-top : (x : Trees) (a : Label) → IsTypeNode x → Some a ≡ head_of x → false ≡ top_is_open x
-closed-top x a (l, c, e, r) h = sym (rigid-closed l (head-is l a c none (ap head_of (sym e) ∙ sym h)).0) ∙ ap top_is_open (sym e)
-
 pub open-meets-left : (n : ℕ) (x y : Trees) → IsTypeNode x → IsTypeNode y → None ≡ head_of x → may_meet (suc n) x y ≡ true
 open-meets-left n x y (l, c, e, r) (m, d, f, q) h =
     ap (λ z. may_meet (suc n) z y) e ∙ ap (λ z. may_meet (suc n) (tree l c none) z) f
@@ -471,11 +417,3 @@ fixed-apart x y h u = by (is_fixed x) (is_fixed y) (same x y) (not (may_meet lev
     by true true false m h e = refl
     by true false s m h e = absurd (false-true h)
     by false g s m h e = absurd (false-true h)
-
-pub levels-tell : (x y : Trees) → (is_fixed x && is_fixed y) ≡ false → not (may_meet levels x y) ≡ are_apart x y
-levels-tell x y h = by (is_fixed x) (is_fixed y) (same x y) (not (may_meet levels x y)) h
-  where
-    by : (f g s m : Bool) → (f && g) ≡ false → m ≡ ((f && (g && not s)) || m)
-    by true true s m h = absurd (false-true (sym h))
-    by true false s m h = refl
-    by false g s m h = refl

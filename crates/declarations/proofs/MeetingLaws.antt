@@ -5,15 +5,10 @@ use Rattle.type_terms.specs.Trees.{Trees, none, tree, ◌+++◌, Single, erase, 
 use Rattle.type_terms.specs.Codes.{same, same_label}
 use Rattle.type_terms.specs.Answers.{is_open}
 use Rattle.type_terms.proofs.TreeLaws.{single-nth, single-shift}
-use Rattle.type_terms.proofs.Applies.{same-complete, same-label-itself}
+use Rattle.type_terms.proofs.Applies.{same-label-itself}
 use Rattle.declarations.specs.Apart.{is_fixed, has_parts, tops_may_meet, may_meet, levels, are_apart}
-use Rattle.declarations.proofs.Fixed.{no-flags, fixed-instance}
-
-false-true : false ≡ true → ⊥
-false-true e = cc
-
-both : (x y : Bool) → x ≡ true → y ≡ true → x && y ≡ true
-both x y p q = rw (p, q) refl
+use Rattle.type_terms.proofs.Made.{false-true}
+use Rattle.type_terms.proofs.BooleanBasics.{both}
 
 first-of-both : (x y : Bool) → x && y ≡ true → x ≡ true
 first-of-both true y e = refl
@@ -204,10 +199,3 @@ may-be-one x y e = record {
     so k true q = refl
     so true false q = q
     so false false q = q
-
--- headers with a common instance are not apart
-pub headers-meet : (A B x y : Trees) → instantiate zero A x ≡ instantiate zero B y → are_apart x y ≡ false
-headers-meet A B x y e = not-apart x y record {
-  one = λ f g. same-complete x y (sym (fixed-instance zero A x (no-flags x f)) ∙ e ∙ fixed-instance zero B y (no-flags y g));
-  levels_meet = meet (λ d. instantiate d A) (λ d. instantiate d B) (instantiate-reads A) (instantiate-reads B) levels zero zero x y e;
-}

@@ -30,6 +30,7 @@ use Rattle.type_terms.specs.Erased.{erased_struct, erased_trait, erased_impl}
 use Rattle.declarations.specs.Inside.{impl_of}
 use Rattle.declarations.proofs.Lookups.{turned, one-number}
 use Rattle.declarations.proofs.Merging.{rises-pushed}
+use Rattle.type_terms.proofs.BooleanBasics.{and-false, or-false}
 
 numbers-turned : (x y : ℕ × (ℕ × (ℕ × ℕ))) → same_numbers x y ≡ same_numbers y x
 numbers-turned (a, (b, (c, d))) (e, (f, (g, h))) =
@@ -59,13 +60,6 @@ ids-pushed p (y ∷ ys) x = by (p y) (p x) (ids-pushed p ys x)
     by false false r = r
 
 -- ---- the keys of an impl
-or-false : (b : Bool) → (b || false) ≡ b
-or-false true = refl
-or-false false = refl
-
-and-false : (b : Bool) → false ≡ (b && false)
-and-false true = refl
-and-false false = refl
 
 and-true : (b : Bool) → b ≡ (b && true)
 and-true true = refl

@@ -7,9 +7,8 @@ use Rattle.type_terms.proofs.Members.{here, there, in-nothing, in-cases, self-nu
 use Rattle.declarations.specs.Elaboration.{is_put, new_of, pushed, off_stack, all_levels, elaborate}
 use Rattle.type_terms.specs.Trees.{Trees, none, tree}
 use Rattle.type_terms.specs.Codes.{same, same_label, numbers, same_numbers}
-
-true-false : true ≡ false → ⊥
-true-false e = cc
+use Rattle.declarations.proofs.Basics.{length-pushed, put-move}
+use Rattle.type_terms.proofs.BooleanBasics.{true-false}
 
 same-numbers-self : (x : ℕ × (ℕ × (ℕ × ℕ))) → same_numbers x x ≡ true
 same-numbers-self (a, (b, (c, d))) = let p = self-number a in let q = self-number b in let r = self-number c in let s = self-number d in rw (p, q, r, s) refl
@@ -60,17 +59,6 @@ missing-less (x ∷ xs) b r i e = by (in-cases r x xs i) (λ j. missing-less xs 
         this (same_reference x r) (is_put x b) (subst (λ z. same_reference z r ≡ true) (sym q) (same-one r)) (subst (λ z. is_put z b ≡ false) (sym q) e) (missing-fewer xs b r)
     by (inr j) go = later (same_reference x r) (is_put x b) (go j)
 
--- the order in which references were put does not matter
-put-move : (x r : Reference) (ys b : List Reference) → is_put x (r ∷ (ys ++ b)) ≡ is_put x (ys ++ (r ∷ b))
-put-move x r [] b = refl
-put-move x r (y ∷ ys) b = swap (same_reference x r) (same_reference x y) (is_put x (ys ++ b)) ∙ ap (λ z. same_reference x y || z) (put-move x r ys b)
-  where
-    swap : (p q z : Bool) → p || (q || z) ≡ q || (p || z)
-    swap true true z = refl
-    swap true false z = refl
-    swap false true z = refl
-    swap false false z = refl
-
 -- each new one was missing
 pub new-fewer : (xs before rs : List Reference) → ((x : Reference) → In x rs → In x xs) → length (new_of before rs) + missing xs (new_of before rs ++ before) ≤ missing xs before
 new-fewer xs before [] h = omega arith
@@ -95,10 +83,6 @@ new-in before (r ∷ rs) x i = by (is_put r before) i (λ j. new-in before rs x 
     by : (b : Bool) → In x (if b then new_of before rs else r ∷ new_of (r ∷ before) rs) → (In x (new_of before rs) → In x rs) → (In x (new_of (r ∷ before) rs) → In x rs) → In x (r ∷ rs)
     by true j f g = there x r rs (f j)
     by false j f g = elim (in-cases x r (new_of (r ∷ before) rs) j) [ inl q ↦ subst (λ z. In z (r ∷ rs)) q (here r rs) | inr k ↦ there x r rs (g k) ]
-
-pub length-pushed : (rs stack : List Reference) → length (pushed rs stack) ≡ length rs + length stack
-length-pushed [] stack = omega arith
-length-pushed (r ∷ rs) stack = let h = length-pushed rs (r ∷ stack) in h ∙ omega arith
 
 pub pushed-in : (rs stack : List Reference) (x : Reference) → In x (pushed rs stack) → In x rs ⊎ In x stack
 pushed-in [] stack x i = inr i
@@ -251,15 +235,3 @@ left-falls V xs put stack r new closed i e =
     = missing-same xs (put ++ new) (new_of put (written_supertraits V r) ++ put) (λ x. put-all-last x put new ∙ ap (λ l. is_put x (l ++ put)) e) in
     let count : length new ≡ length (new_of put (written_supertraits V r)) = ap length e in
     omega (arith, fewer, long, same, count)
-
--- where the stack is empty all of it was found
-pub left-nothing : (V : World) (xs put found all : List Reference) → IsLeft V xs put [] found all → found ≡ all
-left-nothing V xs put found all h = by h.fuel h.joins
-  where
-    append-none : (ys : List Reference) → ys ++ [] ≡ ys
-    append-none [] = refl
-    append-none (y ∷ ys) = ap (λ z. y ∷ z) (append-none ys)
-
-    by : (n : ℕ) → found ++ off_stack n V h.before [] ≡ all → found ≡ all
-    by zero f = sym (append-none found) ∙ f
-    by (suc n) f = sym (append-none found) ∙ f

@@ -10,6 +10,7 @@ use Rattle.type_terms.specs.Pieces.{one_piece}
 use Rattle.type_terms.specs.Visits.{Visits, ended, passed, broken, entered, broken_below, VisitsEach, ended_each, next_each, broken_each}
 use Rattle.declarations.specs.declared.unsizing.ParamFinder.{ParamFinder}
 use Rattle.declarations.specs.Unsizing.{looked_for, unsizing_flags}
+use Rattle.type_terms.proofs.ListBasics.{pushed-length}
 
 abbrev Sees : List ℕ → Trees → ParamFinder → ParamFinder → Seen (Unit {0}) → Type 0
 Sees bs t v w a = (w ≡ v) × (a ≡ looked_for v.index t)
@@ -116,10 +117,6 @@ flags-erased : (fs : List Trees) (n : ℕ) → unsizing_flags (map erase fs) n �
 flags-erased fs zero = refl
 flags-erased fs (suc n) = ap (λ l. l ++ is_unsizing (map erase fs) n ∷ []) (flags-erased fs n) ∙ ap (λ b. unsizing_flags fs n ++ b ∷ []) (unsizing-erased n fs)
 
-pushed-length : (bs : List Bool) (b : Bool) → length (bs ++ b ∷ []) ≡ suc (length bs)
-pushed-length [] b = refl
-pushed-length (c ∷ bs) b = ap suc (pushed-length bs b)
-
 flags-length : (fs : List Trees) (n : ℕ) → length (unsizing_flags fs n) ≡ n
 flags-length fs zero = refl
 flags-length fs (suc n) = pushed-length (unsizing_flags fs n) (is_unsizing fs n) ∙ ap suc (flags-length fs n)
@@ -128,10 +125,3 @@ pub flags-told : (fs : List Trees) (n : ℕ) (bs : List Bool) → bs ≡ unsizin
 flags-told fs n bs h = h ∙ sym (flags-erased fs n) ∙ ap (unsizing_flags (map erase fs)) (sym (flags-length fs n) ∙ ap length (sym h))
 
 -- ---- a field that is not the last
-pub not-last : (i : ℕ) (f : Trees) (fs : List Trees) → (length fs ≡ 0 → ⊥) → some_node (is_parameter i) f ≡ false → is_unsizing (f ∷ fs) i ≡ is_unsizing fs i
-not-last i f [] n h = absurd (n refl)
-not-last i f (g ∷ fs) n h = ap (λ b. not b && is_unsizing (g ∷ fs) i) h
-
-pub met-early : (i : ℕ) (f : Trees) (fs : List Trees) → (length fs ≡ 0 → ⊥) → some_node (is_parameter i) f ≡ true → is_unsizing (f ∷ fs) i ≡ false
-met-early i f [] n h = absurd (n refl)
-met-early i f (g ∷ fs) n h = ap (λ b. not b && is_unsizing (g ∷ fs) i) h

@@ -21,7 +21,7 @@ use Rattle.infer_table.specs.declared.certainty.Certainty.{Certainty}
 use Rattle.infer_table.specs.declared.certainty.Certainty.TheVariants.{Yes, Maybe}
 use Rattle.infer_table.specs.declared.certainty.MaybeCause.TheVariants.{Ambiguity, Overflow}
 use Rattle.infer_table.specs.Raw.{variables_from, variable_value}
-use Rattle.infer_table.proofs.SolutionLaws.{is_sort-equal as is-sort, is_sort-self}
+use Rattle.infer_table.proofs.SolutionLaws.{is_sort-equal as is-sort}
 use Rattle.evaluation.specs.Content.{Values, ChosenTerms, standing, reading_of}
 use Rattle.evaluation.specs.FrameTables.{is_good, FrameTable, AllowsApart, FitPlaceholders, HaveValues, IsOwn, AreOwn, label_at}
 use Rattle.evaluation.specs.TableAnswers.{is_variable_itself, are_variables, has_values, picked, IsPicked, ArePicked, IsInstanceOfAnswer, own_labels, own_values, joined, answer_leaves, numbered, value_numbered, respond}
@@ -30,6 +30,8 @@ use Rattle.evaluation.proofs.Reading.{append-none, read-leaf, EachLabel, Carries
 use Rattle.evaluation.proofs.TableBeginning.{node_of, node-is}
 use Rattle.evaluation.proofs.Questions.{place-is-a, reading-sorted, sort-of-sort, read-resolved, clean-resolved, excludes-canonical, made-clean, some-none}
 use Rattle.infer_table.proofs.WithoutCanonical.{IsNoCanonical, clean-parts}
+use Rattle.type_terms.proofs.TermBasics.{is_sort-self}
+use Rattle.type_terms.proofs.NumberBasics.{number-self as self-number}
 
 -- ---- an answer without values agrees with all
 pub not-false : (b : Bool) → not b ≡ false → b ≡ true
@@ -70,9 +72,6 @@ variable-picked q i of_const x e = append-none (tree_of (q of_const i)) ∙ ap t
 
 lifetime-picked : (q : Assignment) (k : Sort) (t x : Trees) → is_sort k of_lifetime ≡ true → IsPicked q k t x
 lifetime-picked q k t x h = subst (λ z. IsPicked q z t x) (sym (is-sort k of_lifetime h)) tt
-
-self-number : (i : ℕ) → (i == i) ≡ true
-self-number i = grind (arith, nat_tests)
 
 other-number : (i n : ℕ) → suc n ≤ i → (i == n) ≡ false
 other-number i n h = grind (arith, nat_tests, h)

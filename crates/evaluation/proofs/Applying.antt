@@ -10,7 +10,7 @@ use Rattle.infer_table.specs.Solutions.{Assignment, IsSorted, Binding, tree_of, 
 use Rattle.infer_table.specs.Unification.{TableTrees, Worklist, unified}
 use Rattle.infer_table.specs.declared.canonical.CanonicalVarKind.{CanonicalVarKind}
 use Rattle.infer_table.specs.declared.canonical.CanonicalVarKind.TheVariants.{Ty, PlaceholderTy, Const, PlaceholderConst, Region}
-use Rattle.infer_table.proofs.SolutionLaws.{is_variable-equal, is_variable-self, is_sort-equal as is-sort, is_sort-self as sort-self}
+use Rattle.infer_table.proofs.SolutionLaws.{is_variable-equal, is_variable-self, is_sort-equal as is-sort}
 use Rattle.infer_table.specs.Leaves.{root_label}
 use Rattle.infer_table.specs.Values.{Value, if_of_sort, value_for, filled}
 use Rattle.infer_table.specs.Raw.{sort_of_kind}
@@ -27,11 +27,14 @@ use Rattle.evaluation.specs.FrameTables.{kind_at, is_good, good_in, FrameTable, 
 use Rattle.evaluation.specs.TableOperations.{with_content}
 use Rattle.evaluation.specs.TableAnswers.{picked, IsPicked, ArePicked, is_kind_of, is_variable_of, is_fitting, are_fitting, is_fitting_answer, put_into, leaf_value, originals_of}
 use Rattle.type_terms.proofs.Made.{false-true, left, right, no-tree, is_ordinary, made-ordinary}
-use Rattle.evaluation.proofs.Reading.{append-none, append-assoc, EachLabel, IsPutIn, read-lifetime, GiveOne, same-read, cons}
+use Rattle.evaluation.proofs.Reading.{append-none, append-assoc, EachLabel, IsPutIn, read-lifetime, GiveOne, same-read}
 use Rattle.evaluation.proofs.Questions.{sort-of-sort, reading-sorted}
 use Rattle.evaluation.proofs.TableBeginning.{below, below-is, sort-is}
 use Rattle.evaluation.proofs.Equating.{AreSlots, slot-cases, IsLeafOf, slots-of, lifetimes-good, in-turn-narrows, InTurn, none-some, some-is, single-of}
 use Rattle.evaluation.proofs.Labels.{IsGoodLabel, made-labels, IsLeafIn, each-label, each-resolved, every-leaf, clause-open, IsLeafFor, PutsLeaves, made-put-in, single-put-in, made-more, read-put-each}
+use Rattle.type_terms.proofs.TermBasics.{is_sort-self as sort-self}
+use Rattle.type_terms.proofs.ListBasics.{cons}
+use Rattle.type_terms.proofs.NumberBasics.{itself, one-more, zero-first as zero-plus}
 
 -- ---- the open leaves of a nested goal
 static-leaf : (good : Label → Bool) (ls : List Label) (h : AreSlots good ls) (l : Label) → slot_at ls l ≡ None → IsLeafIn good l
@@ -75,12 +78,6 @@ after-bindings None t k = refl
 pub for-bindings : (known : ℕ → Option Value) (t : TableTrees) (i : ℕ) (ks : List CanonicalVarKind) → (table_for known t i ks).bindings ≡ t.bindings
 for-bindings known t i [] = refl
 for-bindings known t i (k ∷ ks) = for-bindings known (table_after (known i) t k) (i + 1) ks ∙ after-bindings (known i) t k
-
-pub itself : (n : ℕ) → n ≤ n
-itself n = omega arith
-
-one-more : (n : ℕ) → n ≤ n + 1
-one-more n = omega arith
 
 after-more : (x : Option Value) (t : TableTrees) (k : CanonicalVarKind) (j : Sort) → unknowns_of t j ≤ unknowns_of (table_after x t k) j
 after-more (Some v) t k j = itself (unknowns_of t j)
@@ -432,9 +429,6 @@ module _ (kinds : List CanonicalVarKind) (t : TableTrees) (ls : List Label) (the
 
   matches : Every (IsMatch good a.kinds) pairs
   matches = all-match good a.kinds ls a.values theirs (left (is_answer_to (map leaf_value ls) a) _ answers) (right (is_answer_to (map leaf_value ls) a) _ answers)
-
-  pub zero-plus : (i : ℕ) → 0 + i ≡ i
-  zero-plus i = omega arith
 
   kind-of : (s : Sort) (o : Option CanonicalVarKind) → is_kind_of s o ≡ true → (k : CanonicalVarKind) × (o ≡ Some k) × (sort_of_kind k ≡ s)
   kind-of s None h = absurd (false-true h)

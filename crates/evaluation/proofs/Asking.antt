@@ -5,24 +5,11 @@ use Rattle.type_terms.specs.Label.{Sort}
 use Rattle.type_terms.specs.Trees.{Trees}
 use Rattle.type_terms.specs.Terms.{Entry, Lawful}
 use Rattle.type_terms.specs.declared.kinds.GenericArgKind.{GenericArgKind}
-use Rattle.infer_table.specs.Canonical.{GoalTrees, CanonicalForm, canonical_form, goal_leaves}
-use Rattle.infer_table.specs.declared.certainty.TypingMode.{TypingMode}
-use Rattle.infer_table.specs.declared.input.CanonicalInput.{CanonicalInput}
-use Rattle.infer_table.specs.Inputs.{IsCanonicalInput, form_of}
+use Rattle.infer_table.specs.Canonical.{GoalTrees, goal_leaves}
 use Rattle.infer_table.specs.Leaves.{AreLeaves, labels, leaf_label}
 use Rattle.infer_table.specs.Values.{Value, values_of}
 use Rattle.infer_table.proofs.LeafFacts.{sort-is}
-use Rattle.evaluation.specs.declared.goal.GoalSource.{GoalSource}
-use Rattle.evaluation.specs.Evaluating.{AskedQuestion, question_of, leaf_value, goal_values}
-
-same-question : (m n : TypingMode) (f g : CanonicalForm) (s : GoalSource) → m ≡ n → f ≡ g
-    → ◌≡◌ {A = AskedQuestion} (record { mode = m; form = f; source = s }) (record { mode = n; form = g; source = s })
-same-question m n f g s e h = cc
-
--- the question about a canonical input is that about the goal whose form it is
-pub question-is : (es : List Entry) (input : CanonicalInput) (source : GoalSource) (mode : TypingMode) (g : GoalTrees) → input.mode ≡ mode → IsCanonicalInput es g input
-    → ◌≡◌ {A = AskedQuestion} (record { mode = mode; form = canonical_form g; source = source }) (question_of es input source)
-question-is es input source mode g m h = same-question mode input.mode (canonical_form g) (form_of es input) source (sym m) (sym h.form)
+use Rattle.evaluation.specs.Evaluating.{leaf_value, goal_values}
 
 same-value : (s t : Sort) (a b : Trees) → s ≡ t → a ≡ b → ◌≡◌ {A = Value} (record { sort = s; trees = a }) (record { sort = t; trees = b })
 same-value s t a b e f = cc

@@ -18,7 +18,7 @@ use Rattle.infer_table.proofs.SolutionLaws.{is_sort-equal as is-sort}
 use Rattle.infer_table.proofs.CanonicalLaws.{same_label-self}
 use Rattle.infer_table.proofs.ContentFacts.{AllSorted}
 use Rattle.infer_table.proofs.Places.{Place, in_terms, in_object, in_autos, AreTrees, IsOneTree, AllTrees, IsOfTrees, ArePairsOfTrees, trees-of, made-of, trees-proper}
-use Rattle.infer_table.proofs.WellFacts.{label_in, tree-cong, is-a, lifetime-node}
+use Rattle.infer_table.proofs.WellFacts.{label_in, is-a, lifetime-node}
 use Rattle.infer_table.proofs.SolvableLaws.{IsTidy, completed, instance-completed, tidy-completion, itself, instance-itself, resolved-proper}
 use Rattle.infer_table.proofs.SolveFacts.{Answers, unified-answers}
 use Rattle.evaluation.specs.Lists.{Every}
@@ -27,6 +27,7 @@ use Rattle.evaluation.specs.Content.{ChosenTerms, standing, UnknownStands}
 use Rattle.evaluation.specs.Equations.{AreOne, Hold, IsValue, IsTermPair, HasLifetimes, IsMadeTable, IsAfter, IsApart, EquationsNarrow, EquationsKeep, EquationsStayMade}
 use Rattle.evaluation.proofs.Reading.{Carries, carried-at, read-lifetime}
 use Rattle.evaluation.proofs.Questions.{read-resolved, is-place}
+use Rattle.type_terms.proofs.TermBasics.{tree-cong}
 
 -- ---- tables and equations, as the laws of unification have them
 pub all-valued : (good : Label → Bool) (bs : List Binding) → Every (IsValue good) bs → AllValued bs
@@ -146,11 +147,6 @@ read-erased s none = refl
 read-erased s (tree l c o) =
     carried-at (standing s) (standing s) l (erase_label l) (read_with (standing s) c) (read_with (standing s) (erase c)) (read_with (standing s) o) (read_with (standing s) (erase o)) (standing s l) refl
     (erased-carries s l) (read-erased s c) (read-erased s o)
-
-value-reads : (s : ChosenTerms) (k : Sort) (v : ℕ) → HasValues k → read_with (standing s) (leaf (infer k v)) ≡ tree_of (s.unknowns k v)
-value-reads s of_type v h = refl
-value-reads s of_const v h = refl
-value-reads s of_lifetime v h = absurd h
 
 module _ (good : Label → Bool) (opens : HasLifetimes good) (s : ChosenTerms) (u : TableTrees) (values : Every (IsValue good) u.bindings) (ok : IsOfTrees good u) (hold : Hold s u) where
   abbrev read : Trees → Trees

@@ -14,12 +14,10 @@ use Rattle.infer_table.specs.Applying.{next_unknown, with_unknown, table_for}
 use Rattle.evaluation.specs.TableAnswers.{leaf_value, own_labels}
 use Rattle.evaluation.specs.FrameTables.{in_turn, and_then, types_in, consts_in, regions_in, labels_from, first_content, unknown, labels_for}
 use Rattle.evaluation.specs.Frames.{empty, own_values, own_table, unknowns, with_unknowns, solved}
-use Rattle.evaluation.proofs.Reading.{cons}
+use Rattle.type_terms.proofs.NumberBasics.{zero-plus, next-number}
+use Rattle.type_terms.proofs.ListBasics.{cons}
 
 -- ---- the goal's variables
-next-number : (n : ℕ) → suc n ≡ n + 1
-next-number n = omega arith
-
 own-labels-are : (t : Table) (i : ℕ) (ks : List CanonicalVarKind) → labels_from t.ty_vars t.const_vars t.region_vars i ks ≡ next_labels t i ks
 own-labels-are t i [] = refl
 own-labels-are t i (Ty ∷ ks) =
@@ -72,9 +70,6 @@ regions-are t (PlaceholderConst ∷ ks) = regions-are t ks
 same-counts : (a b c d e f : ℕ) → a ≡ d → b ≡ e → c ≡ f
     → ◌≡◌ {A = TableTrees} (record { ty_vars = a; const_vars = b; region_vars = c; bindings = []; constraints = none }) (record { ty_vars = d; const_vars = e; region_vars = f; bindings = []; constraints = none })
 same-counts a b c d e f p q r = cc
-
-zero-plus : (n : ℕ) → n ≡ 0 + n
-zero-plus n = omega arith
 
 pub first-content-is : (kinds : List CanonicalVarKind) → first_content kinds ≡ own_table kinds
 first-content-is kinds =

@@ -7,7 +7,8 @@ use Rattle.evaluation.specs.Lists.{IsAmong}
 use Rattle.evaluation.specs.Proof.{EntriesContinue}
 use Rattle.evaluation.specs.ByRules.{HasRule, ProofsAreProofs}
 use Rattle.evaluation.proofs.ListLaws.{Every-mono}
-use Rattle.evaluation.proofs.Unfold.{among-left, among-right, map-append}
+use Rattle.evaluation.proofs.Unfold.{among-left, among-right}
+use Rattle.type_terms.proofs.ListBasics.{map-append}
 
 -- what stands among them stands at a place
 place_of : {A : Type 0} (x : A) (xs : List A) → IsAmong x xs → In x xs

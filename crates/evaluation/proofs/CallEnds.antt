@@ -1,8 +1,7 @@
 -- How the calls of a context that evaluate end, once the rounds did.
-use Rattle.std.proofs.Common.{◌≡◌, List, [], refl, sym, ◌∙◌, ap, subst, Option, Some, None, Err}
+use Rattle.std.proofs.Common.{◌≡◌, List, [], refl, sym, ◌∙◌, ap, subst, Option, Some, None}
 use Rattle.type_terms.specs.Terms.{Entry, Keeps}
 use Rattle.infer_table.specs.Certainties.{joined}
-use Rattle.infer_table.specs.Content.{Table}
 use Rattle.infer_table.specs.Unification.{table_trees}
 use Rattle.infer_table.specs.declared.certainty.Certainty.{Certainty}
 use Rattle.infer_table.specs.declared.certainty.Certainty.TheVariants.{Yes, Maybe}
@@ -11,15 +10,13 @@ use Rattle.infer_table.specs.declared.certainty.TypingMode.{TypingMode}
 use Rattle.infer_table.specs.declared.response.CanonicalResponse.{CanonicalResponse}
 use Rattle.evaluation.specs.Replays.{Run, ready, waits}
 use Rattle.evaluation.specs.Rounds.{Rounds}
-use Rattle.evaluation.specs.declared.error.EvalError.{EvalError}
-use Rattle.evaluation.specs.declared.error.EvalError.TheVariants.{NoSolution, Fault}
 use Rattle.infer_table.specs.Values.{values_of}
 use Rattle.infer_table.specs.Responses.{AnswerTrees, answer_trees}
 use Rattle.evaluation.specs.Context.{Context, NestedGoal, NestedHeld, IsReadyContext}
 use Rattle.evaluation.specs.Evaluating.{AskedQuestion, goals_trees, evaluation}
 use Rattle.evaluation.specs.OwnAnswers.{OwnAnswerSays, answer_of}
-use Rattle.evaluation.specs.Ends.{EndsIn, ContextIsSettled, ContextIsAnswered, CallEnds, AnswerEnds}
-use Rattle.evaluation.specs.Steps.{RoundsEnd, SameRounds}
+use Rattle.evaluation.specs.Ends.{EndsIn, ContextIsSettled, ContextIsAnswered}
+use Rattle.evaluation.specs.Steps.{SameRounds}
 use Rattle.evaluation.proofs.OwnAnswers.{same-answer}
 use Rattle.evaluation.proofs.Undone.{same-context}
 
@@ -53,12 +50,6 @@ module _ (mode : TypingMode) (es : List Entry) (old mid new : Context) (left : L
         rest = rest;
       }
 
-  -- the certainty of the rounds is answered
-  pub call-ready : (c : Certainty) (r : RoundsRun mode) → EndsIn (λ o more. SameRounds mode es mid.table left c o) r → EndsIn (λ o more. ContextIsSettled mode es old new o × (o.certainty ≡ c)) r
-  call-ready c (ready None more) h = absurd h
-  call-ready c (ready (Some o) more) h = (is-settled es refl refl c o h, h.certainty_is)
-  call-ready c (waits q) h = absurd h
-
   -- the context's own answer is given, made with further terms
   pub call-answered : (terms : List Entry) → Keeps terms es → table_trees es mid.table ≡ table_trees terms mid.table → goals_trees es left ≡ goals_trees terms left
       → values_of es mid.values ≡ values_of terms mid.values
@@ -79,13 +70,3 @@ module _ (mode : TypingMode) (es : List Entry) (old mid new : Context) (left : L
             ∙ same-answer _ _ _ _ _ _ _ _ (ap (λ (x : Context). x.variables) made) (sym v ∙ ap (λ (x : Context). values_of es x.values) made) (sym h.table)
             (ap (joined given) (sym h.certainty_is));
       }
-
-module _ (mode : TypingMode) (es : List Entry) (old new : Context) (T : Table) (same : new ≡ old) (r : RoundsRun mode) where
-  -- a refusal, or a fault
-  pub call-fault : (e : EvalError) → RoundsEnd mode es T r (Err e) → CallEnds mode es old new r (Err e)
-  call-fault (Fault fault) h = same
-  call-fault NoSolution h = (h, same)
-
-  pub answer-fault : (certainty : Certainty) (e : EvalError) → RoundsEnd mode es T r (Err e) → AnswerEnds mode es old new certainty r (Err e)
-  answer-fault certainty (Fault fault) h = same
-  answer-fault certainty NoSolution h = (h, same)

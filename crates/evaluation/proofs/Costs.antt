@@ -9,8 +9,9 @@ use Rattle.evaluation.specs.Table.{Tables, operations, workings}
 use Rattle.evaluation.specs.Rounds.{Round, Rounds, kept, judged, applied, replied, round, settled, next_round, rounds}
 use Rattle.evaluation.specs.Candidate.{Spec, Considered, Next, consider, answer, answered, equated, candidate, goes_on, frame, IsHistory, used_numbers}
 use Rattle.evaluation.specs.Handler.{Handled, nested_of, IsHandler}
-use Rattle.evaluation.proofs.ListLaws.{distinct-length, length-map}
+use Rattle.evaluation.proofs.ListLaws.{distinct-length}
 use Rattle.evaluation.proofs.Scripts.{Within, RequestsAtMost, Within-followed, Within-mono, Within-more}
+use Rattle.type_terms.proofs.ListBasics.{map-length as length-map}
 
 suc_times : (i m : ℕ) → suc i * m ≡ m + i * m
 suc_times i m = let e = suc-mul i m in omega (arith, e)

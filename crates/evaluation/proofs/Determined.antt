@@ -206,9 +206,6 @@ module _ (t : FrameTable) (s : ChosenTerms) (a : Allows t s) (k : Sort) (g : Has
 
   -- ---- the goal
   module _ (n : Nested) where
-    put-in : Trees → Trees
-    put-in x = put_in (slot_at t.labels) x
-
     part-reads : (x : Trees) → Allows t other → read_with (given s.slots) x ≡ read_with (given other.slots) x
         → read_with (standing s) (resolved bindings (put_in (slot_at t.labels) x)) ≡ read_with (standing low) (resolved bindings (put_in (slot_at t.labels) x))
     part-reads x b e =
@@ -237,7 +234,7 @@ module _ (t : FrameTable) (s : ChosenTerms) (a : Allows t s) (k : Sort) (g : Has
 
 -- ---- all leaves
 -- an open leaf, also where `'static` stands for itself
-open-in-clause : (l : Label) → IsOpenNode kind_in_clause l → IsOpenNode kind_of_leaf l
+pub open-in-clause : (l : Label) → IsOpenNode kind_in_clause l → IsOpenNode kind_of_leaf l
 open-in-clause static x = record { children = none; node = refl; is_open = refl }
 open-in-clause (infer k v) x = record { children = x.children; node = x.node; is_open = x.is_open }
 open-in-clause (param k v) x = record { children = x.children; node = x.node; is_open = x.is_open }

@@ -12,7 +12,6 @@ use Rattle.infer_table.specs.Values.{Value, value_for, filled, goal_filled}
 use Rattle.infer_table.specs.Responses.{AnswerTrees}
 use Rattle.infer_table.specs.Answers.{is_answer_to}
 use Rattle.infer_table.specs.Applied.{applied}
-use Rattle.infer_table.proofs.SolutionLaws.{is_sort-self as sort-self}
 use Rattle.evaluation.specs.Lists.{Every}
 use Rattle.evaluation.specs.Responses.{is_variable, is_identity_modulo_regions}
 use Rattle.evaluation.specs.Instances.{put_in, goal_put_in, default_label}
@@ -24,6 +23,8 @@ use Rattle.evaluation.proofs.TableBeginning.{sort-is}
 use Rattle.evaluation.proofs.Equating.{single-of}
 use Rattle.evaluation.specs.Evaluating.{put_into}
 use Rattle.evaluation.specs.Fitting.{is_of_sort, is_slot, AreOver, IsGoalOver, IsValueOver}
+use Rattle.type_terms.proofs.BooleanBasics.{and-true}
+use Rattle.type_terms.proofs.TermBasics.{is_sort-self as sort-self}
 
 -- ---- one variable
 slot-label : (s : Sort) (ls : List Label) (i : ℕ) → is_of_sort s (slice_get ls i) ≡ true → value_for (map leaf_value ls) (canonical s i) ≡ Some (leaf (label_of_sort s (label_at ls i)))
@@ -84,10 +85,6 @@ side-is ls v h = filled-is ls v.trees h.over ∙ ap (put_in (slot_at ls)) (sym (
 all-fit : (own : List CanonicalVarKind) (vs : List Value) → Every (λ v. is_fitting own v ≡ true) vs → are_fitting own vs ≡ true
 all-fit own [] h = refl
 all-fit own (v ∷ vs) h = both (is_fitting own v) _ h.0 (all-fit own vs h.1)
-
-and-true : (b : Bool) → (b && true) ≡ b
-and-true true = refl
-and-true false = refl
 
 pub put-alike : (t : TableTrees) (originals : List Value) (a : AnswerTrees) → IsWellFormed a → Frames.put_into t originals a ≡ put_into t originals a
 unfolding put_into

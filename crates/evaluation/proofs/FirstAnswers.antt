@@ -1,6 +1,5 @@
 -- The table with which a frame begins answers nothing but its own variables.
 use Rattle.std.proofs.Common.{◌≡◌, ℕ, zero, suc, ◌<◌, ◌==◌, arith, Bool, true, false, not, ◌&&◌, ◌||◌, List, [], ◌∷◌, ◌++◌, map, length, refl, sym, ◌∙◌, ap, subst, if◌then◌else◌, is_some}
-use Rattle.std.proofs.lemmas.Bool.Decides.{nat_tests}
 use Rattle.type_terms.specs.Label.{Label, Sort, of_type, of_const, of_lifetime, infer, placeholder, canonical}
 use Rattle.type_terms.specs.Trees.{leaf, sort_of, is_sort}
 use Rattle.type_terms.specs.Codes.{same_label}
@@ -12,7 +11,6 @@ use Rattle.infer_table.specs.declared.certainty.Certainty.{Certainty}
 use Rattle.infer_table.specs.declared.certainty.Certainty.TheVariants.{Yes, Maybe}
 use Rattle.infer_table.specs.declared.certainty.MaybeCause.TheVariants.{Ambiguity, Overflow}
 use Rattle.infer_table.specs.Values.{Value}
-use Rattle.infer_table.proofs.SolutionLaws.{is_sort-self as sort-self}
 use Rattle.infer_table.proofs.CanonicalLaws.{same_label-self}
 use Rattle.evaluation.specs.Lists.{Every}
 use Rattle.evaluation.proofs.ListLaws.{Every-mono}
@@ -23,6 +21,8 @@ use Rattle.evaluation.proofs.Answering.{overflow_is_bare}
 use Rattle.evaluation.specs.TableOperations.{begin}
 use Rattle.evaluation.specs.FrameTables.{labels_from}
 use Rattle.evaluation.proofs.Labels.{every-end}
+use Rattle.type_terms.proofs.TermBasics.{is_sort-self as sort-self}
+use Rattle.type_terms.proofs.NumberBasics.{last-less, not-less, number-self}
 
 -- ---- labels that are open, each another than those before
 abbrev pub AreFresh : List Label → List Label → Type 0
@@ -59,9 +59,6 @@ place-is (m ∷ ms) l ls h =
     let x = or-false (same_label m l) (is_among l ms) h in
     ap (λ b. if b then zero else suc (place_of l (ms ++ l ∷ ls))) x.0 ∙ ap suc (place-is ms l ls x.1)
 
-pub number-self : (i : ℕ) → (i == i) ≡ true
-number-self i = grind (arith, nat_tests)
-
 abbrev pub value_by : List Label → Label → Value
 value_by all l = record { sort = sort_of l; trees = relabeled kind_of_leaf (canonical_label all) (leaf l) }
 
@@ -87,12 +84,6 @@ IsBelow a b c i l = Unit {0}
 
 less-more : (n m : ℕ) → n < m → n < suc m
 less-more n m h = omega (arith, h)
-
-last-less : (n : ℕ) → n < suc n
-last-less n = omega arith
-
-not-less : (n : ℕ) → n < n → ⊥
-not-less n h = omega (arith, h)
 
 below-type : (a b c i : ℕ) (l : Label) → IsBelow a b c i l → IsBelow (suc a) b c (suc i) l
 below-type a b c i (infer of_type v) h = less-more v a h
@@ -122,7 +113,7 @@ below-place a b c i (infer of_lifetime v) h = h
 below-place a b c i (placeholder k v) h = less-more v i h
 below-place a b c i l h = tt
 
-among-has : (P : Label → Type 0) (l : Label) (ms : List Label) → Every P ms → is_among l ms ≡ true → P l
+pub among-has : (P : Label → Type 0) (l : Label) (ms : List Label) → Every P ms → is_among l ms ≡ true → P l
 among-has P l [] h e = absurd (false-true e)
 among-has P l (m ∷ ms) h e = by (same_label m l) refl e (among-has P l ms h.1)
   where

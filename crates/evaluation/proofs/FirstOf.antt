@@ -17,10 +17,6 @@ pub rest-shorter : {A : Type 0} (xs : List A) → 1 ≤ length xs → length (ta
 rest-shorter [] h = absurd (omega arith)
 rest-shorter (x ∷ xs) h = let e = ap length (take-whole x xs) in omega (arith, e)
 
-pub none-below : {A : Type 0} (xs : List A) → length xs < 1 → xs ≡ []
-none-below [] h = refl
-none-below (x ∷ xs) h = absurd (omega arith)
-
 pub handed : {T E : Type 0} (P : Result T E → Type 0) (r : Result T E) (x : E) → IsErrAnd r (λ y. y ≡ x) → P (Err x) → P r
 handed P (Ok y) x h p = absurd h
 handed P (Err y) x h p = subst (λ e. P (Err e)) (sym h) p

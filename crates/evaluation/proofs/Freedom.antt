@@ -243,9 +243,6 @@ module _ (t : FrameTable) (made : IsMadeFrame t) where
     label-of : (x y : Label) (c : Trees) → leaf x ≡ tree y c none → x ≡ y
     label-of x y c e = cc
 
-    leaf-label : (x y : Label) → leaf x ≡ leaf y → x ≡ y
-    leaf-label x y e = cc
-
     -- an unknown of the goal is read as its value
     own-reads : (k : Sort) → HasValues k → (d : ℕ) (l : Label) → sort_of l ≡ k → IsAt d l own → is_made good terms (leaf l) ≡ true → (is_placeholder_of k (kind_at t.kinds d) ≡ true → ⊥)
         → reading_of whole l ≡ of_sort k (term_at v.terms d)

@@ -17,7 +17,8 @@ use Rattle.evaluation.specs.FrameTables.{is_good, AreOwn, FrameTable, IsMadeFram
 use Rattle.evaluation.specs.TableOperations.{fresh, recorded}
 use Rattle.evaluation.proofs.TableBeginning.{below-is}
 use Rattle.evaluation.proofs.Labels.{made-more}
-use Rattle.evaluation.proofs.Applying.{AreTheirs, for-bindings, for-more, after-own, new-value, good-grows, infer-leaf, with-constraints-made, itself}
+use Rattle.evaluation.proofs.Applying.{AreTheirs, for-bindings, for-more, after-own, new-value, good-grows, infer-leaf, with-constraints-made}
+use Rattle.type_terms.proofs.NumberBasics.{itself}
 
 new-leaves : (kinds : List CanonicalVarKind) (u t : TableTrees) (i : ℕ) (ks : List CanonicalVarKind) → ((s : Sort) → unknowns_of (table_for unknown t i ks) s ≤ unknowns_of u s)
     → AreTheirs (is_good kinds u.ty_vars u.const_vars) (labels_for t i ks)

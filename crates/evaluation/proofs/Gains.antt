@@ -11,8 +11,9 @@ use Rattle.evaluation.specs.Table.{Tables, operations, workings, Narrows, IsFree
 use Rattle.evaluation.specs.Rounds.{Round, Rounds, kept, judged, applied, replied, round, settled, next_round, rounds}
 use Rattle.evaluation.specs.Candidate.{Spec, answered, equated, candidate}
 use Rattle.evaluation.specs.Law.{IsYes, AnsweredYes, IsInstance}
-use Rattle.evaluation.proofs.ListLaws.{Every-mono, Every-at, Every-all, Every-both, both-left, both-right, not-true}
+use Rattle.evaluation.proofs.ListLaws.{Every-mono, Every-at, Every-all, Every-both, both-right, not-true}
 use Rattle.evaluation.proofs.Scripts.{Leads, Leads-followed, Leads-mono}
+use Rattle.type_terms.proofs.BooleanBasics.{both-left}
 
 pub joined_yes : (c d : Certainty) → joined c d ≡ Yes → (c ≡ Yes) × (d ≡ Yes)
 joined_yes Yes d e = (refl, e)

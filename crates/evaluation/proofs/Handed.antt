@@ -1,5 +1,5 @@
 -- Results that are handed on, and contexts with more in them.
-use Rattle.std.proofs.Common.{◌≡◌, List, refl, ap, sym, ◌∙◌, Option, Result, Ok, Err, IfOk}
+use Rattle.std.proofs.Common.{◌≡◌, List, refl, ap, sym, ◌∙◌, Option, Result, Ok, Err}
 use Rattle.std.specs.Prelude.{IsErrAnd, OnOk}
 use Rattle.type_terms.specs.declared.Fault.{Fault}
 use Rattle.infer_table.specs.declared.certainty.EqError.{EqError}
@@ -24,10 +24,6 @@ same-error s (Err z) x y e h q = cc
 pub refused-by : {T : Type 0} (error : EqError) (e : EvalError) → e ≡ eval_error error → ◌≡◌ {A = Result T EvalError} (Err e) (Err Eval.NoSolution) → error ≡ Eq.NoSolution
 refused-by Eq.NoSolution e h q = refl
 refused-by (Eq.Fault fault) e h q = cc
-
-pub if-ok : {T E : Type 0} (P Q : T → Type 0) (r : Result T E) → ((x : T) → P x → Q x) → IfOk r P → IfOk r Q
-if-ok P Q (Ok x) f h = f x h
-if-ok P Q (Err e) f h = tt
 
 pub on-ok : {T E : Type 0} (P Q : Type 0) (r : Result T E) → (P → Q) → OnOk r P → OnOk r Q
 on-ok P Q (Ok x) f h = f h

@@ -14,12 +14,10 @@ use Rattle.evaluation.specs.declared.goal.GoalSource.{GoalSource}
 use Rattle.evaluation.specs.Context.{NestedHeld, nested_goal}
 use Rattle.evaluation.proofs.LaterTrees.{goals-trees-later}
 use Rattle.evaluation.specs.Trial.{equations_trees, premises_trees}
+use Rattle.type_terms.proofs.ListBasics.{one-more}
 
 both : (a b c d : Trees) → a ≡ b → c ≡ d → ◌≡◌ {A = Trees × Trees} (a, c) (b, d)
 both a b c d e f = cc
-
-one-more : {A : Type 0} (x y : A) (xs ys : List A) → x ≡ y → xs ≡ ys → ◌≡◌ {A = List A} (x ∷ xs) (y ∷ ys)
-one-more x y xs ys e f = cc
 
 pub held-goals : (es : List Entry) (ns : List (GoalSource × Goal)) → Every (λ (n : GoalSource × Goal). GoalHeld es n.1) ns → NestedHeld es (map nested_goal ns)
 held-goals es [] h = tt

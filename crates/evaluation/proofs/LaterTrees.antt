@@ -21,12 +21,10 @@ use Rattle.evaluation.specs.Readings.{ResultHeld}
 use Rattle.infer_table.proofs.PairFacts.{constraints-later}
 use Rattle.evaluation.specs.Context.{NestedGoal, GoalIsHeld, NestedHeld}
 use Rattle.evaluation.specs.Evaluating.{NestedTrees, nested_trees, goals_trees, replies_trees}
+use Rattle.type_terms.proofs.ListBasics.{one-more}
 
 node : (l : Label) (c d o p : Trees) → c ≡ d → o ≡ p → tree l c o ≡ tree l d p
 node l c d o p e f = cc
-
-one-more : {A : Type 0} (x y : A) (xs ys : List A) → x ≡ y → xs ≡ ys → ◌≡◌ {A = List A} (x ∷ xs) (y ∷ ys)
-one-more x y xs ys e f = cc
 
 one-goal : (s : GoalSource) (a b p q : Trees) → a ≡ b → p ≡ q
     → ◌≡◌ {A = NestedTrees} (record { source = s; goal = record { environment = a; predicate = p } }) (record { source = s; goal = record { environment = b; predicate = q } })

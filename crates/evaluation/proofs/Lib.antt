@@ -1,3 +1,5 @@
+pub mod TypeBasics
+pub mod Basics
 pub mod ListLaws
 pub mod Scripts
 pub mod Gains

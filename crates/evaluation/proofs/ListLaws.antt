@@ -51,10 +51,6 @@ pub Every-map : {A B : Type 0} (P : B → Type 0) (f : A → B) (xs : List A) �
 Every-map P f [] h = tt
 Every-map P f (x ∷ xs) h = (h.0, Every-map P f xs h.1)
 
-pub both-left : (a b : Bool) → (a && b) ≡ true → a ≡ true
-both-left true b e = refl
-both-left false b e = e
-
 pub both-right : (a b : Bool) → (a && b) ≡ true → b ≡ true
 both-right true b e = e
 both-right false b e = absurd (cc)
@@ -96,7 +92,3 @@ distinct-length (x ∷ xs) ys d h =
     let less = distinct-length xs (without x ys h.0) d.1 (stay x ys h.0 xs (not-first x xs d.0) h.1) in
     let is = length-without x ys h.0 in
     omega (arith, less, is)
-
-pub length-map : {A B : Type 0} (f : A → B) (xs : List A) → length (map f xs) ≡ length xs
-length-map f [] = refl
-length-map f (x ∷ xs) = ap suc (length-map f xs)

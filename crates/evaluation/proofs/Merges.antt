@@ -7,8 +7,9 @@ use Rattle.infer_table.specs.Certainties.{unsettled, all_joined, is_certain}
 use Rattle.evaluation.specs.Operations.{is_yes}
 use Rattle.evaluation.specs.Table.{Tables, operations, IsTable}
 use Rattle.evaluation.specs.Merge.{TellsResponsesApart, IsTest, is_always_applicable, common, or_else, merge_by, flounder, merge_or_flounder, IsMergeOfResponses}
-use Rattle.evaluation.proofs.ListLaws.{Every-at, both-left, both-right, not-true}
+use Rattle.evaluation.proofs.ListLaws.{Every-at, both-right, not-true}
 use Rattle.evaluation.proofs.Gains.{yes_certain, unsettled_no}
+use Rattle.type_terms.proofs.BooleanBasics.{both-left}
 
 pub always_is_test : {Question Response : Type 0} (t : Tables Question Response) → IsTest t (is_always_applicable t)
 always_is_test t r a = both-left (is_yes (operations t) r) (not (t.has_regions r)) a

@@ -16,6 +16,7 @@ use Rattle.evaluation.specs.FrameTables.{is_good, label_at, label_of_sort, slot_
 use Rattle.type_terms.proofs.Made.{false-true, left, right, no-tree, made-ordinary, IsLast, last-bound, last-trait, never-dynamic, never-dynamic-bound, never-principal}
 use Rattle.evaluation.proofs.Reading.{read-append}
 use Rattle.evaluation.proofs.Whole.{IsOne, read-one}
+use Rattle.type_terms.proofs.BooleanBasics.{or-left}
 
 -- ---- nodes
 -- no parameter of types or consts and no canonical variable, and nothing below what stands for a term
@@ -254,10 +255,6 @@ module _ (s r : ChosenTerms) (sorted : (k : Sort) (v : ℕ) → sort_of (s.unkno
       by (inl x) q b f g = here q x.0
       by (inr (inl j)) q b f g = below b f j
       by (inr (inr j)) q b f g = g j
-
-or-left : (a b : Bool) → (a || b) ≡ false → a ≡ false
-or-left true b e = e
-or-left false b e = refl
 
 or-right : (a b : Bool) → (a || b) ≡ false → b ≡ false
 or-right true b e = absurd (false-true (sym e))

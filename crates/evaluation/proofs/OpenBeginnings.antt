@@ -31,16 +31,13 @@ use Rattle.evaluation.specs.Replayed.{after, IsReplayed, EndsAsReplayed, Resumin
 use Rattle.evaluation.proofs.Ending.{script-refused}
 use Rattle.evaluation.proofs.OpenCandidates.{after-later}
 use Rattle.evaluation.proofs.OpenRounds.{followed-alike, rounds-go-on}
+use Rattle.evaluation.proofs.Basics.{after-none}
 
 -- ---- replies
 after-more : {Q A X : Type 0} (s : Script Q A X) (replies : List A) (a : A) → after s (replies ++ a ∷ []) ≡ after (after s replies) (a ∷ [])
 after-more (done x) replies a = refl
 after-more (ask q k) [] a = refl
 after-more (ask q k) (b ∷ replies) a = after-more (k b) replies a
-
-after-none : {Q A X : Type 0} (s : Script Q A X) → after s [] ≡ s
-after-none (done x) = refl
-after-none (ask q k) = refl
 
 -- ---- beginnings
 one-end : (mode : TypingMode) (t : FrameTrees) (c : Certainty) (o : Option (Rounds (evaluation mode))) → answered mode t c o ≡ finished mode t.kinds t.own c o

@@ -1,6 +1,6 @@
 -- Candidates whose evaluation goes on where it stopped: what is left of them stays the same while the interner grows, and each step is
 -- one of the script.
-use Rattle.std.proofs.Common.{◌≡◌, ℕ, suc, not, ◌&&◌, ◌||◌, Bool, true, false, List, [], ◌∷◌, ◌++◌, map, Option, Some, None, refl, sym, ◌∙◌, ap, subst}
+use Rattle.std.proofs.Common.{◌≡◌, ℕ, suc, not, ◌&&◌, ◌||◌, Bool, true, false, List, [], ◌∷◌, ◌++◌, map, Option, Some, sym, ◌∙◌, ap, subst}
 use Rattle.evaluation.proofs.Contexts.{every-more, nested-later}
 use Rattle.infer_table.specs.Kept.{ready-later}
 use Rattle.type_terms.specs.Kept.{args-held-later}
@@ -13,9 +13,7 @@ use Rattle.infer_table.specs.Goals.{goal_resolved}
 use Rattle.infer_table.specs.Unification.{TableTrees, table_trees}
 use Rattle.infer_table.specs.Values.{values_of, values-later}
 use Rattle.infer_table.specs.Responses.{AnswerTrees, ResponseHeld, answer_trees}
-use Rattle.infer_table.specs.declared.certainty.Certainty.{Certainty}
-use Rattle.infer_table.specs.declared.certainty.Certainty.TheVariants.{Yes, Maybe}
-use Rattle.infer_table.specs.declared.certainty.MaybeCause.TheVariants.{Overflow}
+use Rattle.infer_table.specs.declared.certainty.Certainty.TheVariants.{Yes}
 use Rattle.infer_table.specs.declared.goal.Goal.{Goal}
 use Rattle.infer_table.specs.declared.input.CanonicalInput.{CanonicalInput}
 use Rattle.infer_table.specs.declared.response.CanonicalResponse.{CanonicalResponse}
@@ -24,29 +22,19 @@ use Rattle.evaluation.specs.declared.resuming.Evaluation.{Evaluation}
 use Rattle.evaluation.specs.declared.resuming.OpenRound.{OpenRound}
 use Rattle.evaluation.specs.declared.resuming.OpenCandidate.{OpenCandidate}
 use Rattle.evaluation.specs.Context.{NestedGoal, NestedHeld, GoalIsHeld, nested_goal}
-use Rattle.evaluation.specs.Evaluating.{AskedQuestion, question_of, nested_trees, goals_trees, put_into, evaluation, certainty_with, goal_values, values_asked, IsAskedBy}
+use Rattle.evaluation.specs.Evaluating.{AskedQuestion, question_of, nested_trees, put_into, evaluation, goal_values, values_asked, IsAskedBy}
 use Rattle.evaluation.specs.OpenRounds.{SoFar, with_goal, rest_of, after_answer}
 use Rattle.evaluation.specs.Operations.{is_yes}
-use Rattle.evaluation.specs.OwnAnswers.{answer_of}
 use Rattle.evaluation.specs.Responses.{is_identity_modulo_regions}
 use Rattle.evaluation.specs.Rounds.{Rounds}
 use Rattle.evaluation.specs.Runs.{with_response}
-use Rattle.evaluation.specs.Script.{done, ask, followed}
+use Rattle.evaluation.specs.Script.{ask, followed}
 use Rattle.evaluation.specs.Trial.{premises_trees}
 use Rattle.evaluation.specs.OpenCandidates.{CandidateAsking, finished, so_far, rest_script, after_reply, EvaluationHeld, OpenHeld, brings_values, is_definite}
 use Rattle.evaluation.proofs.LaterTrees.{goal-trees-later, goals-trees-later}
 use Rattle.evaluation.proofs.OpenRounds.{rounds-go-on}
 
 module _ (old new : List Entry) (k : Keeps old new) where
-  pub rest-later : (e : Evaluation) → EvaluationHeld old e → (limit : ℕ) (r : OpenRound) → NestedHeld old (map nested_goal r.left.items)
-      → (gs : List (GoalSource × Goal)) → NestedHeld old (map nested_goal gs) → rest_script new e limit r gs ≡ rest_script old e limit r gs
-  rest-later e he limit r hl gs hg =
-      let pv = values-later old new k e.own.items he.own in
-      let pl = goals-trees-later old new k (map nested_goal r.left.items) hl in
-      let pg = goals-trees-later old new k (map nested_goal gs) hg in
-      let pt = table-kept old new k e.table he.table in
-      λ i. followed (finished e.mode e.variables.items (pv i) e.certainty) (rest_of (evaluation e.mode) (record { limit = limit; left = pl i; changed = r.changed; certainty = r.certainty }) (pg i) (pt i))
-
   pub after-later : (o : OpenCandidate) → OpenHeld old o → (a : Option AnswerTrees) → after_reply new o a ≡ after_reply old o a
   after-later o h a =
       let pv = values-later old new k o.evaluation.own.items h.evaluation.own in
@@ -98,23 +86,6 @@ module _ (es : List Entry) (e : Evaluation) (limit : ℕ) (r : OpenRound) where
   abbrev after-rounds : Option (Rounds (evaluation e.mode)) → CandidateAsking
   after-rounds = finished e.mode e.variables.items (values_of es e.own.items) e.certainty
 
-  last-round : (ls : List NestedGoal) → goals_trees es ls ≡ goals_trees es (map nested_goal r.left.items) → r.changed ≡ false
-      → rest_of (evaluation e.mode) this-round [] (table_trees es e.table) ≡ done (Some (record { table = table_trees es e.table; left = goals_trees es ls; certainty = certainty_with ls r.certainty }))
-  last-round [] q f = (rounds-go-on (evaluation e.mode)).settled this-round (table_trees es e.table) (sym q) f
-  last-round (n ∷ ns) q f = (rounds-go-on (evaluation e.mode)).unsure this-round (nested_trees es n) (goals_trees es ns) (table_trees es e.table) (sym q) f
-
-  -- no values came: the answer
-  pub ends-settled : (sure : Certainty) → r.changed ≡ false → sure ≡ certainty_with (map nested_goal r.left.items) r.certainty
-      → rest_script es e limit r [] ≡ done (Some (answer_of e.variables.items (values_of es e.own.items) (table_trees es e.table) (joined e.certainty sure)))
-  ends-settled sure f q =
-      ap (followed after-rounds) (last-round (map nested_goal r.left.items) refl f)
-      ∙ ap (λ c. done (Some (answer_of e.variables.items (values_of es e.own.items) (table_trees es e.table) (joined e.certainty c)))) (sym q)
-
-  -- values came in the last of all rounds: an overflow
-  pub ends-overflowed : r.changed ≡ true → limit ≡ 0
-      → rest_script es e limit r [] ≡ done (Some (answer_of e.variables.items (values_of es e.own.items) (table_trees es e.table) (joined e.certainty (Maybe Overflow))))
-  ends-overflowed f z = ap (followed after-rounds) ((rounds-go-on (evaluation e.mode)).overflows this-round (table_trees es e.table) f z)
-
   -- values came: the next round
   pub next-round : (m : ℕ) (next : OpenRound) → r.changed ≡ true → limit ≡ suc m → next.left.items ≡ [] → next.changed ≡ false → next.certainty ≡ Yes
       → rest_script es e limit r [] ≡ rest_script es e m next r.left.items
@@ -137,12 +108,6 @@ module _ (old new : List Entry) (k : Keeps old new) (o : OpenCandidate) (h : Ope
   applies : (u : Option TableTrees) → with_response old o.evaluation.table o.values.items r ≡ u
       → (evaluation o.evaluation.mode).apply (table_trees old o.evaluation.table) (nested_trees old (nested_goal o.goal)) the-answer ≡ u
   applies u e = sym (ap (λ vs. put_into (table_trees old o.evaluation.table) vs the-answer) h.values_are) ∙ e
-
-  -- it cannot be put into the table
-  pub resumed-refused : with_response old o.evaluation.table o.values.items r ≡ None → after_reply old o (Some the-answer) ≡ done None
-  resumed-refused e =
-      ap (followed at-end)
-      ((rounds-go-on (evaluation o.evaluation.mode)).unapplied before (nested_trees old (nested_goal o.goal)) (premises_trees old o.goals.items) (table_trees old o.evaluation.table) the-answer (applies None e))
 
   module _ (T : Table) (put : with_response old o.evaluation.table o.values.items r ≡ Some (table_trees new T)) where
     -- what is left, in the terms of before

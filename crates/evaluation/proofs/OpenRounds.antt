@@ -1,5 +1,5 @@
 -- Rounds that are under way go on as the rounds do.
-use Rattle.std.proofs.Common.{◌≡◌, ℕ, suc, Bool, true, false, ◌||◌, List, [], ◌∷◌, refl, sym, ◌∙◌, ap, append_assoc, Option, Some, None}
+use Rattle.std.proofs.Common.{◌≡◌, ℕ, suc, Bool, true, false, List, [], ◌∷◌, refl, sym, ◌∙◌, ap, append_assoc, Option, Some, None}
 use Rattle.std.proofs.lemmas.List.{append-nil}
 use Rattle.infer_table.specs.declared.certainty.Certainty.{Certainty}
 use Rattle.infer_table.specs.declared.certainty.Certainty.TheVariants.{Yes, Maybe}
@@ -9,6 +9,7 @@ use Rattle.evaluation.specs.Script.{Script, done, ask, followed}
 use Rattle.evaluation.specs.Operations.{Operations, is_yes}
 use Rattle.evaluation.specs.Rounds.{Round, RoundAsking, kept, judged, applied, round, settled, next_round, rounds}
 use Rattle.evaluation.specs.OpenRounds.{SoFar, new_round, with_goal, behind, onward_from, rest_of, after_answer}
+use Rattle.type_terms.proofs.BooleanBasics.{or-assoc, or-nothing as or-false}
 
 -- ---- scripts that follow one another
 pub followed-twice : {Q A X Y Z : Type 0} (f : Y → Script Q A Z) (g : X → Script Q A Y) (s : Script Q A X) → followed f (followed g s) ≡ followed (λ x. followed f (g x)) s
@@ -24,13 +25,6 @@ followed-done f e (done x) = e x
 followed-done f e (ask q k) = ap (ask q) (λ i a. followed-done f e (k a) i)
 
 -- ---- what is put together
-pub or-assoc : (a b c : Bool) → (a || b) || c ≡ a || (b || c)
-or-assoc true b c = refl
-or-assoc false b c = refl
-
-pub or-false : (a : Bool) → a || false ≡ a
-or-false true = refl
-or-false false = refl
 
 pub joined-assoc : (a b c : Certainty) → joined (joined a b) c ≡ joined a (joined b c)
 joined-assoc Yes b c = refl

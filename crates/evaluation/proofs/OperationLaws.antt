@@ -21,8 +21,9 @@ use Rattle.evaluation.proofs.Reading.{same-map}
 use Rattle.evaluation.proofs.TableBeginning.{begin-made, terms_for, values-sorted, given-values}
 use Rattle.evaluation.proofs.Fresh.{recorded-made}
 use Rattle.evaluation.proofs.Equating.{equations-narrow, in-turn-keeps, is-apart, lifetimes-good, made-in-turn, pair-reads, pairs-terms, with-content-is, further-apart}
-use Rattle.evaluation.proofs.Applying.{all-agree, better_in, extended-sorted, for-bindings, further, further-holds, further-map, goal-leaves, grown-made, grown_of, is-left, known_in, opens, pairs-made, pairs-one, put-cases, put-made, todo, turned, turns, values_in, with_unknowns, zero-plus}
+use Rattle.evaluation.proofs.Applying.{all-agree, better_in, extended-sorted, for-bindings, further, further-holds, further-map, goal-leaves, grown-made, grown_of, is-left, known_in, opens, pairs-made, pairs-one, put-cases, put-made, todo, turned, turns, values_in, with_unknowns}
 use Rattle.evaluation.specs.Tables.{frame_tables}
+use Rattle.type_terms.proofs.NumberBasics.{zero-first as zero-plus}
 
 -- ---- the table with which a frame begins
 -- the variables with which a frame begins can have all values

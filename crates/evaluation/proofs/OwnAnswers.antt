@@ -1,6 +1,6 @@
 -- An answer that says all that is to be said, and that is a function of trees.
 use Rattle.std.specs.Prelude.{◌≡◌, List, [], ◌∷◌, map, Some, Result, Ok, Err, IfOk, refl}
-use Rattle.std.proofs.Common.{ap, sym, ◌∙◌, subst}
+use Rattle.std.proofs.Common.{ap, sym, ◌∙◌}
 use Rattle.type_terms.specs.Label.{Label, Sort, of_type, of_const, of_lifetime}
 use Rattle.type_terms.specs.Trees.{Trees, none, tree, ◌+++◌, sort_of, IsA}
 use Rattle.type_terms.specs.Terms.{Entry, Lawful, types, consts}
@@ -14,17 +14,17 @@ use Rattle.infer_table.specs.Unification.{TableTrees, table_trees}
 use Rattle.infer_table.specs.declared.canonical.CanonicalVarKind.{CanonicalVarKind}
 use Rattle.infer_table.specs.declared.certainty.Certainty.{Certainty}
 use Rattle.infer_table.specs.Values.{Value, value_of, values_of}
-use Rattle.infer_table.specs.Raw.{variables_from}
 use Rattle.infer_table.proofs.InTurn.{row-of}
 use Rattle.type_terms.specs.declared.Fault.{Fault}
 use Rattle.infer_table.specs.Solutions.{Assignment, Solves, instance, resolved}
-use Rattle.infer_table.specs.Content.{content, AllConstraintsHeld}
+use Rattle.infer_table.specs.Content.{content}
 use Rattle.infer_table.specs.Constraints.{constraints_trees}
 use Rattle.infer_table.specs.declared.response.CanonicalResponse.{CanonicalResponse}
 use Rattle.infer_table.specs.Responses.{AnswerTrees, answer_trees, as_goal, response_form, answer_leaves, numbered_by, ResponseHeld}
 use Rattle.infer_table.specs.Covers.{Agrees, AreNumbered}
 use Rattle.evaluation.specs.Context.{Context}
-use Rattle.evaluation.specs.OwnAnswers.{known, known_values, known_constraints, SaysWhatIsKnown, OwnAnswerSaysNothing, kinds_in, values_in, known_answer, answer_of}
+use Rattle.evaluation.specs.OwnAnswers.{known, known_values, known_constraints, SaysWhatIsKnown, kinds_in, values_in, known_answer, answer_of}
+use Rattle.infer_table.proofs.TypeBasics.{same-parts}
 
 pub says-known : (old new : List Entry) (c : Context) (x : Result CanonicalResponse Fault)
     → IfOk x (λ r. ResponseHeld new r)
@@ -69,10 +69,6 @@ values-in-row es law [] h = refl
 values-in-row es law (x ∷ xs) h = ap (λ z. value_of es x ∷ z) (values-in-row es law xs h.1) ∙ sym (arg-value es law x (args_trees es xs) h.0)
 
 -- ---- answers as trees
-same-parts : (ks ls : List CanonicalVarKind) (c d : Certainty) (vs ws : List Value) (x y : Trees) → ks ≡ ls → c ≡ d → vs ≡ ws → x ≡ y
-    → ◌≡◌ {A = AnswerTrees} (record { kinds = ks; certainty = c; values = vs; constraints = x }) (record { kinds = ls; certainty = d; values = ws; constraints = y })
-same-parts ks ls c d vs ws x y e f g h = cc
-
 -- what is known is a function of the table's trees
 pub known-is : (old new : List Entry) → Lawful new → (c : Context) (r : CanonicalResponse) (k : Certainty) → r.certainty ≡ k → SaysWhatIsKnown old new c r
     → answer_trees new r ≡ known_answer (values_of old c.values) (table_trees old c.table) k
@@ -89,14 +85,6 @@ known-is old new law c r k e h =
       values = values_in (numbered_by (answer_leaves (resolved t.bindings (row +++ t.constraints))) (resolved t.bindings row));
       constraints = numbered_by (answer_leaves (resolved t.bindings (row +++ t.constraints))) (resolved t.bindings t.constraints);
     }) (sym (row-of old c.values))
-
--- and what says nothing one of the kinds of variables
-pub nothing-is : (new : List Entry) (c : Context) (r : CanonicalResponse) (k : Certainty) → r.certainty ≡ k → OwnAnswerSaysNothing new c r
-    → answer_trees new r ≡ record { kinds = c.variables; certainty = k; values = variables_from 0 c.variables; constraints = none }
-nothing-is new c r k e h = same-parts _ _ _ _ _ _ _ _ h.variables e h.values (ap (constraints_trees new) h.constraints)
-
-pub nothing-held : (new : List Entry) (c : Context) (r : CanonicalResponse) → OwnAnswerSaysNothing new c r → ResponseHeld new r
-nothing-held new c r h = record { values = h.held; constraints = subst (AllConstraintsHeld new) (sym h.constraints) tt }
 
 pub same-answer : (ks ls : List CanonicalVarKind) (vs ws : List Value) (t u : TableTrees) (c d : Certainty) → ks ≡ ls → vs ≡ ws → t ≡ u → c ≡ d → answer_of ks vs t c ≡ answer_of ls ws u d
 same-answer ks ls vs ws t u c d e f g h = cc

@@ -1,5 +1,5 @@
 -- Answers that are merges keep the laws of answers.
-use Rattle.std.proofs.Common.{◌≡◌, ℕ, ◌≤◌, ◌==◌, Bool, true, false, if◌then◌else◌, List, [], ◌∷◌, ◌++◌, filter, ◌⊎◌, inl, inr, refl, sym, ◌∙◌, subst, Option, Some, None, ◌+◌, arith, length}
+use Rattle.std.proofs.Common.{◌≡◌, ℕ, ◌≤◌, ◌==◌, Bool, true, false, if◌then◌else◌, List, [], ◌∷◌, filter, inl, inr, refl, sym, ◌∙◌, subst, Option, Some, None, ◌+◌, arith, length}
 use Rattle.infer_table.specs.declared.certainty.Certainty.{Certainty}
 use Rattle.std.proofs.lemmas.Bool.{eq-eqb}
 use Rattle.evaluation.specs.Lists.{Every, SomeOf, IsAmong, IsNoneOf, IsDistinct}
@@ -13,26 +13,10 @@ use Rattle.evaluation.specs.Plans.{KeepsLaws, each_of, nested_in}
 use Rattle.evaluation.proofs.Plans.{keeps_more, keeps_each, goes_through}
 use Rattle.evaluation.specs.PlanAnswers.{all_merged, kept_merged, first_passing, numbers_but, taken_or_merged, first_taken, passes, if_so}
 use Rattle.evaluation.proofs.Merges.{merge_is}
-
-true-false : true ≡ false → ⊥
-true-false e = cc
+use Rattle.type_terms.proofs.BooleanBasics.{true-false}
+use Rattle.evaluation.proofs.Basics.{every-append, some-append, some-parts}
 
 -- ---- lists
-some-append : {A : Type 0} (P : A → Type 0) (xs ys : List A) → SomeOf P xs ⊎ SomeOf P ys → SomeOf P (xs ++ ys)
-some-append P [] ys (inl s) = absurd s
-some-append P [] ys (inr s) = s
-some-append P (x ∷ xs) ys (inl (inl p)) = inl p
-some-append P (x ∷ xs) ys (inl (inr s)) = inr (some-append P xs ys (inl s))
-some-append P (x ∷ xs) ys (inr s) = inr (some-append P xs ys (inr s))
-
-some-parts : {A : Type 0} (P : A → Type 0) (xs ys : List A) → SomeOf P (xs ++ ys) → SomeOf P xs ⊎ SomeOf P ys
-some-parts P [] ys s = inr s
-some-parts P (x ∷ xs) ys (inl p) = inl (inl p)
-some-parts P (x ∷ xs) ys (inr s) = elim (some-parts P xs ys s) [ inl a ↦ inl (inr a) | inr b ↦ inr b ]
-
-every-append : {A : Type 0} (P : A → Type 0) (xs ys : List A) → Every P xs → Every P ys → Every P (xs ++ ys)
-every-append P [] ys a b = b
-every-append P (x ∷ xs) ys a b = (a.0, every-append P xs ys a.1 b)
 
 some-kept : {A : Type 0} (P : A → Type 0) (kept : A → Bool) (xs : List A) → SomeOf P (filter kept xs) → SomeOf P xs
 some-kept P kept [] s = absurd s

@@ -18,6 +18,8 @@ use Rattle.evaluation.specs.FrameTables.{is_good, FrameTable, Allows, Nested, la
 use Rattle.type_terms.proofs.Made.{false-true, left, right, made-ordinary, no-tree, IsLast, last-bound, last-trait, never-dynamic, never-dynamic-bound, never-principal}
 use Rattle.evaluation.proofs.Traits.{trait-of-question}
 use Rattle.evaluation.proofs.Reading.{append-none, read-leaf, read-replace, EachLabel, Carries, read-relabeled, IsPutIn, read-put}
+use Rattle.type_terms.proofs.BooleanBasics.{and-true}
+use Rattle.evaluation.proofs.Basics.{nothing-at as term-at-none}
 
 pub some-none : (x : Trees) (T : Type 0) → Some x ≡ None → T
 some-none x T e = absurd (cc)
@@ -57,10 +59,6 @@ place-of-sort k t false h = ap (λ b. is_place k (if b then t else leaf (placeho
 
 pub is-place : (k : Sort) (t : Trees) → is_place k (as_place k t) ≡ true
 is-place k t = place-of-sort k t (is_place k t) refl
-
-and-true : (b : Bool) → (b && true) ≡ b
-and-true true = refl
-and-true false = refl
 
 -- a term that stands for itself is of its sort
 pub place-is-a : (k j : Sort) (t : Trees) → is_place k t ≡ true → HasValues j → is_a j t ≡ is_sort k j
@@ -125,10 +123,6 @@ reading-sorted s h of_type l k = refl
 reading-sorted s h of_const l k = refl
 
 -- ---- slots
-term-at-none : (i : ℕ) → term_at [] i ≡ none
-term-at-none zero = refl
-term-at-none (suc i) = term-at-none i
-
 slot-here : (s : ChosenTerms) (k : Sort) (l : Label) (b : Bool) → is_sort (sort_of l) k ≡ b → is_a k (reading_of s l) ≡ is_sort (sort_of l) k → HasValues k
     → of_sort k (reading_of s l) ≡ read_with (standing s) (leaf (if b then l else default_label k))
 slot-here s k l true e h v = sort-of-sort k (reading_of s l) (h ∙ e)

@@ -10,6 +10,7 @@ use Rattle.type_terms.proofs.Made.{false-true}
 use Rattle.evaluation.specs.Lists.{Every}
 use Rattle.evaluation.specs.Instances.{read_with, put_in, as_place, term_at}
 use Rattle.evaluation.specs.Content.{Values, ChosenTerms, standing, reading_of, UnknownStands}
+use Rattle.type_terms.proofs.ListBasics.{cons}
 
 pub read-append : (s : Label → Option Trees) (x y : Trees) → read_with s (x +++ y) ≡ read_with s x +++ read_with s y
 read-append s none y = refl
@@ -152,9 +153,6 @@ give-each u w e (tree l c o) = (give-one u w e l, give-each u w e c, give-each u
 
 pub reads-same : (a b : ChosenTerms) → a.own ≡ b.own → a.unknowns ≡ b.unknowns → (x : Trees) → read_with (standing a) x ≡ read_with (standing b) x
 reads-same a b e f x = same-read a b e x (give-each a.unknowns b.unknowns f x)
-
-pub cons : {A : Type 0} (x y : A) (xs ys : List A) → x ≡ y → xs ≡ ys → x ∷ xs ≡ y ∷ ys
-cons x y xs ys e f = cc
 
 pub same-map : (a b : ChosenTerms) → a.own ≡ b.own → a.unknowns ≡ b.unknowns → (ls : List Label) → map (reading_of a) ls ≡ map (reading_of b) ls
 same-map a b e f [] = refl

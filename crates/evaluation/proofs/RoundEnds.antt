@@ -1,14 +1,12 @@
 -- How a round ends, goal by goal.
 use Rattle.std.proofs.Common.{◌≡◌, Bool, true, false, ◌||◌, List, [], ◌∷◌, ◌++◌, refl, sym, ◌∙◌, ap, subst, Option, Some, None, Result, Ok, Err}
 use Rattle.std.specs.Borrow.{Bor}
-use Rattle.std.proofs.lemmas.List.{append-nil}
 use Rattle.type_terms.specs.Terms.{Entry, Keeps}
 use Rattle.type_terms.specs.declared.kinds.GenericArgKind.{GenericArgKind}
 use Rattle.infer_table.specs.Certainties.{joined}
 use Rattle.infer_table.specs.Content.{Table, Ready}
 use Rattle.infer_table.specs.Unification.{TableTrees, table_trees}
 use Rattle.infer_table.specs.declared.certainty.Certainty.{Certainty}
-use Rattle.infer_table.specs.declared.certainty.Certainty.TheVariants.{Yes}
 use Rattle.infer_table.specs.declared.certainty.TypingMode.{TypingMode}
 use Rattle.infer_table.proofs.PairFacts.{table-kept}
 use Rattle.infer_table.specs.Values.{Value, values_of}
@@ -23,7 +21,7 @@ use Rattle.evaluation.specs.Replays.{Run, ready, waits, run, onward}
 use Rattle.evaluation.specs.Rounds.{Round, kept, round}
 use Rattle.infer_table.specs.Responses.{AnswerTrees, answer_trees}
 use Rattle.evaluation.specs.Context.{NestedGoal, NestedHeld}
-use Rattle.evaluation.specs.Evaluating.{AskedQuestion, NestedTrees, nested_trees, goals_trees, replies_trees, put_into, evaluation, IsAskedBy, values_asked}
+use Rattle.evaluation.specs.Evaluating.{AskedQuestion, NestedTrees, nested_trees, goals_trees, replies_trees, put_into, evaluation, values_asked}
 use Rattle.evaluation.specs.Steps.{RoundEnds}
 use Rattle.evaluation.specs.declared.error.EvalError.{EvalError}
 use Rattle.evaluation.specs.declared.error.EvalError.TheVariants.{NoSolution, Fault}
@@ -47,26 +45,6 @@ module _ (mode : TypingMode) where
   RoundRun = Run AskedQuestion (Option AnswerTrees) (Option (Round (evaluation mode)))
 
   module _ (es : List Entry) (T : Table) where
-    -- no goal is left to ask
-    pub round-ended : (goals left : List NestedGoal) (replies : Bor (List (Option CanonicalResponse))) → goals ≡ []
-        → RoundEnds mode es T left left (run (round (evaluation mode) (goals_trees es goals) (table_trees es T)) (replies_trees es replies.now)) (Ok (Of.Ended false Yes replies))
-    round-ended goals left replies e =
-        let none-left : RoundEnds mode es T left left (run (round (evaluation mode) [] (table_trees es T)) (replies_trees es replies.now)) (Ok (Of.Ended false Yes replies)) =
-        (record { table = refl; left = sym (append-nil (goals_trees es left)); changed_is = refl; certainty_is = refl }, refl) in
-        subst (λ gs. RoundEnds mode es T left left (run (round (evaluation mode) (goals_trees es gs) (table_trees es T)) (replies_trees es replies.now)) (Ok (Of.Ended false Yes replies))) (sym e) none-left
-
-    -- no reply to the first goal is there
-    pub round-waits : (old : List Entry) (n : NestedGoal) (ns before after : List NestedGoal) (rs : List (Option CanonicalResponse)) (input : CanonicalInput) → rs ≡ []
-        → IsAskedBy mode old T n es input
-        → RoundEnds mode es T before after (run (round (evaluation mode) (goals_trees old (n ∷ ns)) (table_trees old T)) (replies_trees old rs)) (Ok (Of.Waits input n.source))
-    round-waits old n ns before after rs input e q =
-        subst (λ xs. RoundEnds mode es T before after (run (round (evaluation mode) (goals_trees old (n ∷ ns)) (table_trees old T)) (replies_trees old xs)) (Ok (Of.Waits input n.source))) (sym e) q
-
-    -- the answer to the first goal is a refusal
-    pub round-refused : (n : NestedTrees) (ns : List NestedTrees) (t : TableTrees) (before after : List NestedGoal) (more : List (Option AnswerTrees))
-        → RoundEnds mode es T before after (run (round (evaluation mode) (n ∷ ns) t) (None ∷ more)) (Err NoSolution)
-    round-refused n ns t before after more = tt
-
     -- the answer cannot be put into the table
     pub round-unapplied : (n : NestedTrees) (ns : List NestedTrees) (t : TableTrees) (before after : List NestedGoal) (a : AnswerTrees) (more : List (Option AnswerTrees)) (e : EvalError)
         → (e ≡ NoSolution → (evaluation mode).apply t n a ≡ None)

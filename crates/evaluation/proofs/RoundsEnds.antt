@@ -1,12 +1,10 @@
 -- How the rounds end, round by round.
-use Rattle.std.proofs.Common.{◌≡◌, ℕ, suc, zero, Bool, true, false, List, [], ◌∷◌, refl, sym, ◌∙◌, ap, subst, Option, Some, None, Ok, Err}
+use Rattle.std.proofs.Common.{◌≡◌, ℕ, suc, Bool, true, false, List, [], ◌∷◌, refl, sym, ◌∙◌, ap, subst, Option, Some, None, Ok, Err}
 use Rattle.std.specs.Borrow.{Bor}
 use Rattle.type_terms.specs.Terms.{Entry}
 use Rattle.infer_table.specs.Content.{Table}
 use Rattle.infer_table.specs.Unification.{TableTrees, table_trees}
 use Rattle.infer_table.specs.declared.certainty.Certainty.{Certainty}
-use Rattle.infer_table.specs.declared.certainty.Certainty.TheVariants.{Maybe}
-use Rattle.infer_table.specs.declared.certainty.MaybeCause.TheVariants.{Overflow}
 use Rattle.infer_table.specs.declared.certainty.TypingMode.{TypingMode}
 use Rattle.infer_table.specs.declared.response.CanonicalResponse.{CanonicalResponse}
 use Rattle.evaluation.specs.Replays.{Run, ready, waits, run, onward}
@@ -27,14 +25,6 @@ module _ (mode : TypingMode) where
 
   abbrev RoundsRun : Type 0
   RoundsRun = Run AskedQuestion (Option AnswerTrees) (Option (Rounds (evaluation mode)))
-
-  -- the number of rounds is used up
-  pub rounds-limit : (es : List Entry) (T : Table) (limit : ℕ) (left : List NestedGoal) (rs : List (Option AnswerTrees)) → limit ≡ 0
-      → EndsIn (λ o more. SameRounds mode es T left (Maybe Overflow) o) (run (rounds (evaluation mode) limit (goals_trees es left) (table_trees es T)) rs)
-  rounds-limit es T limit left rs e =
-      let now : EndsIn (λ o more. SameRounds mode es T left (Maybe Overflow) o) (run (rounds (evaluation mode) zero (goals_trees es left) (table_trees es T)) rs) =
-      record { table = refl; left_is = refl; certainty_is = refl } in
-      subst (λ n. EndsIn (λ o more. SameRounds mode es T left (Maybe Overflow) o) (run (rounds (evaluation mode) n (goals_trees es left) (table_trees es T)) rs)) (sym e) now
 
   -- ---- after the first round, of more than `limit`
   module _ (limit : ℕ) where

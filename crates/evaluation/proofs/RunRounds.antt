@@ -1,19 +1,11 @@
 -- The run of a round, reply by reply, and of the rounds, round by round.
-use Rattle.std.proofs.Common.{◌≡◌, ℕ, suc, true, false, List, [], ◌∷◌, refl, ◌∙◌, ap, Option, Some, None}
+use Rattle.std.proofs.Common.{◌≡◌, ℕ, suc, true, false, List, ◌∷◌, ◌∙◌, ap, Option, Some, None}
 use Rattle.evaluation.specs.Operations.{Operations, is_yes}
-use Rattle.evaluation.specs.Replays.{ready, waits, run, onward}
+use Rattle.evaluation.specs.Replays.{ready, run, onward}
 use Rattle.evaluation.specs.Rounds.{kept, judged, applied, round, next_round, rounds}
 use Rattle.evaluation.proofs.Replays.{run-followed}
 
 module _ {Question Response : Type 0} (o : Operations Question Response) where
-  -- without a reply it waits at the first goal's question
-  pub run-waits : (n : o.Nested) (ns : List o.Nested) (T : o.Table) → run (round o (n ∷ ns) T) [] ≡ waits (o.question T n)
-  run-waits n ns T = refl
-
-  -- a reply of none refuses
-  pub run-refused : (n : o.Nested) (ns : List o.Nested) (T : o.Table) (more : List (Option Response)) → run (round o (n ∷ ns) T) (None ∷ more) ≡ ready None more
-  run-refused n ns T more = refl
-
   -- and so does one that cannot be applied
   pub run-unapplied : (n : o.Nested) (ns : List o.Nested) (T : o.Table) (r : Response) (more : List (Option Response)) → o.apply T n r ≡ None
       → run (round o (n ∷ ns) T) (Some r ∷ more) ≡ ready None more

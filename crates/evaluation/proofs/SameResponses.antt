@@ -10,7 +10,6 @@ use Rattle.infer_table.specs.declared.certainty.Certainty.TheVariants.{Yes, Mayb
 use Rattle.infer_table.specs.declared.certainty.MaybeCause.{MaybeCause}
 use Rattle.infer_table.specs.declared.terms.RegionConstraint.{RegionConstraint}
 use Rattle.infer_table.specs.declared.terms.RegionConstraint.TheVariants.{Equal, RegionOutlives, TypeOutlives}
-use Rattle.infer_table.specs.contracts.canonical.CanonicalVarKindPartialEq.TheImpl.{ghosts as kind}
 use Rattle.infer_table.specs.contracts.certainty.CertaintyPartialEq.TheImpl.{ghosts as certainty}
 use Rattle.infer_table.specs.contracts.certainty.MaybeCausePartialEq.TheImpl.{ghosts as cause}
 use Rattle.infer_table.specs.contracts.terms.RegionConstraintPartialEq.TheImpl.{ghosts as constraint}
@@ -18,9 +17,7 @@ use Rattle.infer_table.specs.declared.response.CanonicalResponse.{CanonicalRespo
 use Rattle.infer_table.specs.contracts.response.CanonicalResponsePartialEq.TheImpl.{ghosts as response}
 use Rattle.infer_table.proofs.LeafFacts.{region-eq, ty-eq, arg-eq}
 use Rattle.evaluation.specs.Responses.{Content, content}
-
-pub kind-eq : (a b : CanonicalVarKind) → Decides (kind.eq a b) (a ≡ b)
-kind-eq a b = search rules
+use Rattle.infer_table.proofs.TypeBasics.{kind-eq}
 
 cause-eq : (a b : MaybeCause) → Decides (cause.eq a b) (a ≡ b)
 cause-eq a b = search rules

@@ -17,6 +17,7 @@ use Rattle.evaluation.proofs.Reading.{append-none, EachLabel, read-lifetime}
 use Rattle.evaluation.proofs.Labels.{IsGoodLabel, made-labels}
 use Rattle.evaluation.specs.Variables.{LabelStandsIn, is_variable_over}
 use Rattle.evaluation.proofs.Readings.{AgreeIn}
+use Rattle.infer_table.proofs.TypeBasics.{some-kind}
 
 -- ---- slots
 -- what the slot of a variable of this kind is, where the variable has this value
@@ -26,9 +27,6 @@ own_slot Const x = of_sort of_const x
 own_slot PlaceholderTy x = as_place of_type x +++ none
 own_slot PlaceholderConst x = as_place of_const x +++ none
 own_slot Region x = leaf static
-
-some-kind : (j k : CanonicalVarKind) → Some j ≡ Some k → j ≡ k
-some-kind j k e = cc
 
 first-slot : (s : ChosenTerms) (place : ℕ) (k : CanonicalVarKind) (ks : List CanonicalVarKind) (l : Label) (ls : List Label) (ts : List Trees) → IsOwn place k l
     → HaveValues (k ∷ ks) ts (map (reading_of s) (l ∷ ls)) → first_term ts ≡ term_at s.own.terms place → reading_of s l ≡ own_slot k (first_term ts)

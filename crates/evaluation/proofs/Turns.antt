@@ -11,8 +11,6 @@ use Rattle.infer_table.specs.Constraints.{constraints_trees}
 use Rattle.infer_table.specs.Content.{IsHeldConstraint, AllConstraintsHeld}
 use Rattle.infer_table.specs.Unification.{TableTrees, recorded_once, all_recorded, unified}
 use Rattle.infer_table.specs.Worklists.{equation_trees}
-use Rattle.infer_table.specs.declared.canonical.CanonicalVarKind.{CanonicalVarKind}
-use Rattle.infer_table.specs.declared.certainty.Certainty.{Certainty}
 use Rattle.infer_table.specs.declared.terms.Equation.{Equation}
 use Rattle.infer_table.specs.declared.terms.RegionConstraint.{RegionConstraint}
 use Rattle.infer_table.specs.Goals.{GoalHeld, goal_trees}
@@ -23,7 +21,7 @@ use Rattle.infer_table.proofs.Fillings.{filled-append}
 use Rattle.infer_table.proofs.Numbers.{goal-trees-later}
 use Rattle.infer_table.proofs.Returning.{goal-filled-cong}
 use Rattle.infer_table.specs.Applied.{with_constraints}
-use Rattle.infer_table.specs.Responses.{AnswerTrees, answer_trees, ResponseHeld}
+use Rattle.infer_table.specs.Responses.{answer_trees, ResponseHeld}
 use Rattle.infer_table.proofs.ConstraintLists.{constraints-later}
 use Rattle.infer_table.proofs.Values.{cut-at}
 use Rattle.evaluation.specs.Lists.{Every}
@@ -34,6 +32,7 @@ use Rattle.evaluation.specs.Evaluating.{NestedTrees, nested_trees}
 use Rattle.evaluation.specs.Frames.{pair_filled, solved, nested_filled}
 use Rattle.evaluation.specs.Trial.{equations_trees, premises_trees}
 use Rattle.evaluation.proofs.Later.{equation-later}
+use Rattle.infer_table.proofs.TypeBasics.{same-parts as same-answer}
 
 -- ---- lists
 pub cut : {A : Type 0} (xs : List A) (i : ℕ) (x : A) → i < length xs → x ≡ get_or xs i x → drop i xs ≡ x ∷ drop (i + 1) xs
@@ -132,11 +131,6 @@ one-more-goal es vs before after all y xs i x lt is e g h =
 
 pub all-goals : (es : List Entry) (vs : List Value) (ys all : List NestedTrees) (rest : List (GoalSource × Goal)) → rest ≡ [] → ys ++ map (nested_filled vs) (premises_trees es rest) ≡ all → ys ≡ all
 all-goals es vs ys all rest e h = sym (append-nil ys) ∙ ap (λ z. ys ++ map (nested_filled vs) (premises_trees es z)) (sym e) ∙ h
-
--- ---- replies
-same-answer : (ks ls : List CanonicalVarKind) (c d : Certainty) (vs ws : List Value) (x y : Trees) → ks ≡ ls → c ≡ d → vs ≡ ws → x ≡ y
-    → ◌≡◌ {A = AnswerTrees} (record { kinds = ks; certainty = c; values = vs; constraints = x }) (record { kinds = ls; certainty = d; values = ws; constraints = y })
-same-answer ks ls c d vs ws x y e f g h = cc
 
 module _ (es : List Entry) (r s : CanonicalResponse) (kinds : r.variables.items ≡ s.variables.items) (certainty : r.certainty ≡ s.certainty) (values : r.var_values.items ≡ s.var_values.items) (constraints : r.region_constraints.items ≡ s.region_constraints.items) where
   -- a copy says the same

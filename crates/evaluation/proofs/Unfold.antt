@@ -2,6 +2,7 @@
 use Rattle.std.proofs.Common.{◌≡◌, Bool, true, false, List, [], ◌∷◌, ◌++◌, map, ◌⊎◌, inl, inr, refl, sym, ap, subst, if◌then◌else◌}
 use Rattle.evaluation.specs.Lists.{Every, IsAmong}
 use Rattle.evaluation.specs.Proof.{facts, EntriesContinue, FactHasProof, GoalDerivation, end, again, by_rule, GoalIsDerived, HasGraph}
+use Rattle.type_terms.proofs.ListBasics.{map-append}
 
 pub among-left : {A : Type 0} (x : A) (xs ys : List A) → IsAmong x xs → IsAmong x (xs ++ ys)
 among-left x [] ys i = absurd i
@@ -21,10 +22,6 @@ pub among-map : {A B : Type 0} (f : A → B) (x : A) (xs : List A) → IsAmong x
 among-map f x [] i = absurd i
 among-map f x (y ∷ ys) (inl e) = inl (ap f e)
 among-map f x (y ∷ ys) (inr i) = inr (among-map f x ys i)
-
-pub map-append : {A B : Type 0} (f : A → B) (xs ys : List A) → map f (xs ++ ys) ≡ map f xs ++ map f ys
-map-append f [] ys = refl
-map-append f (x ∷ xs) ys = ap (λ zs. f x ∷ zs) (map-append f xs ys)
 
 from-map : {A B : Type 0} (f : A → B) (y : B) (xs : List A) → IsAmong y (map f xs) → (x : A) × IsAmong x xs × (f x ≡ y)
 from-map f y [] i = absurd i

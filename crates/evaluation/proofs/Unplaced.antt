@@ -20,6 +20,8 @@ use Rattle.evaluation.proofs.Applying.{for-bindings}
 use Rattle.evaluation.specs.FrameTables.{unknown}
 use Rattle.evaluation.specs.FrameTables.{labels_for}
 use Rattle.evaluation.specs.TableOperations.{fresh}
+use Rattle.type_terms.proofs.ListBasics.{cons}
+use Rattle.type_terms.proofs.NumberBasics.{plus-one, plus-zero, zero-more as zero-plus}
 
 -- ---- kinds without places
 abbrev pub IsNotPlace : CanonicalVarKind → Type 0
@@ -54,17 +56,6 @@ no-places-fit (PlaceholderTy ∷ ks) h ts = absurd h.0
 no-places-fit (PlaceholderConst ∷ ks) h ts = absurd h.0
 
 -- ---- labels
-cons : {A : Type 0} (x y : A) (xs ys : List A) → x ≡ y → xs ≡ ys → x ∷ xs ≡ y ∷ ys
-cons x y xs ys e f = cc
-
-plus-one : (n : ℕ) → n + 1 ≡ suc n
-plus-one n = omega arith
-
-plus-zero : (n : ℕ) → n + 0 ≡ n
-plus-zero n = omega arith
-
-zero-plus : (n : ℕ) → 0 + n ≡ n
-zero-plus n = omega arith
 
 plus-suc : (n m : ℕ) → suc n + m ≡ n + suc m
 plus-suc n m = omega arith

@@ -17,7 +17,6 @@ use Rattle.infer_table.proofs.CanonicalLaws.{leaves-hold}
 use Rattle.infer_table.specs.Values.{Value}
 use Rattle.infer_table.specs.Raw.{sort_of_kind, variable_value, variables_from}
 use Rattle.infer_table.specs.Answers.{have_same_sorts, is_answer_to}
-use Rattle.infer_table.proofs.SolutionLaws.{is_sort-self as sort-self}
 use Rattle.evaluation.specs.Lists.{Every}
 use Rattle.evaluation.specs.FrameTables.{kind_at, good_in, FrameTable, IsMadeFrame, IsOwn, AreOwn}
 use Rattle.evaluation.specs.TableAnswers.{own_labels, own_values, joined, answer_leaves, numbered, value_numbered, kinds_of, with_kind, respond, is_kind_of, is_variable_of, is_fitting, IsWellFormed}
@@ -27,6 +26,7 @@ use Rattle.evaluation.proofs.Labels.{label-leaf, each-label, every-leaf, last-ma
 use Rattle.evaluation.proofs.Resolved.{made-resolved}
 use Rattle.evaluation.proofs.Free.{resolved-one}
 use Rattle.evaluation.proofs.Answering.{stands-left, joined-stands, among-map, LabelAmong}
+use Rattle.type_terms.proofs.TermBasics.{is_sort-self as sort-self}
 
 -- ---- terms with other labels at their open leaves
 module _ (good better : Label → Bool) (f : Label → Label) where

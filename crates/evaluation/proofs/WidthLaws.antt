@@ -51,7 +51,7 @@ pub put-within : (n : ℕ) (ls : List Label) (x : Trees) → IsWithin n x → Is
 put-within n ls x h = within-put n (slot_at ls) (slot-one n ls) x h
 
 -- ---- questions
-makes-canonical : (ls : List Label) → MakesNoBounds (canonical_label ls)
+pub makes-canonical : (ls : List Label) → MakesNoBounds (canonical_label ls)
 makes-canonical ls l m = omega arith
 
 part-within : (n : ℕ) (t : FrameTable) (kind : OpenKinds) (ls : List Label) (x : Trees) → TableWithin n t → width_of_predicates x ≤ n

@@ -1,7 +1,6 @@
 -- Answers are equal exactly if they say the same, and over a lawful interner exactly if their trees are.
 use Rattle.std.proofs.Common.{◌≡◌, List, [], ◌∷◌, refl, ap, sym}
 use Rattle.std.specs.Bool.{Decides}
-use Rattle.type_terms.specs.Trees.{Trees}
 use Rattle.type_terms.specs.Terms.{Entry, Keeps, Lawful, types, consts, trees_at}
 use Rattle.type_terms.specs.Kinds.{ArgHeld, ArgsHeld, region_label, region_trees}
 use Rattle.type_terms.specs.declared.region.Region.{Region}
@@ -11,8 +10,6 @@ use Rattle.type_terms.specs.declared.kinds.GenericArgKind.TheVariants.{Lifetime,
 use Rattle.type_terms.proofs.Equal.{through}
 use Rattle.type_terms.proofs.Sorts.{type-single}
 use Rattle.type_terms.specs.Kept.{args-held-later}
-use Rattle.infer_table.specs.declared.canonical.CanonicalVarKind.{CanonicalVarKind}
-use Rattle.infer_table.specs.declared.certainty.Certainty.{Certainty}
 use Rattle.infer_table.specs.declared.terms.RegionConstraint.{RegionConstraint}
 use Rattle.infer_table.specs.declared.terms.RegionConstraint.TheVariants.{Equal, RegionOutlives, TypeOutlives}
 use Rattle.infer_table.specs.Content.{IsHeldConstraint, AllConstraintsHeld}
@@ -20,12 +17,15 @@ use Rattle.infer_table.specs.Constraints.{constraint_label, constraint_terms, co
 use Rattle.infer_table.specs.Kept.{constraints-kept}
 use Rattle.infer_table.specs.declared.response.CanonicalResponse.{CanonicalResponse}
 use Rattle.infer_table.specs.contracts.response.CanonicalResponsePartialEq.TheImpl.{ghosts as response}
-use Rattle.infer_table.specs.Values.{Value, sort_of_arg, value_of, values_of, values-later}
+use Rattle.infer_table.specs.Values.{sort_of_arg, value_of, values_of, values-later}
 use Rattle.infer_table.proofs.LeafFacts.{same-handle}
-use Rattle.infer_table.specs.Responses.{AnswerTrees, ResponseHeld, answer_trees, SayTheSame}
+use Rattle.infer_table.specs.Responses.{ResponseHeld, answer_trees, SayTheSame}
 use Rattle.infer_table.proofs.PairFacts.{constraints-later}
-use Rattle.infer_table.proofs.Questions.{first-of-two, region-is, node-parts}
+use Rattle.infer_table.proofs.Questions.{first-of-two, region-is}
 use Rattle.evaluation.proofs.SameResponses.{content-cong, response-eq as contents-equal}
+use Rattle.type_terms.proofs.ListBasics.{next}
+use Rattle.type_terms.proofs.TermBasics.{tree-parts as node-parts}
+use Rattle.infer_table.proofs.TypeBasics.{answer-cong}
 
 -- ---- the derived `==`
 pub response-eq : (a b : CanonicalResponse) → Decides (response.eq a b) (SayTheSame a b)
@@ -38,9 +38,6 @@ pub response-back : (a b : CanonicalResponse) → SayTheSame a b → SayTheSame 
 response-back a b e = record { variables = sym e.variables; certainty = sym e.certainty; values = sym e.values; constraints = sym e.constraints }
 
 -- ---- handles are told apart by their trees
-next : {A : Type 0} (x y : A) (xs ys : List A) → x ≡ y → xs ≡ ys → x ∷ xs ≡ y ∷ ys
-next x y xs ys p q = cc
-
 arg-is : (es : List Entry) → Lawful es → (a b : GenericArgKind) → ArgHeld es a → ArgHeld es b → value_of es a ≡ value_of es b → a ≡ b
 arg-is es law (Lifetime r) (Lifetime s) h g e =
     let trees : region_trees r ≡ region_trees s = ap (λ v. v.trees) e in
@@ -98,10 +95,6 @@ answers-are es law r s h g e =
       values = args-are es law r.var_values.items s.var_values.items h.values g.values (ap (λ a. a.values) e);
       constraints = constraints-are es law r.region_constraints.items s.region_constraints.items h.constraints g.constraints (ap (λ a. a.constraints) e);
     }
-
-answer-cong : (ks ls : List CanonicalVarKind) (c d : Certainty) (vs ws : List Value) (x y : Trees) → ks ≡ ls → c ≡ d → vs ≡ ws → x ≡ y
-    → ◌≡◌ {A = AnswerTrees} (record { kinds = ks; certainty = c; values = vs; constraints = x }) (record { kinds = ls; certainty = d; values = ws; constraints = y })
-answer-cong ks ls c d vs ws x y p q e f = cc
 
 pub same-answers : (es : List Entry) (r s : CanonicalResponse) → SayTheSame r s → answer_trees es r ≡ answer_trees es s
 same-answers es r s e = answer-cong _ _ _ _ _ _ _ _ e.variables e.certainty (ap (values_of es) e.values) (ap (constraints_trees es) e.constraints)

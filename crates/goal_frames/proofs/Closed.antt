@@ -8,7 +8,7 @@ use Rattle.infer_table.specs.Canonical.{CanonicalForm}
 use Rattle.infer_table.specs.Solutions.{HasValues}
 use Rattle.infer_table.specs.declared.canonical.CanonicalVarKind.{CanonicalVarKind}
 use Rattle.infer_table.specs.declared.canonical.CanonicalVarKind.TheVariants.{Ty, PlaceholderTy, Const, PlaceholderConst, Region}
-use Rattle.infer_table.proofs.SolutionLaws.{is_sort-equal as is-sort, is_sort-self as sort-self}
+use Rattle.infer_table.proofs.SolutionLaws.{is_sort-equal as is-sort}
 use Rattle.evaluation.specs.Lists.{Every}
 use Rattle.evaluation.specs.Instances.{read_with, goal_read, of_sort, is_place, other_terms, term_at}
 use Rattle.evaluation.specs.Content.{Values, fits_kind, fits, given, fact_of}
@@ -20,6 +20,7 @@ use Rattle.evaluation.specs.Variables.{LabelStandsIn, is_variable_over}
 use Rattle.goal_frames.specs.Handlers.{BareGoal, is_variable_label, places_stand}
 use Rattle.evaluation.proofs.Readings.{HasLeaves, made-leaves}
 use Rattle.goal_frames.proofs.Asked.{IsAsked}
+use Rattle.type_terms.proofs.TermBasics.{is_sort-self as sort-self}
 
 -- ---- where a variable stands
 or-cases : (a b : Bool) → (a || b) ≡ true → (a ≡ true) ⊎ (b ≡ true)

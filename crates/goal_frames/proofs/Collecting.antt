@@ -1,11 +1,11 @@
 -- The responses of candidates, collected in order.
-use Rattle.std.proofs.Common.{◌≡◌, ℕ, ◌+◌, ◌<◌, ◌≤◌, List, [], ◌∷◌, ◌++◌, append_assoc, map, length, drop, get_or, refl, sym, ◌∙◌, ap, subst, Option, Some, None}
+use Rattle.std.proofs.Common.{◌≡◌, ℕ, ◌+◌, ◌<◌, List, [], ◌∷◌, map, length, drop, get_or, refl, sym, ◌∙◌, ap, subst, Option, Some, None}
 use Rattle.type_terms.specs.Terms.{Entry}
 use Rattle.type_terms.specs.Kinds.{ArgsHeld}
 use Rattle.infer_table.specs.Content.{AllConstraintsHeld}
 use Rattle.infer_table.specs.declared.response.CanonicalResponse.{CanonicalResponse}
 use Rattle.infer_table.specs.Responses.{AnswerTrees, ResponseHeld, answer_trees}
-use Rattle.infer_table.proofs.Values.{cut-at, past-end}
+use Rattle.infer_table.proofs.Values.{cut-at}
 use Rattle.evaluation.specs.declared.candidate.Considered.{Considered}
 use Rattle.evaluation.specs.Candidate.{Next, answer}
 use Rattle.evaluation.specs.Lists.{Every}
@@ -18,34 +18,9 @@ use Rattle.goal_frames.specs.Fitting.{ResultFits, ConsideredFits}
 use Rattle.goal_frames.specs.Merges.{with_response, responses_of}
 use Rattle.goal_frames.proofs.Responses.{content_trees}
 
-append-none : {A : Type 0} (xs : List A) → xs ++ [] ≡ xs
-append-none [] = refl
-append-none (x ∷ xs) = ap (λ z. x ∷ z) (append-none xs)
-
-map-push : {A B : Type 0} (f : A → B) (xs : List A) (y : A) → map f (xs ++ y ∷ []) ≡ map f xs ++ f y ∷ []
-map-push f [] y = refl
-map-push f (x ∷ xs) y = ap (λ z. f x ∷ z) (map-push f xs y)
-
 module _ (done : List Considered) (i : ℕ) (x : Considered) (lt : i < length done) (is : x ≡ get_or done i x) where
   cut : drop i done ≡ x ∷ drop (i + 1) done
   cut = cut-at done i x lt ∙ ap (λ z. z ∷ drop (i + 1) done) (sym is)
-
-  responses-here : (o : Option CanonicalResponse) → x.result ≡ o → responses_of (drop i done) ≡ with_response o (responses_of (drop (i + 1) done))
-  responses-here o e = ap responses_of cut ∙ ap (λ z. with_response z (responses_of (drop (i + 1) done))) e
-
-  pub one-response : (xs : List CanonicalResponse) (all : List Content) (r s : CanonicalResponse) → x.result ≡ Some r → content s ≡ content r → map content xs ++ map content (responses_of (drop i done)) ≡ all
-      → map content (xs ++ s ∷ []) ++ map content (responses_of (drop (i + 1) done)) ≡ all
-  one-response xs all r s e f h =
-      ap (λ z. z ++ map content (responses_of (drop (i + 1) done))) (map-push content xs s)
-      ∙ append_assoc (map content xs) (content s ∷ []) (map content (responses_of (drop (i + 1) done)))
-      ∙ ap (λ z. map content xs ++ z ∷ map content (responses_of (drop (i + 1) done))) f
-      ∙ ap (λ z. map content xs ++ map content z) (sym (responses-here (Some r) e)) ∙ h
-
-  pub no-response : (xs : List CanonicalResponse) (all : List Content) → x.result ≡ None → map content xs ++ map content (responses_of (drop i done)) ≡ all → map content xs ++ map content (responses_of (drop (i + 1) done)) ≡ all
-  no-response xs all e h = ap (λ z. map content xs ++ map content z) (sym (responses-here None e)) ∙ h
-
-pub all-responses : (done : List Considered) (i : ℕ) (xs : List CanonicalResponse) (all : List Content) → length done ≤ i → map content xs ++ map content (responses_of (drop i done)) ≡ all → map content xs ≡ all
-all-responses done i xs all l h = sym (append-none (map content xs)) ∙ ap (λ z. map content xs ++ map content (responses_of z)) (sym (past-end done i l)) ∙ h
 
 -- ---- what holds of the responses that were collected
 abbrev ContentHeld : List Entry → Content → Type 0

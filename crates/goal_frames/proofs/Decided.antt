@@ -1,10 +1,9 @@
 -- The questions that a list of rules asks are decided.
-use Rattle.std.proofs.Common.{◌≡◌, ℕ, Bool, true, List, [], ◌∷◌, length, refl, ◌∙◌, ap, Option, Some, None}
-use Rattle.type_terms.specs.Label.{Label, canonical, of_trait, predicate}
-use Rattle.type_terms.specs.Trees.{Trees, none, tree}
+use Rattle.std.proofs.Common.{◌≡◌, ℕ, Bool, true, List, length, refl, ◌∙◌, ap, Option, Some, None}
+use Rattle.type_terms.specs.Label.{Label, canonical}
 use Rattle.type_terms.specs.Made.{terms, is_made}
-use Rattle.infer_table.specs.Canonical.{GoalTrees, CanonicalForm, canonical_form}
-use Rattle.infer_table.specs.Solutions.{Binding, replace, resolved}
+use Rattle.infer_table.specs.Canonical.{CanonicalForm, canonical_form}
+use Rattle.infer_table.specs.Solutions.{resolved}
 use Rattle.infer_table.proofs.SolutionLaws.{resolved-none}
 use Rattle.infer_table.specs.declared.canonical.CanonicalVarKind.{CanonicalVarKind}
 use Rattle.infer_table.specs.declared.certainty.TypingMode.{TypingMode}
@@ -32,17 +31,12 @@ use Rattle.goal_frames.proofs.Listings.{listed-each}
 use Rattle.goal_frames.proofs.Behind.{made-behind}
 use Rattle.goal_frames.proofs.Handlers.{each-spec}
 use Rattle.goal_frames.proofs.Forms.{canonical-goals-are-asked}
+use Rattle.infer_table.proofs.Basics.{resolved-trait, same-goal}
 
 abbrev pub IsDecided : NestedQuestion → Type 0
 IsDecided q = (a : BareGoal) × (bare_goal q.form ≡ Some a)
 
 -- ---- a nested goal over the table's unknowns
-resolved-trait : (bs : List Binding) (i : ℕ) (c : Trees) → resolved bs (tree (predicate (of_trait i)) c none) ≡ tree (predicate (of_trait i)) (resolved bs c) none
-resolved-trait [] i c = refl
-resolved-trait (b ∷ older) i c = ap (replace b.sort b.var (resolved older b.value)) (resolved-trait older i c)
-
-same-goal : (e d p q : Trees) → e ≡ d → p ≡ q → ◌≡◌ {A = GoalTrees} (record { environment = e; predicate = p }) (record { environment = d; predicate = q })
-same-goal e d p q x y = cc
 
 module _ (T : FrameTable) (made : IsMadeFrame T) (kind : Bool) (n : ℕ) (kinds : List CanonicalVarKind) (b : TraitBound) (over : BoundIsOver kinds b) where
   abbrev inside : TraitBound

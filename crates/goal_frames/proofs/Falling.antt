@@ -18,7 +18,7 @@ use Rattle.evaluation.specs.History.{Reply, begin, entered, ignored, evaluated, 
 use Rattle.evaluation.specs.Promises.{frame_of_goal, Anything}
 use Rattle.evaluation.specs.Script.{Script, done, ask}
 use Rattle.evaluation.specs.Table.{workings}
-use Rattle.evaluation.proofs.ListLaws.{distinct-length, length-map}
+use Rattle.evaluation.proofs.ListLaws.{distinct-length}
 use Rattle.evaluation.proofs.OpenQuestions.{some-left}
 use Rattle.evaluation.specs.Content.{NestedQuestion}
 use Rattle.evaluation.specs.Tables.{frame_tables}
@@ -31,6 +31,7 @@ use Rattle.goal_frames.specs.declared.frame.Place.{Place}
 use Rattle.goal_frames.specs.declared.frame.Place.TheVariants as InCode
 use Rattle.goal_frames.proofs.Moves.{begins, finishes}
 use Rattle.goal_frames.proofs.Stepping.{due-here}
+use Rattle.type_terms.proofs.ListBasics.{map-length as length-map}
 
 abbrev Answer : Type 0
 Answer = Option AnswerTrees

@@ -1,5 +1,5 @@
 -- Terms for the unknowns of a goal and of a rule: those that are given.
-use Rattle.std.proofs.Common.{◌≡◌, ℕ, zero, suc, ◌+◌, arith, true, List, [], ◌∷◌, ◌++◌, length, sym, ◌∙◌, ap, subst, Some}
+use Rattle.std.proofs.Common.{◌≡◌, ℕ, zero, suc, ◌+◌, arith, true, List, [], ◌∷◌, ◌++◌, length, sym, ◌∙◌, ap, subst}
 use Rattle.type_terms.specs.Label.{Sort, of_type, of_const}
 use Rattle.type_terms.specs.Trees.{Trees}
 use Rattle.type_terms.specs.Made.{terms, is_made}
@@ -18,6 +18,7 @@ use Rattle.evaluation.proofs.Readings.{AgreeIn}
 use Rattle.goal_frames.proofs.Behind.{dropped, term-dropped}
 use Rattle.evaluation.proofs.Slots.{kind-of, own_slot, slot-is, of-sort-twice}
 use Rattle.evaluation.proofs.Unplaced.{IsNotPlace, filled_with, filled-with-allowed, whole, whole-allowed, whole-own, whole-values}
+use Rattle.goal_frames.proofs.TypeBasics.{unknown-kind}
 
 -- ---- values one behind the other
 -- the first n of the one list, and then the other
@@ -53,15 +54,7 @@ kind-behind (k ∷ ks) js i = ap (kind_at (k ∷ (ks ++ js))) (next (length ks) 
     next : (n i : ℕ) → suc n + i ≡ suc (n + i)
     next n i = omega arith
 
-unknown-kind : (ks : List CanonicalVarKind) → Every IsUnknown ks → (i : ℕ) (k : CanonicalVarKind) → kind_at ks i ≡ Some k → IsUnknown k
-unknown-kind [] h i k e = absurd (cc)
-unknown-kind (j ∷ ks) h zero k e = subst IsUnknown (same e) h.0
-  where
-    same : Some j ≡ Some k → j ≡ k
-    same e = cc
-unknown-kind (j ∷ ks) h (suc i) k e = unknown-kind ks h.1 i k e
-
-unknown-agrees : (j : CanonicalVarKind) (k : Sort) (x : Trees) → IsUnknown j → sort_of_kind j ≡ k → of_sort k (own_slot j x) ≡ of_sort k x
+pub unknown-agrees : (j : CanonicalVarKind) (k : Sort) (x : Trees) → IsUnknown j → sort_of_kind j ≡ k → of_sort k (own_slot j x) ≡ of_sort k x
 unknown-agrees Ty k x u e = subst (λ z. of_sort z (of_sort of_type x) ≡ of_sort z x) e (of-sort-twice of_type x)
 unknown-agrees Const k x u e = subst (λ z. of_sort z (of_sort of_const x) ≡ of_sort z x) e (of-sort-twice of_const x)
 unknown-agrees PlaceholderTy k x u e = absurd u

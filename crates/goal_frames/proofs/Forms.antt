@@ -9,7 +9,6 @@ use Rattle.type_terms.specs.Made.{Standing, terms, bounds, traits, is_leaf_label
 use Rattle.infer_table.specs.Canonical.{kind_of_leaf, StandsIn, relabeled, is_among, with_label, leaves, place_of, canonical_label}
 use Rattle.infer_table.specs.declared.canonical.CanonicalVarKind.{CanonicalVarKind}
 use Rattle.infer_table.proofs.CanonicalLaws.{leaves-hold}
-use Rattle.infer_table.proofs.SolutionLaws.{is_sort-self as sort-self}
 use Rattle.evaluation.specs.Lists.{Every}
 use Rattle.evaluation.specs.FrameTables.{kind_at}
 use Rattle.evaluation.specs.TableAnswers.{is_kind_of, with_kind, kinds_of}
@@ -20,7 +19,10 @@ use Rattle.goal_frames.specs.Rules.{TraitBound}
 use Rattle.evaluation.specs.Variables.{is_variable_over}
 use Rattle.goal_frames.specs.Handlers.{with_first, all_known, is_variable_label, places_stand, asked_with}
 use Rattle.goal_frames.specs.Forms.{is_unnumbered, CanonicalGoalsAreAsked}
-use Rattle.evaluation.proofs.FirstAnswers.{AreFresh, append-list, length-more, place-is, number-self}
+use Rattle.evaluation.proofs.FirstAnswers.{AreFresh, append-list, length-more, place-is}
+use Rattle.type_terms.proofs.TermBasics.{is_sort-self as sort-self}
+use Rattle.type_terms.proofs.NumberBasics.{number-self}
+use Rattle.type_terms.proofs.BooleanBasics.{either-last as or-right}
 
 -- ---- kinds of open leaves
 abbrev AreOpen : List Label → Type 0
@@ -184,11 +186,6 @@ module _ (ls : List Label) (opens : AreOpen ls) where
   or-middle true b c h = refl
   or-middle false true c h = refl
   or-middle false false c h = absurd (false-true h)
-
-  or-right : (a b c : Bool) → c ≡ true → (a || b || c) ≡ true
-  or-right true b c h = refl
-  or-right false true c h = refl
-  or-right false false c h = h
 
   numbered-variable : (l m : Label) → m ≡ l → IsSome (kind_of_leaf m) → is_variable_label (sort_of l) (place_of l ls) (numbered m) ≡ true
   numbered-variable l m e i =

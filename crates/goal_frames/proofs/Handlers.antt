@@ -42,6 +42,8 @@ use Rattle.goal_frames.proofs.Same.{answers-are, applies-to-yeses}
 use Rattle.goal_frames.proofs.Closed.{closed-kinds}
 use Rattle.evaluation.proofs.Unplaced.{IsNotPlace}
 use Rattle.goal_frames.proofs.Filled.{filled, filled-allowed, filled-agrees}
+use Rattle.type_terms.proofs.TermBasics.{predicate-parts}
+use Rattle.evaluation.proofs.Basics.{unmap as from-map}
 
 -- ---- the candidates are the rules
 module _ (kind : Bool) (a : BareGoal) where
@@ -64,13 +66,6 @@ module _ (kind : Bool) (a : BareGoal) where
   some-spec P (r ∷ rules) (inl x) =
       subst (λ b. SomeOf P (if b then spec_of kind a r ∷ specs_for kind a rules else specs_for kind a rules)) (sym (eq-eqb r.head.trait a.bound.trait x.0)) (inl x.1)
   some-spec P (r ∷ rules) (inr s) = some-if P r rules (r.head.trait == a.bound.trait) (some-spec P rules s)
-
-from-map : {A B : Type 0} (P : B → Type 0) (f : A → B) (xs : List A) → Every P (map f xs) → Every (λ x. P (f x)) xs
-from-map P f [] h = tt
-from-map P f (x ∷ xs) h = (h.0, from-map P f xs h.1)
-
-predicate-parts : (i j : ℕ) (x y : Trees) → tree (predicate (of_trait i)) x none ≡ tree (predicate (of_trait j)) y none → (i ≡ j) × (x ≡ y)
-predicate-parts i j x y e = (cc, cc)
 
 same-goal-parts : (i j : ℕ) (x y : Trees) → ◌≡◌ {A = GoalTrees} (record { environment = none; predicate = tree (predicate (of_trait i)) x none }) (record { environment = none; predicate = tree (predicate (of_trait j)) y none }) → (i ≡ j) × (x ≡ y)
 same-goal-parts i j x y e = predicate-parts i j x y (ap (λ (z : GoalTrees). z.predicate) e)

@@ -16,6 +16,7 @@ use Rattle.evaluation.specs.History as Frames
 use Rattle.evaluation.specs.History.{Position, between, inside, request, told, position, CameInOrder, finished_at, ignored_at, results, others}
 use Rattle.evaluation.proofs.ListLaws.{SomeOf-mono}
 use Rattle.goal_frames.specs.Searches.{reply_of, replies_of, request_of}
+use Rattle.type_terms.proofs.ListBasics.{pushed-length as length-last}
 
 -- ---- the numbers below this one, the greatest first
 abbrev down : ℕ → List ℕ
@@ -29,10 +30,6 @@ not-below (suc n) k h = λ i. elim i [ inl e ↦ omega arith | inr j ↦ not-bel
 in-down : (k n : ℕ) → IsAmong k (down n) → k < n
 in-down k zero i = absurd i
 in-down k (suc n) i = elim i [ inl e ↦ omega arith | inr j ↦ (let x = in-down k n j in omega arith) ]
-
-length-last : (bs : List Bool) (b : Bool) → length (bs ++ b ∷ []) ≡ suc (length bs)
-length-last [] b = refl
-length-last (c ∷ bs) b = ap suc (length-last bs b)
 
 -- ---- flags of candidates
 set_flag : (bs : List Bool) (n k : ℕ) → slice_get (slice_set bs n true) k ≡ Some true → (k ≡ n) ⊎ (slice_get bs k ≡ Some true)

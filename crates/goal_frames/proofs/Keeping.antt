@@ -1,5 +1,5 @@
 -- What keeping a value makes of a store.
-use Rattle.std.proofs.Common.{◌≡◌, ◌∙◌, ℕ, List, [], ◌∷◌, ◌++◌, ap, sym, subst, inl, inr, ◌⊎◌, Result, Ok, Err, OnErr, Some, true, false}
+use Rattle.std.proofs.Common.{◌≡◌, ◌∙◌, ℕ, List, [], ◌∷◌, ◌++◌, ap, sym, subst, inl, inr, ◌⊎◌, Result, Ok, Err, Some, true, false}
 use Rattle.std.specs.Prelude.{IsErrAnd}
 use Rattle.std.specs.List.{slice_get, list_any, IsDistinct}
 use Rattle.indexmap.specs.IndexSet.{insert_key}
@@ -22,10 +22,6 @@ use Rattle.goal_frames.proofs.Answers.{response-eq, response-back, answers-are}
 use Rattle.goal_frames.proofs.Numbers.{input-back, input-chain, response-chain, goals-are, some-of}
 
 -- ---- a fault that is handed on
-pub on-err : {T E : Type 0} (P : Type 0) (r : Result T E) → P → OnErr r P
-on-err P (Ok x) p = tt
-on-err P (Err e) p = p
-
 pub handed-on : {T A : Type 0} (y : Fault) (r : Result T Fault) {x : Fault} → IsErrAnd r (λ z. z ≡ x) → (x ≡ y → A) → r ≡ Err y → A
 handed-on y (Ok v) h f q = absurd h
 handed-on y (Err z) h f q = f cc

@@ -34,9 +34,7 @@ use Rattle.evaluation.specs.Fitting.{AreOver, IsGoalOver, IsValueOver}
 use Rattle.evaluation.specs.Candidates.{labels_of}
 use Rattle.evaluation.specs.StepReadings.{equation_read, nested_read, spec_read, result_read, ShownCandidate, shown_by}
 use Rattle.goal_frames.specs.Fitting.{ResultFits, ConsideredFits, IsEquationOver, IsOver}
-
-one-more : {A : Type 0} (x y : A) (xs ys : List A) → x ≡ y → xs ≡ ys → ◌≡◌ {A = List A} (x ∷ xs) (y ∷ ys)
-one-more x y xs ys e f = cc
+use Rattle.type_terms.proofs.ListBasics.{one-more}
 
 one-equation : (a b c d : Value) → a ≡ b → c ≡ d → ◌≡◌ {A = Equation} (record { left = a; right = c }) (record { left = b; right = d })
 one-equation a b c d e f = cc

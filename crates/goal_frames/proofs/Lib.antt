@@ -1,3 +1,4 @@
+pub mod TypeBasics
 pub mod Anyhow
 pub mod Histories
 pub mod Lawful

@@ -2,8 +2,7 @@
 use Rattle.std.proofs.Common.{◌≡◌, ◌↔◌, ℕ, suc, ◌+◌, arith, ◌==◌, Bool, true, false, ◌&&◌, if◌then◌else◌, List, [], ◌∷◌, map, length, refl, sym, ◌∙◌, ap, subst, Option, Some, None, find, option_map, Result, Ok, Err, IfOk}
 use Rattle.std.specs.Prelude.{IfSome}
 use Rattle.std.specs.List.{list_all}
-use Rattle.std.proofs.lemmas.Bool.Decides.{nat_tests}
-use Rattle.type_terms.specs.Trees.{Trees, is_no_tree}
+use Rattle.type_terms.specs.Trees.{is_no_tree}
 use Rattle.type_terms.specs.Terms.{Entry, Lawful}
 use Rattle.type_terms.specs.Kinds.{ArgsHeld}
 use Rattle.type_terms.specs.declared.kinds.GenericArgKind.{GenericArgKind}
@@ -11,11 +10,10 @@ use Rattle.infer_table.specs.Certainties.{all_joined, unsettled, is_certain}
 use Rattle.infer_table.specs.Constraints.{constraints_trees}
 use Rattle.infer_table.specs.Content.{AllConstraintsHeld}
 use Rattle.infer_table.specs.declared.canonical.CanonicalVarKind.{CanonicalVarKind}
-use Rattle.infer_table.specs.declared.certainty.Certainty.{Certainty}
 use Rattle.infer_table.specs.declared.terms.RegionConstraint.{RegionConstraint}
 use Rattle.infer_table.specs.declared.response.CanonicalResponse.{CanonicalResponse}
 use Rattle.infer_table.specs.contracts.response.CanonicalResponsePartialEq.TheImpl.{ghosts as response}
-use Rattle.infer_table.specs.Values.{Value, value_of, values_of}
+use Rattle.infer_table.specs.Values.{value_of, values_of}
 use Rattle.infer_table.specs.Raw.{variables_from}
 use Rattle.infer_table.specs.Responses.{AnswerTrees, ResponseHeld, answer_trees}
 use Rattle.evaluation.specs.declared.merge.MergeCandidateInfo.{MergeCandidateInfo}
@@ -33,6 +31,10 @@ use Rattle.evaluation.specs.StepReadings.{result_read}
 use Rattle.goal_frames.specs.Merges.{merge_of}
 use Rattle.goal_frames.proofs.Responses.{content_trees, equal-is}
 use Rattle.goal_frames.proofs.Silences.{silent-is}
+use Rattle.type_terms.proofs.NumberBasics.{some-length}
+use Rattle.evaluation.proofs.ListLaws.{Every-map as every-map}
+use Rattle.infer_table.proofs.TypeBasics.{answer-cong}
+use Rattle.evaluation.proofs.TypeBasics.{map-else as else-map}
 
 abbrev pub Trees_fit : List Entry → CanonicalResponse → Type 0
 Trees_fit es r = IsWellFormed (answer_trees es r)
@@ -49,10 +51,6 @@ find-map p q f (x ∷ xs) h = ap (λ b. option_map f (if b then Some x else find
 all-map : {A B : Type 0} (p : A → Bool) (q : B → Bool) (f : A → B) (xs : List A) → Every (λ x. p x ≡ q (f x)) xs → list_all p xs ≡ list_all q (map f xs)
 all-map p q f [] h = refl
 all-map p q f (x ∷ xs) h = ap (λ b. b && list_all p xs) h.0 ∙ ap (λ b. q (f x) && b) (all-map p q f xs h.1)
-
-else-map : {A B : Type 0} (f : A → B) (a b : Option A) → option_map f (or_else a b) ≡ or_else (option_map f a) (option_map f b)
-else-map f None b = refl
-else-map f (Some x) b = refl
 
 common-map : {A B : Type 0} (s : A → A → Bool) (r : B → B → Bool) (f : A → B) (xs : List A) → Every (λ x. Every (λ y. s x y ≡ r (f x) (f y)) xs) xs → option_map f (common s xs) ≡ common r (map f xs)
 common-map s r f [] h = refl
@@ -89,14 +87,7 @@ else-some P (Some x) b h g = h
 pub merge-some : {A : Type 0} (P : A → Type 0) (p : A → Bool) (s : A → A → Bool) (xs : List A) → Every P xs → IfSome (merge_by p s xs) P
 merge-some P p s xs h = else-some P (find p xs) (common s xs) (find-some P p xs h) (common-some P s xs h)
 
-every-map : {A B : Type 0} (P : B → Type 0) (f : A → B) (xs : List A) → Every (λ x. P (f x)) xs → Every P (map f xs)
-every-map P f [] h = tt
-every-map P f (x ∷ xs) h = (h.0, every-map P f xs h.1)
-
 -- ---- a yes that says nothing
-some-length : (n : ℕ) → (suc n == 0) ≡ false
-some-length n = grind (arith, nat_tests)
-
 no-constraint : (es : List Entry) (cs : List RegionConstraint) → (length cs == 0) ≡ is_no_tree (constraints_trees es cs)
 no-constraint es [] = refl
 no-constraint es (c ∷ cs) = some-length (length cs)
@@ -116,10 +107,6 @@ always-is es r h =
     ∙ ap (λ z. is_certain r.certainty && (are_own_variables 0 (values_of es r.var_values.items) && z)) (no-constraint es r.region_constraints.items)
 
 -- ---- the merge
-every-both : {A : Type 0} (P Q : A → Type 0) (R : A → Type 0) → ((x : A) → P x → Q x → R x) → (xs : List A) → Every P xs → Every Q xs → Every R xs
-every-both P Q R f [] h g = tt
-every-both P Q R f (x ∷ xs) h g = (f x h.0 g.0, every-both P Q R f xs h.1 g.1)
-
 every-of : {A : Type 0} (P R : A → Type 0) → ((x : A) → P x → R x) → (xs : List A) → Every P xs → Every R xs
 every-of P R f [] h = tt
 every-of P R f (x ∷ xs) h = (f x h.0, every-of P R f xs h.1)
@@ -165,10 +152,6 @@ module _ (es : List Entry) (law : Lawful es) (rs : List CanonicalResponse) (held
 certainties : (es : List Entry) (rs : List CanonicalResponse) → map frame_tables.certainty (map (answer_trees es) rs) ≡ map (λ (r : CanonicalResponse). r.certainty) rs
 certainties es [] = refl
 certainties es (r ∷ rs) = ap (λ z. r.certainty ∷ z) (certainties es rs)
-
-answer-cong : (ks ls : List CanonicalVarKind) (c d : Certainty) (vs ws : List Value) (x y : Trees) → ks ≡ ls → c ≡ d → vs ≡ ws → x ≡ y
-    → ◌≡◌ {A = AnswerTrees} (record { kinds = ks; certainty = c; values = vs; constraints = x }) (record { kinds = ls; certainty = d; values = ws; constraints = y })
-answer-cong ks ls c d vs ws x y p q e f = cc
 
 pub floundered-trees : (es new : List Entry) (ks : List CanonicalVarKind) (r : CanonicalResponse) (first : CanonicalResponse) (rest : List CanonicalResponse) → r.variables.items ≡ ks
     → r.certainty ≡ unsettled (all_joined (map (λ (x : CanonicalResponse). x.certainty) (first ∷ rest))) → r.region_constraints.items ≡ [] → values_of new r.var_values.items ≡ variables_from 0 ks

@@ -16,16 +16,13 @@ use Rattle.evaluation.specs.Tables.{frame_tables}
 use Rattle.evaluation.specs.StepReadings.{ShownCandidate, shown}
 use Rattle.evaluation.specs.Replayed.{after}
 use Rattle.goal_frames.specs.Places.{Heard, FrameStanding, answers_in, candidate_of, frame_with, IsBetween, with_result, IsEntering, IsInside, IsFinishing, IsIgnoring}
+use Rattle.evaluation.proofs.Basics.{after-none}
 
 -- ---- scripts after answers
 -- the script after one more answer
 abbrev pub answered_by : {Q A X : Type 0} → A → Script Q A X → Script Q A X
 answered_by a (done x) = done x
 answered_by a (ask q k) = k a
-
-pub after-none : {Q A X : Type 0} (s : Script Q A X) → after s [] ≡ s
-after-none (done x) = refl
-after-none (ask q k) = refl
 
 pub after-more : {Q A X : Type 0} (s : Script Q A X) (replies : List A) (a : A) → after s (replies ++ a ∷ []) ≡ answered_by a (after s replies)
 after-more (done x) replies a = refl

@@ -14,7 +14,6 @@ use Rattle.infer_table.specs.declared.response.CanonicalResponse.{CanonicalRespo
 use Rattle.infer_table.specs.contracts.response.CanonicalResponsePartialEq.TheImpl.{ghosts as response}
 use Rattle.infer_table.specs.Values.{Value, values_of}
 use Rattle.infer_table.specs.Responses.{AnswerTrees, ResponseHeld, answer_trees}
-use Rattle.infer_table.proofs.SolutionLaws.{is_sort-self as sort-self}
 use Rattle.infer_table.proofs.UnifyFacts.{same-self}
 use Rattle.evaluation.specs.Merge.{same_certainty}
 use Rattle.evaluation.specs.Responses.{Content, content}
@@ -23,6 +22,7 @@ use Rattle.type_terms.proofs.Made.{both}
 use Rattle.goal_frames.specs.Handlers.{same_kind, same_kinds, same_values, same_answer}
 use Rattle.goal_frames.proofs.Same.{answers-are}
 use Rattle.goal_frames.proofs.Answers as Kept
+use Rattle.type_terms.proofs.TermBasics.{is_sort-self as sort-self}
 
 content-is : (es : List Entry) → Lawful es → (r s : CanonicalResponse) → ResponseHeld es r → ResponseHeld es s → answer_trees es r ≡ answer_trees es s → content r ≡ content s
 content-is es law r s h g e = let x = Kept.answers-are es law r s h g e in content-cong _ _ _ _ _ _ _ _ x.variables x.certainty x.values x.constraints

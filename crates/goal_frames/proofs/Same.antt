@@ -19,6 +19,7 @@ use Rattle.type_terms.proofs.Made.{left, right}
 use Rattle.evaluation.specs.Merge.{TellsResponsesApart, IsTest}
 use Rattle.evaluation.specs.Tables.{frame_tables}
 use Rattle.goal_frames.specs.Handlers.{same_kind, same_kinds, same_values, same_answer, are_own_variables, applies_always}
+use Rattle.type_terms.proofs.ListBasics.{cons}
 
 kind-is : (k j : CanonicalVarKind) → same_kind k j ≡ true → k ≡ j
 kind-is Ty Ty e = refl
@@ -33,9 +34,6 @@ certainty-is Yes Yes e = refl
 certainty-is (Maybe Ambiguity) (Maybe Ambiguity) e = refl
 certainty-is (Maybe Overflow) (Maybe Overflow) e = refl
 certainty-is c d e = absurd (cc)
-
-cons : {A : Type 0} (x y : A) (xs ys : List A) → x ≡ y → xs ≡ ys → x ∷ xs ≡ y ∷ ys
-cons x y xs ys e f = cc
 
 kinds-are : (ks js : List CanonicalVarKind) → same_kinds ks js ≡ true → ks ≡ js
 kinds-are [] [] e = refl

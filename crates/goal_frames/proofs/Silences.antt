@@ -1,5 +1,5 @@
 -- What the table with which a frame begins answers: each variable stands for itself.
-use Rattle.std.proofs.Common.{◌≡◌, ℕ, suc, ◌+◌, arith, List, [], ◌∷◌, ◌++◌, map, length, refl, sym, ◌∙◌, ap, if◌then◌else◌, is_some, true, Some}
+use Rattle.std.proofs.Common.{◌≡◌, ℕ, suc, ◌+◌, List, [], ◌∷◌, ◌++◌, map, length, refl, sym, ◌∙◌, ap, if◌then◌else◌, is_some, true, Some}
 use Rattle.type_terms.specs.Label.{Label, canonical}
 use Rattle.type_terms.specs.Trees.{none, leaf, sort_of}
 use Rattle.infer_table.specs.Canonical.{kind_of_leaf, place_of, canonical_label}
@@ -15,6 +15,8 @@ use Rattle.evaluation.specs.TableAnswers.{own_labels, answer_leaves, value_numbe
 use Rattle.evaluation.specs.TableOperations.{begin}
 use Rattle.evaluation.specs.FrameTables.{labels_from}
 use Rattle.evaluation.proofs.FirstAnswers.{AreFresh, append-list, length-more, place-is, value_by, own-labels-all, begin-fresh, begin-leaves}
+use Rattle.type_terms.proofs.NumberBasics.{next-number as one-more}
+use Rattle.infer_table.proofs.Basics.{first-and-rest}
 
 -- the labels are of these kinds
 abbrev AreOf : List CanonicalVarKind → List Label → Type 0
@@ -41,12 +43,6 @@ one all n k l o s p =
     ap (λ b. record { sort = sort_of l; trees = leaf (if b then canonical_label all l else l) }) o
     ∙ ap (λ j. record { sort = sort_of l; trees = leaf (canonical (sort_of l) j) }) p
     ∙ ap (λ z. record { sort = z; trees = leaf (canonical z n) }) s
-
-first-and-rest : (x y : Value) (xs ys : List Value) → x ≡ y → xs ≡ ys → ◌≡◌ {A = List Value} (x ∷ xs) (y ∷ ys)
-first-and-rest x y xs ys e f = ap (λ z. z ∷ xs) e ∙ ap (λ zs. y ∷ zs) f
-
-one-more : (n : ℕ) → suc n ≡ n + 1
-one-more n = omega arith
 
 values-are : (all seen : List Label) (ks : List CanonicalVarKind) (ls : List Label) → all ≡ seen ++ ls → AreFresh seen ls → AreOf ks ls → map (value_by all) ls ≡ variables_from (length seen) ks
 values-are all seen [] [] e f o = refl

@@ -1,13 +1,13 @@
 -- A rule as a candidate: where its equation holds it is the rule, and its own unknowns are determined by the goal's.
-use Rattle.std.proofs.Common.{◌≡◌, ℕ, Bool, true, false, ◌&&◌, List, [], ◌∷◌, map, length, refl, sym, ◌∙◌, ap, Option, Some, if◌then◌else◌}
+use Rattle.std.proofs.Common.{◌≡◌, ℕ, Bool, true, false, ◌&&◌, List, [], ◌∷◌, map, length, refl, sym, ◌∙◌, ap, Some, if◌then◌else◌}
 use Rattle.type_terms.specs.Label.{adt, never, of_trait, predicate}
 use Rattle.type_terms.specs.Trees.{Trees, none, tree, leaf}
 use Rattle.type_terms.specs.Made.{terms, is_made}
-use Rattle.infer_table.specs.Canonical.{GoalTrees, CanonicalForm}
+use Rattle.infer_table.specs.Canonical.{CanonicalForm}
 use Rattle.evaluation.specs.Lists.{Every, IsAmong}
 use Rattle.evaluation.proofs.ListLaws.{Every-mono, Every-map, SomeOf-at}
 use Rattle.evaluation.specs.Instances.{read_with, goal_read}
-use Rattle.evaluation.specs.Content.{Values, fits, given, Fact, fact_of, ChosenTerms}
+use Rattle.evaluation.specs.Content.{Values, fits, given, fact_of, ChosenTerms}
 use Rattle.evaluation.specs.FrameTables.{FrameTable, Allows, Nested, fact, is_open_label, term_of, EquationIsMet}
 use Rattle.type_terms.proofs.Made.{right}
 use Rattle.evaluation.specs.TableOperations.{begin, fresh}
@@ -18,6 +18,8 @@ use Rattle.evaluation.proofs.Readings.{AgreeIn, made-leaves, reads-agree, reads-
 use Rattle.goal_frames.proofs.Behind.{dropped, read-behind, bound-behind, made-behind, made-open}
 use Rattle.goal_frames.proofs.Asked.{IsAsked}
 use Rattle.evaluation.proofs.Slots.{own-slots-agree, slots-agree}
+use Rattle.type_terms.proofs.ListBasics.{cons}
+use Rattle.evaluation.proofs.TypeBasics.{same-fact}
 
 -- all arguments are one term
 pub term-one : (b : TraitBound) → is_made is_open_label terms b.arguments ≡ true → term_of (as_one b) ≡ tree (adt b.trait) b.arguments none
@@ -25,12 +27,6 @@ term-one b h = ap (λ z. if z && true then tree (adt b.trait) b.arguments none e
 
 one-parts : (i j : ℕ) (x y : Trees) → tree (adt i) x none ≡ tree (adt j) y none → x ≡ y
 one-parts i j x y e = cc
-
-cons : {A : Type 0} (x y : A) (xs ys : List A) → x ≡ y → xs ≡ ys → x ∷ xs ≡ y ∷ ys
-cons x y xs ys e f = cc
-
-same-fact : (trait : Option ℕ) (g k : GoalTrees) (p q : Bool) → g ≡ k → p ≡ q → ◌≡◌ {A = Fact} (record { trait = trait; goal = g; proper = p }) (record { trait = trait; goal = k; proper = q })
-same-fact trait g k p q e f = cc
 
 pub fact-behind : (kind : Bool) (n : ℕ) (s : ChosenTerms) (b : TraitBound) → fact (nested_of_bound kind (bound_behind n b)) s ≡ instance_of s.proper (dropped n s.slots) b
 fact-behind kind n s b = same-fact (Some b.trait) _ _ s.proper s.proper (bound-behind n s.slots b) refl

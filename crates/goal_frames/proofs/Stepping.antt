@@ -1,5 +1,5 @@
 -- A frame's steps: from where it stood, by the reply that is due, to where its position is then.
-use Rattle.std.proofs.Common.{◌≡◌, ℕ, suc, ◌<◌, List, [], ◌∷◌, ◌++◌, length, map, drop, refl, sym, ap, subst, Option, Result, Ok, Err, IfOk}
+use Rattle.std.proofs.Common.{◌≡◌, ℕ, suc, ◌<◌, List, [], ◌∷◌, ◌++◌, length, map, drop, refl, sym, ap, subst, Option, Result}
 use Rattle.type_terms.specs.Terms.{Entry}
 use Rattle.infer_table.specs.declared.input.CanonicalInput.{CanonicalInput}
 use Rattle.infer_table.specs.declared.response.CanonicalResponse.{CanonicalResponse}
@@ -25,10 +25,6 @@ use Rattle.goal_frames.specs.declared.frame.GoalFrame.{GoalFrame}
 use Rattle.goal_frames.specs.declared.frame.Place.{Place}
 use Rattle.goal_frames.specs.declared.frame.Place.TheVariants as InCode
 use Rattle.goal_frames.proofs.Moves.{begins, enters, hears, finishes, ignores}
-
-pub both-ok : {T E : Type 0} (P Q R : T → Type 0) (r : Result T E) → ((x : T) → P x → Q x → R x) → IfOk r P → IfOk r Q → IfOk r R
-both-ok P Q R (Ok x) f p q = f x p q
-both-ok P Q R (Err e) f p q = tt
 
 abbrev Answer : Type 0
 Answer = Option AnswerTrees

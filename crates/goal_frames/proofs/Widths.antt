@@ -3,13 +3,14 @@ use Rattle.std.proofs.Common.{ℕ, suc, ◌+◌, ◌≤◌, arith, Bool, true, f
 use Rattle.std.specs.Prelude.{◌==◌}
 use Rattle.type_terms.specs.Label.{Label, canonical}
 use Rattle.evaluation.specs.Lists.{Every, IsAmong}
-use Rattle.evaluation.proofs.ListLaws.{Every-mono, Every-map, length-map}
+use Rattle.evaluation.proofs.ListLaws.{Every-mono, Every-map}
 use Rattle.evaluation.specs.Widths.{NestedWithin}
 use Rattle.evaluation.proofs.Widths.{IsOneIf, leaf-one, predicates-put, predicates-within, width-of-predicates}
 use Rattle.evaluation.specs.Tables.{frame_tables}
 use Rattle.evaluation.specs.Plans.{nested_in}
 use Rattle.goal_frames.specs.Rules.{TraitBound, goal_of, Rule}
 use Rattle.goal_frames.specs.Handlers.{BareGoal, moved, bound_behind, nested_of_bound, spec_of, specs_for, width_of, number_of_premises, number_of_rules}
+use Rattle.type_terms.proofs.ListBasics.{map-length as length-map}
 
 moved-one : (m n : ℕ) (l : Label) → IsOneIf m (moved n l)
 moved-one m n (canonical k i) = leaf-one m (canonical k (n + i))

@@ -6,16 +6,14 @@ use Rattle.search_graph.specs.declared.delegate.Reply.TheVariants.{Begin, Result
 use Rattle.search_graph.specs.declared.delegate.Request.{Request}
 use Rattle.search_graph.specs.declared.delegate.Request.TheVariants.{Evaluate, EnterCandidate, FinishCandidate, IgnoreCandidate, Done}
 use Rattle.search_graph.specs.declared.path_kind.PathKind.{PathKind}
-use Rattle.search_graph.specs.Meaning.{Meaning, Keeps, IsRequest, request_of, reply_of, is_open, finished, IsDue, IsDueAt, Steps}
-use Rattle.goal_frames.specs.Frames.{FrameHeld}
+use Rattle.search_graph.specs.Meaning.{Meaning, Keeps, IsRequest, request_of, reply_of, is_open, finished, IsDueAt, Steps}
 use Rattle.goal_frames.specs.Meanings.{HandlerMeaning}
 use Rattle.goal_frames.specs.declared.frame.GoalFrame.{GoalFrame}
 use Rattle.goal_frames.specs.declared.store.InputId.{InputId}
 use Rattle.goal_frames.specs.declared.store.ResponseId.{ResponseId}
-use Rattle.type_terms.specs.Terms as Terms
-use Rattle.solver_context.specs.Contexts.{Asked, entries_of, IsInput, IsReady}
+use Rattle.solver_context.specs.Contexts.{Asked}
 use Rattle.solver_context.specs.Lawful.{steps-kept}
-use Rattle.solver_context.specs.Searching.{solver_meaning, FrameHasHeard, steps_left, of_term}
+use Rattle.solver_context.specs.Searching.{solver_meaning, FrameHasHeard, steps_left}
 use Rattle.solver_context.specs.declared.context.SolverCx.{SolverCx}
 use Rattle.goal_walk.specs.Frames.{IsWalked}
 use Rattle.goal_walk.specs.declared.frames.FrameWalk.{FrameWalk}
@@ -54,11 +52,6 @@ module _ {Handler : Type 0} (handler : HandlerMeaning Handler) where
     listed = x.listed ∙ ap (λ z. finished m z x.goal (x.last ∷ x.heard)) (sym k.world);
   }
 
-  -- a reply that is due at the request is due
-  pub is-due : (c : SolverCx Handler) (w : FrameWalk) (x : IsWalked handler c w) (reply : Reply (Option ResponseId))
-      → IsDueAt m (m.world c) x.goal (x.last ∷ x.heard) (request_of m c w.request) (reply_of m c reply) → IsDue m c w.frame reply
-  is-due c w x reply h = (x.goal, x.last ∷ x.heard, x.hears, subst (λ q. IsDueAt m (m.world c) x.goal (x.last ∷ x.heard) q (reply_of m c reply)) x.asks h)
-
   -- after it the frame is walked on
   pub stepped : (c d : SolverCx Handler) → Keeps m c d → (w : FrameWalk) (x : IsWalked handler c w) (reply : Reply (Option ResponseId)) (g : GoalFrame) (q : Asking) (cs : Candidates)
       → Steps m c w.frame reply d g q
@@ -78,10 +71,6 @@ module _ {Handler : Type 0} (handler : HandlerMeaning Handler) where
         opened = o;
         listed = l ∙ ap (λ z. finished m z x.goal (reply_of m c reply ∷ x.last ∷ x.heard)) (sym k.world);
       }
-
-  -- the first reply
-  pub begins-due : (c : SolverCx Handler) (goal : Asked) (f : GoalFrame) → FrameHasHeard handler c goal [] f → IsDue m c f Begin
-  begins-due c goal f h = (goal, [], h, refl)
 
   pub begun : (c d : SolverCx Handler) → Keeps m c d → (goal : Asked) (f g : GoalFrame) → FrameHasHeard handler c goal [] f → (q : Asking) (cs : Candidates) → Steps m c f Begin d g q
       → cs.open ≡ false → cs.finished.items ≡ [] → IsWalked handler d (record { frame = g; request = q; candidates = cs })
@@ -111,21 +100,6 @@ module _ {Handler : Type 0} (handler : HandlerMeaning Handler) where
       → IsDueAt m (m.world c) x.goal (x.last ∷ x.heard) (request_of m c w.request) (reply_of m c (Finished n))
   finishes-due c w x n e o l = subst (λ z. IsDueAt m (m.world c) x.goal (x.last ∷ x.heard) (request_of m c z) (reply_of m c (Finished n))) (sym e) (sym x.opened ∙ o, l ∙ ap length x.listed)
 
-  -- the frame's handles are the interner's
-  pub frame-held : (c : SolverCx Handler) (w : FrameWalk) → IsWalked handler c w → FrameHeld (entries_of c) w.frame
-  frame-held c w x = x.hears.frame.held
-
   -- a frame that is known later has no more steps left
   pub steps-later : (c d : SolverCx Handler) → Keeps m c d → (w : FrameWalk) → IsWalked handler c w → steps_left handler d w.frame ≤ steps_left handler c w.frame
   steps-later c d k w x = steps-kept handler c d x.goal (x.last ∷ x.heard) w.frame k x.hears
-
-  -- the interner of a context that keeps what another one knows keeps its terms
-  pub entries-kept : (c d : SolverCx Handler) → Keeps m c d → Terms.Keeps (entries_of c) (entries_of d)
-  entries-kept c d k = λ i e h. k.held (of_term i e) h
-
-  -- and it is ready where a frame is known
-  pub ready-after : (c d : SolverCx Handler) → Keeps m c d → (w : FrameWalk) → IsWalked handler c w → IsReady handler.IsReady d
-  ready-after c d k w x = (k.inputs x.hears.kept.0 x.hears.kept.1).0.0
-
-  pub ready-input : (c d : SolverCx Handler) → Keeps m c d → (i : InputId) → IsInput handler.IsReady c i → IsReady handler.IsReady d
-  ready-input c d k i h = (k.inputs i h).0.0

@@ -44,9 +44,6 @@ pub goals-push : (es : List Entry) (gs : List Goal) (g : Goal) → GoalsHeld es 
 goals-push es [] g h x = (x, tt)
 goals-push es (y ∷ gs) g h x = (h.0, goals-push es gs g h.1 x)
 
-pub keeps-trans : (a b c : List Entry) → Keeps a b → Keeps b c → Keeps a c
-keeps-trans a b c k l = λ i x h. l i x (k i x h)
-
 -- a table of an interner that has grown
 pub ready-later : (old new : List Entry) → Keeps old new → (t : Table) → Ready old t → Ready new t
 ready-later old new k t r = ready-grow old new t t k (λ s. le_refl (variables_of t s)) refl refl r
@@ -62,9 +59,6 @@ module _ {Handler : Type 0} (handler : HandlerMeaning Handler) where
     keeps = Keeps-trans (solver_meaning handler) c d e x.keeps y.keeps;
     entries = λ j z p. y.entries j z (x.entries j z p);
   }
-
-  pub walked-none : (g : SearchState) (c : SolverCx Handler) (t : Table) → HasWalked handler g c t g c t
-  walked-none g c t = record { asked = asked-none g c; grows = grows-refl t }
 
   pub walked-further : (g h i : SearchState) (c d e : SolverCx Handler) (t u v : Table) → HasWalked handler g c t h d u → HasWalked handler h d u i e v → HasWalked handler g c t i e v
   walked-further g h i c d e t u v x y = record { asked = asked-further g h i c d e x.asked y.asked; grows = grows-trans t u v x.grows y.grows }

@@ -10,22 +10,16 @@ use Rattle.infer_table.specs.Solutions.{Assignment, tree_of, instance, IsSorted}
 use Rattle.infer_table.specs.declared.canonical.CanonicalVarKind.{CanonicalVarKind}
 use Rattle.infer_table.specs.Canonical.{kind_of_leaf, StandsIn, relabeled, leaves, is_among, place_of, canonical_label, HasNoCanonical}
 use Rattle.infer_table.proofs.CanonicalLaws.{leaves-hold, leaves-keep, kind-sort}
-use Rattle.infer_table.proofs.SolutionLaws.{is_sort-equal, is_sort-self}
+use Rattle.infer_table.proofs.SolutionLaws.{is_sort-equal}
 use Rattle.infer_table.proofs.EquationFacts.{erase-sort}
 use Rattle.infer_table.specs.Leaves.{OpenAreLeaves}
 use Rattle.infer_table.proofs.Collections.{leaves-append}
 use Rattle.infer_table.specs.Raw.{sort_of_kind}
 use Rattle.infer_table.specs.Responses.{answer_leaves}
 use Rattle.infer_table.specs.Covers.{chosen, Agrees, AreNumbered}
-
-tree-cong : (l m : Label) (c c' o o' : Trees) → l ≡ m → c ≡ c' → o ≡ o' → tree l c o ≡ tree m c' o'
-tree-cong l m c c' o o' p q r = cc
-
-false-true : false ≡ true → ⊥
-false-true e = cc
-
-some-is : {A : Type 0} (x y : A) → Some x ≡ Some y → x ≡ y
-some-is x y e = cc
+use Rattle.type_terms.proofs.Made.{false-true}
+use Rattle.type_terms.proofs.TermBasics.{tree-cong, two, is_sort-self}
+use Rattle.type_terms.proofs.TypeBasics.{some-is}
 
 -- the leaf in its place
 leaf-at : (l : Label) (ls : List Label) → is_among l ls ≡ true → slice_get ls (place_of l ls) ≡ Some l
@@ -116,9 +110,6 @@ instance-split : (s : Assignment) (l : Label) (o : Trees) → instance s (leaf l
 instance-split s (infer of_type v) o = refl
 instance-split s (infer of_const v) o = refl
 instance-split s l o = refl
-
-two : (a a' b b' : Trees) → a ≡ a' → b ≡ b' → a +++ b ≡ a' +++ b'
-two a a' b b' p q = cc
 
 -- a label that stays, and is no canonical variable
 stays-chosen : (q s : Assignment) (l : Label) (c c' o o' : Trees) → kind_of_leaf l ≡ None → HasNoCanonical (tree l c' o') → chosen q c ≡ instance s c' → chosen q o ≡ instance s o' → chosen q (tree l c o) ≡ instance s (tree l c' o')

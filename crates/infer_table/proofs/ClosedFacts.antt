@@ -10,6 +10,8 @@ use Rattle.infer_table.specs.Canonical.{kind_in_clause, kind_of_leaf, leaves, re
 use Rattle.infer_table.specs.Solutions.{Binding, resolved}
 use Rattle.infer_table.proofs.ResolveFacts.{unknown-free-resolved}
 use Rattle.infer_table.specs.Leaves.{open_kinds, open_flags, is_closed, OpenAreLeaves}
+use Rattle.type_terms.proofs.Made.{false-true}
+use Rattle.type_terms.proofs.TermBasics.{tree-cong}
 
 low-part : (x y z : ℕ) → min (max x y) z ≡ 0 → min x z ≡ 0
 low-part x y z h = omega arith
@@ -73,12 +75,6 @@ closed-label false l h = outside-clauses l h
     outside-clauses (placeholder of_lifetime v) h = cc
     outside-clauses static h = cc
     outside-clauses l h = refl
-
-tree-cong : (l m : Label) (c c' o o' : Trees) → l ≡ m → c ≡ c' → o ≡ o' → tree l c o ≡ tree m c' o'
-tree-cong l m c c' o o' p q r = cc
-
-false-true : false ≡ true → ⊥
-false-true e = cc
 
 module _ (b : Bool) where
   here : (l : Label) (c o : Trees) → bit_and (flags (tree l c o)) (mask b) ≡ 0 → is_some (open_kinds b l) ≡ false

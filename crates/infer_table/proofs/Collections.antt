@@ -1,12 +1,10 @@
 -- A visit by the collector lists the open leaves.
 use Rattle.std.proofs.Common.{◌≡◌, ℕ, Bool, true, false, refl, ap, sym, ◌∙◌, subst, List, [], ◌∷◌, ◌++◌, Option, None, is_some, IsSome, if◌then◌else◌, ◌+◌, ◌<◌, ◌≤◌, length, drop, get_or, arith}
 use Rattle.std.proofs.lemmas.Grind.{common_steps}
-use Rattle.type_terms.specs.Label.{Label, static}
-use Rattle.type_terms.specs.Trees.{Trees, none, tree, leaf, ◌+++◌}
+use Rattle.type_terms.specs.Label.{Label}
+use Rattle.type_terms.specs.Trees.{Trees, none, tree, ◌+++◌}
 use Rattle.type_terms.specs.Terms.{Entry}
 use Rattle.type_terms.specs.declared.Fault.{Fault}
-use Rattle.type_terms.specs.declared.visit.Seen.{Seen}
-use Rattle.type_terms.specs.declared.visit.Seen.TheVariants.{Break, Enter, Pass}
 use Rattle.term_folds.specs.declared.predicate.Clause.{Clause}
 use Rattle.term_folds.specs.declared.predicate.Clause.TheVariants.{Trait, RegionOutlives, TypeOutlives}
 use Rattle.term_folds.specs.Clauses.{clause_pieces}
@@ -15,8 +13,9 @@ use Rattle.type_terms.specs.Visits.{Visits, ended, passed, broken, entered, brok
 use Rattle.infer_table.specs.Canonical.{OpenKinds, kind_of_leaf, kind_in_clause, leaves, with_label}
 use Rattle.infer_table.specs.declared.canonicalizer.LeafCollector.{LeafCollector}
 use Rattle.infer_table.specs.Goals.{clause_terms, environment_trees}
-use Rattle.infer_table.specs.Leaves.{open_kinds, labels, root_label, AreOpen, OpenAreLeaves, Adds, Collects}
+use Rattle.infer_table.specs.Leaves.{open_kinds, labels, AreOpen, OpenAreLeaves}
 use Rattle.infer_table.specs.LeafLaws.{Collecting}
+use Rattle.infer_table.proofs.Basics.{clause-known}
 
 pub leaves-append : (kind : OpenKinds) (seen : List Label) (x y : Trees) → leaves kind seen (x +++ y) ≡ leaves kind (leaves kind seen x) y
 leaves-append kind seen none y = refl
@@ -116,21 +115,6 @@ one-more-only es xs i x v w lt is e k h =
     let cut : drop i xs ≡ x ∷ drop (i + 1) xs = cut-at xs i x lt ∙ ap (λ z. z ∷ drop (i + 1) xs) (sym is) in
     subst (λ z. OpenAreLeaves kind_in_clause (environment_trees es z)) (sym cut) (only-clause es x (drop (i + 1) xs) (only-at v.in_clause true (clause_terms es x) e k.only) h)
 
--- ---- what the collector answers at one node
-false-true : false ≡ true → ⊥
-false-true e = cc
-
--- it lists a leaf
-pub collects-leaf : (b : Bool) (before after : List Label) (l : Label) (a : Seen Fault) → is_some (open_kinds b l) ≡ true → Adds before l after a → Collects (open_kinds b) (leaf l) before after a
-collects-leaf b before after l Enter e h = (h ∙ sym (ap (λ (x : Bool). if x then with_label l before else before) e), λ q. refl)
-collects-leaf b before after l Pass e h = absurd h
-collects-leaf b before after l (Break f) e h = h
-
--- it enters what is not open
-pub collects-closed : (b : Bool) (seen : List Label) (t : Trees) → is_some (open_kinds b (root_label t)) ≡ false → Collects (open_kinds b) t seen seen Enter
-collects-closed b seen none e = (refl, tt)
-collects-closed b seen (tree l c o) e = (sym (ap (λ (x : Bool). if x then with_label l seen else seen) e), λ q. absurd (false-true (sym e ∙ q)))
-
 -- ---- each leaf is open
 open-append : (xs ys : List Label) → AreOpen xs → AreOpen ys → AreOpen (xs ++ ys)
 open-append [] ys h g = g
@@ -156,10 +140,6 @@ module _ (kind : OpenKinds) (known : (l : Label) → IsSome (kind l) → IsSome 
   open-leaves seen (tree l c o) h =
       open-leaves (leaves kind (if is_some (kind l) then with_label l seen else seen) c) o
       (open-leaves (if is_some (kind l) then with_label l seen else seen) c (open-root l seen h))
-
-clause-known : (l : Label) → IsSome (kind_in_clause l) → IsSome (kind_of_leaf l)
-clause-known static h = refl
-clause-known l h = h
 
 pub goal-open : (environment predicate : Trees) → AreOpen (leaves kind_of_leaf (leaves kind_in_clause [] environment) predicate)
 goal-open e p = open-leaves kind_of_leaf (λ l h. h) (leaves kind_in_clause [] e) p (open-leaves kind_in_clause clause-known [] e tt)

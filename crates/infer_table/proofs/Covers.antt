@@ -18,7 +18,7 @@ use Rattle.infer_table.specs.Content.{Table, variables_of}
 use Rattle.infer_table.specs.Unification.{TableTrees, table_trees}
 use Rattle.infer_table.specs.declared.canonical.CanonicalVarKind.{CanonicalVarKind}
 use Rattle.infer_table.specs.declared.canonical.CanonicalVarKind.TheVariants.{Ty, PlaceholderTy, Const, PlaceholderConst, Region}
-use Rattle.infer_table.proofs.SolutionLaws.{is_variable-equal, is_variable-self, is_sort-self, instance-append}
+use Rattle.infer_table.proofs.SolutionLaws.{is_variable-equal, is_variable-self, instance-append, instance-single}
 use Rattle.infer_table.proofs.EquationFacts.{erase-sort}
 use Rattle.infer_table.specs.declared.response.CanonicalResponse.{CanonicalResponse}
 use Rattle.infer_table.specs.Leaves.{root_label, leaf_label}
@@ -28,18 +28,11 @@ use Rattle.infer_table.specs.Responses.{answer_trees}
 use Rattle.infer_table.specs.Applying.{is_numbered, next_unknown, with_unknown, unknowns_of, table_after, values_for, known_value, applied_values}
 use Rattle.infer_table.proofs.Values.{own_of, own-value}
 use Rattle.infer_table.specs.Covers.{chosen, Agrees, AreNumbered, AreKnown, Continues, IsOfKnown}
-
-tree-cong : (l m : Label) (c c' o o' : Trees) → l ≡ m → c ≡ c' → o ≡ o' → tree l c o ≡ tree m c' o'
-tree-cong l m c c' o o' p q r = cc
+use Rattle.type_terms.proofs.TermBasics.{tree-cong, two, is_sort-self}
+use Rattle.type_terms.proofs.TypeBasics.{some-is}
 
 node-cong : (n m : Label × Trees) (x y : Trees) → n ≡ m → x ≡ y → tree n.0 n.1 x ≡ tree m.0 m.1 y
 node-cong n m x y p q = ap (λ (z : Label × Trees). tree z.0 z.1 x) p ∙ ap (λ z. tree m.0 m.1 z) q
-
-two : (a a' b b' : Trees) → a ≡ a' → b ≡ b' → a +++ b ≡ a' +++ b'
-two a a' b b' p q = cc
-
-some-is : {A : Type 0} (x y : A) → Some x ≡ Some y → x ≡ y
-some-is x y e = cc
 
 -- ---- what both readings do with lists
 pub chosen-append : (q : Assignment) (x y : Trees) → chosen q (x +++ y) ≡ chosen q x +++ chosen q y
@@ -53,12 +46,6 @@ chosen-single q none h = absurd h
 chosen-single q (tree (canonical of_type i) c o) h = (q of_type i, rw h refl)
 chosen-single q (tree (canonical of_const i) c o) h = (q of_const i, rw h refl)
 chosen-single q (tree l c o) h = ((erase_label l, chosen q c), rw h refl)
-
-pub instance-single : (s : Assignment) (t : Trees) → Single t → (n : Label × Trees) × (instance s t ≡ tree_of n)
-instance-single s none h = absurd h
-instance-single s (tree (infer of_type v) c o) h = (s of_type v, rw h refl)
-instance-single s (tree (infer of_const v) c o) h = (s of_const v, rw h refl)
-instance-single s (tree l c o) h = ((erase_label l, instance s c), rw h refl)
 
 abbrev one_in : Trees → Trees
 one_in none = none

@@ -23,6 +23,7 @@ use Rattle.infer_table.specs.Values.{Value, value_of, values_of, if_of_sort, val
 use Rattle.infer_table.specs.Leaves.{root_label, is_type_label}
 use Rattle.infer_table.proofs.ClosedFacts.{or-left, or-right, zero-test}
 use Rattle.infer_table.proofs.Numbers.{goal-same}
+use Rattle.type_terms.proofs.TermBasics.{at-single}
 
 -- a label without the flags of bound variables is no canonical variable
 unbound-label : (vs : List Value) (l : Label) → bit_and (label_flags l) 2184 ≡ 0 → value_for vs l ≡ None
@@ -159,10 +160,6 @@ pub kind-is-type : (es : List Entry) (k : TyKind) → is_type_label (root_label 
 kind-is-type es (KBound (KBinder i) v) = refl
 kind-is-type es (KBound KCanonical v) = refl
 kind-is-type es k = refl
-
-at-single : (P : Trees → Type 0) → ((l : Label) (c : Trees) → P (tree l c none)) → (t : Trees) → Single t → P t
-at-single P f none s = absurd s
-at-single P f (tree l c o) s = subst (λ z. P (tree l c z)) (sym s) (f l c)
 
 pub stays-at : (vs : List Value) (t : Trees) → Single t → is_type_label (root_label t) ≡ true → is_unbound t ≡ true → filling vs t ≡ puts t
 stays-at vs t s =

@@ -7,12 +7,10 @@ use Rattle.term_folds.specs.Clauses.{clause_pieces}
 use Rattle.type_terms.specs.Pieces.{Piece}
 use Rattle.type_terms.proofs.Items.{take-push}
 use Rattle.infer_table.specs.Goals.{environment_pieces}
+use Rattle.type_terms.proofs.ListBasics.{take-drop}
 
 pieces-none : (ps : List Piece) → ps ++ [] ≡ ps
 pieces-none ps = grind (arith, common_steps)
-
-take-drop : {X : Type 0} (n : ℕ) (xs : List X) → take n xs ++ drop n xs ≡ xs
-take-drop n xs = grind (arith, common_steps)
 
 take-past : {X : Type 0} (xs : List X) (n : ℕ) → length xs ≤ n → take n xs ≡ xs
 take-past xs n h = grind (arith, common_steps)

@@ -14,12 +14,13 @@ use Rattle.type_terms.specs.declared.kinds.GenericArgKind.TheVariants.{Lifetime,
 use Rattle.type_terms.proofs.Sorts.{arg-single}
 use Rattle.infer_table.specs.Solutions.{Assignment, tree_of, instance, IsSorted}
 use Rattle.infer_table.specs.declared.canonical.CanonicalVarKind.{CanonicalVarKind}
-use Rattle.infer_table.proofs.SolutionLaws.{is_sort-equal, is_sort-self, instance-append}
+use Rattle.infer_table.proofs.SolutionLaws.{is_sort-equal, instance-append, instance-single}
 use Rattle.infer_table.specs.Leaves.{root_label}
 use Rattle.infer_table.specs.Values.{Value, sort_of_arg, value_of, values_of}
 use Rattle.infer_table.specs.Raw.{sort_of_kind, variable_value, variables_from}
 use Rattle.infer_table.specs.Covers.{chosen, Agrees, AreNumbered}
-use Rattle.infer_table.proofs.Covers.{chosen-append, instance-single, instance-root, arg-root}
+use Rattle.infer_table.proofs.Covers.{chosen-append, instance-root, arg-root}
+use Rattle.type_terms.proofs.TermBasics.{two as both, is_sort-self}
 
 -- ---- items in their places
 no-items : {X : Type 0} (x : X) (rest : List X) → [] ≡ x ∷ rest → ⊥
@@ -105,9 +106,6 @@ module _ (es : List Entry) (law : Lawful es) (s : Assignment) (sorted : IsSorted
   variable-read all of_type i x h e g = chosen-self all of_type i x h e g
   variable-read all of_const i x h e g = chosen-self all of_const i x h e g
   variable-read all of_lifetime i x h e g = lifetime-read x e
-
-  both : (a a' b b' : Trees) → a ≡ a' → b ≡ b' → a +++ b ≡ a' +++ b'
-  both a a' b b' p q = cc
 
   agrees-from : (made : List Entry) (all : List (Label × Trees)) (i : ℕ) (ks : List CanonicalVarKind) (vs xs : List GenericArgKind) (h : ArgsHeld es xs) → drop i all ≡ nodes xs h
       → values_of made vs ≡ variables_from i ks → map sort_of_arg xs ≡ map sort_of_kind ks → chosen (choice all) (args_trees made vs) ≡ instance s (args_trees es xs)

@@ -9,6 +9,7 @@ use Rattle.infer_table.specs.Resolving.{followed}
 use Rattle.infer_table.specs.Equations.{unbound_in}
 use Rattle.infer_table.specs.Unification.{TableTrees, with_binding, with_equal, with_regions, term_sort, variable_at, head_of, parts_of, binds, Worklist, pairs, Outcome, refused, onward, bound_to, in_pairs, by_parts, by_variables, by_sort, compared, step, load, Solver, after, steps, rounds, unified}
 use Rattle.infer_table.specs.Applied.{solved_in_turn}
+use Rattle.infer_table.proofs.TypeBasics.{some-one}
 
 -- it holds of both sides of each equation
 abbrev pub OfPairs : (Trees → Type 0) → Worklist → Type 0
@@ -90,9 +91,6 @@ module _ (OfTerms : Trees → Type 0) (OfTables : TableTrees → Type 0) (keeps 
         (either (same x y) (onward false t rest) (by_sort t k x y rest) (table, more) (by-sort k x y (keeps.values t e.0 table p) (keeps.values t e.1 table q))) tt
 
   -- ---- all of them
-  some-one : (t u : TableTrees) → Some t ≡ Some u → t ≡ u
-  some-one t u e = cc
-
   abbrev KeptBy : Solver → Type 0
   KeptBy f = (t u : TableTrees) (todo : Worklist) → OfTables t → OfPairs OfTerms todo → f t todo ≡ Some u → OfTables u
 

@@ -1,5 +1,5 @@
 -- Leaves are told apart by their labels.
-use Rattle.std.proofs.Common.{rules, ◌≡◌, ℕ, zero, suc, Bool, true, false, nat_eq, refl, ap, sym, ◌∙◌, subst, List, [], ◌∷◌, ◌++◌, map, Option, Some, None, IsSome, if◌then◌else◌, ◌+◌, ◌<◌, ◌≤◌, length, get_or, take, arith, cond, not, nat_lt}
+use Rattle.std.proofs.Common.{rules, ◌≡◌, ℕ, zero, suc, Bool, true, false, refl, ap, sym, ◌∙◌, subst, List, [], ◌∷◌, ◌++◌, Option, Some, None, IsSome, if◌then◌else◌, ◌+◌, ◌<◌, ◌≤◌, length, get_or, arith, cond, not, nat_lt}
 use Rattle.std.specs.Bool.{Decides}
 use Rattle.std.specs.List.{list_any, position_or_len, position}
 use Rattle.std.proofs.lemmas.List.Sums.{prefix_len-le-length}
@@ -11,62 +11,27 @@ use Rattle.type_terms.specs.Codes.{same_label}
 use Rattle.type_terms.proofs.Matching.{same-label-sound}
 use Rattle.type_terms.specs.Terms.{Entry, Has, Lawful, types, consts, trees_at}
 use Rattle.type_terms.specs.Kinds.{ArgHeld, ArgsHeld, arg_trees, region_label}
-use Rattle.type_terms.specs.declared.number.DebruijnIndex.{DebruijnIndex}
-use Rattle.type_terms.specs.declared.number.BoundVar.{BoundVar}
-use Rattle.type_terms.specs.declared.number.RegionVid.{RegionVid}
-use Rattle.type_terms.specs.declared.number.BoundVarIndexKind.{BoundVarIndexKind}
-use Rattle.type_terms.specs.declared.number.BoundVarIndexKind.TheVariants.{Bound as KBinder, Canonical as KCanonical}
 use Rattle.type_terms.specs.declared.region.Region.{Region}
 use Rattle.type_terms.specs.declared.region.RegionKind.{RegionKind}
-use Rattle.type_terms.specs.declared.region.RegionKind.TheVariants.{ReStatic, ReEarlyParam, RePlaceholder, ReBound, ReVar}
+use Rattle.type_terms.specs.declared.region.RegionKind.TheVariants.{ReBound}
 use Rattle.type_terms.specs.declared.kinds.Ty as ty-module
 use Rattle.type_terms.specs.declared.kinds.Const as const-module
 use Rattle.type_terms.specs.declared.kinds.GenericArgKind.{GenericArgKind}
 use Rattle.type_terms.specs.declared.kinds.GenericArgKind.TheVariants.{Lifetime, Ty as AType, Const as AConst}
-use Rattle.type_terms.specs.contracts.number.DebruijnIndexPartialEq.TheImpl.{ghosts as debruijn}
-use Rattle.type_terms.specs.contracts.number.BoundVarPartialEq.TheImpl.{ghosts as variable}
-use Rattle.type_terms.specs.contracts.number.RegionVidPartialEq.TheImpl.{ghosts as region-vid}
-use Rattle.type_terms.specs.contracts.number.BoundVarIndexKindPartialEq.TheImpl.{ghosts as binder}
-use Rattle.type_terms.specs.contracts.region.RegionKindPartialEq.TheImpl.{ghosts as region-kind}
 use Rattle.type_terms.specs.contracts.region.RegionPartialEq.TheImpl.{ghosts as region}
 use Rattle.type_terms.specs.contracts.kinds.TyPartialEq.TheImpl.{ghosts as ty}
 use Rattle.type_terms.specs.contracts.kinds.ConstPartialEq.TheImpl.{ghosts as const}
 use Rattle.type_terms.specs.contracts.kinds.GenericArgKindPartialEq.TheImpl.{ghosts as arg}
-use Rattle.type_terms.proofs.Labels.{binder-back, variable-back, region-vid-back, region-back}
-use Rattle.type_terms.proofs.Equal.{both, through}
+use Rattle.type_terms.proofs.Labels.{region-back}
+use Rattle.type_terms.proofs.Equal.{through, region-kind-eq}
 use Rattle.type_terms.proofs.Sorts.{bound-sort}
 use Rattle.type_terms.specs.Kept.{is-at}
-use Rattle.type_terms.proofs.Items.{take-push}
 use Rattle.infer_table.specs.declared.canonical.CanonicalVarKind.{CanonicalVarKind}
 use Rattle.infer_table.specs.Canonical.{is_among, with_label, place_of, kind_of_leaf}
 use Rattle.infer_table.proofs.CanonicalLaws.{same_label-self}
 use Rattle.infer_table.specs.Leaves.{leaf_label, labels, IsLeaf, AreLeaves, AreOpen}
 
 -- ---- the derived `==` of arguments
-number-eq : (a b : ℕ) → Decides (nat_eq a b) (a ≡ b)
-number-eq a b = search rules
-
-debruijn-eq : (a b : DebruijnIndex) → Decides (debruijn.eq a b) (a ≡ b)
-debruijn-eq a b = search (rules, binder-back)
-
-variable-eq : (a b : BoundVar) → Decides (variable.eq a b) (a ≡ b)
-variable-eq a b = search (rules, variable-back)
-
-region-vid-eq : (a b : RegionVid) → Decides (region-vid.eq a b) (a ≡ b)
-region-vid-eq a b = search (rules, region-vid-back)
-
-binder-eq : (a b : BoundVarIndexKind) → Decides (binder.eq a b) (a ≡ b)
-binder-eq (KBinder j) (KBinder k) = through _ _ _ (debruijn-eq j k) (λ p. ap KBinder p) (λ e. cc)
-binder-eq KCanonical KCanonical = (λ e. refl, λ e. refl)
-binder-eq _ _ = (λ e. cc, λ e. cc)
-
-region-kind-eq : (a b : RegionKind) → Decides (region-kind.eq a b) (a ≡ b)
-region-kind-eq ReStatic ReStatic = (λ e. refl, λ e. refl)
-region-kind-eq (ReEarlyParam i) (ReEarlyParam j) = through _ _ _ (number-eq i j) (λ p. ap ReEarlyParam p) (λ e. cc)
-region-kind-eq (RePlaceholder i) (RePlaceholder j) = through _ _ _ (number-eq i j) (λ p. ap RePlaceholder p) (λ e. cc)
-region-kind-eq (ReBound j v) (ReBound k w) = through _ _ _ (both _ _ _ _ (binder-eq j k) (variable-eq v w)) (λ p. cc) (λ e. (cc, cc))
-region-kind-eq (ReVar v) (ReVar w) = through _ _ _ (region-vid-eq v w) (λ p. ap ReVar p) (λ e. cc)
-region-kind-eq _ _ = (λ e. cc, λ e. cc)
 
 pub region-eq : (a b : Region) → Decides (region.eq a b) (a ≡ b)
 region-eq a b = through _ _ _ (region-kind-eq a.kind b.kind) (λ p. ap (λ k. record { kind = k }) p) (λ e. ap (λ r. r.kind) e)
@@ -195,23 +160,8 @@ open-at es [] i d h l = absurd (omega arith)
 open-at es (x ∷ xs) zero d h l = h.0
 open-at es (x ∷ xs) (suc i) d h l = open-at es xs i d h.1 (omega arith)
 
-map-some : (xs ys : List CanonicalVarKind) → map Some (xs ++ ys) ≡ map Some xs ++ map Some ys
-map-some [] ys = refl
-map-some (x ∷ xs) ys = ap (λ z. Some x ∷ z) (map-some xs ys)
-
-kinds-append : (es : List Entry) (xs ys : List GenericArgKind) → map kind_of_leaf (labels es (xs ++ ys)) ≡ map kind_of_leaf (labels es xs) ++ map kind_of_leaf (labels es ys)
-kinds-append es [] ys = refl
-kinds-append es (x ∷ xs) ys = ap (λ z. kind_of_leaf (leaf_label es x) ∷ z) (kinds-append es xs ys)
-
 join : (a b : List (Option CanonicalVarKind)) (x y : Option CanonicalVarKind) → a ≡ b → x ≡ y → a ++ x ∷ [] ≡ b ++ y ∷ []
 join a b x y p q = cc
-
--- one more kind is listed
-pub one-more-kind : (es : List Entry) (xs : List GenericArgKind) (i : ℕ) (x : GenericArgKind) (ks : List CanonicalVarKind) (k : CanonicalVarKind) → i < length xs → x ≡ get_or xs i x
-    → map Some ks ≡ map kind_of_leaf (labels es (take i xs)) → Some k ≡ kind_of_leaf (leaf_label es x) → map Some (ks ++ k ∷ []) ≡ map kind_of_leaf (labels es (take (i + 1) xs))
-one-more-kind es xs i x ks k lt is h e =
-    let from : take (i + 1) xs ≡ take i xs ++ x ∷ [] = take-push xs i x lt ∙ ap (λ z. take i xs ++ z ∷ []) (sym is) in
-    map-some ks (k ∷ []) ∙ join _ _ _ _ h e ∙ sym (kinds-append es (take i xs) (x ∷ [])) ∙ ap (λ z. map kind_of_leaf (labels es z)) (sym from)
 
 pub leaves-held : (es : List Entry) (xs : List GenericArgKind) → AreLeaves es xs → ArgsHeld es xs
 leaves-held es [] h = tt

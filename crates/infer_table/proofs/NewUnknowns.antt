@@ -11,6 +11,7 @@ use Rattle.infer_table.specs.declared.canonical.CanonicalVarKind.{CanonicalVarKi
 use Rattle.infer_table.specs.declared.canonical.CanonicalVarKind.TheVariants.{Ty, PlaceholderTy, Const, PlaceholderConst, Region}
 use Rattle.infer_table.specs.Leaves.{IsLeaf, AreLeaves, labels, leaf_label}
 use Rattle.infer_table.specs.Unknowns.{next_label, with_next, next_labels, with_each}
+use Rattle.type_terms.proofs.NumberBasics.{zero-plus}
 
 pub leaves-push : (es : List Entry) (xs : List GenericArgKind) (x : GenericArgKind) → AreLeaves es xs → IsLeaf es x → AreLeaves es (xs ++ x ∷ [])
 leaves-push es [] x h g = (g, tt)
@@ -40,9 +41,6 @@ join a b x y p q = cc
 
 label-at : (t u : Table) (i j : ℕ) (k : CanonicalVarKind) → t ≡ u → i ≡ j → next_label t i k ≡ next_label u j k
 label-at t u i j k p q = cc
-
-zero-plus : (n : ℕ) → n ≡ 0 + n
-zero-plus n = omega arith
 
 below : {i n : ℕ} → i < n → i ≤ n
 below h = omega arith

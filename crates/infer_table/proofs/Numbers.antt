@@ -19,6 +19,7 @@ use Rattle.infer_table.specs.declared.goal.Goal.{Goal}
 use Rattle.infer_table.specs.Leaves.{open_kinds, root_label, is_closed, is_type_label, numbering}
 use Rattle.infer_table.specs.LeafLaws.{numbering-once}
 use Rattle.infer_table.proofs.ClosedFacts.{closed-stays}
+use Rattle.type_terms.proofs.TermBasics.{below-node, at-single}
 
 pub relabeled-append : (b : Bool) (f : Label → Label) (x y : Trees) → relabeled (open_kinds b) f (x +++ y) ≡ relabeled (open_kinds b) f x +++ relabeled (open_kinds b) f y
 relabeled-append b f none y = refl
@@ -116,10 +117,6 @@ module _ (b : Bool) (ls : List Label) where
       node _ _ _ _ _ _ (here.label ∙ ap (λ (z : Bool). if z then canonical_label ls (clause_label x) else clause_label x) (sym (clause-closed x))) here.terms (environment-numbered old new xs ys h.2)
 
 -- ---- what the folder answers at one tree
-at-single : (P : Trees → Type 0) → ((l : Label) (c : Trees) → P (tree l c none)) → (t : Trees) → Single t → P t
-at-single P f none s = absurd s
-at-single P f (tree l c o) s = subst (λ z. P (tree l c z)) (sym s) (f l c)
-
 chosen : (x y : Bool) (p q : Does) → x ≡ false → (if x then p else (if y then q else enters)) ≡ (if y then q else enters)
 chosen x y p q e = rw e refl
 
@@ -183,9 +180,6 @@ terms-later : (old new : List Entry) → Keeps old new → (x : Clause) → Clau
 terms-later old new k (Trait p) h = trees-later old new k args_lists p.trait_ref.args.0 h
 terms-later old new k (RegionOutlives a b) h = refl
 terms-later old new k (TypeOutlives t r) h = ap (λ z. z +++ region_trees r) (trees-later old new k types t.0 h.0)
-
-below-node : (l : Label) (c c' o o' : Trees) → c ≡ c' → o ≡ o' → tree l c o ≡ tree l c' o'
-below-node l c c' o o' p q = cc
 
 pub environment-later : (old new : List Entry) → Keeps old new → (xs : List Clause) → ClausesHeld old xs → environment_trees new xs ≡ environment_trees old xs
 environment-later old new k [] h = refl

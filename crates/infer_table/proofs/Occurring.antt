@@ -25,6 +25,7 @@ use Rattle.type_terms.specs.declared.kinds.TyKind.TheVariants.{Infer as KInfer}
 use Rattle.type_terms.specs.declared.kinds.GenericArgKind.{GenericArgKind}
 use Rattle.type_terms.specs.declared.kinds.GenericArgKind.TheVariants.{Lifetime, Ty as AType}
 use Rattle.infer_table.specs.Parts.{HasBounds, parts_trees}
+use Rattle.type_terms.proofs.BooleanBasics.{or-right as right-of}
 
 module _ (es : List Entry) (bs : List Binding) (v : ℕ) where
   abbrev Stands : Trees → Type 0
@@ -82,17 +83,9 @@ module _ (es : List Entry) (bs : List Binding) (v : ℕ) where
   weight-append (x ∷ xs) ys = let e = weight-append xs ys in omega (arith, e)
 
   -- ---- the arguments of a type, one after the other
-  none-stands : (a : Bool) → a ≡ false → a ≡ true → ⊥
-  none-stands true p q = cc
-  none-stands false p q = cc
-
   left-of : (a b : Bool) → a ≡ true → (a || b) ≡ true
   left-of true b e = refl
   left-of false b e = cc
-
-  right-of : (a b : Bool) → b ≡ true → (a || b) ≡ true
-  right-of true b e = refl
-  right-of false b e = e
 
   neither : (a b : Bool) → a ≡ false → b ≡ false → (a || b) ≡ false
   neither true b p q = cc
@@ -199,14 +192,6 @@ module _ (es : List Entry) (bs : List Binding) (v : ℕ) where
   lighter-lack n [] w h = tt
   lighter-lack n (x ∷ xs) w h = (h.0 (omega (arith, w)), lighter-lack n xs (omega (arith, w)) h.1)
 
-  pub searches-first : (e : Entered) (x : Ty) → Has es types x.0 → ((i : ℕ) → contains nat_eq e.types i ≡ true → ⊥) → Searches x.0 e (x ∷ [])
-  searches-first e x has new = record {
-    held = (has, tt);
-    stand = (λ q. q, tt);
-    asked = λ h. h.0;
-    known = λ i c. absurd (new i c);
-  }
-
   pub searches-on : (root : ℕ) (x : Ty) (before after : Entered) (old new : List Ty) → Searches root before (old ++ x ∷ []) → LooksAt es bs v x before after old new
       → Searches root after new × (weight es bs new < weight es bs (old ++ x ∷ []))
   searches-on root x before after old new s l =
@@ -242,10 +227,6 @@ module _ (es : List Entry) (bs : List Binding) (v : ℕ) where
       listed : (i : ℕ) → (contains nat_eq before.types i ≡ true) ⊎ (i ≡ x.0) → Smaller (nodes i) (old ++ l.pushed) → IsWithout bs v (trees_at es i)
       listed i (inl c) h = s.known i c (smaller-append (nodes i) old (x ∷ []) (smaller-first (nodes i) old l.pushed h) (λ q. of-smaller (nodes i) h (omega (arith, q)), tt))
       listed i (inr e) h = subst (λ j. IsWithout bs v (trees_at es j)) (sym e) (of-smaller (nodes x.0) (subst (λ j. Smaller (nodes j) (old ++ l.pushed)) e h) (omega arith))
-
-  -- the list is empty
-  pub searches-done : (root : ℕ) (e : Entered) (todo : List Ty) → todo ≡ [] → Searches root e todo → IsWithout bs v (trees_at es root)
-  searches-done root e todo is s = (subst (Searches root e) is s).asked tt
 
   -- the variable stands in what was looked at
   pub searches-found : (root : ℕ) (e : Entered) (old : List Ty) (x : Ty) → Searches root e (old ++ x ∷ []) → Stands (trees_at es x.0) → Stands (trees_at es root)

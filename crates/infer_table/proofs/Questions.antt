@@ -10,10 +10,9 @@ use Rattle.type_terms.specs.declared.TraitId.{TraitId}
 use Rattle.type_terms.specs.declared.region.Region.{Region}
 use Rattle.type_terms.specs.declared.kinds.Ty as ty-module
 use Rattle.type_terms.specs.declared.kinds.GenericArgs.{GenericArgs}
-use Rattle.type_terms.specs.contracts.TraitIdPartialEq.TheImpl.{ghosts as trait-id}
 use Rattle.type_terms.specs.contracts.kinds.GenericArgsPartialEq.TheImpl.{ghosts as args}
 use Rattle.type_terms.proofs.Labels.{trait-back, region-back}
-use Rattle.type_terms.proofs.Equal.{both, through}
+use Rattle.type_terms.proofs.Equal.{both, through, trait-eq}
 use Rattle.type_terms.proofs.Sorts.{type-single}
 use Rattle.term_folds.specs.Clauses.{ClauseHeld}
 use Rattle.term_folds.specs.declared.predicate.TraitRef.{TraitRef}
@@ -36,13 +35,12 @@ use Rattle.infer_table.specs.contracts.input.CanonicalInputPartialEq.TheImpl.{gh
 use Rattle.infer_table.specs.Goals.{GoalHeld, ClausesHeld, PredicateHeld, clause_label, clause_terms, environment_trees, predicate_trees}
 use Rattle.infer_table.specs.Inputs.{form_of, IsCanonicalInput, AreEqual}
 use Rattle.infer_table.proofs.LeafFacts.{region-eq, ty-eq, same-handle}
+use Rattle.type_terms.proofs.TypeBasics.{args-eq}
+use Rattle.type_terms.proofs.ListBasics.{next}
+use Rattle.infer_table.proofs.TypeBasics.{kind-eq}
+use Rattle.type_terms.proofs.TermBasics.{tree-parts as node-parts}
 
 -- ---- the derived `==`
-trait-eq : (a b : TraitId) → Decides (trait-id.eq a b) (a ≡ b)
-trait-eq a b = search (rules, trait-back)
-
-args-eq : (a b : GenericArgs) → Decides (args.eq a b) (a ≡ b)
-args-eq a b = search rules
 
 reference-cong : (a b : TraitRef) → a.def_id ≡ b.def_id → a.args ≡ b.args → a ≡ b
 reference-cong a b p q = two (λ (t : TraitId) (g : GenericArgs). record { def_id = t; args = g }) _ _ _ _ p q
@@ -61,9 +59,6 @@ clause-eq (Trait p) (Trait q) = through _ _ _ (predicate-eq p q) (λ e. ap Trait
 clause-eq (RegionOutlives a b) (RegionOutlives x y) = through _ _ _ (both _ _ _ _ (region-eq a x) (region-eq b y)) (λ p. cc) (λ e. (cc, cc))
 clause-eq (TypeOutlives t r) (TypeOutlives u s) = through _ _ _ (both _ _ _ _ (ty-eq t u) (region-eq r s)) (λ p. cc) (λ e. (cc, cc))
 clause-eq _ _ = (λ e. cc, λ e. cc)
-
-kind-eq : (a b : CanonicalVarKind) → Decides (kind.eq a b) (a ≡ b)
-kind-eq a b = search rules
 
 mode-eq : (a b : TypingMode) → Decides (mode.eq a b) (a ≡ b)
 mode-eq a b = search rules
@@ -113,12 +108,6 @@ clause-is es law (TypeOutlives t r) (TypeOutlives u s) h g l e =
     let parts = first-of-two (trees_at es t.0) (trees_at es u.0) (region_label r.kind) (region_label s.kind) (type-single es law.sorted t.0 h.0) (type-single es law.sorted u.0 g.0) e in
     type-outlives t u r s (ap (λ i. record { 0 = i }) (same-handle es law types t.0 u.0 h.0 g.0 parts.0)) (region-is r s parts.1)
 clause-is es law x y h g l e = cc
-
-next : {A : Type 0} (x y : A) (xs ys : List A) → x ≡ y → xs ≡ ys → x ∷ xs ≡ y ∷ ys
-next x y xs ys p q = cc
-
-pub node-parts : (l m : Label) (c d o p : Trees) → tree l c o ≡ tree m d p → (l ≡ m) × (c ≡ d) × (o ≡ p)
-node-parts l m c d o p e = (cc, cc, cc)
 
 environment-is : (es : List Entry) → Lawful es → (xs ys : List Clause) → ClausesHeld es xs → ClausesHeld es ys → environment_trees es xs ≡ environment_trees es ys → xs ≡ ys
 environment-is es law [] [] h g e = refl

@@ -1,21 +1,15 @@
 -- How forms end without an answer.
 use Rattle.std.proofs.Common.{◌≡◌, ℕ, List, refl, subst, Option, Some}
-use Rattle.std.specs.Prelude.{Result, Ok, Err, IsErrAnd}
 use Rattle.type_terms.specs.Trees.{Trees}
 use Rattle.type_terms.specs.Terms.{Entry}
 use Rattle.type_terms.specs.declared.Fault.{Fault}
-use Rattle.type_terms.specs.declared.Fault.TheVariants.{Full, Memory}
+use Rattle.type_terms.specs.declared.Fault.TheVariants.{Memory}
 use Rattle.type_terms.specs.declared.visit.Seen.{Seen}
 use Rattle.type_terms.specs.declared.visit.Seen.TheVariants.{Break}
 use Rattle.type_terms.specs.Pieces.{Piece}
 use Rattle.type_terms.specs.Visits.{Visits, ended, passed, broken, entered, broken_below, VisitsEach, ended_each, next_each, broken_each}
 use Rattle.infer_table.specs.LeafLaws.{Collecting}
 use Rattle.infer_table.specs.declared.canonicalizer.LeafCollector.{LeafCollector}
-
--- a fault that a `?` hands on
-pub handed-on : {T A : Type 0} (r : Result T Fault) {x : Fault} → IsErrAnd r (λ y. y ≡ x) → (x ≡ Full → A) → r ≡ Err Full → A
-handed-on (Ok y) h f q = absurd h
-handed-on (Err y) h f q = f cc
 
 -- what is true of each value with which a visitor breaks is true of the one with which its visit does
 pub visits-break : {V B : Type 0} {sees : List ℕ → Trees → V → V → Seen B → Type 0} (P : B → Type 0) → ((bs : List ℕ) (t : Trees) (v w : V) (b : B) → sees bs t v w (Break b) → P b)

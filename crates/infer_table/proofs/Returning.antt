@@ -1,6 +1,6 @@
 -- The values of a canonical form, put in for its variables, give the trees back.
 use Rattle.std.proofs.Common.{◌≡◌, zero, suc, Bool, true, false, refl, ap, sym, ◌∙◌, subst, List, [], ◌∷◌, Some, None, is_some, if◌then◌else◌, inl, inr}
-use Rattle.type_terms.specs.Label.{Label, Sort, of_type, of_const, of_lifetime, canonical}
+use Rattle.type_terms.specs.Label.{Label, Sort, canonical}
 use Rattle.type_terms.specs.Trees.{Trees, none, tree, leaf, ◌+++◌, sort_of, is_sort, placed}
 use Rattle.type_terms.specs.Codes.{same_label}
 use Rattle.type_terms.proofs.Matching.{same-label-sound}
@@ -12,14 +12,8 @@ use Rattle.infer_table.specs.Inputs.{IsWithoutCanonical}
 use Rattle.infer_table.specs.Leaves.{leaf_label, labels, AreLeaves, OpenAreLeaves, OpenAreLeavesOf}
 use Rattle.infer_table.specs.Values.{Value, sort_of_arg, value_of, values_of, if_of_sort, value_for, filled, goal_filled}
 use Rattle.infer_table.proofs.LeafFacts.{sort-is}
-
-false-true : false ≡ true → ⊥
-false-true e = cc
-
-sort-self : (s : Sort) → is_sort s s ≡ true
-sort-self of_type = refl
-sort-self of_const = refl
-sort-self of_lifetime = refl
+use Rattle.type_terms.proofs.Made.{false-true}
+use Rattle.type_terms.proofs.TermBasics.{sort-self}
 
 -- the value of a leaf's canonical variable is the leaf
 pub value-of-leaf : (es : List Entry) → Lawful es → (xs : List GenericArgKind) (l : Label) → AreLeaves es xs → is_among l (labels es xs) ≡ true → value_for (values_of es xs) (canonical_label (labels es xs) l) ≡ Some (leaf l)

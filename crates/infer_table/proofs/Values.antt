@@ -20,10 +20,6 @@ use Rattle.infer_table.specs.Values.{Value, value_of, values_of, sort_of_arg}
 use Rattle.infer_table.specs.Raw.{variables_from, variable_value}
 use Rattle.infer_table.specs.Applying.{root_labels, next_unknown, table_after, values_for, is_numbered, canonical_number, original_of}
 
-pub args-held-push : (es : List Entry) (xs : List GenericArgKind) (y : GenericArgKind) → ArgsHeld es xs → ArgHeld es y → ArgsHeld es (xs ++ y ∷ [])
-args-held-push es [] y h g = (g, tt)
-args-held-push es (x ∷ xs) y h g = (h.0, args-held-push es xs y h.1 g)
-
 pub values-push : (es : List Entry) (xs : List GenericArgKind) (y : GenericArgKind) → values_of es (xs ++ y ∷ []) ≡ values_of es xs ++ value_of es y ∷ []
 values-push es [] y = refl
 values-push es (x ∷ xs) y = ap (λ z. value_of es x ∷ z) (values-push es xs y)
@@ -131,9 +127,6 @@ module _ (es : List Entry) (law : Lawful es) where
   never-of-lengths bs [] (y ∷ ys) n h g = never-right bs (arg_trees es y) (args_trees es ys) (arg-single es law.sorted y g.0)
   never-of-lengths bs (x ∷ xs) (y ∷ ys) n h g = λ s k e.
       never-of-lengths bs xs ys (λ p. n (ap suc p)) h.1 g.1 s k (items-parts s (arg_trees es x) (arg_trees es y) (args_trees es xs) (args_trees es ys) (arg-single es law.sorted x h.0) (arg-single es law.sorted y g.0) e).1
-
-pub equates-none : (bs : List Binding) → Equates bs bs none none
-equates-none bs = record { only = λ s h. (h, refl); all = λ s h e. h }
 
 -- what a part of a list of the same length was changed to is the list
 pub written : {X : Type 0} (n : ℕ) (new old : List X) → length new ≡ length old → n ≡ length old → take n (new ++ drop (length new) old) ≡ new
@@ -245,6 +238,3 @@ equates-at bs bs' cs cs' a a' b b' p q r s e =
 
 pub never-at : (bs bs' : List Binding) (a a' b b' : Trees) → bs ≡ bs' → a ≡ a' → b ≡ b' → HasNoSolution bs a b → HasNoSolution bs' a' b'
 never-at bs bs' a a' b b' p r s e = subst (λ z. HasNoSolution z a' b') p (subst (λ z. HasNoSolution bs z b') r (subst (λ z. HasNoSolution bs a z) s e))
-
-pub take-drop : {X : Type 0} (n : ℕ) (xs : List X) → take n xs ++ drop n xs ≡ xs
-take-drop n xs = grind (arith, common_steps)

@@ -20,9 +20,11 @@ use Rattle.infer_table.specs.Applying.{is_numbered, root_labels, original_of, ne
 use Rattle.infer_table.specs.Applied.{trees_of, solved_in_turn, with_constraints}
 use Rattle.infer_table.specs.Covers.{AreNumbered}
 use Rattle.infer_table.specs.WithoutCanonical.{HaveNoCanonical, EquateNoCanonical, AreWithoutCanonical, AreOfTheirSorts, ResolvingKeepsOut, EquationsKeepOut, AnswersKeepOut}
-use Rattle.infer_table.proofs.SolutionLaws.{is_sort-equal, is_sort-self}
+use Rattle.infer_table.proofs.SolutionLaws.{is_sort-equal}
 use Rattle.infer_table.proofs.Covers.{numbered-parts}
 use Rattle.infer_table.proofs.Kept.{Keeps, OfPairs, unified-keeps, turns-keep}
+use Rattle.infer_table.proofs.TypeBasics.{some-one}
+use Rattle.type_terms.proofs.TermBasics.{is_sort-self}
 
 -- ---- trees
 abbrev pub IsNoCanonical : Label → Type 0
@@ -213,9 +215,6 @@ original-suits ks n k (w ∷ ws) (o ∷ os) e s h q g =
     by false i m rest = rest
 
 -- ---- an answer
-some-one : (t u : TableTrees) → Some t ≡ Some u → t ≡ u
-some-one t u e = cc
-
 clean-values : (vs : List Value) → AreWithoutCanonical vs → HasNoCanonical (trees_of vs)
 clean-values [] h = tt
 clean-values (v ∷ vs) h = clean-append v.trees (trees_of vs) h.0 (clean-values vs h.1)

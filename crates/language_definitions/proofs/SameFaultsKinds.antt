@@ -17,8 +17,9 @@ use Rattle.text_definitions.specs.Faults.{is_among, with_own, takes_names, is_pa
 use Rattle.language_definitions.specs.Mentions.{Mention, crate_mention, name_mention, trait_mention, lifetime_mention, binder_mention, variable_mention, misfit_mention, dyn_mention, list_mention, number_mention, type_mention, line_mentions, asked_mentions, bound_mentions, header_mentions}
 use Rattle.language_definitions.specs.LineFaults.{names_among, heads_own_struct, faults_by_kind, variables_among}
 use Rattle.language_definitions.proofs.SameMentions.{as_uses, mentions-are, asked-mentions-are, bound-mentions-are, header-mentions-are, other-variables}
-use Rattle.language_definitions.proofs.SameFaultsOrder.{or-false, or-true, left-false, holds}
+use Rattle.language_definitions.proofs.SameFaultsOrder.{or-true, holds}
 use Rattle.language_definitions.proofs.SameFaultsNames.{any-given, any-flat, lifted, param-unknown}
+use Rattle.type_terms.proofs.BooleanBasics.{left-false, no-more as or-false}
 
 -- ---- 8
 name-used : (n : List ℕ) (m : Mention) → is_among n (names_among (m ∷ [])) ≡ list_any (is_use_of n) (as_uses m)

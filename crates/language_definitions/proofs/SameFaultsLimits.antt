@@ -15,9 +15,10 @@ use Rattle.language_definitions.specs.Mentions.{Mention, crate_mention, name_men
 use Rattle.language_definitions.specs.LineFaults.{faults_by_kind, can_follow, mention_faults}
 use Rattle.language_definitions.proofs.SameMentions.{as_uses, types-counted, params-same}
 use Rattle.language_definitions.proofs.SameMentionsDepth.{is_deeper, depth-agrees}
-use Rattle.language_definitions.proofs.SameFaultsOrder.{or-false, or-true, holds}
+use Rattle.language_definitions.proofs.SameFaultsOrder.{or-true, holds}
 use Rattle.language_definitions.proofs.SameFaultsNames.{any-given, any-or, of-line}
 use Rattle.language_definitions.proofs.SameFaultsKinds.{Named, asked-variables, asked-are}
+use Rattle.type_terms.proofs.BooleanBasics.{not-either, no-more as or-false}
 
 -- ---- 15
 has-some : (b : List (List ℕ)) → nat_lt 0 (length b) ≡ has_names b
@@ -219,10 +220,6 @@ seen-stays n m seen h = by (bytes_eq n m) (λ e. among-same n m seen e ∙ h)
     by : (b : Bool) → (b ≡ true → is_among n seen ≡ true) → not (is_among n seen) ≡ not b && not (is_among n seen)
     by true f = ap not (f refl)
     by false f = refl
-
-not-either : (a b : Bool) → not (a || b) ≡ not a && not b
-not-either true b = refl
-not-either false b = refl
 
 abbrev is_unseen : List (List ℕ) → Named → Bool
 is_unseen seen w = not (is_among w.0 seen)

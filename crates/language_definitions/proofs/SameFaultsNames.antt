@@ -17,7 +17,8 @@ use Rattle.language_definitions.specs.Mentions.{Mention, crate_mention, name_men
 use Rattle.language_definitions.specs.LineFaults.{faults_by_kind, mention_faults, lifetimes_in_scope, is_unknown_name, is_out_of_sight, is_unseen_name, fits_place}
 use Rattle.language_definitions.proofs.SameMentions.{as_uses, mentions-are, params-same}
 use Rattle.language_definitions.proofs.SameFaultsPlaces.{at_lifetime, is_misfit, Covered, line-covered}
-use Rattle.language_definitions.proofs.SameFaultsOrder.{or-false, or-true, or-assoc, left-false, right-false, holds}
+use Rattle.language_definitions.proofs.SameFaultsOrder.{or-true, holds}
+use Rattle.type_terms.proofs.BooleanBasics.{or-assoc, left-false, no-more as or-false, or-swap, right-false}
 
 -- ---- lists
 pub any-same : {X : Type 0} (p q : X → Bool) → ((x : X) → p x ≡ q x) → (xs : List X) → list_any p xs ≡ list_any q xs
@@ -31,12 +32,6 @@ any-none p h (x ∷ xs) = ap (λ b. b || list_any p xs) (h x) ∙ any-none p h x
 pub any-flat : {X Y : Type 0} (p : Y → Bool) (f : X → List Y) (xs : List X) → list_any p (flat_map f xs) ≡ list_any (λ x. list_any p (f x)) xs
 any-flat p f [] = refl
 any-flat p f (x ∷ xs) = list_any-append p (f x) (flat_map f xs) ∙ ap (λ b. list_any p (f x) || b) (any-flat p f xs)
-
-or-swap : (a b c d : Bool) → (a || b) || (c || d) ≡ (a || c) || (b || d)
-or-swap true b c d = refl
-or-swap false true true d = refl
-or-swap false true false d = refl
-or-swap false false c d = refl
 
 pub any-or : {X : Type 0} (p q : X → Bool) (xs : List X) → list_any (λ x. p x || q x) xs ≡ list_any p xs || list_any q xs
 any-or p q [] = refl

@@ -3,27 +3,12 @@ use Rattle.std.proofs.Common.{◌≡◌, ℕ, zero, suc, ◌+◌, ◌<◌, ◌�
 use Rattle.std.specs.Prelude.{◌||◌, ◌&&◌, ◌==◌, nat_le, nat_lt}
 use Rattle.std.specs.List.{list_any, list_all, reduce}
 use Rattle.std.proofs.lemmas.Bool.Decides.{nat_tests}
+use Rattle.type_terms.proofs.BooleanBasics.{left-false, right-false}
 
 -- ---- tests
-pub or-false : (b : Bool) → b || false ≡ b
-or-false true = refl
-or-false false = refl
-
 pub or-true : (b : Bool) → b || true ≡ true
 or-true true = refl
 or-true false = refl
-
-pub or-assoc : (a b c : Bool) → (a || b) || c ≡ a || (b || c)
-or-assoc true b c = refl
-or-assoc false b c = refl
-
-pub left-false : (a b : Bool) → a || b ≡ false → a ≡ false
-left-false true b e = absurd cc
-left-false false b e = refl
-
-pub right-false : (a b : Bool) → a || b ≡ false → b ≡ false
-right-false true b e = absurd cc
-right-false false b e = e
 
 both-true : (a b : Bool) → a && b ≡ true → (a ≡ true) × (b ≡ true)
 both-true true b e = (refl, e)

@@ -20,6 +20,7 @@ use Rattle.text_definitions.specs.Tokens.{Token, keyword, primitive, name, lifet
 use Rattle.language_definitions.specs.Grammar.{primitive_names, reserved_words}
 use Rattle.language_definitions.proofs.SameGrammarTests.{sign_text, begins_name, is_free, is_primitive, test_of, tests_of}
 use Rattle.language_definitions.proofs.SameGrammarPieces.{texts, Fine}
+use Rattle.type_terms.proofs.ListBasics.{any-mapped}
 
 same-bytes : (p q : List ℕ) → bytes_eq p q ≡ true → p ≡ q
 same-bytes p q e = (bytes_eq-Decides p q).0 e
@@ -127,10 +128,6 @@ none-any f (x ∷ xs) e =
       | inl h ↦ absurd (let g = sym (cond-true (f x) (Some x) (find f xs) h) ∙ e in cc)
       | inr h ↦ or_from (f x) (list_any f xs) h (none-any f xs (sym (cond-false (f x) (Some x) (find f xs) h) ∙ e))
     ]
-
-any-mapped : {A B : Type 0} (f : B → Bool) (g : A → B) (xs : List A) → list_any f (map g xs) ≡ list_any (λ x. f (g x)) xs
-any-mapped f g [] = refl
-any-mapped f g (x ∷ xs) = ap (λ b. f (g x) || b) (any-mapped f g xs)
 
 reserved-are : reserved_words ≡ map (λ (x : List ℕ × Label). x.0) primitives ++ map keyword_text keywords
 reserved-are = refl

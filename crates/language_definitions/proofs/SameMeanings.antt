@@ -7,20 +7,21 @@ use Rattle.std.specs.Str.{bytes_eq}
 use Rattle.type_terms.specs.Label.{Label, Sort, of_type, param, placeholder}
 use Rattle.type_terms.specs.Trees.{Trees, leaf}
 use Rattle.type_terms.specs.Worlds.{Reference}
-use Rattle.text_definitions.specs.Syntax.{Params, Types, Bound, Clause, Line, crate_line, struct_line, trait_line, impl_line, prove_line, refute_line, later_line, supers_line}
+use Rattle.text_definitions.specs.Syntax.{Params, Clause, Line, crate_line, struct_line, trait_line, impl_line, prove_line, refute_line, later_line, supers_line}
 use Rattle.text_definitions.specs.Declarations.{Declarations, NamedImpl, Variable, of_later, of_supers, known, kinds_of, names_of, sorted_names, last_crate, last_later, impl_owner}
 use Rattle.text_definitions.specs.Uses.{Use, crate_use, name_use, trait_use, lifetime_use, binder_use, variable_use, misfit_use, dyn_use, items_use, number_use, uses, type_uses, bound_uses, clause_uses, header_uses, params_of}
 use Rattle.text_definitions.specs.Faults.{first_of, tests, fault_of, declares_taken, is_taken_param, is_taken_binder, is_unknown_use, is_other_sort, is_bad_dyn, is_among, repeats, static_name, is_in_scope, is_crate, is_type_of, is_trait_of, is_param, is_param_of, with_own, variables_in, once}
 use Rattle.text_definitions.specs.Lowering.{crate_number, clause_reference}
 use Rattle.text_definitions.specs.Adding.{added, item_meanings, question_meanings}
-use Rattle.language_definitions.specs.LineMeanings.{named_params, means, own_param, as_trees, bound_meaning, clause_meaning, struct_added, trait_added, with_line}
+use Rattle.language_definitions.specs.LineMeanings.{named_params, means, own_param, as_trees, bound_meaning, clause_meaning, with_line}
 use Rattle.language_definitions.specs.LineFaults.{variables_among}
 use Rattle.language_definitions.specs.Mentions.{clause_mentions}
 use Rattle.language_definitions.proofs.SameFaultsKinds.{variables-of}
 use Rattle.language_definitions.proofs.SameMentions.{clause-mentions-are}
 use Rattle.language_definitions.proofs.SameMeaningsVariables.{as-variables, each-once}
-use Rattle.language_definitions.proofs.SameMeaningsNames.{or-first, or-second, not-false, kinds-are, names-are, as-many}
+use Rattle.language_definitions.proofs.SameMeaningsNames.{not-false, kinds-are, names-are, as-many}
 use Rattle.language_definitions.proofs.SameMeaningsTypes.{UseFits, AllFit, first-fit, rest-fit, crate-numbered, fields-are, bounds-are, clause-from, clause-is, clauses-are}
+use Rattle.type_terms.proofs.BooleanBasics.{left-false as or-first, right-false as or-second}
 
 -- ---- no test of a fault holds
 abbrev NoneHolds : List (ℕ × Bool) → Type 0
@@ -87,13 +88,6 @@ struct_with d f n ks ts = record d { structs = d.structs ++ record { text = n; k
 
 abbrev trait_with : Declarations → Bool → Bool → List ℕ → List Sort → List Reference → Declarations
 trait_with d f a n ks rs = record d { traits = d.traits ++ record { text = n; kinds = ks; item = record { name = length d.traits; home = last_crate d; is_fundamental = f; is_auto = a; bounds = rs } } ∷ [] }
-
--- The declarations with a line's own struct or trait are those with one that has no fields or bounds yet.
-pub own-struct-is : (d : Declarations) (f : Bool) (n : List ℕ) (ps : Params) (fs : Types) → struct_added d f n ps [] ≡ with_own d (struct_line f n ps fs)
-own-struct-is d f n ps fs = ap (λ ks. struct_with d f n ks []) (kinds-are ps)
-
-pub own-trait-is : (d : Declarations) (f a : Bool) (n : List ℕ) (ps : Params) (bs : List Bound) → trait_added d f a n ps [] ≡ with_own d (trait_line f a n ps bs)
-own-trait-is d f a n ps bs = ap (λ ks. trait_with d f a n ks []) (kinds-are ps)
 
 -- an impl of so many parameters, with this header and these clauses, and the number i
 abbrev impl_with : Declarations → Params → ℕ → Reference → List Reference → ℕ → NamedImpl

@@ -73,10 +73,6 @@ abbrev pub Rises : ℕ → List ℕ → Type 0
 Rises k [] = Unit {0}
 Rises k (m ∷ ms) = (k ≤ m) × Rises (suc m) ms
 
-wider : (j k : ℕ) (ms : List ℕ) → j ≤ k → Rises k ms → Rises j ms
-wider j k [] h r = tt
-wider j k (m ∷ ms) h r = (omega (arith, r.0), r.1)
-
 pub put-rises : (a k : ℕ) (ms : List ℕ) → k ≤ a → Rises k ms → Rises k (inserted a ms)
 put-rises a k [] h r = (h, tt)
 put-rises a k (m ∷ ms) h r = by (order a m) (λ g. put-rises a (suc m) ms g r.1)

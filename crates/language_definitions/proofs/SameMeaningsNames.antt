@@ -2,7 +2,6 @@
 use Rattle.std.proofs.Common.{◌≡◌, ℕ, suc, ◌+◌, Bool, true, false, not, ◌||◌, ◌&&◌, List, [], ◌∷◌, ◌++◌, map, length, Option, Some, None, refl, sym, ap, ◌∙◌, arith, cond, append_assoc}
 use Rattle.std.proofs.lemmas.Bool.{lt-ltb, ltb-true, le-ltb, ltb-false}
 use Rattle.std.proofs.lemmas.List.Folds.{list_any-append}
-use Rattle.std.proofs.lemmas.Slice.Eq.{bytes_eq-Decides}
 use Rattle.std.specs.Prelude.{if◌then◌else◌, nat_lt, position, option_map}
 use Rattle.std.specs.List.{list_any, position_or_len}
 use Rattle.std.specs.Str.{bytes_eq}
@@ -13,15 +12,10 @@ use Rattle.text_definitions.specs.Declarations.{with_sort, kinds_of, names_of}
 use Rattle.text_definitions.specs.Faults.{is_among}
 use Rattle.text_definitions.specs.Lowering.{place_among}
 use Rattle.language_definitions.specs.LineMeanings.{named_params, own_param}
+use Rattle.type_terms.proofs.ListBasics.{map-append, map-length}
+use Rattle.type_terms.proofs.BooleanBasics.{or-nothing}
 
 -- ---- tests
-pub or-first : (a b : Bool) → a || b ≡ false → a ≡ false
-or-first true b e = absurd cc
-or-first false b e = refl
-
-pub or-second : (a b : Bool) → a || b ≡ false → b ≡ false
-or-second true b e = absurd cc
-or-second false b e = e
 
 pub and-first : (a b : Bool) → a && b ≡ true → a ≡ true
 and-first true b e = refl
@@ -34,17 +28,6 @@ and-second false b e = absurd cc
 pub not-false : (a : Bool) → not a ≡ false → a ≡ true
 not-false true e = refl
 not-false false e = absurd cc
-
-pub not-both : {A : Type 0} (b : Bool) → b ≡ true → b ≡ false → A
-not-both true h g = absurd cc
-not-both false h g = absurd cc
-
--- ---- names
-pub same-name : (m n : List ℕ) → bytes_eq m n ≡ true → m ≡ n
-same-name m n h = (bytes_eq-Decides m n).0 h
-
-pub name-self : (n : List ℕ) → bytes_eq n n ≡ true
-name-self n = (bytes_eq-Decides n n).1 refl
 
 -- ---- places
 module _ {X : Type 0} (q : X → Bool) where
@@ -148,10 +131,6 @@ module _ (ps : Params) (label : Sort → ℕ → Label) (n : List ℕ) where
   abbrev consts : List (List ℕ × Sort)
   consts = with_sort of_const cs
 
-  or-nothing : (a : Bool) → a || false ≡ a
-  or-nothing true = refl
-  or-nothing false = refl
-
   abbrev all : List (List ℕ × Sort)
   all = lives ++ (types ++ consts)
 
@@ -234,10 +213,6 @@ names-map : (s : Sort) (ns : List (List ℕ)) → map (λ v. v.0) (with_sort s n
 names-map s [] = refl
 names-map s (n ∷ ns) = ap (λ xs. n ∷ xs) (names-map s ns)
 
-map-append : {A B : Type 0} (f : A → B) (xs ys : List A) → map f (xs ++ ys) ≡ map f xs ++ map f ys
-map-append f [] ys = refl
-map-append f (x ∷ xs) ys = ap (λ zs. f x ∷ zs) (map-append f xs ys)
-
 map-three : {A B : Type 0} (f : A → B) (xs ys zs : List A) (us vs ws : List B) → map f xs ≡ us → map f ys ≡ vs → map f zs ≡ ws → map f (xs ++ ys ++ zs) ≡ us ++ vs ++ ws
 map-three f xs ys zs us vs ws a b c =
     map-append f (xs ++ ys) zs ∙ ap (λ x. x ++ map f zs) (map-append f xs ys) ∙ ap (λ x. x ++ map f ys ++ map f zs) a ∙ ap (λ x. us ++ x ++ map f zs) b ∙ ap (λ x. us ++ vs ++ x) c
@@ -253,10 +228,6 @@ pub names-are : (ps : Params) → map (λ v. v.0) (named_params ps) ≡ names_of
 names-are ps =
     map-three (λ v. v.0) (with_sort of_lifetime ps.lifetimes) (with_sort of_type ps.types) (with_sort of_const ps.consts) ps.lifetimes ps.types ps.consts
     (names-map of_lifetime ps.lifetimes) (names-map of_type ps.types) (names-map of_const ps.consts)
-
-map-length : {A B : Type 0} (f : A → B) (xs : List A) → length (map f xs) ≡ length xs
-map-length f [] = refl
-map-length f (x ∷ xs) = ap suc (map-length f xs)
 
 pub as-many : (ps : Params) → length (named_params ps) ≡ length (kinds_of ps)
 as-many ps = sym (map-length (λ v. v.1) (named_params ps)) ∙ ap length (kinds-are ps)

@@ -14,9 +14,11 @@ use Rattle.text_definitions.specs.Uses.{Use, crate_use, name_use, trait_use, lif
 use Rattle.text_definitions.specs.Faults.{with_own, is_among, is_in_scope, static_name, is_param, is_param_of, is_crate, is_type_of, is_trait_of, is_bound, is_late, binds_auto, has_early_lifetime, is_bad_dyn, is_auto_name}
 use Rattle.text_definitions.specs.Lowering.{Meanings, place_among, crate_number, trait_number, struct_label, type_label, const_label, variable_label, lifetime_under, lifetime_label, optional_lifetime, inserted, with_auto, autos, auto_leaves, item_lifetime, last_lifetime, type_tree, types_trees, args_trees, items_trees, field_trees, with_self, clause_reference}
 use Rattle.language_definitions.specs.LineMeanings.{means, own_param, life_label, variable_meaning, dyn_end, as_tree, as_trees, as_args, bound_meaning, clause_meaning}
-use Rattle.language_definitions.proofs.SameMeaningsNames.{or-first, or-second, and-first, and-second, not-false, same-name, name-position, own-life, own-type, own-const}
+use Rattle.language_definitions.proofs.SameMeaningsNames.{and-first, and-second, not-false, name-position, own-life, own-type, own-const}
 use Rattle.language_definitions.proofs.SameMeaningsVariables.{as-variables, variable-placed}
 use Rattle.language_definitions.proofs.SameMeaningsAutos.{either-order, Rises, put-rises, between, between-is}
+use Rattle.type_terms.proofs.BooleanBasics.{left-false as or-first, right-false as or-second}
+use Rattle.type_terms.proofs.ListBasics.{same-name}
 
 -- ---- a use that fits
 abbrev pub UseFits : Declarations → Line → Use → Type 0

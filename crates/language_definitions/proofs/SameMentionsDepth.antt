@@ -12,6 +12,7 @@ use Rattle.text_definitions.specs.Uses.{Use, name_use, misfit_use, next_kind, ot
 use Rattle.text_definitions.specs.Faults.{is_other_sort, is_type_of, is_param, is_among, with_own}
 use Rattle.language_definitions.specs.Mentions.{Mention, crate_mention, name_mention, trait_mention, lifetime_mention, binder_mention, variable_mention, misfit_mention, dyn_mention, list_mention, number_mention, type_mention, struct_kinds, trait_kinds, type_mentions, types_mentions, args_mentions, arg_mentions, item_mentions, items_mentions, bound_mentions, clause_mentions, header_mentions, line_mentions}
 use Rattle.language_definitions.proofs.SameMentions.{as_uses, mentions-are, first-kind, later-kinds, struct-kinds, trait-kinds}
+use Rattle.type_terms.proofs.BooleanBasics.{or-nothing as or-false}
 
 -- a type stands deeper than the limit
 abbrev pub is_deeper : ℕ → Mention → Bool
@@ -44,10 +45,6 @@ first-of false b h = refl
 second-of : (a b : Bool) → a || b ≡ false → b ≡ false
 second-of true b h = absurd cc
 second-of false b h = h
-
-or-false : (a : Bool) → a || false ≡ a
-or-false true = refl
-or-false false = refl
 
 placed-left : (xs ys : List Mention) → Placed (xs ++ ys) → Placed xs
 placed-left xs ys h = first-of (list_any ill_placed xs) (list_any ill_placed ys) (sym (list_any-append ill_placed xs ys) ∙ h)

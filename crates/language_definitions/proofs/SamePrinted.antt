@@ -15,6 +15,7 @@ use Rattle.language_definitions.proofs.SamePrintedTypes.{is_infer, OfUnknowns, l
 use Rattle.language_definitions.proofs.SamePrintedNames.{labels_from, counted-from, own-name}
 use Rattle.language_definitions.proofs.SamePrintedUnknowns.{label_of, added, IsListed, all-listed, length-listed, own_labels, all_labels, listed-or, free-same, free-name}
 use Rattle.language_definitions.proofs.SamePrintedValues.{own_value, own-same, valued-same, HaveTexts, values-same}
+use Rattle.type_terms.proofs.ListBasics.{map-length as length-mapped}
 
 -- ---- only unknowns have names
 abbrev AreUnknowns : List Label → Type 0
@@ -38,10 +39,6 @@ named-are (x ∷ xs) (l ∷ ls) h = (h.0, named-are xs ls h.1)
 map-twice : {A B C : Type 0} (g : B → C) (f : A → B) (xs : List A) → map g (map f xs) ≡ map (λ x. g (f x)) xs
 map-twice g f [] = refl
 map-twice g f (x ∷ xs) = ap (λ ys. g (f x) ∷ ys) (map-twice g f xs)
-
-length-mapped : {A B : Type 0} (f : A → B) (xs : List A) → length (map f xs) ≡ length xs
-length-mapped f [] = refl
-length-mapped f (x ∷ xs) = ap suc (length-mapped f xs)
 
 chosen : {A : Type 0} (f : A → List ℕ) (o : Option A) (x y : List ℕ) → (is_some o ≡ false → x ≡ y) → option_map_or f o x ≡ option_map_or f o y
 chosen f None x y h = h refl

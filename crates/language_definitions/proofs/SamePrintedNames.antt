@@ -8,6 +8,7 @@ use Rattle.type_terms.specs.Trees.{is_sort}
 use Rattle.type_terms.specs.Codes.{same_label}
 use Rattle.language_definitions.specs.PrintedTypes.{counted_unknowns}
 use Rattle.language_definitions.proofs.SamePrintedTypes.{lookup}
+use Rattle.type_terms.proofs.NumberBasics.{zero-more, one-up}
 
 -- ---- numbers of unknowns
 -- the number of the next unknown of a kind
@@ -25,12 +26,6 @@ labels_from n m (of_lifetime ∷ ss) = infer of_lifetime 0 ∷ labels_from n m s
 
 one-more : (s r : Sort) (ss : List Sort) (n : ℕ) → n ≡ count_by (is_sort s) ss → cond (is_sort s r) 1 0 + n ≡ count_by (is_sort s) (r ∷ ss)
 one-more s r ss n e = ap (λ k. cond (is_sort s r) 1 0 + k) e ∙ sym (sum_by-cons (λ x. cond (is_sort s x) 1 0) r ss)
-
-zero-more : (n : ℕ) → 0 + n ≡ n
-zero-more n = omega arith
-
-one-up : (n : ℕ) → 1 + n ≡ suc n
-one-up n = omega arith
 
 abbrev scanned : List Sort → List Sort → List Label
 scanned before ss = scan (λ before s. if is_sort s of_lifetime then before else s ∷ before) (λ before s. infer s (count_by (is_sort s) before)) before ss

@@ -9,6 +9,7 @@ use Rattle.text_definitions.specs.Declarations.{Declarations}
 use Rattle.text_definitions.specs.Output.{Names, between, angled, tuple_text, inputs, last_text, is_unit, ends_in_unit, int_name, node_text, texts, type_text}
 use Rattle.text_definitions.specs.Names.{struct_text, trait_text, text_at}
 use Rattle.language_definitions.specs.PrintedTypes.{label_text, angle_list, final_text, has_unit_last, printed_node, printed_trees, unknowns_within}
+use Rattle.type_terms.proofs.BooleanBasics.{no-and, no-more as or-no}
 
 -- ---- lists
 pub joined : (c u : List ℕ) (ts : List (List ℕ)) → u ++ flat_map (λ t. c ++ t) ts ≡ between c (u ∷ ts)
@@ -53,14 +54,6 @@ unit-label : (l : Label) (c : Trees) → same (tree l c none) (leaf tuple) ≡ i
 unit-label tuple none = refl
 unit-label tuple (tree m d o) = refl
 unit-label l c = refl
-
-no-and : (b : Bool) → b && false ≡ false
-no-and true = refl
-no-and false = refl
-
-or-no : (b : Bool) → b || false ≡ b
-or-no true = refl
-or-no false = refl
 
 more-behind : (l m : Label) (c d o : Trees) → same (tree l c (tree m d o)) (leaf tuple) ≡ false
 more-behind l m c d o = ap (λ b. same_label l tuple && b) (no-and (same c none)) ∙ no-and (same_label l tuple)

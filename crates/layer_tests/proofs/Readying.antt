@@ -1,5 +1,5 @@
 -- What a crate sees of a text is ready for the solver, as a session finds it.
-use Rattle.std.proofs.Common.{◌≡◌, suc, true, List, [], ◌∷◌, map, length, refl, ap, ◌∙◌}
+use Rattle.std.proofs.Common.{◌≡◌, true, List, [], ◌∷◌, map, refl, ap, ◌∙◌}
 use Rattle.type_terms.specs.Terms.{Entry, trees_at}
 use Rattle.declarations.specs.declared.items.GenericParamKind.{GenericParamKind}
 use Rattle.declarations.specs.declared.items.GenericParamKind.TheVariants.{Lifetime, «Type» as TypeParam, Const}
@@ -13,9 +13,10 @@ use Rattle.candidate_assembly.specs.Headers.{var_kind, StandInHeader}
 use Rattle.candidate_assembly.specs.Ready.{AreReadyDeclarations}
 use Rattle.candidate_assembly.proofs.WellDeclared.{well-declared-have-candidates}
 use Rattle.declarations.specs.Applied.{HaveBounds}
-use Rattle.declarations.specs.Merges.{Each}
 use Rattle.view_lowering.specs.TextLaws.{TextsAreDeclaredWell}
 use Rattle.view_lowering.specs.Ready.{OfTexts, FieldsSpeak, HeadersTell, kind_of_sort, TellsKinds}
+use Rattle.declarations.proofs.Growth.{each-kept as each-map}
+use Rattle.declarations.proofs.TypeBasics.{as-long}
 
 abbrev AreReady : List Entry → Items → Type 0
 AreReady es decls = AreHeld es decls → AreReadyDeclarations es decls
@@ -29,16 +30,8 @@ all-kinds : (ps : List GenericParamKind) → map var_kind ps ≡ map kind_of_sor
 all-kinds [] = refl
 all-kinds (p ∷ ps) = ap (λ k. k ∷ map var_kind ps) (one-kind p) ∙ ap (λ ks. kind_of_sort (sort_of_param p) ∷ ks) (all-kinds ps)
 
-as-long : (ps : List GenericParamKind) → length (map sort_of_param ps) ≡ length ps
-as-long [] = refl
-as-long (p ∷ ps) = ap suc (as-long ps)
-
 stands : (es : List Entry) (i : HeldImpl) → TellsKinds es i → StandInHeader es i.def
 stands es i h = all-kinds i.def.params.items ∙ h ∙ ap (kinds_of_params (trees_at es i.def.header.args.0) 0) (as-long i.def.params.items)
-
-each-map : {A : Type 0} (P Q : A → Type 0) → ((x : A) → P x → Q x) → (xs : List A) → Each P xs → Each Q xs
-each-map P Q f [] h = tt
-each-map P Q f (x ∷ xs) h = (f x h.0, each-map P Q f xs h.1)
 
 pub texts-ready : TextsAreDeclaredWell → OfTexts FieldsSpeak → OfTexts HeadersTell → OfTexts HaveBounds → OfTexts AreReady
 texts-ready all-well fields headers bounds bytes d h c es decls seen held =

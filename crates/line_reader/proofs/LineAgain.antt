@@ -104,10 +104,6 @@ bounds-again (b ∷ bs) =
     ∙ ap (bound_first (Some b)) (items-again bs)
 
 -- ---- where-clauses
-comma-follows : (ks : List Clause) → NoAngle (behind comma (map clause_spelling ks))
-comma-follows [] = tt
-comma-follows (k ∷ ks) = tt
-
 clause-length : (k : Clause) → 1 ≤ length (clause_spelling k)
 clause-length k = let e = length-append (type_spelling k.subject) (sign colon ∷ bound_spelling k.bound) in omega (arith, e)
 

@@ -9,6 +9,7 @@ use Rattle.text_definitions.specs.Declarations.{Declarations, Known, known}
 use Rattle.text_definitions.specs.Uses.{crate_use, declared_name}
 use Rattle.text_definitions.specs.Faults.{first_of, tests, fault_of, declares_taken, is_other_sort, belongs_to_crate, is_impl}
 use Rattle.line_reader.specs.Faultless.{PassesTests, names_crate, NamesCrates}
+use Rattle.type_terms.proofs.BooleanBasics.{true-false as not-both}
 
 -- none of these tests holds
 abbrev NoneHolds : List (ℕ × Bool) → Type 0
@@ -17,9 +18,6 @@ NoneHolds ((n, b) ∷ ts) = (b ≡ false) × NoneHolds ts
 
 never : {n : ℕ} → Some n ≡ None → ⊥
 never e = cc
-
-pub not-both : true ≡ false → ⊥
-not-both e = cc
 
 none-holds : (ts : List (ℕ × Bool)) → first_of ts ≡ None → NoneHolds ts
 none-holds [] e = tt

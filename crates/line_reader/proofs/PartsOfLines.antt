@@ -13,6 +13,7 @@ use Rattle.line_reader.specs.LineParts.{type_part, bound_part, clause_parts, lin
 use Rattle.line_reader.specs.declared.statement.Span.{Span}
 use Rattle.line_reader.specs.declared.statement.ClauseSpans.{ClauseSpans}
 use Rattle.line_reader.proofs.Standing.{spans-stand}
+use Rattle.line_reader.proofs.Basics.{clauses-use}
 
 -- ---- where they stand
 types-stand : (cells : List Cell) (ts : List TypeTree) (ss : List Span) → EachOf (TypeStands cells) ts ss → EachOf (PartStands cells) (map type_part ts) (map type_place ss)
@@ -55,12 +56,6 @@ types-use d (and_type t ts) = ap (λ x. type_uses d [] of_type t ++ x) (types-us
 bounds-use : (d : Declarations) (bs : List Bound) → flat_map (bound_uses d) bs ≡ flat_map (part_uses d) (map bound_part bs)
 bounds-use d [] = refl
 bounds-use d (b ∷ bs) = ap (λ x. bound_uses d b ++ x) (bounds-use d bs)
-
-clauses-use : (d : Declarations) (ks : List Clause) → flat_map (clause_uses d) ks ≡ flat_map (part_uses d) (flat_map clause_parts ks)
-clauses-use d [] = refl
-clauses-use d (k ∷ ks) =
-    append_assoc (type_uses d [] of_type k.subject) (bound_uses d k.bound) (flat_map (clause_uses d) ks)
-    ∙ ap (λ x. type_uses d [] of_type k.subject ++ (bound_uses d k.bound ++ x)) (clauses-use d ks)
 
 pub uses-of-parts : UsesOfParts
 uses-of-parts d (crate_line n us) = sym (append-nil (map crate_use us))

@@ -1,16 +1,12 @@
 -- What is put behind cells leaves these as they are, so a type stands where it was put.
-use Rattle.std.proofs.Common.{◌≡◌, ℕ, ◌≤◌, List, [], ◌∷◌, ◌++◌, length, refl, sym, subst, ap, ◌∙◌, append_assoc, append-nil, arith}
+use Rattle.std.proofs.Common.{◌≡◌, ℕ, ◌≤◌, List, [], ◌∷◌, ◌++◌, length, refl, sym, ap, ◌∙◌, append_assoc, append-nil, arith}
 use Rattle.std.specs.Prelude.{take}
 use Rattle.std.proofs.Math.Seq.{take-append_seam}
 use Rattle.std.proofs.lemmas.List.{length-append}
-use Rattle.text_definitions.specs.Syntax.{TypeTree, of_primitive, never_type, variable_type, named, reference_to, pointer_to, slice_of, array_of, tuple_of, fn_of, fn_to, dyn_of, Types, no_types, and_type, Args, no_args, and_arg, Arg, lifetime_arg, number_arg, type_arg, Item, bound_item, lifetime_item, Items, no_items, and_item, Bound, Clause, Line, crate_line, struct_line, trait_line, impl_line, prove_line, refute_line, later_line, supers_line}
+use Rattle.text_definitions.specs.Syntax.{TypeTree, of_primitive, never_type, variable_type, named, reference_to, pointer_to, slice_of, array_of, tuple_of, fn_of, fn_to, dyn_of, Types, no_types, and_type, Args, no_args, and_arg, Arg, lifetime_arg, number_arg, type_arg, Item, bound_item, lifetime_item, Items, no_items, and_item, Bound, Clause, crate_line, struct_line, trait_line, impl_line, prove_line, refute_line, later_line, supers_line}
 use Rattle.line_reader.specs.Cells.{Cell, primitive_cell, never_cell, slice_cell, variable_cell, lifetime_cell, binder_cell, number_cell, named_cell, reference_cell, pointer_cell, array_cell, tuple_cell, dyn_cell, fn_cell, fn_to_cell, bound_cell, binder_onto, type_onto, types_onto, args_onto, arg_onto, item_onto, items_onto}
-use Rattle.line_reader.specs.Statement.{Statement, line_cells, type_span, bound_onto, bound_span, clause_onto, clause_spans, header_onto, header_spans, all_onto, all_spans, type_list}
-use Rattle.line_reader.specs.TypeViews.{cells_in}
-use Rattle.line_reader.specs.Lines.{ReadsLine}
-use Rattle.line_reader.specs.Views.{statement_of}
-use Rattle.line_reader.specs.declared.statement.LineRead.{LineRead}
-use Rattle.line_reader.specs.Places.{TypeStands, BoundStands, ClauseStands, EachOf, LineStands, SpansStand}
+use Rattle.line_reader.specs.Statement.{type_span, bound_onto, bound_span, clause_onto, clause_spans, header_onto, header_spans, all_onto, all_spans, type_list}
+use Rattle.line_reader.specs.Places.{TypeStands, BoundStands, ClauseStands, EachOf, SpansStand}
 
 -- the cells o, and more behind them
 record Extends (o x : List Cell) : Type 0 where
@@ -144,9 +140,3 @@ spans-stand (trait_line f a n ps bs) =
 spans-stand (impl_line ps h ks) = (header-stands h [] (all_onto clause_onto ks (header_onto h [])) (all-extend clause_onto clause-extends ks (header_onto h [])), clauses-stand ks (header_onto h []))
 spans-stand (prove_line c ps k ks) = (clause-stands k [] (all_onto clause_onto ks (clause_onto k [])) (all-extend clause_onto clause-extends ks (clause_onto k [])), clauses-stand ks (clause_onto k []))
 spans-stand (refute_line c ps k) = clause-stands k [] (clause_onto k []) (same (clause_onto k []))
-
--- so of a line that was read
-pub read-stands : (l : Line) (r : LineRead) → ReadsLine l r → LineStands (cells_in r.cells.items) l (statement_of r.statement)
-read-stands l r e =
-    let P : List Cell → Statement → Type 0 = λ cells. LineStands cells l in
-    subst (λ c. P c (statement_of r.statement)) (sym e.1) (subst (P (line_cells l)) (sym e.0) (spans-stand l))

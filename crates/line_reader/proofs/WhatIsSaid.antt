@@ -1,5 +1,5 @@
 -- What a statement says without its types is what its line says.
-use Rattle.std.proofs.Common.{◌≡◌, ℕ, Bool, List, [], ◌∷◌, ◌++◌, length, refl, sym, ap, ◌∙◌, arith}
+use Rattle.std.proofs.Common.{◌≡◌, ℕ, List, [], ◌∷◌, ◌++◌, length, refl, sym, ap, ◌∙◌, arith}
 use Rattle.std.specs.Prelude.{map, ◌||◌, ◌&&◌, not, ◌==◌}
 use Rattle.std.specs.List.{list_any}
 use Rattle.std.proofs.lemmas.List.{length-append, length-map}
@@ -11,6 +11,7 @@ use Rattle.text_definitions.specs.Faults.{is_long}
 use Rattle.line_reader.specs.Cells.{Cell, type_onto}
 use Rattle.line_reader.specs.Statement.{lifetime_param, type_param, const_param, param_name, param_list, bound_onto, bound_span, clause_onto, clause_spans, header_onto, type_span, all_spans, type_list}
 use Rattle.line_reader.specs.Says.{NameIsSaid, ParamsAreSaid, ParamsAreCounted, PartsAreCounted, TestsAgree}
+use Rattle.type_terms.proofs.ListBasics.{any-mapped as any-map}
 
 pub name-is-said : NameIsSaid
 name-is-said (crate_line n us) = refl
@@ -82,10 +83,6 @@ parts-are-counted (later_line n) = refl
 parts-are-counted (supers_line n) = refl
 
 -- ---- names
-
-pub any-map : {A B : Type 0} (f : B → Bool) (g : A → B) (xs : List A) → list_any f (map g xs) ≡ list_any (λ x. f (g x)) xs
-any-map f g [] = refl
-any-map f g (x ∷ xs) = ap (λ b. f (g x) || b) (any-map f g xs)
 
 names-are : (ls ts cs : List (List ℕ)) → map param_name (map lifetime_param ls ++ (map type_param ts ++ map const_param cs)) ≡ ls ++ ts ++ cs
 names-are [] [] [] = refl

@@ -1,9 +1,8 @@
 -- What is found of types and bounds that stand one behind the other.
-use Rattle.std.proofs.Common.{◌≡◌, ℕ, suc, ◌+◌, ◌<◌, Bool, false, List, [], ◌∷◌, ◌++◌, length, take, drop, get_or, map, refl, sym, ap, ◌∙◌, arith, subst, append_assoc, drop-cons}
+use Rattle.std.proofs.Common.{◌≡◌, ℕ, suc, ◌+◌, ◌<◌, Bool, List, [], ◌∷◌, ◌++◌, length, take, drop, get_or, map, refl, sym, ap, ◌∙◌, arith, subst, append_assoc, drop-cons}
 use Rattle.std.specs.Prelude.{max, nat_lt, ◌||◌}
 use Rattle.std.proofs.lemmas.List.{append-nil}
 use Rattle.std.proofs.lemmas.Grind.{flat_map-append}
-use Rattle.std.proofs.lemmas.Bool.Decides.{nat_tests}
 use Rattle.type_terms.specs.Label.{Sort}
 use Rattle.text_definitions.specs.Faults.{variables_in, depth_limit}
 use Rattle.line_reader.specs.Cells.{Cell}
@@ -13,19 +12,16 @@ use Rattle.line_reader.specs.declared.parts.LinePart as places
 use Rattle.line_reader.specs.declared.parts.LinePart.TheVariants as place
 use Rattle.line_reader.specs.declared.statement.Span.{Span}
 use Rattle.name_resolution.specs.Machine.{Sight, items, findings, either}
-use Rattle.name_resolution.specs.Resolving.{nothing_found, found_in, type_found, bound_found, ResolvesType, ResolvesBound}
+use Rattle.name_resolution.specs.Resolving.{found_in, type_found, bound_found, ResolvesType, ResolvesBound}
 use Rattle.name_resolution.specs.Views.{variable_in}
 use Rattle.name_resolution.specs.declared.findings.Findings.{Findings}
 use Rattle.name_resolution.specs.declared.resolve.Resolved.{Resolved}
 use Rattle.name_resolution.specs.declared.resolve.ResolvedBound.{ResolvedBound}
-use Rattle.name_resolution.proofs.Judged.{no-uses}
 use Rattle.name_resolution.proofs.Uses.{findings-append, variables-append}
 use Rattle.name_resolution.specs.Found.{uses_of, depth_of, Resolves, IsFound, FindsParts, AddsPart}
 use Rattle.name_resolution.specs.declared.parts.PartsFound.{PartsFound}
 use Rattle.name_resolution.specs.declared.parts.ResolvedPart.{ResolvedPart}
-
-lt-max : (n a b : ℕ) → nat_lt n (max a b) ≡ nat_lt n a || nat_lt n b
-lt-max n a b = grind (arith, nat_tests)
+use Rattle.type_terms.proofs.NumberBasics.{lt-max}
 
 max-assoc : (a b c : ℕ) → max a (max b c) ≡ max (max a b) c
 max-assoc a b c = omega arith
@@ -42,9 +38,6 @@ depth-together v (p ∷ ps) qs = ap (max (part_depth (items v) p)) (depth-togeth
 
 depth-more : (v : Sight) (ps : List LinePart) (p : LinePart) → depth_of v (ps ++ p ∷ []) ≡ max (depth_of v ps) (part_depth (items v) p)
 depth-more v ps p = let e : max (part_depth (items v) p) 0 ≡ part_depth (items v) p = omega arith in depth-together v ps (p ∷ []) ∙ ap (max (depth_of v ps)) e
-
-pub found-none : (v : Sight) (f : PartsFound) → f.faults ≡ nothing_found.faults → map variable_in f.variables.items ≡ [] → f.is_deep ≡ false → f.parts.items ≡ [] → IsFound v [] f
-found-none v f e g h z = record { faults = e ∙ no-uses v; variables = g; is_deep = h; parts = subst (EachOf (Resolves v) []) (sym z) tt }
 
 each-more : {T Y : Type 0} (P : T → Y → Type 0) (ts : List T) (ys : List Y) (t : T) (y : Y) → EachOf P ts ys → P t y → EachOf P (ts ++ t ∷ []) (ys ++ y ∷ [])
 each-more P [] [] t y h p = (p, tt)

@@ -1,8 +1,8 @@
 -- Variables once each, by their first place.
 use Rattle.std.proofs.Common.{◌≡◌, ℕ, suc, Bool, true, false, List, [], ◌∷◌, ◌++◌, map, filter, length, drop, get_or, refl, sym, ap, ◌∙◌, cond, arith, append_assoc, drop-cons}
-use Rattle.std.specs.Prelude.{if◌then◌else◌, not, ◌||◌, ◌&&◌, ◌<◌, ◌≤◌, ◌+◌}
+use Rattle.std.specs.Prelude.{if◌then◌else◌, not, ◌||◌, ◌&&◌, ◌<◌, ◌+◌}
 use Rattle.std.specs.Str.{bytes_eq}
-use Rattle.std.proofs.lemmas.List.{append-nil, map-append, drop_all}
+use Rattle.std.proofs.lemmas.List.{map-append}
 use Rattle.std.proofs.lemmas.Cmp.{nat_list_eq_equiv}
 use Rattle.type_terms.specs.Label.{Sort}
 use Rattle.text_definitions.specs.Faults.{is_among, once}
@@ -10,6 +10,7 @@ use Rattle.name_resolution.specs.Views.{variable_in}
 use Rattle.name_resolution.specs.UsedNames.{Holds}
 use Rattle.name_resolution.specs.declared.name_set.NameSet.{NameSet}
 use Rattle.name_resolution.specs.declared.resolved.Variable as code
+use Rattle.type_terms.proofs.BooleanBasics.{not-either}
 
 abbrev Named : Type 0
 Named = List ℕ × Sort
@@ -45,10 +46,6 @@ seen-stays n m seen h = by (bytes_eq n m) (λ e. among-same n m seen e ∙ h)
     by : (b : Bool) → (b ≡ true → is_among n seen ≡ true) → not (is_among n seen) ≡ not b && not (is_among n seen)
     by true f = ap not (f refl)
     by false f = refl
-
-not-either : (a b : Bool) → not (a || b) ≡ not a && not b
-not-either true b = refl
-not-either false b = refl
 
 abbrev is-unseen : List (List ℕ) → Named → Bool
 is-unseen seen w = not (is_among w.0 seen)
@@ -94,9 +91,6 @@ firsts-more all i d firsts more seen h e m f =
       so_far = ap (λ z. map variable_in z ++ rest) m ∙ ap (λ z. z ++ rest) (map-append variable_in firsts (x ∷ [])) ∙ append_assoc (map variable_in firsts) (v ∷ []) rest
           ∙ sym (ap (λ z. map variable_in firsts ++ unseen seen z) (behind all i d h) ∙ ap (λ b. map variable_in firsts ++ (if b then unseen seen vs else v ∷ rest)) e) ∙ f.so_far;
     }
-
-pub firsts-all : (all : List code.Variable) (i : ℕ) (firsts : List code.Variable) (seen : List (List ℕ)) → length all ≤ i → Firsts all i firsts seen → map variable_in firsts ≡ once (map variable_in all)
-firsts-all all i firsts seen h f = sym (append-nil (map variable_in firsts)) ∙ sym (ap (λ z. map variable_in firsts ++ unseen seen (map variable_in z)) (drop_all i all h)) ∙ f.so_far
 
 -- what was met holds the names that were seen
 abbrev pub Seen : List code.Variable → ℕ → NameSet → List code.Variable → Type 0

@@ -1,5 +1,5 @@
 -- Going over the cells of a type finds what the definitions say of the type.
-use Rattle.std.proofs.Common.{◌≡◌, ℕ, zero, suc, ◌+◌, ◌-◌, ◌<◌, ◌≤◌, Bool, true, false, List, [], ◌∷◌, ◌++◌, length, drop, Option, Some, None, refl, sym, ap, ◌∙◌, subst, arith, append_assoc}
+use Rattle.std.proofs.Common.{◌≡◌, ℕ, zero, suc, ◌+◌, ◌-◌, ◌<◌, ◌≤◌, Bool, true, false, List, [], ◌∷◌, ◌++◌, length, drop, Option, refl, sym, ap, ◌∙◌, subst, arith, append_assoc}
 use Rattle.std.specs.Prelude.{if◌then◌else◌, max, ◌==◌, not, ◌&&◌}
 use Rattle.std.proofs.lemmas.List.{append-nil}
 use Rattle.type_terms.specs.Label.{Label, Sort, of_type, of_const, of_lifetime, never, array, slice, tuple, fn_ptr, value, raw_pointer, principal}
@@ -17,6 +17,8 @@ use Rattle.name_resolution.specs.Machine.{sinking, finished}
 use Rattle.name_resolution.specs.Laws.{with_arg, with_args, MachineResolves, ArgsResolved}
 use Rattle.name_resolution.proofs.Counting.{if-true, if-false, is-eq, not-eq, same, longer, further, down, binder-extends, types-extends, type-extends, args-extends, count-types, count-output, count-args, shapes-above, names-of, arg-longer, type-longer, item-longer}
 use Rattle.name_resolution.proofs.Uses.{using-append, using-none, using-swap, using-first, sink-suc, sink-one, sink-max, sink-none, sink-at}
+use Rattle.name_resolution.proofs.Walking.{name-variables, no-variables-with as sort-misfits}
+use Rattle.text_definitions.proofs.TypeBasics.{optional-variables}
 
 -- ---- what one state leads to
 pub record Leads (v : Sight) (x z : WalkState) : Type 0 where
@@ -120,11 +122,6 @@ named-misfits of_type n args = refl
 named-misfits of_const n args = refl
 named-misfits of_lifetime n args = refl
 
-name-variables : (p : Sort) (n : List ℕ) (k : ℕ) → variables_in (name_misfits p ++ name_use p n k ∷ []) ≡ []
-name-variables of_type n k = refl
-name-variables of_const n k = refl
-name-variables of_lifetime n k = refl
-
 -- the cells of a name with arguments; those of a const have none
 name-kept : (v : Sight) (s : List (List (List ℕ))) (p : Sort) (kept : Bool) (n : List ℕ) (args : Args) (a : Found)
     → keeping (kept && not (is_const_place p)) (args_before (items v) (params v) s (kinds_of_struct (known (items v) n)) args) (keeping kept (name_cells v p n (args_count args)) a)
@@ -151,11 +148,6 @@ with-named v s pl n args a =
     (ap (λ m. m ++ name_use p n k ∷ args_uses (items v) s ks args) (sym (named-misfits p n args)) ∙ sym (append_assoc (name_misfits p) (name_use p n k ∷ []) (args_uses (items v) s ks args)))
     ∙ ap (using v us) (sink-suc pl.room (args_depth (items v) ks args) (keeping kept inside (keeping pl.is_kept (name_cells v p n k) a)) ∙ ap (sinking pl.room (suc (args_depth (items v) ks args))) (name-kept v s p pl.is_kept n args a))
 
-sort-misfits : (p : Sort) (us : List Use) → variables_in us ≡ [] → variables_in (sort_misfits p ++ us) ≡ []
-sort-misfits of_type us h = h
-sort-misfits of_const us h = h
-sort-misfits of_lifetime us h = h
-
 -- a type of types: which uses are its own
 with-inside : (v : Sight) (pl : Place) (t : TypeTree) (own ws : List Use) (n : ℕ) (f g : List ResolvedCell → List ResolvedCell) (a : Found) → type_misfits pl.kind t ≡ sort_misfits pl.kind → variables_in own ≡ []
     → using v ws (sinking (deeper pl.room) n (keeping pl.is_kept f (using v (sort_misfits pl.kind ++ own) (deepening pl.room (keeping pl.is_kept g a)))))
@@ -177,10 +169,6 @@ with-array v pl t own ws n f g a e =
     ∙ sym (using-append v m (ws ++ own) b)
     ∙ ap (λ x. using v (x ++ (ws ++ own)) b) (sym e)
     ∙ ap (using v (type_misfits pl.kind t ++ (ws ++ own))) (sink-suc pl.room n (keeping pl.is_kept f (keeping pl.is_kept g a)) ∙ ap (sinking pl.room (suc n)) (keep-keep pl.is_kept f g a))
-
-optional-variables : (s : List (List (List ℕ))) (l : Option (List ℕ)) → variables_in (lifetime_uses s l) ≡ []
-optional-variables s None = refl
-optional-variables s (Some n) = refl
 
 binder-variables : (s : List (List (List ℕ))) (b : List (List ℕ)) (us : List Use) → variables_in us ≡ [] → variables_in (binder_uses s b ++ us) ≡ []
 binder-variables s [] us h = h

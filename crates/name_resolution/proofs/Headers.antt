@@ -1,5 +1,5 @@
 -- The header of an impl, as it stands among the cells of its line.
-use Rattle.std.proofs.Common.{◌≡◌, ℕ, ◌+◌, ◌-◌, ◌≤◌, Bool, true, false, List, [], ◌∷◌, ◌++◌, length, take, drop, refl, sym, ap, ◌∙◌, arith, subst, Option, Some, None, length-append, append_assoc}
+use Rattle.std.proofs.Common.{◌≡◌, ℕ, ◌+◌, ◌-◌, ◌≤◌, Bool, false, List, [], ◌∷◌, ◌++◌, length, take, drop, refl, sym, ap, ◌∙◌, arith, subst, Option, Some, None, length-append, append_assoc}
 use Rattle.std.specs.Prelude.{slice_get, min, not, ◌||◌, ◌&&◌}
 use Rattle.std.specs.List.{list_any}
 use Rattle.std.specs.Option.{option_map, option_map_or}
@@ -31,6 +31,7 @@ use Rattle.name_resolution.specs.Header.{header_said, name_of, last_name, names_
 use Rattle.name_resolution.specs.Params.{others_said}
 use Rattle.name_resolution.specs.Speaks.{Speaks}
 use Rattle.name_resolution.proofs.Bare.{same-items, same-params, others-of}
+use Rattle.type_terms.proofs.BooleanBasics.{no-more as or-false}
 
 -- ---- the last cell
 get-last : (xs : List Cell) (c : Cell) → slice_get (xs ++ c ∷ []) (length xs) ≡ Some c
@@ -121,24 +122,11 @@ none-built d (refute_line c ps k) e = refl
 none-built d (later_line n) e = refl
 none-built d (supers_line n) e = refl
 
-none-free : (d : Declarations) (l : Line) → None ≡ header_said (line_statement l) → false ≡ has_free_param d l
-none-free d (impl_line ps k ks) e = absurd (cc)
-none-free d (crate_line n us) e = refl
-none-free d (struct_line f n ps fs) e = refl
-none-free d (trait_line f a n ps bs) e = refl
-none-free d (prove_line c ps k ks) e = refl
-none-free d (refute_line c ps k) e = refl
-none-free d (later_line n) e = refl
-none-free d (supers_line n) e = refl
-
 pub no-foreign : (d : Declarations) (l : Line) (r : LineRead) → ReadsLine l r → None ≡ header_said (statement_of r.statement) → false ≡ is_foreign_auto d l
 no-foreign d l r e k = none-foreign d l (k ∙ ap header_said e.0)
 
 pub no-built : (d : Declarations) (l : Line) (r : LineRead) → ReadsLine l r → None ≡ header_said (statement_of r.statement) → false ≡ implements_built_in d l
 no-built d l r e k = none-built d l (k ∙ ap header_said e.0)
-
-pub no-free : (d : Declarations) (l : Line) (r : LineRead) → ReadsLine l r → None ≡ header_said (statement_of r.statement) → false ≡ has_free_param d l
-no-free d l r e k = none-free d l (k ∙ ap header_said e.0)
 
 -- ---- an impl of an auto trait, or of one with built-in rules alone
 own-struct : (d : Declarations) (l : Line) (t : TypeTree) → option_map_or (λ n. not (is_param l n) && option_map_or (is_struct_in (impl_owner d)) (known d n) false) (type_name t) false ≡ is_own_struct d l t
@@ -194,10 +182,6 @@ read-built v l r h a sp e k ea =
     ∙ ap (implements_built_in v.before) (sym i.is)
 
 -- ---- a parameter that isn't in the header
-or-false : (b : Bool) → b || false ≡ b
-or-false true = refl
-or-false false = refl
-
 -- the cells but the last
 front : (cells xs : List Cell) (c : Cell) (e : ℕ) → e ≤ length cells → take e cells ≡ xs ++ c ∷ [] → take (e - 1) cells ≡ xs
 front cells xs c e h k =

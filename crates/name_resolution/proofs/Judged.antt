@@ -2,24 +2,19 @@
 use Rattle.std.proofs.Common.{◌≡◌, ℕ, suc, ◌+◌, Bool, true, false, List, [], ◌∷◌, ◌++◌, length, Option, Some, None, refl, sym, ap, ◌∙◌, cond, arith}
 use Rattle.std.specs.Prelude.{◌==◌, ◌^◌, nat_le, ◌||◌, ◌&&◌, not, is_some, nat_lt, if◌then◌else◌}
 use Rattle.std.specs.List.{list_any, position_from}
-use Rattle.std.specs.Option.{option_map_or, option_and_then}
+use Rattle.std.specs.Option.{option_map_or}
 use Rattle.type_terms.specs.Label.{Sort}
-use Rattle.type_terms.specs.Worlds.{sees}
 use Rattle.std.specs.Str.{bytes_eq}
 use Rattle.text_definitions.specs.Syntax.{Params, Line}
-use Rattle.text_definitions.specs.Declarations.{Known, known, world_of}
 use Rattle.text_definitions.specs.Uses.{Use, crate_use, name_use, trait_use, lifetime_use, variable_use, misfit_use, items_use, number_use, binder_use, binder_uses, declared_name, params_of}
-use Rattle.text_definitions.specs.Faults.{is_among, is_taken_binder, is_unknown_use, is_hidden_use, looking_crate, is_other_sort, is_use_of, is_bad_dyn, passes_in, static_name, is_param, is_hidden_name, is_known_name, home_of, is_param_of, is_type_of, is_trait_of, repeats, is_long, is_in_scope}
+use Rattle.text_definitions.specs.Faults.{is_among, is_taken_binder, is_unknown_use, is_hidden_use, looking_crate, is_other_sort, is_use_of, is_bad_dyn, passes_in, static_name, is_param, is_hidden_name, repeats, is_long, is_in_scope}
 use Rattle.text_definitions.specs.Lowering.{place_among}
 use Rattle.name_resolution.specs.declared.findings.Findings.{Findings}
 use Rattle.name_resolution.specs.Machine.{Sight, items, params, findings, either}
 use Rattle.name_resolution.proofs.Uses.{findings-append}
-use Rattle.name_resolution.specs.LookUps.{place_in, scope_place, is_hidden_home, is_own_name}
+use Rattle.name_resolution.specs.LookUps.{place_in, scope_place, is_own_name}
 use Rattle.name_resolution.specs.Resolved.{static_region, region_of, param_region, bound_region, region_under}
-
-or-false : (b : Bool) → b || false ≡ b
-or-false true = refl
-or-false false = refl
+use Rattle.type_terms.proofs.BooleanBasics.{no-more as or-false}
 
 option-false : {A : Type 0} (o : Option A) → option_map_or (λ c. false) o false ≡ false
 option-false None = refl
@@ -154,46 +149,12 @@ pub one_trait : (v : Sight) (n : List ℕ) (k : ℕ) (b c d e : Bool) → b ≡ 
     → made false b c d e false false ≡ findings v (trait_use n k ∷ [])
 one_trait v n k b c d e hb hc hd he = one-use v (trait_use n k) false b c d e false false refl hb hc hd he refl refl
 
--- a name that is hidden: no parameter, and of a crate that isn't seen
-pub hidden-by : (v : Sight) (n : List ℕ) (a : Bool) (h : Option ℕ) → a ≡ is_param v.line n → h ≡ option_and_then home_of (known (items v) n)
-    → not a && option_map_or (λ x. is_hidden_home v x) h false ≡ option_map_or (λ j. is_hidden_name v.before v.line j n) (looking_crate v.before v.line) false
-hidden-by v n a h e f =
-    ap (λ x. not x && option_map_or (λ y. is_hidden_home v y) h false) e ∙ ap (λ x. not (is_param v.line n) && option_map_or (λ y. is_hidden_home v y) x false) f
-    ∙ by (looking_crate v.before v.line) (is_param v.line n) (option_and_then home_of (known (items v) n))
-  where
-    by : (o : Option ℕ) (b : Bool) (q : Option ℕ)
-        → not b && option_map_or (λ y. option_map_or (λ c. not (sees (world_of v.before) c y)) o false) q false ≡ option_map_or (λ j. not b && option_map_or (λ y. not (sees (world_of v.before) j y)) q false) o false
-    by None true q = refl
-    by None false None = refl
-    by None false (Some y) = refl
-    by (Some j) b None = refl
-    by (Some j) b (Some y) = refl
-
-pub unknown-name : (v : Sight) (n : List ℕ) (a : Bool) (o : Option Known) → a ≡ is_param v.line n → o ≡ known (items v) n → not (a || is_some o) ≡ not (is_known_name v.before v.line n)
-unknown-name v n a o e f = ap (λ x. not (x || is_some o)) e ∙ ap (λ x. not (is_param v.line n || is_some x)) f
-
 and-true : (b : Bool) → b && true ≡ b
 and-true true = refl
 and-true false = refl
 
 pub fits-place : (n : List ℕ) (ns : List (List ℕ)) (o : Option ℕ) (k : ℕ) → o ≡ place_in n ns → k ≡ 0 → is_some o ≡ (is_among n ns && (k == 0))
 fits-place n ns o k e z = ap is_some e ∙ among-place 0 n ns ∙ sym (and-true (is_among n ns)) ∙ ap (λ j. is_among n ns && (j == 0)) (sym z)
-
--- by whether the name is a parameter
-pub hidden-param : (v : Sight) (n : List ℕ) → true ≡ is_param v.line n → false ≡ option_map_or (λ j. is_hidden_name v.before v.line j n) (looking_crate v.before v.line) false
-hidden-param v n e = hidden-by v n true (option_and_then home_of (known (items v) n)) e refl
-
-pub hidden-item : (v : Sight) (n : List ℕ) (h : Option ℕ) (r : Bool) → false ≡ is_param v.line n → h ≡ option_and_then home_of (known (items v) n) → r ≡ option_map_or (λ x. is_hidden_home v x) h false
-    → r ≡ option_map_or (λ j. is_hidden_name v.before v.line j n) (looking_crate v.before v.line) false
-hidden-item v n h r e f k = k ∙ hidden-by v n false h e f
-
-pub other-name : (v : Sight) (p : Sort) (n : List ℕ) (k : ℕ) (b x y : Bool) → b ≡ is_param v.line n → x ≡ is_param_of v.line p n k → y ≡ option_map_or (is_type_of p k) (known (items v) n) false
-    → not (if b then x else y) ≡ is_other_sort v.before v.line (name_use p n k)
-other-name v p n k b x y e f g =
-    ap (λ z. not (if z then x else y)) e ∙ ap (λ z. not (if is_param v.line n then z else y)) f ∙ ap (λ z. not (if is_param v.line n then is_param_of v.line p n k else z)) g
-
-pub other-trait : (v : Sight) (n : List ℕ) (k : ℕ) (b y : Bool) → b ≡ is_param v.line n → y ≡ option_map_or (is_trait_of k) (known (items v) n) false → b || not y ≡ is_other_sort v.before v.line (trait_use n k)
-other-trait v n k b y e g = ap (λ z. z || not y) e ∙ ap (λ z. is_param v.line n || not z) g
 
 pub one_number : (v : Sight) (n : ℕ) (b : Bool) → b ≡ nat_le (2 ^ 64) n → made false false false false false false b ≡ findings v (number_use n ∷ [])
 one_number v n b e = one-use v (number_use n) false false false false false false b refl refl (no-look v) refl (no-own v) refl e

@@ -1,5 +1,5 @@
 -- Each test of a line, by what was found and what the line says.
-use Rattle.std.proofs.Common.{◌≡◌, ℕ, Bool, true, false, List, length, map, refl, ap, ◌∙◌}
+use Rattle.std.proofs.Common.{◌≡◌, ℕ, Bool, false, List, length, map, ap, ◌∙◌}
 use Rattle.std.specs.Prelude.{◌||◌, ◌&&◌, not, if◌then◌else◌, is_some, nat_le}
 use Rattle.std.specs.List.{list_any}
 use Rattle.std.specs.Option.{option_map_or}
@@ -25,6 +25,7 @@ use Rattle.name_resolution.specs.declared.line.LineFound.{LineFound}
 use Rattle.name_resolution.proofs.Bare.{sight, same-items, lifetimes-of, others-of}
 use Rattle.name_resolution.proofs.LineTests.{asked-variables, other-variables}
 use Rattle.name_resolution.proofs.OwnNames.{own-bound}
+use Rattle.type_terms.proofs.BooleanBasics.{or-assoc as or-front}
 
 abbrev pub line_faults : Declarations → Line → Findings
 line_faults d l = findings (sight d l) (uses (with_own d l) l)
@@ -40,10 +41,6 @@ taken-params d l =
     let p = params_of l in
     let e = with_own d l in
     ap (are_taken e) (params-are-said l) ∙ ap (λ ls. names_taken e ls (others_said (param_list p))) (lifetimes-of p) ∙ ap (names_taken e p.lifetimes) (others-of p)
-
-or-front : (a b c : Bool) → (a || b) || c ≡ a || (b || c)
-or-front true b c = refl
-or-front false b c = refl
 
 pub taken-is : (v : Sight) (l : Line) (s : Statement) (a : Bool) (f : Findings) → Speaks v.line (line_statement l) → s ≡ line_statement l
     → a ≡ option_map_or (λ n. is_some (known v.before n)) (name_said s) false || are_taken (items v) (params_said s) → f ≡ line_faults v.before l → a || f.takes_names ≡ faults.takes_names v.before l

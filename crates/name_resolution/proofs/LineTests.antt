@@ -1,14 +1,12 @@
 -- What is found of a line decides the tests over what it uses.
-use Rattle.std.proofs.Common.{◌≡◌, ℕ, List, [], ◌∷◌, ◌++◌, map, refl, sym, ap, ◌∙◌, arith, append_assoc}
-use Rattle.std.specs.Prelude.{max, nat_lt, ◌||◌}
+use Rattle.std.proofs.Common.{◌≡◌, ℕ, List, [], ◌∷◌, ◌++◌, map, refl, sym, ap, ◌∙◌}
+use Rattle.std.specs.Prelude.{nat_lt, ◌||◌}
 use Rattle.std.specs.List.{flat_map}
-use Rattle.std.proofs.lemmas.Bool.Decides.{nat_tests}
-use Rattle.type_terms.specs.Label.{of_type}
-use Rattle.text_definitions.specs.Syntax.{Line, crate_line, struct_line, trait_line, impl_line, prove_line, refute_line, later_line, supers_line, Clause}
+use Rattle.text_definitions.specs.Syntax.{Line, crate_line, struct_line, trait_line, impl_line, prove_line, refute_line, later_line, supers_line}
 use Rattle.text_definitions.specs.Declarations.{Declarations}
 use Rattle.text_definitions.specs.Faults.{with_own, variables_in, depth_limit}
-use Rattle.text_definitions.specs.Uses.{crate_use, uses, asked_uses, other_uses, clause_uses, bound_uses, type_uses, line_depth}
-use Rattle.line_reader.specs.LineParts.{part_uses, line_parts, asked_parts, clause_parts, named_crates}
+use Rattle.text_definitions.specs.Uses.{crate_use, uses, asked_uses, other_uses, line_depth}
+use Rattle.line_reader.specs.LineParts.{part_uses, line_parts, asked_parts, named_crates}
 use Rattle.line_reader.specs.Statement.{line_statement}
 use Rattle.line_reader.proofs.PartsOfLines.{uses-of-parts, asked-of-parts, depth-of-parts}
 use Rattle.name_resolution.specs.Machine.{Sight, items, findings, either}
@@ -20,9 +18,8 @@ use Rattle.name_resolution.specs.LineFound.{other_parts, IsLineFound}
 use Rattle.name_resolution.specs.declared.line.LineFound.{LineFound}
 use Rattle.name_resolution.proofs.Bare.{sight, same-items, same-findings}
 use Rattle.name_resolution.proofs.Finding.{uses-together, depth-together}
-
-lt-max : (n a b : ℕ) → nat_lt n (max a b) ≡ nat_lt n a || nat_lt n b
-lt-max n a b = grind (arith, nat_tests)
+use Rattle.line_reader.proofs.Basics.{clauses-use}
+use Rattle.type_terms.proofs.NumberBasics.{lt-max}
 
 parts-together : (l : Line) → asked_parts l ++ other_parts l ≡ line_parts l
 parts-together (crate_line n us) = refl
@@ -65,12 +62,6 @@ asked-variables v l found sp is =
 no-variables : (ns : List (List ℕ)) → variables_in (map crate_use ns) ≡ []
 no-variables [] = refl
 no-variables (n ∷ ns) = no-variables ns
-
-clauses-use : (d : Declarations) (ks : List Clause) → flat_map (clause_uses d) ks ≡ flat_map (part_uses d) (flat_map clause_parts ks)
-clauses-use d [] = refl
-clauses-use d (k ∷ ks) =
-    append_assoc (type_uses d [] of_type k.subject) (bound_uses d k.bound) (flat_map (clause_uses d) ks)
-    ∙ ap (λ x. type_uses d [] of_type k.subject ++ (bound_uses d k.bound ++ x)) (clauses-use d ks)
 
 others-use : (e : Declarations) (l : Line) → variables_in (flat_map (part_uses e) (other_parts l)) ≡ variables_in (other_uses e l)
 others-use e (crate_line n us) = sym (no-variables us)

@@ -1,6 +1,5 @@
 -- Parts that are taken one after the other, from the last on.
-use Rattle.std.proofs.Common.{◌≡◌, ℕ, suc, ◌+◌, ◌-◌, ◌<◌, ◌≤◌, List, [], ◌∷◌, ◌++◌, length, take, Option, Some, None, refl, sym, ap, ◌∙◌, arith}
-use Rattle.std.specs.Prelude.{MatchOption}
+use Rattle.std.proofs.Common.{◌≡◌, ℕ, suc, ◌+◌, ◌-◌, ◌<◌, ◌≤◌, List, [], ◌∷◌, ◌++◌, length, take, Option, Some, None, sym, ap, ◌∙◌, arith}
 use Rattle.std.proofs.lemmas.List.{take-append-drop, length-drop}
 use Rattle.line_reader.specs.Cells.{Cell, slice_cell, named_cell, reference_cell, pointer_cell, array_cell, tuple_cell, dyn_cell, fn_cell, fn_to_cell, bound_cell}
 use Rattle.line_reader.specs.TypeViews.{cell_of}
@@ -68,15 +67,8 @@ taken-shorter (Some c) old new (body, e, f) h =
     let g : length new ≡ begins old = ap length f ∙ length-down (begins old) body k in
     omega arith
 
-pub counted-none : (start : ℕ) (self : List Cell) → Counted start self self 0
-counted-none start self = record { later = []; many = refl; so_far = refl }
-
 pub counted-all : (start : ℕ) (self rest : List Cell) (count : ℕ) → length rest ≤ start → Counted start self rest count → count ≡ count_above start self
 counted-all start self rest count h k = sym k.many ∙ ap length (sym (parts-none start (length rest) rest k.later h) ∙ k.so_far)
-
-pub part-taken : (r : Option code.Cell) (old mid new : List Cell) (start : ℕ) → MatchOption r (old ≡ []) (λ c. old ≡ cell_of c ∷ mid) → start ≡ begins old → new ≡ down_to start mid → TakesPart r old new
-part-taken None old mid new start h e f = h
-part-taken (Some c) old mid new start h e f = (mid, h, f ∙ ap (λ k. down_to k mid) e)
 
 -- the parts stay the same
 pub later-more : (start : ℕ) (c : code.Cell) (old new later whole : List Cell) → TakesPart (Some c) old new → start < length old → parts start (length old) old later ≡ whole → parts start (length new) new (cell_of c ∷ later) ≡ whole

@@ -11,6 +11,7 @@ use Rattle.std.specs.Str.{bytes_eq}
 use Rattle.text_definitions.specs.Lowering.{Meanings, place_among, trait_number, struct_label, with_auto, autos, type_label, lifetime_under, lifetime_label, optional_lifetime, length_label, auto_leaves, last_lifetime, item_lifetime, type_tree, types_trees, args_trees, arg_tree, item_tree, items_trees}
 use Rattle.name_resolution.specs.Resolved.{Region, ResolvedCell, node_cell, param_cell, lifetime_cell, reference_cell, region_under, region_of, optional_region, named_cell, length_cell, autos_before, principals_count, principals, item_region, last_region, dyn_before, type_before, types_before, args_before, arg_before, item_before, items_before}
 use Rattle.name_resolution.specs.Standing.{first_of_sort, region_label, gathered, below, over, trees_behind, standing, CellsStand}
+use Rattle.type_terms.proofs.TermBasics.{and-none, assoc}
 
 -- ---- lists of trees
 joined : List Trees → Trees
@@ -20,14 +21,6 @@ joined (t ∷ ts) = t +++ joined ts
 push_all : List Trees → List Trees → List Trees
 push_all [] S = S
 push_all (t ∷ ts) S = push_all ts (t ∷ S)
-
-assoc : (x y z : Trees) → (x +++ y) +++ z ≡ x +++ (y +++ z)
-assoc none y z = refl
-assoc (tree l c o) y z = ap (tree l c) (assoc o y z)
-
-and-none : (x : Trees) → x +++ none ≡ x
-and-none none = refl
-and-none (tree l c o) = ap (tree l c) (and-none o)
 
 gathered-push : (xs : List Trees) (j : ℕ) (S : List Trees) (o : Trees) → gathered (length xs + j) (push_all xs S) o ≡ gathered j S (joined xs +++ o)
 unfolding push_all joined

@@ -1,9 +1,8 @@
 -- The items of a `dyn`, summed up from the last on.
-use Rattle.std.proofs.Common.{◌≡◌, ℕ, suc, ◌+◌, ◌-◌, ◌<◌, ◌≤◌, Bool, true, false, List, [], ◌∷◌, length, map, take, drop, get_or, insert, fold, refl, sym, ap, ◌∙◌, cond, arith, append_assoc, ◌++◌, take_all, drop-cons, take-suc, Some}
+use Rattle.std.proofs.Common.{◌≡◌, ℕ, suc, ◌+◌, ◌<◌, ◌≤◌, Bool, true, false, List, [], ◌∷◌, length, map, take, drop, fold, refl, sym, ap, ◌∙◌, cond, arith, ◌++◌, Some}
 use Rattle.std.specs.Prelude.{if◌then◌else◌, ◌==◌, not, ◌||◌, ◌&&◌, nat_lt, count_by}
 use Rattle.std.specs.List.{list_any}
-use Rattle.std.proofs.lemmas.Bool.Decides.{nat_tests}
-use Rattle.std.proofs.lemmas.List.{take-append-drop, drop_all, length-map}
+use Rattle.std.proofs.lemmas.List.{length-map}
 use Rattle.line_reader.specs.Cells.{Cell}
 use Rattle.line_reader.specs.TypeViews.{cell_of}
 use Rattle.line_reader.specs.declared.cell.Cell as code
@@ -15,9 +14,7 @@ use Rattle.name_resolution.specs.Machine.{Sight, items, findings, shape_autos, s
 use Rattle.name_resolution.specs.Shapes.{Summary, is_bad, no_items, with_shape, with_auto_trait, with_principal, summary}
 use Rattle.name_resolution.specs.Back.{parts, parts_above, count_above, shape_of}
 use Rattle.name_resolution.specs.Steps.{TakesPart}
-use Rattle.name_resolution.specs.Resolved.{ResolvedCell, node_cell, autos_before}
-use Rattle.type_terms.specs.Label.{auto_trait}
-use Rattle.name_resolution.proofs.Counting.{if-true, if-false, is-eq, not-eq, is-lt, not-lt, parts-none}
+use Rattle.name_resolution.proofs.Counting.{not-eq, parts-none}
 use Rattle.name_resolution.proofs.PartsOfCells.{later-more}
 use Rattle.name_resolution.proofs.Walking.{count-within}
 use Rattle.name_resolution.proofs.Judged.{made, one-use, no-look, no-own}
@@ -180,9 +177,6 @@ pub record Gathered (d : Declarations) (start : ℕ) (self rest : List Cell) (en
   pub summed : x ≡ summary d (map shape_of later)
   pub room : length later + length rest ≤ end
 
-pub gathered-none : (d : Declarations) (start : ℕ) (self : List Cell) (end : ℕ) (x : Summary) → x ≡ no_items → length self ≤ end → Gathered d start self self end x
-gathered-none d start self end x e h = let z : 0 + length self ≤ end = omega (arith, h) in record { later = []; so_far = refl; summed = e; room = z }
-
 pub gathered-more : (d : Declarations) (start : ℕ) (self old new : List Cell) (end : ℕ) (x y : Summary) (c : code.Cell) → TakesPart (Some c) old new → start < length old → length new < length old
     → y ≡ with_shape d (shape_of (cell_of c)) x → Gathered d start self old end x → Gathered d start self new end y
 gathered-more d start self old new end x y c t h l e g =
@@ -228,48 +222,5 @@ cells-room d start r m x e h =
     omega (arith, w, f, g, l, c, h)
 
 -- ---- one number among rising ones
-less-not-eq : (n m : ℕ) → n < m → (n == m) ≡ false
-less-not-eq n m h = grind (arith, nat_tests)
-
-put-in : ℕ → ℕ → List ℕ → Bool → Bool → List ℕ
-put-in n m ms a b = if a then m ∷ ms else (if b then n ∷ m ∷ ms else m ∷ inserted n ms)
-
-inserted-same : (n m : ℕ) (ms : List ℕ) → n ≡ m → inserted n (m ∷ ms) ≡ m ∷ ms
-inserted-same n m ms e = if-true (n == m) (m ∷ ms) (if nat_lt n m then n ∷ m ∷ ms else m ∷ inserted n ms) (is-eq n m e)
-
-inserted-first : (n m : ℕ) (ms : List ℕ) → n < m → inserted n (m ∷ ms) ≡ n ∷ m ∷ ms
-inserted-first n m ms h = if-false (n == m) (m ∷ ms) (if nat_lt n m then n ∷ m ∷ ms else m ∷ inserted n ms) (less-not-eq n m h) ∙ if-true (nat_lt n m) (n ∷ m ∷ ms) (m ∷ inserted n ms) (is-lt n m h)
-
-inserted-later : (n m : ℕ) (ms : List ℕ) → m < n → inserted n (m ∷ ms) ≡ m ∷ inserted n ms
-inserted-later n m ms h =
-    let k : m ≤ n = omega arith in
-    if-false (n == m) (m ∷ ms) (if nat_lt n m then n ∷ m ∷ ms else m ∷ inserted n ms) (not-eq n m h) ∙ if-false (nat_lt n m) (n ∷ m ∷ ms) (m ∷ inserted n ms) (not-lt n m k)
-
 abbrev pub Skips : ℕ → ℕ → List ℕ → Type 0
 Skips n at xs = inserted n xs ≡ take at xs ++ inserted n (drop at xs)
-
-pub insert-there : (n at d : ℕ) (xs : List ℕ) → at < length xs → n ≡ get_or xs at d → Skips n at xs → xs ≡ inserted n xs
-insert-there n at d xs h e s =
-    let ms = drop (suc at) xs in
-    sym (s ∙ ap (λ z. take at xs ++ inserted n z) (drop-cons xs at d h) ∙ ap (λ z. take at xs ++ z) (inserted-same n (get_or xs at d) ms e) ∙ ap (λ z. take at xs ++ z) (sym (drop-cons xs at d h)) ∙ take-append-drop at xs)
-
-pub insert-before : (n at d : ℕ) (xs : List ℕ) → at < length xs → n < get_or xs at d → Skips n at xs → insert xs at n ≡ inserted n xs
-insert-before n at d xs h e s =
-    let ms = drop (suc at) xs in
-    sym (s ∙ ap (λ z. take at xs ++ inserted n z) (drop-cons xs at d h) ∙ ap (λ z. take at xs ++ z) (inserted-first n (get_or xs at d) ms e) ∙ ap (λ z. take at xs ++ n ∷ z) (sym (drop-cons xs at d h)))
-
-pub insert-further : (n at d : ℕ) (xs : List ℕ) → at < length xs → get_or xs at d < n → Skips n at xs → Skips n (suc at) xs
-insert-further n at d xs h e s =
-    let ms = drop (suc at) xs in
-    s ∙ ap (λ z. take at xs ++ inserted n z) (drop-cons xs at d h) ∙ ap (λ z. take at xs ++ z) (inserted-later n (get_or xs at d) ms e)
-    ∙ sym (append_assoc (take at xs) (get_or xs at d ∷ []) (inserted n ms)) ∙ ap (λ z. z ++ inserted n ms) (sym (take-suc xs at d h))
-
-pub insert-last : (n at : ℕ) (xs : List ℕ) → length xs ≤ at → Skips n at xs → xs ++ n ∷ [] ≡ inserted n xs
-insert-last n at xs h s = sym (s ∙ ap (λ z. z ++ inserted n (drop at xs)) (take_all at xs h) ∙ ap (λ z. xs ++ inserted n z) (drop_all at xs h))
-
--- ---- the cells of the auto traits, from the last on
-pub autos-more : (ns : List ℕ) (at d : ℕ) (cs : List ResolvedCell) → 0 < at → at ≤ length ns → autos_before (drop (at - 1) ns) cs ≡ node_cell (auto_trait (get_or ns (at - 1) d)) 0 ∷ autos_before (drop at ns) cs
-autos-more ns at d cs h k =
-    let l : at - 1 < length ns = omega arith in
-    let e : suc (at - 1) ≡ at = omega arith in
-    ap (λ z. autos_before z cs) (drop-cons ns (at - 1) d l) ∙ ap (λ j. node_cell (auto_trait (get_or ns (at - 1) d)) 0 ∷ autos_before (drop j ns) cs) e

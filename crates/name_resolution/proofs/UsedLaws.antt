@@ -15,16 +15,12 @@ use Rattle.line_reader.specs.TypeViews.{cell_of, cells_in}
 use Rattle.line_reader.specs.declared.cell.Cell as code
 use Rattle.name_resolution.proofs.Stacks.{get-map, length-cells}
 use Rattle.name_resolution.specs.UsedNames.{name_of, names_with, TypesUseNames, ArgsUseNames}
+use Rattle.type_terms.proofs.BooleanBasics.{either-deep as or-turn}
 
 abbrev any-of : List ℕ → List Use → Bool
 any-of n us = list_any (is_name_use n) us
 
 -- ---- tests
-or-turn : (a b c : Bool) → b || (a || c) ≡ (a || b) || c
-or-turn true true c = refl
-or-turn true false c = refl
-or-turn false b c = refl
-
 or-front : (a b c : Bool) → a || (b || c) ≡ (a || b) || c
 or-front true b c = refl
 or-front false b c = refl

@@ -10,10 +10,8 @@ use Rattle.text_definitions.specs.Faults.{is_taken_binder, is_unknown_use, is_hi
 use Rattle.text_definitions.specs.Uses.{declared_name}
 use Rattle.name_resolution.specs.declared.findings.Findings.{Findings}
 use Rattle.name_resolution.specs.Machine.{Sight, items, findings, either, Found, using, has_room, deep_in, sinking, deepening, deeper, room_at}
-
-or-assoc : (a b c : Bool) → (a || b) || c ≡ a || (b || c)
-or-assoc true b c = refl
-or-assoc false b c = refl
+use Rattle.type_terms.proofs.BooleanBasics.{or-assoc}
+use Rattle.type_terms.proofs.NumberBasics.{lt-max}
 
 or-comm : (a b : Bool) → a || b ≡ b || a
 or-comm true true = refl
@@ -129,9 +127,6 @@ one-less (suc n) k = let e : suc n - 1 ≡ n = omega arith in ap (λ b. not (not
 deep-suc : (r : Option ℕ) (k : ℕ) → not (has_room r) || deep_in (deeper r) k ≡ deep_in r (suc k)
 deep-suc None k = refl
 deep-suc (Some n) k = one-less n k
-
-lt-max : (n a b : ℕ) → nat_lt n (max a b) ≡ nat_lt n a || nat_lt n b
-lt-max n a b = grind (arith, nat_tests)
 
 deep-max : (r : Option ℕ) (a b : ℕ) → deep_in r (max a b) ≡ deep_in r a || deep_in r b
 deep-max None a b = refl

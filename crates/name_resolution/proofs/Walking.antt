@@ -1,8 +1,8 @@
 -- Steps of the walk.
 use Rattle.std.proofs.Common.{suc, ◌+◌, ◌≤◌, Bool, true, false, ◌≡◌, ◌↔◌, ℕ, ◌<◌, List, [], ◌∷◌, ◌++◌, length, Option, Some, None, IsSome, refl, sym, ap, ◌∙◌, arith}
-use Rattle.std.specs.Prelude.{◌==◌, nat_le, MatchOption, if◌then◌else◌, not, ◌&&◌}
+use Rattle.std.specs.Prelude.{◌==◌, nat_le, MatchOption, if◌then◌else◌}
 use Rattle.std.specs.Option.{option_to_list}
-use Rattle.text_definitions.specs.Uses.{Use, binder_uses, items_use, trait_use, name_use, variable_use, lifetime_use, lifetime_uses, lifetime_arg_uses}
+use Rattle.text_definitions.specs.Uses.{Use, binder_uses, items_use, trait_use, name_use, variable_use, lifetime_use, lifetime_arg_uses}
 use Rattle.text_definitions.specs.Faults.{variables_in}
 use Rattle.type_terms.specs.Label.{Sort, of_type, of_const, of_lifetime}
 use Rattle.line_reader.specs.Cells.{Cell}
@@ -28,11 +28,6 @@ frames-pop fs ns (Some f) e v = ap frames_in e ∙ frames-push ns f []
 pub noted : (v : Sight) (us : List Use) (f : Findings) (a b : Found) → variables_in us ≡ [] → f ≡ findings v us → b ≡ noting f a → using v us a ≡ b
 noted v us f a b h e g =
     ap (λ vs. record a { faults = either (findings v us) a.faults; variables = vs ++ a.variables }) h ∙ ap (λ x. noting x a) (sym e) ∙ sym g
-
-pub no-variables : (p : Sort) → variables_in (sort_misfits p) ≡ []
-no-variables of_type = refl
-no-variables of_const = refl
-no-variables of_lifetime = refl
 
 pub no-variables-with : (p : Sort) (us : List Use) → variables_in us ≡ [] → variables_in (sort_misfits p ++ us) ≡ []
 no-variables-with of_type us h = h
@@ -71,10 +66,6 @@ no-lifetime-variables s of_type n = refl
 no-lifetime-variables s of_const n = refl
 no-lifetime-variables s of_lifetime n = refl
 
-pub optional-variables : (s : List (List (List ℕ))) (l : Option (List ℕ)) → variables_in (lifetime_uses s l) ≡ []
-optional-variables s None = refl
-optional-variables s (Some n) = refl
-
 -- ---- cells and variables together
 abbrev more-variables : List (List ℕ × Sort) → Found → Found
 more-variables vs b = record b { variables = vs ++ b.variables }
@@ -102,14 +93,6 @@ kept-twice false f g a = refl
 
 pub kept-same : (b : Bool) (f g : List resolved.ResolvedCell → List resolved.ResolvedCell) (a : Found) → f a.cells ≡ g a.cells → keeping b f a ≡ keeping b g a
 kept-same b f g a h = ap (λ z. record a { cells = if b then z else a.cells }) h
-
-pub const-dropped : (b : Bool) → false ≡ (b && not true)
-const-dropped true = refl
-const-dropped false = refl
-
-pub others-kept : (b : Bool) → b ≡ (b && not false)
-others-kept true = refl
-others-kept false = refl
 
 -- a binder and inputs
 pub binder-variables : (s : List (List (List ℕ))) (b : List (List ℕ)) (us : List Use) → variables_in (binder_uses s b ++ us) ≡ variables_in us

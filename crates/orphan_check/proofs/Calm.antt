@@ -13,16 +13,14 @@ use Rattle.declarations.specs.Merges.{Each}
 use Rattle.orphan_check.specs.Looks.{Look, local_type, open_type, leaf_type, passage, look}
 use Rattle.orphan_check.specs.Steps.{Reading, Step, refused, too_deep, entered, met_local, met_open, met_foreign, steps_in, step_of, steps_at, steps_to, steps, first_end, second_end}
 use Rattle.orphan_check.proofs.Reading.{read-is, read-one, resolved-one, inner-terms, head-and-rest}
+use Rattle.declarations.proofs.Basics.{each-append}
+use Rattle.type_terms.proofs.TypeBasics.{some-is}
 
 -- nothing is refused, and where a type lies too deep, P holds
 abbrev pub IsCalm : {E : Type 0} → Type 0 → Step E → Type 0
 IsCalm P (refused e) = ⊥
 IsCalm P (too_deep t first) = P
 IsCalm P s = Unit {0}
-
-each-append : {A : Type 0} (P : A → Type 0) (xs ys : List A) → Each P xs → Each P ys → Each P (xs ++ ys)
-each-append P [] ys h g = g
-each-append P (x ∷ xs) ys h g = (h.0, each-append P xs ys h.1 g)
 
 pub depth-append : (x y : Trees) → depth (x +++ y) ≡ max (depth x) (depth y)
 depth-append none y = omega arith
@@ -80,9 +78,6 @@ module _ {E : Type 0} (P : Type 0) (r : Reading E) (same : (t : Trees) → r.ans
   steps-calm limit args h p = types-calm limit (λ f u. type-calm limit f u) true args h p
 
 -- ---- the ends of calm walks
-some-is : {A : Type 0} (x y : A) → Some x ≡ Some y → x ≡ y
-some-is x y e = cc
-
 pub calm-first : {E : Type 0} (P : Type 0) (ss : List (Step E)) (s : Step E) → Each (IsCalm P) ss → first_end ss ≡ Some s → IsCalm P s
 calm-first P [] s h e = cc
 calm-first P (entered ∷ ss) s h e = calm-first P ss s h.1 e

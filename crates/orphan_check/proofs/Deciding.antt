@@ -1,5 +1,5 @@
 -- A walk that passes over what it has visited.
-use Rattle.std.proofs.Common.{if◌then◌else◌, arith, length, ◌≡◌, ◌<◌, ◌≤◌, ◌-◌, ◌⊎◌, inl, inr, ℕ, zero, suc, refl, sym, ap, subst, ◌∙◌, Bool, true, false, ◌&&◌, ◌||◌, List, [], ◌∷◌, ◌++◌, append_assoc, length-append, Some, None, Result, Ok, Err, nat_lt, eqb-true, cond}
+use Rattle.std.proofs.Common.{if◌then◌else◌, arith, length, ◌≡◌, ◌<◌, ◌≤◌, ◌-◌, ◌⊎◌, inl, inr, ℕ, zero, suc, refl, sym, ap, subst, ◌∙◌, Bool, true, false, ◌&&◌, ◌||◌, List, [], ◌∷◌, ◌++◌, append_assoc, length-append, Some, Result, Ok, Err, nat_lt, eqb-true, cond}
 use Rattle.std.proofs.lemmas.Bool.{lt-ltb, le-ltb, ltb-true, ltb-false}
 use Rattle.std.proofs.lemmas.List.{append_cancel_right, append-nil}
 use Rattle.std.specs.Prelude.{OnOk, OnErr, nat_eq}
@@ -23,6 +23,7 @@ use Rattle.orphan_check.specs.Steps.{Reading, Step, refused, too_deep, entered, 
 use Rattle.orphan_check.specs.Visited.{visit_eq, visit_at}
 use Rattle.orphan_check.specs.Walks.{ArePending, AreOnTop, IsVisit, IsDecisive, steps_before, pending_steps, step_met}
 use Rattle.orphan_check.proofs.Stepping.{push-steps, each-pop}
+use Rattle.declarations.proofs.Growth.{each-kept}
 
 -- ---- a visit that is kept in a set
 pub entered-one : {S E : Type 0} (old new : HashSet Visit S) (w : Visit) (r : Result Bool E) → OnOk r (Updates visit_eq old new w true) → OnErr r (IsUnchanged old new) → (v : Visit) → contains visit_eq new v ≡ true
@@ -100,10 +101,6 @@ alike r (suc n) f g t = read-alike (λ f u. steps_to r n f u) (λ f g u. alike r
 each-append : {A : Type 0} (P : A → Type 0) (xs ys : List A) → Each P xs → Each P ys → Each P (xs ++ ys)
 each-append P [] ys h k = k
 each-append P (x ∷ xs) ys h k = (h.0, each-append P xs ys h.1 k)
-
-each-kept : {A : Type 0} (P Q : A → Type 0) → ((x : A) → P x → Q x) → (xs : List A) → Each P xs → Each Q xs
-each-kept P Q f [] h = tt
-each-kept P Q f (x ∷ xs) h = (f x h.0, each-kept P Q f xs h.1)
 
 -- limits fall, or stay, from the ground of the stack upwards
 abbrev pub Falls : List Pending → Type 0
@@ -239,9 +236,6 @@ module _ {E : Type 0} (es : List Entry) (r : Reading E) where
     same = ap first_end (sym (append-nil all)) ∙ ap first_end (sym is);
     behind = λ v h. absurd (fresh v h);
   }
-
-  pub goes-last : (all : List (Step E)) (seen : Visit → Bool) (ps : List Pending) → Goes all seen ps → ps ≡ [] → first_end all ≡ None
-  goes-last all seen ps goes e = goes.same ∙ ap (λ z. first_end (pending_steps es r z)) e
 
   module _ (all : List (Step E)) (old new : Visit → Bool) (ps rest : List Pending) (p : Pending) (goes : Goes all old ps) (popped : ps ≡ rest ++ p ∷ [])
       (one : (v : Visit) → new v ≡ true → (old v ≡ true) ⊎ (v ≡ visit_at p.ty p.limit)) where

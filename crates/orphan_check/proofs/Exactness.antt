@@ -176,13 +176,6 @@ module _ {E : Type 0} (es : List Entry) (t : Table) (r : Reading E) (v : r.value
     remote-exact (Err Memory) h = tt
 
 -- ---- knowability
-and-left : (a b : Bool) → (a && b) ≡ true → a ≡ true
-and-left true b h = refl
-and-left false b h = h
-
-and-right : (a b : Bool) → (a && b) ≡ true → b ≡ true
-and-right true b h = h
-and-right false b h = cc
 
 known-is : (a b own ends meets : Bool) → (a && b) ≡ true → (own || ends) ≡ true → meets ≡ false → ((a && (b && (own || ends))) && not meets) ≡ true
 known-is true true own ends meets w k m = ap (λ z. z && not meets) k ∙ ap not m

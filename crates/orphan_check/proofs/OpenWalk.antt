@@ -15,8 +15,6 @@ use Rattle.type_terms.specs.declared.kinds.GenericArgKind.{GenericArgKind}
 use Rattle.type_terms.specs.declared.kinds.GenericArgKind.TheVariants.{Lifetime, Ty, Const}
 use Rattle.type_terms.specs.declared.kinds.Const as of-const
 use Rattle.type_terms.specs.declared.region.Region.{Region}
-use Rattle.type_terms.specs.declared.kinds.Ty as of-ty
-use Rattle.type_terms.specs.declared.kinds.GenericArgs as of-args
 use Rattle.type_terms.proofs.Items.{args-push, take-push, fuel-of-arg}
 use Rattle.type_terms.proofs.VisitFacts.{args-cut}
 use Rattle.orphan_check.specs.declared.decisive.Decisive.{Decisive}
@@ -30,6 +28,8 @@ use Rattle.orphan_check.specs.Walks.{IsTaken, is_local}
 use Rattle.orphan_check.proofs.Calm.{depth-append}
 use Rattle.orphan_check.proofs.Stepping.{region-sort, const-is}
 use Rattle.orphan_check.proofs.Visiting.{marks, marks-append, decided, items-decide, no-home}
+use Rattle.type_terms.proofs.ListBasics.{append-empty}
+use Rattle.type_terms.proofs.BooleanBasics.{or-false as no-more, if-false, if-true}
 
 -- ---- one walk and then another
 pub passes : (ms ns : List Met) → first_decisive ms ≡ None → first_decisive (ms ++ ns) ≡ first_decisive ns
@@ -68,18 +68,6 @@ by-marks (struct_leaf s ∷ ms) = by-marks ms
 by-marks (dyn_leaf s ∷ ms) = by-marks ms
 by-marks (entered s ∷ ms) = by-marks ms
 by-marks (other_leaf ∷ ms) = by-marks ms
-
-if-true : {A : Type 0} (x : Bool) (a b : A) → x ≡ true → (if x then a else b) ≡ a
-if-true true a b e = refl
-if-true false a b e = cc
-
-if-false : {A : Type 0} (x : Bool) (a b : A) → x ≡ false → (if x then a else b) ≡ b
-if-false true a b e = cc
-if-false false a b e = refl
-
-append-empty : {A : Type 0} (xs : List A) → xs ++ [] ≡ xs
-append-empty [] = refl
-append-empty (x ∷ xs) = ap (λ z. x ∷ z) (append-empty xs)
 
 -- how a type that looks so decides, x being what decides in it
 abbrev by_look : Look → Option Decisive → Option Decisive
@@ -143,15 +131,6 @@ module _ (V : World) (d : Option ℕ) where
         by (taken.Reference to) h =
             ap (λ z. by_look z (first_decisive (visited V d c))) h.0 ∙ ap (λ z. first_decisive (visited V d z)) h.2.1 ∙ behind-region h.2.0 (trees_at es to.0)
         by (taken.Fundamental args) h = ap (λ z. by_look z (first_decisive (visited V d c))) h.0 ∙ ap (λ z. first_decisive (visited V d z)) h.2
-
-    -- what is entered is less deep
-    pub reference-below : (t : Trees) (to : of-ty.Ty) → IsTaken es V d t (taken.Reference to) → depth (trees_at es to.0) < depth t
-    reference-below none to h = absurd h
-    reference-below (tree l c o) to h = let e = ap depth h.2.1 in let f = depth-append (region_trees h.2.0) (trees_at es to.0) in omega (arith, e, f)
-
-    pub args-below : (t : Trees) (args : of-args.GenericArgs) → IsTaken es V d t (taken.Fundamental args) → depth (trees_at es args.0) < depth t
-    args-below none args h = absurd h
-    args-below (tree l c o) args h = let e = ap depth h.2 in omega (arith, e)
 
     -- ---- arguments
     -- nothing decides in an argument behind those in which nothing does
@@ -247,10 +226,6 @@ closed-marks V first (tree l c o) h =
         marks-append (item_of (look V None l c) (tree l c none) first (items V None first c)) (items V None false o)
         ∙ ap (λ z. z ++ marks (items V None false o)) (closed-item (look V None l c) (tree l c none) first (items V None first c) (closed-look V l c e parts.0) p) ∙ q
     by false e p q r = r
-
-no-more : (b : Bool) → (b || false) ≡ b
-no-more true = refl
-no-more false = refl
 
 pub off : (b : Bool) → IsTrue (not b) → b ≡ false
 off true h = cc

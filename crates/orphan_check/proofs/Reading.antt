@@ -17,6 +17,9 @@ use Rattle.infer_table.proofs.WellFacts.{followed-one, followed-terms, followed-
 use Rattle.orphan_check.specs.Looks.{Look, local_type, open_type, leaf_type, passage, look, dyn_look}
 use Rattle.orphan_check.specs.Items.{WalkItem, local_item, open_item, foreign_item, item_of, items}
 use Rattle.orphan_check.specs.Steps.{Reading, Step, refused, too_deep, entered, met_local, met_open, met_foreign, settled, read, steps_in, step_of, steps_at, steps_to, steps}
+use Rattle.type_terms.proofs.ListBasics.{append-empty}
+use Rattle.type_terms.proofs.BooleanBasics.{if-false, if-true}
+use Rattle.infer_table.proofs.Basics.{opens}
 
 -- ---- the items that steps show
 -- a type that lies too deep shows all that stands in it
@@ -38,18 +41,6 @@ shown-append r (entered ∷ ss) ys = shown-append r ss ys
 shown-append r (met_local t ∷ ss) ys = ap (λ z. local_item (resolved r.values t) ∷ z) (shown-append r ss ys)
 shown-append r (met_open t ∷ ss) ys = ap (λ z. open_item (resolved r.values t) ∷ z) (shown-append r ss ys)
 shown-append r (met_foreign t first ∷ ss) ys = ap (λ z. foreign_item (resolved r.values t) first ∷ z) (shown-append r ss ys)
-
-append-empty : {A : Type 0} (xs : List A) → xs ++ [] ≡ xs
-append-empty [] = refl
-append-empty (x ∷ xs) = ap (λ z. x ∷ z) (append-empty xs)
-
-if-true : {A : Type 0} (x : Bool) (a b : A) → x ≡ true → (if x then a else b) ≡ a
-if-true true a b e = refl
-if-true false a b e = cc
-
-if-false : {A : Type 0} (x : Bool) (a b : A) → x ≡ false → (if x then a else b) ≡ b
-if-false true a b e = cc
-if-false false a b e = refl
 
 either-same : {A : Type 0} (x : Bool) (a : A) → (if x then a else a) ≡ a
 either-same true a = refl
@@ -78,9 +69,6 @@ module _ (V : World) (d : Option ℕ) where
 
 -- ---- resolved terms
 module _ (bs : List Binding) (valued : AllValued bs) (acyclic : Acyclic bs) (sorted : AllSorted bs) (terms : AllTrees is_numbered bs) where
-  opens : (v : ℕ) → is_numbered (infer of_lifetime v) ≡ true
-  opens v = refl
-
   -- a term that is no variable with a value stays one term of its sort
   unbound-one : (u : Trees) → IsOneTree is_numbered u → IsUnbound bs u → Single (resolved bs u) × (term_sort (resolved bs u) ≡ term_sort u)
   unbound-one none h b = absurd h.0

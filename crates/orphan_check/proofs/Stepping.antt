@@ -2,7 +2,7 @@
 use Rattle.std.proofs.Common.{if◌then◌else◌, arith, length, ◌-◌, ◌≡◌, ℕ, suc, refl, sym, ap, subst, ◌∙◌, Bool, true, false, List, [], ◌∷◌, ◌++◌, append_assoc, Result, Ok, Err}
 use Rattle.type_terms.specs.Label.{Label, of_type, of_const, of_lifetime}
 use Rattle.type_terms.specs.Trees.{Trees, none, tree, ◌+++◌, is_sort, sort_of, IsA}
-use Rattle.type_terms.specs.Terms.{Entry, Has, Lawful, types, consts, args_lists, trees_at}
+use Rattle.type_terms.specs.Terms.{Entry, Has, Lawful, types, consts, trees_at}
 use Rattle.type_terms.specs.Kinds.{region_label, region_trees, arg_trees, args_trees, ArgHeld, ArgsHeld}
 use Rattle.type_terms.specs.declared.kinds.GenericArgKind.{GenericArgKind}
 use Rattle.type_terms.specs.declared.kinds.GenericArgKind.TheVariants.{Lifetime, Ty, Const}
@@ -17,19 +17,15 @@ use Rattle.declarations.specs.Merges.{Each}
 use Rattle.orphan_check.specs.declared.walk.Pending.{Pending}
 use Rattle.orphan_check.specs.declared.look.Taken.TheVariants as taken
 use Rattle.orphan_check.specs.Flags.{is_first}
-use Rattle.orphan_check.specs.Steps.{Reading, Step, refused, entered, met_local, met_open, met_foreign, read, steps_in, step_of, steps_at, steps_to}
+use Rattle.orphan_check.specs.Steps.{Reading, Step, entered, met_local, met_open, met_foreign, read, steps_in, step_of, steps_at, steps_to}
 use Rattle.orphan_check.specs.declared.errors.WalkError.{WalkError}
 use Rattle.orphan_check.specs.declared.errors.WalkError.TheVariants.{Normalize, Deep, Memory}
 use Rattle.orphan_check.specs.declared.walk.Met.{Met}
 use Rattle.orphan_check.specs.Walks.{IsTaken, TypeIsRead, IsFirstStep, IsVisit, IsStep, ArePending, AreOnTop, steps_before, pending_steps}
-
-if-true : {A : Type 0} (x : Bool) (a b : A) → x ≡ true → (if x then a else b) ≡ a
-if-true true a b e = refl
-if-true false a b e = cc
-
-if-false : {A : Type 0} (x : Bool) (a b : A) → x ≡ false → (if x then a else b) ≡ b
-if-false true a b e = cc
-if-false false a b e = refl
+use Rattle.type_terms.proofs.ListBasics.{append-empty}
+use Rattle.type_terms.proofs.TermBasics.{append-none, type-is}
+use Rattle.declarations.proofs.Basics.{each-push}
+use Rattle.type_terms.proofs.BooleanBasics.{if-false, if-true}
 
 pub region-sort : (k : RegionKind) → sort_of (region_label k) ≡ of_lifetime
 region-sort ReStatic = refl
@@ -38,9 +34,6 @@ region-sort (RePlaceholder i) = refl
 region-sort (ReBound (KBinder b) v) = refl
 region-sort (ReBound KCanonical v) = refl
 region-sort (ReVar v) = refl
-
-pub type-is : (es : List Entry) → Lawful es → (i : ℕ) → Has es types i → IsA of_type (trees_at es i)
-type-is es law i h = (law.sorted i _ (is-at es types i h)).as_type refl
 
 pub const-is : (es : List Entry) → Lawful es → (i : ℕ) → Has es consts i → IsA of_const (trees_at es i)
 const-is es law i h = (law.sorted i _ (is-at es consts i h)).as_const refl
@@ -85,10 +78,6 @@ module _ {E : Type 0} (go : Bool → Trees → List (Step E)) where
     steps-of-const first i rest h = steps-const first (trees_at es i) rest (const-is es law i h)
 
 -- ---- the stack
-append-empty : {A : Type 0} (xs : List A) → xs ++ [] ≡ xs
-append-empty [] = refl
-append-empty (x ∷ xs) = ap (λ z. x ∷ z) (append-empty xs)
-
 push-before : {E : Type 0} (es : List Entry) (r : Reading E) (ps : List Pending) (p : Pending) (ss : List (Step E))
     → steps_before es r (ps ++ p ∷ []) ss ≡ steps_to r p.limit (is_first p.first) (trees_at es p.ty.0) ++ steps_before es r ps ss
 push-before es r [] p ss = refl
@@ -98,10 +87,6 @@ push-before es r (q ∷ ps) p ss = push-before es r ps p (steps_to r q.limit (is
 pub push-steps : {E : Type 0} (es : List Entry) (r : Reading E) (ps qs : List Pending) (p : Pending) → qs ≡ ps ++ p ∷ []
     → pending_steps es r qs ≡ steps_to r p.limit (is_first p.first) (trees_at es p.ty.0) ++ pending_steps es r ps
 push-steps es r ps qs p e = ap (pending_steps es r) e ∙ push-before es r ps p []
-
-pub each-push : {A : Type 0} (P : A → Type 0) (xs : List A) (x : A) → Each P xs → P x → Each P (xs ++ x ∷ [])
-each-push P [] x h p = (p, tt)
-each-push P (y ∷ xs) x h p = (h.0, each-push P xs x h.1 p)
 
 pub pending-push : (es : List Entry) (ps qs : List Pending) (p : Pending) → qs ≡ ps ++ p ∷ [] → ArePending es ps → Has es types p.ty.0 → ArePending es qs
 pending-push es ps qs p e h k = subst (ArePending es) (sym e) (each-push (λ x. Has es types x.ty.0) ps p h k)
@@ -178,17 +163,9 @@ module _ {E : Type 0} (es : List Entry) (law : Lawful es) (go : Bool → Trees �
       by (Ty t) h apart = absurd (apart t refl)
       by (Const k) h apart = steps-of-const go es law first k.0 (args_trees es others) h
 
--- ---- one step
-append-none : (t : Trees) → t +++ none ≡ t
-append-none none = refl
-append-none (tree l c o) = ap (λ z. tree l c z) (append-none o)
-
 module _ {E : Type 0} (es : List Entry) (law : Lawful es) (r : Reading E) (n : ℕ) (first : Bool) (t : Trees) where
   at-read : (x : Result Trees E) → read r t ≡ x → steps_to r (suc n) first t ≡ steps_at (λ f u. steps_to r n f u) r first x
   at-read x e = ap (steps_at (λ f u. steps_to r n f u) r first) e
-
-  pub step-refused : (e : E) → read r t ≡ Err e → steps_to r (suc n) first t ≡ refused e ∷ []
-  step-refused e h = at-read (Err e) h
 
   pub step-local : (u : Trees) → read r t ≡ Ok u → IsTaken es r.view r.home u taken.Local → steps_to r (suc n) first t ≡ met_local u ∷ []
   step-local none h k = absurd k
@@ -216,14 +193,6 @@ module _ {E : Type 0} (es : List Entry) (law : Lawful es) (r : Reading E) (n : �
   step-fundamental (tree l c o) args h k =
       at-read (Ok (tree l c o)) h ∙ ap (λ z. step_of z (tree l c o) first (steps_in (λ f u. steps_to r n f u) first c)) k.0
       ∙ ap (λ z. entered ∷ steps_in (λ f u. steps_to r n f u) first z) k.2
-
-  pub held-reference : (u : Trees) (to : of-ty.Ty) → IsTaken es r.view r.home u (taken.Reference to) → Has es types to.0
-  held-reference none to k = absurd k
-  held-reference (tree l c o) to k = k.1
-
-  pub held-fundamental : (u : Trees) (args : of-args.GenericArgs) → IsTaken es r.view r.home u (taken.Fundamental args) → Has es args_lists args.0
-  held-fundamental none args k = absurd k
-  held-fundamental (tree l c o) args k = k.1
 
 -- what a type steps to, before the others
 pub first-steps : {E : Type 0} (es : List Entry) (r : Reading E) (rest : List Pending) (p : Pending) (m : ℕ) (ss : List (Step E)) → p.limit ≡ m → steps_to r m (is_first p.first) (trees_at es p.ty.0) ≡ ss

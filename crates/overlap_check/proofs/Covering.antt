@@ -13,13 +13,16 @@ use Rattle.type_terms.proofs.Members.{same-number, self-number}
 use Rattle.infer_table.specs.Solutions.{Assignment, instance, tree_of, IsSorted, HasValues, occurs, is_variable as is_unknown}
 use Rattle.infer_table.specs.Content.{Table, variables_of, IsProper}
 use Rattle.infer_table.proofs.SolutionLaws.{is_variable-self}
-use Rattle.type_terms.proofs.Fitting.{no-left as no-first, no-right as no-second}
 use Rattle.term_folds.specs.Arguments.{sort_at}
 use Rattle.overlap_check.specs.Questions.{FitKinds, of_kind, filled}
 use Rattle.overlap_check.specs.Fresh.{with_unknown, HasArguments as Speaks}
 use Rattle.overlap_check.specs.Goals.{repeated, unknown_kinds}
 use Rattle.overlap_check.proofs.Standing.{default_node, root, own, rest_of, assigned}
-use Rattle.overlap_check.proofs.Instances.{node, joined, IsShut, nth-shut, no-type, no-const}
+use Rattle.overlap_check.proofs.Instances.{node, IsShut, nth-shut, no-type, no-const}
+use Rattle.type_terms.proofs.TermBasics.{joined}
+use Rattle.type_terms.proofs.Matching.{or-false-left as no-first, or-false-right as no-second}
+use Rattle.type_terms.proofs.Made.{false-true as no-true}
+use Rattle.type_terms.proofs.BooleanBasics.{true-apart}
 
 -- ---- the values of all unknowns
 abbrev pub run : Assignment → Sort → ℕ → ℕ → List Trees
@@ -114,9 +117,6 @@ module _ (S : Assignment) (t : Table) where
       by true e = grind (arith, nat_tests)
       by false e = absurd (h (grind (arith, nat_tests)))
 
-  true-apart : (b : Bool) → b ≡ true → b ≡ false → ⊥
-  true-apart b p q = cc
-
   at-most : (k : Sort) (w : ℕ) (o : Trees) → HasValues k → ((j : Sort) (v : ℕ) → HasValues j → variables_of t j ≤ v → is_unknown k w j v || occurs j v o ≡ false) → w < variables_of t k
   at-most k w o h f = not-past w (variables_of t k) (λ le. true-apart (is_unknown k w k w) (is_variable-self k w) (no-first (is_unknown k w k w) (occurs k w o) (f k w h le)))
 
@@ -170,9 +170,6 @@ assigned-shut t (j ∷ ks) A s h g = λ k v. by k v (is_unknown j (variables_of 
 -- ---- where-clauses fit what the header fits
 some-same : (s r : Sort) (o : Option Sort) → o ≡ Some s → o ≡ Some r → s ≡ r
 some-same s r o p q = cc
-
-no-true : false ≡ true → ⊥
-no-true e = cc
 
 module _ (I A : Trees) where
   abbrev At : ℕ → Type 0

@@ -7,9 +7,10 @@ use Rattle.type_terms.specs.Worlds.{Reference}
 use Rattle.type_terms.specs.Answers.{is_variable, is_open, is_closed}
 use Rattle.type_terms.specs.Proofs.{Every}
 use Rattle.type_terms.specs.Renumbering.{Renumbering, renumbered, renumbered_reference}
-use Rattle.type_terms.proofs.Fitting.{child-shut, next-shut, no-left, not-true, or-no}
+use Rattle.type_terms.proofs.Fitting.{child-shut, next-shut, not-true, or-no}
 use Rattle.type_terms.proofs.RenumberedTrees.{over-append, over-closed, label-sort}
 use Rattle.overlap_check.specs.Questions.{FitKinds, of_kind, filled, filled_reference}
+use Rattle.type_terms.proofs.Matching.{or-false-left as no-left}
 
 node : {l m : Label} {c d o p : Trees} → l ≡ m → c ≡ d → o ≡ p → tree l c o ≡ tree m d p
 node a b e = cc

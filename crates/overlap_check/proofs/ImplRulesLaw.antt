@@ -1,37 +1,24 @@
 -- An impl's rules are those of the arguments that fit and make its header the reference.
 use Rattle.std.proofs.Common.{zero-add, ◌≡◌, ◌⊎◌, inl, inr, ℕ, suc, ◌+◌, ◌<◌, Bool, true, false, List, [], ◌∷◌, refl, ap, sym, ◌∙◌, ◌&&◌, ◌||◌, ◌==◌, if◌then◌else◌, subst, arith}
 use Rattle.std.proofs.lemmas.Bool.Decides.{nat_tests}
-use Rattle.type_terms.specs.Label.{Label, Sort, of_type, of_const, of_lifetime, never, param, bound, fn_ptr, principal, inside, raise, shift_label}
-use Rattle.type_terms.specs.Trees.{Trees, none, tree, ◌+++◌, leaf, nth, shift, instantiate, arguments, standing_at, first_of, IsA, Fits, fits, is_sort, some_node, Single}
-use Rattle.type_terms.specs.Worlds.{World, Reference, ImplDecl, with_args, all_with_args}
+use Rattle.type_terms.specs.Label.{Label, Sort, never, param, bound, fn_ptr, principal, inside, raise, shift_label}
+use Rattle.type_terms.specs.Trees.{Trees, none, tree, ◌+++◌, leaf, nth, shift, instantiate, arguments, standing_at, first_of, IsA, Fits, fits, is_sort, Single}
+use Rattle.type_terms.specs.Worlds.{Reference, ImplDecl, with_args, all_with_args}
 use Rattle.type_terms.specs.Erased.{mentions}
 use Rattle.type_terms.specs.Rules.{Rule, by_impl, impl_rules, same_reference}
-use Rattle.type_terms.specs.Proofs.{In, Every}
+use Rattle.type_terms.specs.Proofs.{Every}
 use Rattle.type_terms.specs.Supers.{mentions_as}
-use Rattle.type_terms.specs.Answers.{is_closed, is_open}
-use Rattle.type_terms.specs.Renumbering.{View}
-use Rattle.type_terms.specs.LinkedSet.{JoinedSet}
 use Rattle.type_terms.proofs.Members.{self-number, same-number}
-use Rattle.type_terms.proofs.Walking.{both, left, right, or-left, or-right}
+use Rattle.type_terms.proofs.Walking.{both, left, right, or-left, or-right, or-cases as stands-either}
 use Rattle.type_terms.proofs.TreeLaws.{single-nth, single-shift, shift-merge}
 use Rattle.type_terms.proofs.Matching.{absent-nothing, same-where-asked, nth-arguments, first-left, nth-there}
 use Rattle.type_terms.proofs.Applies.{fits-complete, same-reference-complete}
-use Rattle.type_terms.proofs.Fitting.{fits-sound, same-reference-sound, not-true, no-left, child-shut, next-shut}
-use Rattle.type_terms.proofs.WiderProofs.{every-in}
+use Rattle.type_terms.proofs.Fitting.{fits-sound, same-reference-sound}
 use Rattle.overlap_check.specs.ImplRules.{ImplRulesAreInstances}
-
--- A parameter that stands in a tree stands there as one of some sort.
-is-sort-itself : (s : Sort) → is_sort s s ≡ true
-is-sort-itself of_type = refl
-is-sort-itself of_const = refl
-is-sort-itself of_lifetime = refl
+use Rattle.type_terms.proofs.TermBasics.{sort-self as is-sort-itself}
 
 abbrev StandsAsSome : ℕ → Trees → Type 0
 StandsAsSome n t = (s : Sort) × (mentions_as s n t ≡ true)
-
-stands-either : (a b : Bool) → a || b ≡ true → (a ≡ true) ⊎ (b ≡ true)
-stands-either true b h = inl refl
-stands-either false b h = inr h
 
 some-sort-in-two : (n : ℕ) (c o : Trees) → (mentions n c ≡ true → StandsAsSome n c) → (mentions n o ≡ true → StandsAsSome n o)
     → mentions n c || mentions n o ≡ true → (s : Sort) × (mentions_as s n c || mentions_as s n o ≡ true)
@@ -231,31 +218,4 @@ pub impl-rules-are-instances : ImplRulesAreInstances
 impl-rules-are-instances r i = (
   none-or-its-rule r i,
   λ w h A f e. subst (λ x. impl_rules x i ≡ its-rule i A) e (rule-of-an-instance i A w (subst (λ x. shift 0 1 x.args ≡ x.args) (sym e) h) f),
-)
-
--- The law speaks of each reference in which no bound variable stands, so of each closed one.
-unbound-label : (p : Label → Bool) → ((s : Sort) (k v : ℕ) → p (bound s k v) ≡ true) → (d a : ℕ) (l : Label) → p l ≡ false → shift_label d a l ≡ l
-unbound-label p h d a (bound s k v) e = absurd (apart (h s k v) e)
-  where
-    apart : {b : Bool} → b ≡ true → b ≡ false → ⊥
-    apart f g = cc
-unbound-label p h d a l e = refl
-
-pub unbound-unshifted : (p : Label → Bool) → ((s : Sort) (k v : ℕ) → p (bound s k v) ≡ true) → (d a : ℕ) (t : Trees) → some_node p t ≡ false → shift d a t ≡ t
-unbound-unshifted p h d a none e = refl
-unbound-unshifted p h d a (tree l c o) e =
-    one-node _ _ _ _ _ _ (unbound-label p h d a l (no-left (p l) (some_node p c) (no-left (p l || some_node p c) (some_node p o) e)))
-    (unbound-unshifted p h (inside l d) a c (child-shut p l c o e)) (unbound-unshifted p h d a o (next-shut p l c o e))
-
-pub closed-unshifted : (t : Trees) → is_closed t ≡ true → shift 0 1 t ≡ t
-closed-unshifted t e = unbound-unshifted is_open (λ s k v. refl) 0 1 t (not-true (some_node is_open t) e)
-
--- It speaks of each impl of a joined set of which the header's parameters are below the impl's number of them, as texts number them.
-pub joined-impls-stand-within : (W : World) (vs : List View) (rank : ℕ → ℕ) → JoinedSet W vs rank → (i : ImplDecl) → In i W.impls
-    → ((s : Sort) (n : ℕ) → mentions_as s n i.header.args ≡ true → n < i.params)
-    → (s : Sort) (n : ℕ) → Every (λ k. mentions_as s n k.args ≡ true → (n < i.params) × (mentions_as s n i.header.args ≡ true)) (i.header ∷ i.clauses)
-joined-impls-stand-within W vs rank j i h b s n = (
-  λ m. (b s n m, m),
-  every-in (λ k. mentions_as s n k.args ≡ true → (n < i.params) × (mentions_as s n i.header.args ≡ true)) i.clauses
-      (λ k g m. let x = j.clauses_covered i k h g s n m in (b s n x, x)),
 )

@@ -3,20 +3,18 @@ use Rattle.std.proofs.Common.{◌≡◌, ℕ, zero, suc, Bool, true, false, if�
 use Rattle.type_terms.specs.Label.{Label, Sort, of_type, of_const, of_lifetime, infer, param, placeholder, canonical, bound, static, fn_ptr, principal, inside}
 use Rattle.type_terms.specs.Trees.{Trees, none, tree, ◌+++◌, nth, shift, instantiate, sort_of, IsA, Fits, erase, erase_label, some_node}
 use Rattle.type_terms.specs.Answers.{is_open}
-use Rattle.type_terms.specs.LinkedSet.{is_stray}
-use Rattle.type_terms.proofs.Fitting.{head-shut, child-shut, next-shut, no-left, or-no}
+use Rattle.type_terms.proofs.Fitting.{head-shut, child-shut, next-shut, or-no}
 use Rattle.infer_table.specs.Solutions.{Assignment, instance, tree_of, IsSorted, HasValues}
 use Rattle.infer_table.specs.Content.{Table}
 use Rattle.infer_table.proofs.SolutionLaws.{instance-append}
 use Rattle.term_folds.specs.Arguments.{sort_at}
 use Rattle.overlap_check.specs.Fresh.{with_unknown, fresh_unknowns, HasArguments as Speaks}
-use Rattle.overlap_check.proofs.Standing.{Gives, default_node, fresh-lifetime}
+use Rattle.overlap_check.proofs.Standing.{Gives, default_node, fresh-lifetime, default-sorted as default-sort}
+use Rattle.type_terms.proofs.TermBasics.{joined}
+use Rattle.type_terms.proofs.Matching.{or-false-left as no-left}
 
 pub node : {l m : Label} {c d o p : Trees} → l ≡ m → c ≡ d → o ≡ p → tree l c o ≡ tree m d p
 node a b e = cc
-
-pub joined : {a b c d : Trees} → a ≡ b → c ≡ d → a +++ c ≡ b +++ d
-joined p q = cc
 
 pub no-type : of_type ≡ of_lifetime → ⊥
 no-type e = cc
@@ -150,17 +148,12 @@ closed_off (tree l c o) = tree (closing l) (closed_off c) (closed_off o)
 abbrev pub shut_by : Assignment → Assignment
 shut_by S k v = (closing (S k v).0, closed_off (S k v).1)
 
-default-shut : (k : Sort) → is_open (default_node k).0 ≡ false
+pub default-shut : (k : Sort) → is_open (default_node k).0 ≡ false
 default-shut of_type = refl
 default-shut of_const = refl
 default-shut of_lifetime = refl
 
-default-sort : (k : Sort) → sort_of (default_node k).0 ≡ k
-default-sort of_type = refl
-default-sort of_const = refl
-default-sort of_lifetime = refl
-
-closing-shut : (l : Label) → is_open (closing l) ≡ false
+pub closing-shut : (l : Label) → is_open (closing l) ≡ false
 closing-shut l = by (is_open l) refl
   where
     by : (b : Bool) → is_open l ≡ b → is_open (if b then (default_node (sort_of l)).0 else l) ≡ false
@@ -174,10 +167,10 @@ closing-sort l = by (is_open l)
     by true = default-sort (sort_of l)
     by false = refl
 
-closing-stays : (l : Label) → is_open l ≡ false → closing l ≡ l
+pub closing-stays : (l : Label) → is_open l ≡ false → closing l ≡ l
 closing-stays l e = ap (λ b. if b then (default_node (sort_of l)).0 else l) e
 
-closed-shut : (t : Trees) → some_node is_open (closed_off t) ≡ false
+pub closed-shut : (t : Trees) → some_node is_open (closed_off t) ≡ false
 closed-shut none = refl
 closed-shut (tree l c o) = or-no (is_open (closing l) || some_node is_open (closed_off c)) (some_node is_open (closed_off o)) (or-no (is_open (closing l)) (some_node is_open (closed_off c)) (closing-shut l) (closed-shut c)) (closed-shut o)
 
@@ -209,10 +202,6 @@ settled-unknown : (t : Table) (ks : List Sort) (d i : ℕ) → Settled (shift ze
 settled-unknown t [] d i = (refl, tt, tt)
 settled-unknown t (k ∷ ks) d zero = (tt, tt)
 settled-unknown t (k ∷ ks) d (suc i) = settled-unknown (with_unknown t k) ks d i
-
-not-stray : (l : Label) → is_stray l ≡ false → ((s : Sort) (i : ℕ) → l ≡ param s i → ⊥) → is_open l ≡ false
-not-stray (param s i) h n = absurd (n s i refl)
-not-stray l h n = h
 
 settled-put : (t0 : Table) (ks : List Sort) (d : ℕ) (t : Trees) → Speaks (fresh_unknowns t0 ks) t → Settled (instantiate d (fresh_unknowns t0 ks) t)
 settled-put t0 ks d none h = tt

@@ -1,7 +1,6 @@
 -- What the walk of a header over fresh unknowns says of an impl, and what is said of the impl of a number.
 use Rattle.std.proofs.Common.{◌≡◌, ℕ, zero, ◌<◌, ◌≤◌, ◌+◌, Bool, true, false, ◌||◌, ◌==◌, List, [], ◌∷◌, map, Option, Some, None, Result, Ok, Err, refl, sym, ap, ◌∙◌, subst, arith, ◌⊎◌, inl, inr}
 use Rattle.std.proofs.lemmas.Bool.Decides.{nat_tests}
-use Rattle.std.proofs.Math.Nat.{min-le_right}
 use Rattle.std.specs.Prelude.{if◌then◌else◌, IfOk}
 use Rattle.type_terms.specs.Trees.{Trees, erase, instantiate}
 use Rattle.type_terms.specs.Erased.{erased_reference, erased_impl}
@@ -11,8 +10,6 @@ use Rattle.type_terms.specs.Worlds.{World, Reference, ImplDecl}
 use Rattle.type_terms.proofs.Members.{here, in-filter, filter-in, in-cases, in-nothing}
 use Rattle.type_terms.specs.Terms.{Entry, Keeps, Lawful, trees_at}
 use Rattle.type_terms.specs.declared.Fault.{Fault}
-use Rattle.type_terms.specs.declared.ImplId.{ImplId}
-use Rattle.type_terms.specs.declared.TheConstants.{MAX_INDEX}
 use Rattle.type_terms.specs.declared.kinds.Ty.{Ty}
 use Rattle.declarations.specs.Held.{AreHeld, ImplHeld}
 use Rattle.declarations.specs.Items.{Items, HeldImpl, IsAbove, declared, impl_at, impl_in, reference_in}
@@ -33,9 +30,8 @@ use Rattle.overlap_check.specs.declared.header.ImplHeader.{ImplHeader}
 use Rattle.overlap_check.proofs.Headers.{same-entries, header-later, well-later}
 use Rattle.overlap_check.proofs.Opened.{fresh-opened, opened-visits}
 use Rattle.overlap_check.proofs.Written.{held-instantiable}
-
-first_id : ImplId
-first_id = record { index = 0; in_range = min-le_right 0 MAX_INDEX }
+use Rattle.type_terms.proofs.TypeBasics.{first_id}
+use Rattle.type_terms.proofs.NumberBasics.{is-number, other-number}
 
 -- ---- one header
 -- the header of a local trait keeps the rule
@@ -106,12 +102,6 @@ found-well es d h n def e = found-each (λ (x : ImplDef). IsWrittenWell es x × 
 same-number : (x y : ℕ) → x ≡ y → (x == y) ≡ true
 same-number x y e = grind (arith, nat_tests)
 
-is-number : (x y : ℕ) → (x == y) ≡ true → x ≡ y
-is-number x y e = grind (arith, nat_tests)
-
-other-number : (x y : ℕ) → (x == y) ≡ false → x ≡ y → ⊥
-other-number x y e f = grind (arith, nat_tests)
-
 module _ (V : World) (n : ℕ) where
   pub none-named : impls_named V n ≡ [] → (i : ImplDecl) → In i V.impls → i.name ≡ n → ⊥
   none-named e i h q = in-nothing i (subst (In i) e (filter-in (λ (x : ImplDecl). x.name == n) V.impls i h (same-number i.name n q)))
@@ -143,12 +133,6 @@ module _ (V : World) (n : ℕ) where
 -- the impls of c with numbers below keep the rule
 abbrev pub KeptBelow : World → ℕ → ℕ → Type 0
 KeptBelow V c n = (i : ImplDecl) → In i V.impls → i.home ≡ c → i.name < n → keeps_orphan_rule V c i.header ≡ true
-
-pub kept-none : (V : World) (c : ℕ) → KeptBelow V c 0
-kept-none V c i h e f = absurd (never f)
-  where
-    never : i.name < 0 → ⊥
-    never q = omega (arith, q)
 
 pub kept-more : (V : World) (c n : ℕ) (es : List Entry) → KeptBelow V c n → IsErrorOf V c n es None → KeptBelow V c (n + 1)
 kept-more V c n es below one i h e f = by (i.name == n) refl

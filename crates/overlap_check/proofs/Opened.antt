@@ -17,6 +17,9 @@ use Rattle.overlap_check.specs.Fresh.{with_unknown, fresh_unknowns, HasArguments
 use Rattle.overlap_check.specs.Headers.{empty_table}
 use Rattle.overlap_check.specs.Orphans.{HoldsParams}
 use Rattle.overlap_check.proofs.Instances.{node}
+use Rattle.type_terms.proofs.Made.{false-true as no-true}
+use Rattle.type_terms.proofs.TermBasics.{sort-self}
+use Rattle.type_terms.proofs.BooleanBasics.{same-three}
 
 -- ---- how many parameters before one are of its sort
 abbrev has_sort : Sort → Option Sort → Bool
@@ -72,9 +75,6 @@ sort-at t (k ∷ ks) zero = refl
 sort-at t (k ∷ ks) (suc i) = sort-at (with_unknown t k) ks i
 
 -- ---- what stands in trees
-no-true : false ≡ true → ⊥
-no-true e = cc
-
 three : (P : Type 0) (a b d : Bool) → (a ≡ true → P) → (b ≡ true → P) → (d ≡ true → P) → a || b || d ≡ true → P
 three P true b d f g h e = f refl
 three P false true d f g h e = g refl
@@ -120,9 +120,6 @@ same-label s v i (bound of_type k j) = refl
 same-label s v i (bound of_const k j) = refl
 same-label s v i l = refl
 
-same-three : {a b d x y z : Bool} → a ≡ x → b ≡ y → d ≡ z → (a || b || d) ≡ (x || y || z)
-same-three e f g = cc
-
 same-params : (s : Sort) → HasValues s → (i : ℕ) (t : Trees) → some_node (is_param s i) (erase t) ≡ some_node (is_param s i) t
 same-params s v i none = refl
 same-params s v i (tree l c o) = same-three (same-label s v i l) (same-params s v i c) (same-params s v i o)
@@ -131,11 +128,6 @@ not-lifetime : (s : Sort) → HasValues s → is_sort s of_lifetime ≡ false
 not-lifetime of_type v = refl
 not-lifetime of_const v = refl
 not-lifetime of_lifetime v = absurd v
-
-sort-self : (s : Sort) → is_sort s s ≡ true
-sort-self of_type = refl
-sort-self of_const = refl
-sort-self of_lifetime = refl
 
 module _ (sorts : List Sort) (args : Trees) (arguments : HasArguments (fresh_unknowns empty_table sorts) args) (holds : HoldsParams sorts args) where
   abbrev I : Trees

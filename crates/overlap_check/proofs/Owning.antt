@@ -17,6 +17,7 @@ use Rattle.infer_table.specs.Covers.{AreKnown}
 use Rattle.infer_table.proofs.Places.{in_terms, in_object, in_autos, AreTrees, AllTrees}
 use Rattle.infer_table.proofs.WellFacts.{parts-terms, followed-terms}
 use Rattle.infer_table.proofs.WithoutCanonical.{and-right}
+use Rattle.infer_table.proofs.TypeBasics.{some-one}
 
 -- the label is no canonical variable, and as an unknown it has a number below these
 abbrev pub IsOwn : (Sort → ℕ) → Label → Type 0
@@ -273,9 +274,6 @@ module _ (good : Label → Bool) (opens : (v : ℕ) → good (infer of_lifetime 
         (either t (same x y) (onward false t rest) (by_sort t k x y rest) (table, itself n, more) (by-kind k x y (followed-own e.0 p) (followed-own e.1 q))) tt
 
   -- ---- all of them
-  some-one : (t u : TableTrees) → Some t ≡ Some u → t ≡ u
-  some-one t u e = cc
-
   abbrev pub Ends : TableTrees → TableTrees → Type 0
   Ends t u = IsOwnTable u × NoFewer (unknowns_of t) (unknowns_of u)
 

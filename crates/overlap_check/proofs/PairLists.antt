@@ -12,6 +12,7 @@ use Rattle.declarations.specs.Relevant.{impls_named}
 use Rattle.declarations.specs.declared.items.ImplDef.{ImplDef}
 use Rattle.overlap_check.specs.Partners.{are_partners, IsPairAt, NoPairAt}
 use Rattle.overlap_check.proofs.Judged.{none-named, is-named, one-named, named-below}
+use Rattle.type_terms.proofs.BooleanBasics.{no-both}
 
 -- ---- the test
 both : (a b : Bool) → a && b ≡ true → (a ≡ true) × (b ≡ true)
@@ -46,9 +47,6 @@ or-before home c j k f = by (home == c) refl
 
 all-true : (a b d : Bool) → a ≡ true → b ≡ true → d ≡ true → a && (b && d) ≡ true
 all-true a b d e f g = ap (λ x. x && (b && d)) e ∙ ap (λ x. x && d) f ∙ g
-
-no-both : (b : Bool) → b ≡ true → b ≡ false → ⊥
-no-both b e f = cc
 
 -- ---- the impls of these numbers
 module _ (es : List Entry) (d : Items) (k j : ImplId) where

@@ -6,7 +6,7 @@ use Rattle.type_terms.specs.Erased.{erased_impl, erased_reference}
 use Rattle.type_terms.specs.Worlds.{Reference, ImplDecl}
 use Rattle.type_terms.specs.Proofs.{In}
 use Rattle.type_terms.specs.Answers.{is_open, is_variable, CommonInstance, FixedLeft, FixedRight}
-use Rattle.type_terms.proofs.Fitting.{child-shut, next-shut, no-left, or-no, not-true}
+use Rattle.type_terms.proofs.Fitting.{child-shut, next-shut, or-no, not-true}
 use Rattle.type_terms.proofs.Members.{in-map}
 use Rattle.type_terms.proofs.ProofEntries.{map-in}
 use Rattle.infer_table.specs.Solutions.{Assignment, Binding, instance, IsSorted, HasValues, occurs, resolved, Equates, HasNoSolution}
@@ -18,6 +18,7 @@ use Rattle.overlap_check.proofs.Standing.{default_node, assigned, assigned-sorte
 use Rattle.overlap_check.proofs.Instances.{IsShut, shut_by, shut-by-sorted, shut-by-shut, shut-equal, shut-instance, instance-put, own-gives, own-fits, own-shut}
 use Rattle.overlap_check.proofs.Solved.{Facts, proper-put, below-put, stays-known, fixed-known, plain-instance, some-solution}
 use Rattle.overlap_check.proofs.Covering.{all_values, values-fit, values-closed, filled-is, assigned-shut, clause-fits}
+use Rattle.type_terms.proofs.Matching.{or-false-left as no-left}
 
 variable-open : (l : Label) → is_open l ≡ false → is_variable l ≡ false
 variable-open (infer s i) h = cc

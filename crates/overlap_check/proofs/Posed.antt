@@ -1,10 +1,10 @@
 -- What is asked over the table of a pair speaks of the table's own unknowns.
 use Rattle.std.proofs.Common.{◌≡◌, ℕ, zero, suc, ◌<◌, ◌≤◌, arith, Bool, true, false, List, [], ◌∷◌, refl, sym, ap, subst, ◌||◌}
-use Rattle.type_terms.specs.Label.{Label, Sort, of_lifetime, infer, canonical, param, inside}
+use Rattle.type_terms.specs.Label.{Label, Sort, infer, canonical, param, inside}
 use Rattle.type_terms.specs.Trees.{Trees, none, tree, nth, shift, instantiate, some_node}
 use Rattle.type_terms.specs.Worlds.{Reference, with_args, all_with_args}
 use Rattle.type_terms.specs.Answers.{is_variable}
-use Rattle.type_terms.proofs.Fitting.{child-shut, next-shut, no-left, or-no}
+use Rattle.type_terms.proofs.Fitting.{child-shut, next-shut, or-no}
 use Rattle.type_terms.specs.Terms.{Entry, Keeps, Has, Lawful, args_lists, trees_at}
 use Rattle.type_terms.specs.Made.{terms, is_made, is_in_range}
 use Rattle.type_terms.proofs.Made.{made-weaker}
@@ -34,6 +34,8 @@ use Rattle.overlap_check.proofs.Headers.{pair-values}
 use Rattle.overlap_check.proofs.Solved.{ready-facts}
 use Rattle.overlap_check.proofs.Standing.{one-more, all-no-fewer}
 use Rattle.overlap_check.proofs.Values.{solution}
+use Rattle.type_terms.proofs.Matching.{or-false-left as no-left}
+use Rattle.infer_table.proofs.Basics.{opens}
 
 -- ---- unknowns in the place of parameters
 plain-label : (n : Sort → ℕ) (l : Label) → is_variable l ≡ false → IsOwn n l
@@ -70,9 +72,6 @@ fresh-own t (k ∷ ks) =
     (omega (arith, a, b), tt, fresh-own (with_unknown t k) ks)
 
 -- ---- terms of an interner
-opens : (v : ℕ) → is_numbered (infer of_lifetime v) ≡ true
-opens v = refl
-
 pub made : (es : List Entry) → Lawful es → (i : ℕ) → Has es args_lists i → AreTrees is_numbered in_terms (trees_at es i)
 made es lawful i h =
     trees-of is_numbered terms (trees_at es i)

@@ -1,10 +1,10 @@
 -- What the solutions of equated headers say of where-clauses.
 use Rattle.std.proofs.Common.{◌≡◌, ℕ, zero, suc, ◌≤◌, arith, Bool, true, false, if◌then◌else◌, List, [], ◌∷◌, refl, sym, ap, ◌∙◌, subst, Option, Some, None, ◌||◌, ◌⊎◌, inl, inr}
 use Rattle.type_terms.specs.Label.{Label, Sort, of_type, of_const, of_lifetime, infer, bool, value, static, param, inside}
-use Rattle.type_terms.specs.Trees.{Trees, none, tree, ◌+++◌, sort_of, erase, nth, shift, instantiate}
+use Rattle.type_terms.specs.Trees.{Trees, none, tree, sort_of, erase, nth, shift, instantiate}
 use Rattle.type_terms.proofs.Walking.{or-cases}
 use Rattle.type_terms.proofs.Members.{so-false}
-use Rattle.type_terms.proofs.Fitting.{no-left as or-left, no-right as or-right, or-no as or-both}
+use Rattle.type_terms.proofs.Fitting.{or-no as or-both}
 use Rattle.infer_table.specs.Solutions.{Assignment, Binding, instance, tree_of, IsSorted, HasValues, is_variable, occurs, resolved, value_in, Solves, Equates, IsCompletion}
 use Rattle.type_terms.specs.Terms.{Entry}
 use Rattle.infer_table.specs.Content.{Table, variables_of, content, Ready, IsProper}
@@ -14,6 +14,9 @@ use Rattle.infer_table.proofs.SolutionLaws.{is_variable-equal, is_variable-self,
 use Rattle.overlap_check.specs.Fresh.{with_unknown, with_unknowns, fresh_unknowns, HasArguments as Speaks}
 use Rattle.overlap_check.proofs.Standing.{default_node, default-sorted, one-more, all-no-fewer}
 use Rattle.overlap_check.proofs.Instances.{node, shut_by, shut-by-sorted, closing, closed_off, no-type, no-const}
+use Rattle.type_terms.proofs.Matching.{or-false-left as or-left, or-false-right as or-right}
+use Rattle.type_terms.proofs.Made.{false-true as no-true}
+use Rattle.infer_table.proofs.ResolveFacts.{proper-append as proper-joined}
 
 abbrev first : Trees → Trees
 first none = none
@@ -43,9 +46,6 @@ at-node S R c o e f k v h g = by (or-cases (occurs k v c) (occurs k v o) g)
     by : (occurs k v c ≡ true) ⊎ (occurs k v o ≡ true) → tree_of (S k v) ≡ tree_of (R k v)
     by (inl p) = e k v h p
     by (inr p) = f k v h p
-
-no-true : false ≡ true → ⊥
-no-true e = cc
 
 at-lifetime : (S R : Assignment) (w : ℕ) (o : Trees) → ((k : Sort) (v : ℕ) → HasValues k → occurs k v o ≡ true → tree_of (S k v) ≡ tree_of (R k v))
     → (k : Sort) (v : ℕ) → HasValues k → is_variable of_lifetime w k v || occurs k v o ≡ true → tree_of (S k v) ≡ tree_of (R k v)
@@ -96,11 +96,6 @@ unchanged S k v n (tree (infer of_lifetime w) c o) p h =
 unchanged S k v n (tree l c o) p h = node refl (unchanged S k v n c p.0 (or-left (occurs k v c) (occurs k v o) h)) (unchanged S k v n o p.1 (or-right (occurs k v c) (occurs k v o) h))
 
 -- ---- what stands in an impl's terms with unknowns put in
-proper-joined : (x y : Trees) → IsProper x → IsProper y → IsProper (x +++ y)
-proper-joined none y h g = g
-proper-joined (tree (infer k v) c o) y h g = (h.0, proper-joined o y h.1 g)
-proper-joined (tree l c o) y h g = (h.0, proper-joined o y h.1 g)
-
 proper-unknown : (t : Table) (ks : List Sort) (d i : ℕ) → IsProper (shift zero d (nth (fresh_unknowns t ks) i))
 proper-unknown t [] d i = (tt, tt)
 proper-unknown t (k ∷ ks) d zero = (refl, tt)

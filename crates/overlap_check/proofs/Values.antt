@@ -12,12 +12,10 @@ use Rattle.overlap_check.proofs.Standing.{own, own-sorted, own-is}
 use Rattle.overlap_check.proofs.Instances.{node}
 use Rattle.overlap_check.proofs.Covering.{run, all_values, filled-is, Known}
 use Rattle.overlap_check.proofs.Solved.{Facts}
+use Rattle.type_terms.proofs.BooleanBasics.{later-true}
+use Rattle.type_terms.proofs.NumberBasics.{place-here}
 
 -- ---- assignments that agree where a term has unknowns
-later-true : (a b : Bool) → b ≡ true → a || b ≡ true
-later-true true b e = refl
-later-true false b e = e
-
 first-true : (a b : Bool) → a ≡ true → a || b ≡ true
 first-true a b e = ap (λ x. x || b) e
 
@@ -43,9 +41,6 @@ given-sorted ks ts = λ k v. own-sorted k (unwrap_or (slice_get (of_kind k ks ts
 
 cons : (x y : Trees) (xs ys : List Trees) → x ≡ y → xs ≡ ys → x ∷ xs ≡ y ∷ ys
 cons x y xs ys p q = cc
-
-place-here : (i : ℕ) → i ≡ i + zero
-place-here i = omega arith
 
 place-next : (i v : ℕ) → suc i + v ≡ i + suc v
 place-next i v = omega arith

@@ -1,6 +1,5 @@
 -- The worked crates.
-use Rattle.std.proofs.Common.{◌≡◌, ◌<◌, ℕ, zero, suc, true, false, [], ◌∷◌, refl, ap, sym, ◌∙◌, subst, inl, inr, Some, arith}
-use Rattle.std.specs.List.{slice_get}
+use Rattle.std.proofs.Common.{◌≡◌, ◌<◌, ℕ, true, false, [], ◌∷◌, refl, ap, sym, ◌∙◌, subst, inl, inr, arith}
 use Rattle.type_terms.specs.Label.{adt}
 use Rattle.type_terms.specs.Trees.{none, leaf, erase}
 use Rattle.type_terms.specs.Worlds.{World, ImplDecl, Reference, with_args}
@@ -21,6 +20,7 @@ use Rattle.type_terms.proofs.ElaboratedProofs.{bare-proof}
 use Rattle.overlap_check.proofs.Possible.{bounded-possible}
 use Rattle.overlap_check.proofs.Contracts.{apart-cleared}
 use Rattle.overlap_check.proofs.Computing.{keeps-by, the-impl, first-by, one-pair}
+use Rattle.type_terms.proofs.TypeBasics.{only}
 
 -- the orphan rule
 pub foreign-leaf : ForeignLeaf
@@ -56,14 +56,6 @@ cleared-by-a-clause = (
     cleared = one-pair cleared_view first 101 100 show_for_a show_blanket refl refl refl (IsCleared cleared_view first) (by-num cleared_view refl refl) (apart-cleared cleared_view first);
   },
 )
-
--- refused
-only : (x k : Reference) (n : ℕ) → slice_get (x ∷ []) n ≡ Some k → x ≡ k
-only x k zero e = cc
-only x k (suc n) e = cc
-
-none-at : (n : ℕ) (k : Reference) → slice_get [] n ≡ Some k → ⊥
-none-at n k e = cc
 
 -- a header without parameters beside a blanket impl with one where-clause, which is possible
 module _ (V : World) (i j : ImplDecl) (m : CommonInstance i j) (k : Reference) (left : i.clauses ≡ []) (right : j.clauses ≡ k ∷ []) (p : is_possible 8 V first (with_args m.right k) ≡ true) where

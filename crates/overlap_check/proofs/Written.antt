@@ -1,12 +1,11 @@
 -- Terms as an interner makes them have their arguments.
 use Rattle.std.proofs.Common.{◌≡◌, ℕ, Bool, true, false, not, List, [], ◌∷◌, map, refl, sym, ap, subst, Option, Some, None, ◌&&◌, ◌||◌, cond, ◌⊎◌, inl, inr}
-use Rattle.std.specs.Option.{option_or}
 use Rattle.type_terms.specs.Label.{Label, Sort, of_type, of_const, of_lifetime, param, infer, dynamic, principal, auto_trait, predicate}
 use Rattle.type_terms.specs.Trees.{Trees, none, tree, erase, erase_label, sort_of, is_sort, is_no_tree, some_node}
 use Rattle.type_terms.specs.LinkedSet.{is_stray}
 use Rattle.type_terms.specs.Worlds.{Reference}
 use Rattle.type_terms.specs.Proofs.{In}
-use Rattle.type_terms.proofs.Fitting.{child-shut, next-shut, no-left}
+use Rattle.type_terms.proofs.Fitting.{child-shut, next-shut}
 use Rattle.type_terms.proofs.Walking.{left, right}
 use Rattle.type_terms.proofs.Members.{in-cases, in-nothing}
 use Rattle.type_terms.proofs.ProofEntries.{map-in}
@@ -14,7 +13,6 @@ use Rattle.type_terms.specs.Terms.{Entry, Has, Lawful, args_lists, trees_at}
 use Rattle.type_terms.specs.Made.{terms, bounds, traits, is_made, is_leaf_label, is_in_range}
 use Rattle.type_terms.specs.declared.ImplId.{ImplId}
 use Rattle.term_folds.specs.Arguments.{sort_at, misfit, first_misfit}
-use Rattle.term_folds.specs.declared.instantiate.InstantiateError.{InstantiateError}
 use Rattle.term_folds.specs.declared.instantiate.InstantiateError.TheVariants.{ParamKind}
 use Rattle.term_folds.specs.declared.predicate.TraitRef.{TraitRef}
 use Rattle.infer_table.specs.Content.{Table}
@@ -28,18 +26,9 @@ use Rattle.declarations.specs.declared.items.ImplDef.{ImplDef}
 use Rattle.overlap_check.specs.Fresh.{with_unknown, fresh_unknowns, HasArguments}
 use Rattle.overlap_check.specs.Goals.{IsInstantiable}
 use Rattle.overlap_check.specs.Written.{IsWrittenWell}
-
-none-sound : (t : Trees) → is_no_tree t ≡ true → t ≡ none
-none-sound none h = refl
-none-sound (tree l c o) h = cc
-
-first-none : (a b : Option InstantiateError) → option_or a b ≡ None → a ≡ None
-first-none None b h = refl
-first-none (Some e) b h = cc
-
-rest-none : (a b : Option InstantiateError) → option_or a b ≡ None → b ≡ None
-rest-none None b h = h
-rest-none (Some e) b h = absurd cc
+use Rattle.type_terms.proofs.Matching.{or-false-left as no-left}
+use Rattle.type_terms.proofs.TermBasics.{none-sound}
+use Rattle.term_folds.proofs.TypeBasics.{left-none as first-none, right-none as rest-none}
 
 fit-sort : (s : Sort) (o : Option Sort) → misfit s o ≡ None → o ≡ Some s
 fit-sort s None h = absurd cc

@@ -1,5 +1,5 @@
 -- Supertraits of a reference, without lifetimes.
-use Rattle.std.proofs.Common.{◌≡◌, ◌==◌, ℕ, zero, ◌<◌, List, [], ◌∷◌, ◌++◌, ap, sym, subst, map, None, true}
+use Rattle.std.proofs.Common.{◌≡◌, ◌==◌, ℕ, zero, ◌<◌, List, [], ◌∷◌, ap, sym, subst, map, None, true}
 use Rattle.type_terms.specs.Trees.{Trees, Fits, erase}
 use Rattle.type_terms.specs.Worlds.{World, Reference, TraitDecl, traits_named, with_args, all_with_args}
 use Rattle.type_terms.specs.Erased.{erased_reference, erased_trait, erased_world}
@@ -96,15 +96,3 @@ module _ (es : List Entry) (d : Items) (bounds : HaveBounds es d) (r : Reference
 pub above-later : (W : World) (r : Reference) (es fs : List Entry) → Keeps es fs → (xs : List TraitRef) → Each (IsAbove W r es) xs → Each (IsAbove W r fs) xs
 above-later W r es fs k [] h = tt
 above-later W r es fs k (s ∷ xs) h = ((reference-kept es fs k s h.0.0, subst (λ t. In t (strict_supertraits W r)) (sym (term-same es fs k s h.0.0)) h.0.1), above-later W r es fs k xs h.1)
-
-pub each-append : {A : Type 0} (P : A → Type 0) (xs ys : List A) → Each P xs → Each P ys → Each P (xs ++ ys)
-each-append P [] ys h g = g
-each-append P (x ∷ xs) ys h g = (h.0, each-append P xs ys h.1 g)
-
-pub each-front : {A : Type 0} (P : A → Type 0) (xs : List A) (x : A) → Each P (xs ++ x ∷ []) → Each P xs
-each-front P [] x h = tt
-each-front P (y ∷ xs) x h = (h.0, each-front P xs x h.1)
-
-pub each-end : {A : Type 0} (P : A → Type 0) (xs : List A) (x : A) → Each P (xs ++ x ∷ []) → P x
-each-end P [] x h = h.0
-each-end P (y ∷ xs) x h = each-end P xs x h.1

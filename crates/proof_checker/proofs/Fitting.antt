@@ -6,31 +6,9 @@ use Rattle.type_terms.specs.Trees.{Trees, none, tree, nth, sort_of, is_sort, is_
 use Rattle.type_terms.proofs.Walking.{left, right}
 use Rattle.type_terms.specs.Made.{terms, bounds, traits, is_made, is_leaf_label, is_in_range}
 use Rattle.term_folds.specs.Arguments.{sort_at, misfit, first_misfit}
-use Rattle.term_folds.specs.declared.instantiate.InstantiateError.{InstantiateError}
 use Rattle.term_folds.specs.declared.instantiate.InstantiateError.TheVariants.{ParamKind}
-
-none-sound : (t : Trees) → is_no_tree t ≡ true → t ≡ none
-none-sound none h = refl
-none-sound (tree l c o) h = cc
-
-first-none : (a b : Option InstantiateError) → option_or a b ≡ None → a ≡ None
-first-none None b h = refl
-first-none (Some e) b h = cc
-
-rest-none : (a b : Option InstantiateError) → option_or a b ≡ None → b ≡ None
-rest-none None b h = h
-rest-none (Some e) b h = absurd cc
-
-same-sort : (s r : Sort) → is_sort s r ≡ true → r ≡ s
-same-sort of_type of_type h = refl
-same-sort of_const of_const h = refl
-same-sort of_lifetime of_lifetime h = refl
-same-sort of_type of_const h = cc
-same-sort of_type of_lifetime h = cc
-same-sort of_const of_type h = cc
-same-sort of_const of_lifetime h = cc
-same-sort of_lifetime of_type h = cc
-same-sort of_lifetime of_const h = cc
+use Rattle.type_terms.proofs.TermBasics.{none-sound, same-sorts as same-sort}
+use Rattle.term_folds.proofs.TypeBasics.{left-none as first-none, right-none as rest-none}
 
 fit-sort : (s : Sort) (o : Option Sort) → misfit s o ≡ None → o ≡ Some s
 fit-sort s None h = absurd cc

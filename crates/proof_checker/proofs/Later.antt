@@ -16,9 +16,7 @@ use Rattle.proof_checker.specs.declared.steps.Way.{Way}
 use Rattle.proof_checker.specs.declared.steps.Way.TheVariants.{Impl, Clause, Supertrait, BuiltIn, Assumed}
 use Rattle.proof_checker.specs.declared.steps.Step.{Step}
 use Rattle.proof_checker.specs.Steps.{term_of, terms_of, steps_say, assumed_by, assumed_in, StepHeld, WayHeld}
-
-joined : (t u : Reference) (ts us : List Reference) → t ≡ u → ts ≡ us → t ∷ ts ≡ u ∷ us
-joined t u ts us q p = cc
+use Rattle.type_terms.proofs.TermBasics.{more as joined}
 
 together : (t u ts us : List Reference) → t ≡ u → ts ≡ us → t ++ ts ≡ u ++ us
 together t u ts us q p = cc

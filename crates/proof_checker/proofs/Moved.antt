@@ -9,11 +9,9 @@ use Rattle.declarations.specs.Merges.{Each}
 use Rattle.proof_checker.specs.declared.steps.Step.{Step}
 use Rattle.proof_checker.specs.Steps.{term_of, steps_say, at_places, StepHeld, AreEntriesOf, AreProof, AreProofOf}
 use Rattle.proof_checker.proofs.Later.{term-same, say-same, assumed-same}
+use Rattle.type_terms.proofs.TermBasics.{more as joined}
 
 -- ---- what entries conclude
-joined : (t u : Reference) (ts us : List Reference) → t ≡ u → ts ≡ us → t ∷ ts ≡ u ∷ us
-joined t u ts us q p = cc
-
 pub entries-say : (es : List Entry) (rs : List Reference) (ss : List Step) (ps : List proofs.ProofEntry) → AreEntriesOf es rs ss ps → map (λ (e : proofs.ProofEntry). e.of) ps ≡ steps_say es ss
 entries-say es rs [] [] h = refl
 entries-say es rs [] (e ∷ ps) h = absurd h

@@ -5,7 +5,7 @@ use Rattle.std.specs.List.{list_any, flat_map}
 use Rattle.type_terms.specs.Label.{Label, of_type, array, slice, ref, raw_pointer}
 use Rattle.type_terms.specs.Trees.{Trees, none, tree, leaf, ◌+++◌, IsA, erase, instantiate}
 use Rattle.type_terms.specs.Worlds.{World, ImplDecl, structs_named}
-use Rattle.type_terms.specs.Rules.{Rule, asked, each_asked, last_asked, together, same_head, auto_rules, auto_rules_plain, auto_struct, sized, sized_struct, row, fields_of}
+use Rattle.type_terms.specs.Rules.{asked, each_asked, last_asked, together, same_head, auto_rules, auto_rules_plain, auto_struct, sized, sized_struct, row, fields_of}
 use Rattle.type_terms.specs.Made.{terms, is_made, is_in_range}
 use Rattle.type_terms.specs.Kinds.{TysHeld, tys_trees}
 use Rattle.type_terms.specs.Kept.{has-later, trees-is, trees-later}
@@ -18,7 +18,8 @@ use Rattle.declarations.specs.Relevant.{next_above, relevant_impls}
 use Rattle.declarations.specs.Unsizing.{field_trees}
 use Rattle.proof_checker.specs.Rows.{AreFieldsOf, IsOneRow, each_asked_of, last_type}
 use Rattle.proof_checker.proofs.Fitting.{fits-of}
-use Rattle.proof_checker.proofs.TypeRows.{erase-append, tys-asked, tys-last}
+use Rattle.proof_checker.proofs.TypeRows.{tys-asked, tys-last}
+use Rattle.type_terms.proofs.TermBasics.{erase-append}
 
 -- ---- types found one after the other
 pub types-more : (now new : List Entry) → Keeps now new → (ts : List Ty) (t : Ty) → TysHeld now ts → Has new types t.0 → TysHeld new (ts ++ t ∷ [])
@@ -56,9 +57,6 @@ module _ (es new : List Entry) (law : Lawful es) (A : Trees) (made : is_made is_
       ∙ sym (erase-append (trees_at new v.0) (tys_trees new vs))
 
 -- ---- rows of structs
-one-of : (u : Rule) → (u ∷ []) ++ [] ≡ u ∷ []
-one-of u = refl
-
 pub struct-row : (V : World) (s : ℕ) (A : Trees) (es : List Entry) (t : ℕ) (ts : List Ty) → Lawful es → TysHeld es ts → AreFieldsOf V s A (erase (tys_trees es ts))
     → IsOneRow (flat_map (λ x. row auto_struct (each_asked t (fields_of x A))) (structs_named V s)) (each_asked_of es t ts)
 struct-row V s A es t ts law h a =

@@ -1,5 +1,5 @@
 -- References at places.
-use Rattle.std.proofs.Common.{◌≡◌, ◌<◌, ℕ, zero, suc, List, [], ◌∷◌, ◌++◌, length, take, refl, ap, sym, ◌∙◌, subst, Some, arith}
+use Rattle.std.proofs.Common.{◌≡◌, ◌<◌, ℕ, zero, suc, List, [], ◌∷◌, ◌++◌, length, take, ap, sym, ◌∙◌, subst, Some, arith}
 use Rattle.std.specs.List.{slice_get}
 use Rattle.type_terms.specs.Worlds.{Reference}
 use Rattle.declarations.specs.Merges.{Each}
@@ -28,7 +28,3 @@ shorter x xs ys e = subst (λ l. length ys < length l) (sym e) (next-above-it (l
   where
     next-above-it : (n : ℕ) → n < suc n
     next-above-it n = omega arith
-
-pub none-left : {A : Type 0} (xs : List A) → length xs ≡ 0 → xs ≡ []
-none-left [] e = refl
-none-left (x ∷ xs) e = absurd (omega (arith, e))

@@ -19,6 +19,7 @@ use Rattle.proof_checker.specs.Checked.{IsBuiltInRule}
 use Rattle.proof_checker.specs.Steps.{term_of, terms_of}
 use Rattle.proof_checker.proofs.Later.{term-same}
 use Rattle.proof_checker.specs.Rows.{each_asked_of, IsBuiltInWay, IsOneRow, HasOwnRule, HasRow, last_type}
+use Rattle.type_terms.proofs.TermBasics.{erase-append, more, skipped}
 
 -- ---- types in a row
 pub empty-of : {A : Type 0} (xs : List A) → (length xs == 0) ≡ true → xs ≡ []
@@ -27,10 +28,6 @@ empty-of (x ∷ xs) h = grind (arith, nat_tests)
 
 pub type-is : (es : List Entry) → Lawful es → (i : ℕ) → Has es types i → IsA of_type (trees_at es i)
 type-is es law i h = subst (IsA of_type) (sym (trees-is es types i h.0 h.1)) ((law.sorted i _ h.1).as_type refl)
-
-pub erase-append : (x y : Trees) → erase (x +++ y) ≡ erase x +++ erase y
-erase-append none y = refl
-erase-append (tree l c o) y = ap (λ z. tree (erase_label l) (erase c) z) (erase-append o y)
 
 one-asked : (t : ℕ) (x y : Trees) → IsA of_type x → each_asked t (erase x +++ y) ≡ asked t (erase x) ∷ each_asked t y
 one-asked t none y h = absurd h
@@ -56,13 +53,6 @@ pub last-is : (ts : List Ty) (x : Ty) → last_type (ts ++ x ∷ []) ≡ x ∷ [
 last-is [] x = refl
 last-is (t ∷ []) x = refl
 last-is (t ∷ u ∷ ts) x = last-is (u ∷ ts) x
-
--- what stands before others does not count
-skipped : (t : ℕ) (x y : Trees) (r : Reference) → last_asked t y ≡ r ∷ [] → last_asked t (x +++ y) ≡ r ∷ []
-skipped t x none r e = absurd cc
-skipped t none (tree m d p) r e = e
-skipped t (tree l c none) (tree m d p) r e = e
-skipped t (tree l c (tree n b o)) (tree m d p) r e = skipped t (tree n b o) (tree m d p) r e
 
 pub tys-last : (es : List Entry) → Lawful es → (t : ℕ) (ts : List Ty) → TysHeld es ts → last_asked t (erase (tys_trees es ts)) ≡ each_asked_of es t (last_type ts)
 tys-last es law t [] h = refl
@@ -179,9 +169,6 @@ built-in-rule V E t s ps u =
     )
 
 -- ---- references while the interner grows
-more : (t u : Reference) (ts us : List Reference) → t ≡ u → ts ≡ us → t ∷ ts ≡ u ∷ us
-more t u ts us q p = cc
-
 pub one-more-term : (es fs : List Entry) → Keeps es fs → (rs : List TraitRef) (r : TraitRef) (x : Reference) (ys : List Reference) → TraitRefsHeld es rs → term_of fs r ≡ x
     → terms_of fs (rs ++ r ∷ []) ++ ys ≡ terms_of es rs ++ (x ∷ ys)
 one-more-term es fs k [] r x ys h e = ap (λ z. z ∷ ys) e

@@ -1,13 +1,11 @@
 -- How the walk along the results of a goal meets each of them.
-use Rattle.std.proofs.Common.{◌≡◌, ℕ, zero, suc, ◌+◌, ◌<◌, ◌≤◌, sym, ap, refl, ◌∙◌, Bool, true, false, cond, nat_eq, List, [], ◌∷◌, ◌++◌, length, get_or, slice_get, take, set, subst, if◌then◌else◌, Option, Some, None, Result, Ok, Err, IfOk, IfSome, IfNone, ◌⊎◌, inl, inr, arith}
+use Rattle.std.proofs.Common.{◌≡◌, ℕ, zero, suc, ◌+◌, ◌<◌, ◌≤◌, sym, ap, refl, ◌∙◌, Bool, true, false, cond, nat_eq, List, [], ◌∷◌, ◌++◌, length, get_or, slice_get, take, set, subst, Option, Some, None, Result, Ok, Err, IfOk, IfSome, IfNone, ◌⊎◌, inl, inr, arith}
 use Rattle.std.proofs.lemmas.Bool.{eqb-true, eq-eqb}
 use Rattle.std.proofs.lemmas.Option.{none-some, same_Some, slice_get_within}
 use Rattle.search_graph.specs.declared.cache.CacheEntry.{CacheEntry}
 use Rattle.search_graph.specs.declared.cache.Asked.{Asked}
-use Rattle.search_graph.specs.Chain.{newest_from, newest_of, AreLinked, IsUsedUnder, used, further, IsAskedUnder, IsUsable}
-use Rattle.indexmap.specs.IndexSet.{insert_key}
-use Rattle.std.specs.List.{list_any}
-use Rattle.search_graph.proofs.Faithfuls.{true_not_false}
+use Rattle.search_graph.specs.Chain.{newest_from, newest_of, AreLinked, IsUsedUnder, IsAskedUnder, IsUsable}
+use Rattle.type_terms.proofs.BooleanBasics.{true-false as true_not_false}
 
 module _ {X : Type 0} where
   pub slice_get_take : (xs : List X) (k i : ℕ) → i < k → slice_get (take k xs) i ≡ slice_get xs i
@@ -177,30 +175,6 @@ module _ {I R : Type 0} where
 -- each of these places is the first one, or that of a result that was used under it
 abbrev pub IsReached : List Asked → ℕ → List ℕ → Type 0
 IsReached es place keys = (j q : ℕ) → slice_get keys j ≡ Some q → ((j ≡ 0) × (q ≡ place)) ⊎ IsUsedUnder es place q
-
-pub reached_first : (es : List Asked) (place : ℕ) → IsReached es place (place ∷ [])
-reached_first es place zero q at = inl (refl, sym (same_Some place q at))
-reached_first es place (suc j) q at = absurd (none-some q at)
-
-pub reached_insert : (es : List Asked) (place below : ℕ) (keys : List ℕ) → IsReached es place keys → IsUsedUnder es place below → IsReached es place (insert_key nat_eq keys below)
-reached_insert es place below keys reached under = by (list_any (nat_eq below) keys)
-  where
-    last : (j q : ℕ) → ((j < length keys) × (slice_get keys j ≡ Some q)) ⊎ ((j ≡ length keys) × (below ≡ q)) → ((j ≡ 0) × (q ≡ place)) ⊎ IsUsedUnder es place q
-    last j q (inl (within, at)) = reached j q at
-    last j q (inr (end, is)) = inr (subst (IsUsedUnder es place) is under)
-
-    by : (b : Bool) → IsReached es place (if b then keys else keys ++ below ∷ [])
-    by true = reached
-    by false = λ j q at. last j q (push_cases keys below q j at)
-
--- what was used by a reached result is used under the first one
-pub reached_used : (es : List Asked) (place j q : ℕ) (e : Asked) (keys : List ℕ) → IsReached es place keys → slice_get keys j ≡ Some q → slice_get es q ≡ Some e
-    → (i below : ℕ) → slice_get e.nested_goals.cached.items i ≡ Some below → IsUsedUnder es place below
-reached_used es place j q e keys reached at entry i below is = by (reached j q at)
-  where
-    by : ((j ≡ 0) × (q ≡ place)) ⊎ IsUsedUnder es place q → IsUsedUnder es place below
-    by (inl (first, same)) = used i (subst (λ p. slice_get es p ≡ Some e) same entry) is
-    by (inr under) = further i under entry is
 
 -- and so is what it asked
 pub reached_asked : (es : List Asked) (place j q : ℕ) (e : Asked) (keys : List ℕ) → IsReached es place keys → slice_get keys j ≡ Some q → slice_get es q ≡ Some e

@@ -1,6 +1,6 @@
 -- Runs that follow plain recursion, over heads.
 use Rattle.std.proofs.Common.{◌≡◌, ◌≤◌, ◌+◌, ℕ, suc, zero, pred, Bool, true, false, cond, ◌||◌, List, [], ◌∷◌, ◌++◌, ◌⊎◌, inl, inr, refl, sym, ◌∙◌, subst, Some, slice_get, length, arith}
-use Rattle.std.proofs.lemmas.Option.{slice_get_within, none-some}
+use Rattle.std.proofs.lemmas.Option.{slice_get_within}
 use Rattle.search_graph.specs.declared.path_kind.PathKind.{PathKind}
 use Rattle.search_graph.specs.declared.delegate.Request.TheVariants.{Evaluate, EnterCandidate, FinishCandidate, IgnoreCandidate, Done}
 use Rattle.search_graph.specs.declared.delegate.Reply.{Reply}
@@ -13,9 +13,7 @@ use Rattle.search_graph.specs.Plain.{Completes, IsPlain, IsNotPlain, Descends}
 use Rattle.search_graph.specs.Faithful.{IsHead, HeadsDescend, AllDescend, IsUntouched, IsTold, IsFaithful, IsOnPlainTrack, IsKept}
 use Rattle.search_graph.proofs.Graphs.{step_at}
 use Rattle.search_graph.proofs.Plains.{cycle_is_not_plain, Descends-trans, question_descends, on_track_first, on_track_done, asked, entered_next, finished_next, ignored_next}
-
-pub true_not_false : true ≡ false → ⊥
-true_not_false e = cc
+use Rattle.type_terms.proofs.BooleanBasics.{true-false as true_not_false}
 
 -- what a nested goal promises is what the asking one wants
 pub reach_within : (overflowed : Bool) (depth nested : ℕ) → (overflowed ≡ false → nested + 1 ≡ depth) → cond overflowed 0 depth ≤ nested + 1
@@ -44,10 +42,6 @@ slice_get_last (x ∷ xs) y s (suc place) h = slice_get_last xs y s place h
 module _ {C I R F : Type 0} (m : Meaning C I R F) where
   Descends-less : (w : m.World) (limit less : ℕ) (g h : m.Goal) → less ≤ limit → Descends m w limit g h → Descends m w less g h
   Descends-less w limit less g h l d n b within p = d n b (omega arith) p
-
-  -- no goal is on the empty stack
-  pub none_descend : (w : m.World) (limit : ℕ) (g : m.Goal) → AllDescend m w limit [] g
-  none_descend w limit g place s at = absurd (none-some s at)
 
   pub all_heads_descend : (w : m.World) (limit : ℕ) (heads : List ℕ) (steps : List (m.Goal × PathKind)) (g : m.Goal) → AllDescend m w limit steps g → HeadsDescend m w limit heads steps g
   all_heads_descend w limit heads steps g d place s head at = d place s at

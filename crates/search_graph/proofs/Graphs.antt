@@ -451,15 +451,6 @@ module _ {C I R F : Type 0} (m : Meaning C I R F) where
       AreCached-push (m.world d) d es e (AreCached-later c d es keeps cached)
       (record { known = (keeps.inputs e.input known).0; result = rw (keeps.world, (keeps.inputs e.input known).1, copy) (IsProvisional-keeps (m.world c) [] (m.goal_of c e.input, Inductive) [] c d r keeps p); kept = rw (keeps.world, (keeps.inputs e.input known).1, copy, (keeps.results r p.known).1) kept })
 
-  pub IsAnswer-keeps : (w : m.World) (steps : List (m.Goal × PathKind)) (q : m.Goal × PathKind) (heads : List ℕ) (c d : C) (r : R) → Keeps m c d → IsAnswer m w steps q heads c r → IsAnswer m w steps q heads d r
-  IsAnswer-keeps w steps q heads c d r keeps h = record {
-    known = (keeps.results r h.known).0;
-    fair = rw (keeps.results r h.known).1 h.fair;
-    source = rw (keeps.results r h.known).1 h.source;
-    below = h.below;
-    yes = λ y. h.yes (rw (keeps.results r h.known).1 at y);
-  }
-
   -- an overflow stands anywhere
   pub overflow_stands : (w : m.World) (steps : List (m.Goal × PathKind)) (q : m.Goal × PathKind) (heads : List ℕ) (c : C) (r : R) (a : m.Answer) → m.IsResult c r → m.answer_of c r ≡ a → m.is_yes a ≡ false → IsFair m w q.0 a → IsGiven m w q.0 a
       → IsProvisional m w steps q heads c r

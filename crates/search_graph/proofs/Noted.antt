@@ -10,7 +10,7 @@ use Rattle.search_graph.specs.Nested.{IsWithin}
 use Rattle.search_graph.specs.Chain.{IsAskedUnder, AreCovered, IsNotedBy, KeepsNoted, AreNoted}
 use Rattle.search_graph.proofs.Chains.{push_cases, get_or_set}
 use Rattle.search_graph.proofs.Ranges.{all_at, all_from, asked_within, used_older}
-use Rattle.search_graph.proofs.Faithfuls.{true_not_false}
+use Rattle.type_terms.proofs.BooleanBasics.{true-false as true_not_false}
 
 noted_later_place : (first : List ℕ) (place later n : ℕ) → place ≤ later → IsNotedBy first place n → IsNotedBy first later n
 noted_later_place first place later n h noted = (noted.0, omega (arith, h, noted.1))

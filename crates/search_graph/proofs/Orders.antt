@@ -1,27 +1,14 @@
 -- Orders of places and of counts, on numbers alone.
 use Rattle.std.proofs.Common.{◌≡◌, ℕ, ◌+◌, ◌-◌, ◌^◌, ◌<◌, ◌≤◌, min, arith}
 
--- a place within the first n of a list of this length
-pub in_path : (low n length : ℕ) → low ≤ n → length ≡ n → low ≤ length
-in_path low n length h e = omega arith
-
-pub past_path : (low n length : ℕ) → n ≤ low → length ≡ n → length ≤ low
-past_path low n length h e = omega arith
-
 pub from_zero : (n m : ℕ) → n ≡ 0 → n ≤ m
 from_zero n m e = omega arith
-
-pub within_equal : (n m : ℕ) → n ≡ m → n ≤ m
-within_equal n m e = omega arith
 
 pub within_more : (n m k : ℕ) → n ≤ m → m ≤ k → n ≤ k
 within_more n m k h l = omega arith
 
 pub less_within : (n m k : ℕ) → n < m → m ≤ k → n < k
 less_within n m k h l = omega arith
-
-pub least_within : (new old other n : ℕ) → new ≡ min old other → old ≤ n → new ≤ n
-least_within new old other n e h = omega arith
 
 -- counts of frames: none was started, or one
 pub none_started : (now first x : ℕ) → now ≡ first → now ≤ first + x

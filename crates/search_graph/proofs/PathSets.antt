@@ -1,5 +1,5 @@
 -- Sets of paths that are extended.
-use Rattle.std.proofs.Common.{◌≡◌, ℕ, ◌-◌, ◌^◌, ◌<◌, ◌≤◌, ◌⊎◌, ◌↔◌, inl, inr, min, max, Option, Some, refl, sym, ap, subst, ◌∙◌, arith}
+use Rattle.std.proofs.Common.{◌≡◌, ℕ, ◌-◌, ◌^◌, ◌<◌, ◌≤◌, ◌⊎◌, inl, inr, min, max, Option, Some, refl, sym, ap, subst, ◌∙◌, arith}
 use Rattle.std.specs.Int.{bit_at, w64}
 use Rattle.std.specs.Int.RustNames.{bit_and, bit_or}
 use Rattle.std.proofs.lemmas.Nat.{and_le_r, pow_pos, pow_below}
@@ -9,19 +9,6 @@ use Rattle.search_graph.specs.declared.path_kind.PathKind.{PathKind}
 use Rattle.search_graph.specs.declared.path_kind.PathKind.TheVariants.{Inductive, Unknown, Coinductive, ForcedAmbiguity}
 use Rattle.search_graph.specs.Path.{greater, after, flag_of, HasPath, only, AreExtendedBy, AreExtendedWhere, AreExtendedByEach}
 use Rattle.search_graph.proofs.KindOrder.{same_flag, path_at, flag_of-path_at, flag_of-below, flag_of-after, after-twice}
-
--- the set of a path has that path alone
-pub only-alone : (path other : Option PathKind) → HasPath (only path) other ↔ (other ≡ path)
-only-alone path other = (to, from)
-  where
-    to : HasPath (only path) other → other ≡ path
-    to h = elim (cases_eq (flag_of other) (flag_of path)) [
-      | inl e ↦ same_flag other path e
-      | inr ne ↦ let none = bit_at-pow_other (flag_of path) (flag_of other) ne in absurd (omega arith)
-    ]
-
-    from : other ≡ path → HasPath (only path) other
-    from e = subst (λ p. HasPath (only path) p) (sym e) (bit_at-pow_same (flag_of path))
 
 -- where no path is lesser, each stays
 stays : (k : PathKind) (n : ℕ) → ((i : ℕ) → i < flag_of (Some k) → bit_at n i ≡ 0) → AreExtendedBy k n n

@@ -2,9 +2,9 @@
 use Rattle.std.proofs.Common.{◌≡◌, ℕ, suc, ◌+◌, ◌-◌, ◌<◌, sym, ap, refl, ◌∙◌, Bool, true, false, cond, nat_eq, find, List, [], ◌∷◌, ◌++◌, length, slice_get, Option, Some, None, Result, Ok, Err, IsOk, is_ok, IfSome, IfNone, if◌then◌else◌, ◌⊎◌, inl, inr, arith}
 use Rattle.std.proofs.lemmas.Bool.{eqb-true, eq-eqb}
 use Rattle.std.proofs.lemmas.Option.{none-some, same_Some}
-use Rattle.search_graph.proofs.Faithfuls.{true_not_false}
 use Rattle.search_graph.specs.declared.stack.StackEntry.{StackEntry}
 use Rattle.search_graph.specs.Stack.{place_from, place_of, oldest_of, span_of_newest}
+use Rattle.type_terms.proofs.BooleanBasics.{true-false as true_not_false}
 
 nat_eq_sym : (a b : ℕ) → nat_eq a b ≡ nat_eq b a
 nat_eq_sym a b = by (nat_eq a b) refl (nat_eq b a) refl

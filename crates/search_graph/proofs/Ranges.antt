@@ -20,7 +20,7 @@ use Rattle.search_graph.specs.Stack.{place_from, place_of, span_of_newest}
 use Rattle.search_graph.proofs.Chains.{IsReached, slice_get_take, take_left, take_whole, push_cases}
 use Rattle.search_graph.proofs.Caches.{KeepsResults-push}
 use Rattle.search_graph.proofs.Places.{newest_at}
-use Rattle.search_graph.proofs.Faithfuls.{true_not_false}
+use Rattle.type_terms.proofs.BooleanBasics.{true-false as true_not_false}
 
 pub all_at : {X : Type 0} (P : X → Type 0) (xs : List X) (i : ℕ) (x : X) → All P xs → slice_get xs i ≡ Some x → P x
 all_at P xs i x h at = subst P (get_or_from_slice_get xs i x x at) (h i x (slice_get_within xs i x at))
@@ -366,12 +366,6 @@ module _ {I R : Type 0} where
   pub ranges_pop : (es : List (StackEntry I R)) (x : StackEntry I R) → AreInRanges (es ++ x ∷ []) → AreInRanges es
   ranges_pop es x h low high d e at-d at-e le = h low high d e (KeepsResults-push es x low d at-d) (KeepsResults-push es x high e at-e) le
 
-  pub ranges_none : AreInRanges {I = I} {R = R} []
-  ranges_none low high d e at-d at-e le = absurd (none-some d at-d)
-
-pub covered_none : AreCovered []
-covered_none place e at = absurd (none-some e at)
-
 -- a goal of this number is listed there
 pub listed_at : (asked : List Asked) (place number : ℕ) → slice_get (numbers_of asked) place ≡ Some number → (a : Asked) × (slice_get asked place ≡ Some a) × (a.number ≡ number)
 listed_at [] place number at = absurd (none-some number at)
@@ -385,9 +379,6 @@ number_at (b ∷ asked) (suc place) a at = number_at asked place a at
 
 -- each result names what was asked under its goal
 module _ {I R : Type 0} where
-  pub recorded_none : (asked : List Asked) → AreRecorded {I = I} {R = R} [] asked
-  recorded_none asked place e at = absurd (none-some e at)
-
   -- after more was asked
   pub recorded_later : (es : List (CacheEntry I R)) (asked later : List Asked) → KeepsResults asked later → AreRecorded es asked → AreRecorded es later
   recorded_later es asked later stay h place e at =

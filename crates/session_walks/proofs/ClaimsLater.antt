@@ -7,7 +7,6 @@ use Rattle.type_terms.specs.Worlds.{World, Reference}
 use Rattle.term_folds.specs.declared.predicate.TraitRef.{TraitRef}
 use Rattle.text_definitions.specs.Declarations.{Declarations}
 use Rattle.declarations.specs.Merges.{Each}
-use Rattle.declarations.proofs.Growth.{reference-same}
 use Rattle.orphan_check.specs.declared.errors.Conflict.{Conflict}
 use Rattle.goal_walk.specs.Walking.{ReferencesHeld}
 use Rattle.goal_walk.specs.declared.nodes.GoalWalk.{GoalWalk}
@@ -16,19 +15,15 @@ use Rattle.proof_checker.specs.Steps.{term_of, terms_of}
 use Rattle.proof_checker.proofs.Later.{term-same, terms-same}
 use Rattle.sessions.specs.Promises.{view_in}
 use Rattle.sessions.specs.Subjects.{Subject, StaysOn}
-use Rattle.session_walks.specs.Adding.{MayAdd}
 use Rattle.session_walks.specs.Claims.{AddersHold, ClaimsHold, IsUnseenAt, MayAddAt, UnseenHold}
 use Rattle.session_walks.specs.Refusals.{HoldsAt, IsRefusedAt, IsRefusedGoal}
-use Rattle.session_walks.specs.Rules.{AreChecked, IsRuleAt, MayApplyAt, HasNoImplAt, HasNoImpl, HasNoRowAt, HasNoRow, MayHaveRule}
-use Rattle.session_walks.specs.Unseen.{IsUnseen}
+use Rattle.session_walks.specs.Rules.{AreChecked, IsRuleAt, MayApplyAt, HasNoImplAt, HasNoImpl, MayHaveRule}
 use Rattle.session_walks.specs.declared.walks.CheckedCandidates.{CheckedCandidates}
 use Rattle.session_walks.specs.declared.adding.Adder.{Adder}
 use Rattle.session_walks.specs.declared.claims.Claims.{Claims}
-use Rattle.session_walks.proofs.RuleCandidates.{there-held, all-held, each-put}
-
-each-map : {A : Type 0} (P Q : A → Type 0) → ((x : A) → P x → Q x) → (xs : List A) → Each P xs → Each Q xs
-each-map P Q f [] h = tt
-each-map P Q f (x ∷ xs) h = (f x h.0, each-map P Q f xs h.1)
+use Rattle.session_walks.proofs.RuleCandidates.{there-held, all-held}
+use Rattle.declarations.proofs.Growth.{each-kept as each-map}
+use Rattle.declarations.proofs.Basics.{each-push as each-put}
 
 -- ---- while the interner grows
 module _ (es now : List Entry) (k : Keeps es now) (V : World) (c : ℕ) (w : GoalWalk) (held : ReferencesHeld es w.references.items) where
@@ -82,17 +77,8 @@ module _ (es now : List Entry) (k : Keeps es now) (V : World) (c : ℕ) (w : Goa
   holds-later : (p : ℕ) → HoldsAt es V rs p → HoldsAt now V rs p
   holds-later p x = (x.0, x.1, subst (HasProof V []) (same p x.0 x.1) x.2)
 
-  unseen-later : (x : ℕ × Option Conflict) → IsUnseenAt es V c rs x → IsUnseenAt now V c rs x
-  unseen-later x i = (i.0, i.1, subst (λ (r : Reference). IsUnseen V c r x.1) (sym (reference-same es now k i.0 (there-held es rs x.0 i.0 held i.1))) i.2)
-
-  adder-later : (x : ℕ × Adder) → MayAddAt es V c rs x → MayAddAt now V c rs x
-  adder-later x i = (i.0, i.1, subst (λ (r : Reference). MayAdd V c r x.1) (sym (reference-same es now k i.0 (there-held es rs x.0 i.0 held i.1))) i.2)
-
   no-impl-later : HasNoImplAt es V rs 0 → HasNoImplAt now V rs 0
   no-impl-later x = (x.0, x.1, subst (HasNoImpl V) (same 0 x.0 x.1) x.2)
-
-  no-row-later : HasNoRowAt es V rs 0 → HasNoRowAt now V rs 0
-  no-row-later x = (x.0, x.1, subst (HasNoRow V) (same 0 x.0 x.1) x.2)
 
 -- ---- while a session stays on
 module _ (s t : Subject) (on : StaysOn s t) (w : GoalWalk) (held : ReferencesHeld s.terms w.references.items) where
@@ -111,29 +97,8 @@ module _ (s t : Subject) (on : StaysOn s t) (w : GoalWalk) (held : ReferencesHel
   pub holds-on : (ps : List ℕ) → Each (HoldsAt s.terms V w.references.items) ps → Each (HoldsAt t.terms (view_in t.declarations t.of_crate) w.references.items) ps
   holds-on ps h = moved (λ d k. Each (HoldsAt t.terms (view_in d k) w.references.items) ps) (each-map _ _ (holds-later s.terms t.terms on.terms V s.of_crate w held) ps h)
 
-  pub unseen-on : (xs : List (ℕ × Option Conflict)) → UnseenHold s w xs → UnseenHold t w xs
-  unseen-on xs h = moved (λ d k. Each (IsUnseenAt t.terms (view_in d k) k w.references.items) xs) (each-map _ _ (unseen-later s.terms t.terms on.terms V s.of_crate w held) xs h)
-
-  pub adders-on : (xs : List (ℕ × Adder)) → AddersHold s w xs → AddersHold t w xs
-  adders-on xs h = moved (λ d k. Each (MayAddAt t.terms (view_in d k) k w.references.items) xs) (each-map _ _ (adder-later s.terms t.terms on.terms V s.of_crate w held) xs h)
-
   pub no-impl-on : HasNoImplAt s.terms V w.references.items 0 → HasNoImplAt t.terms (view_in t.declarations t.of_crate) w.references.items 0
   no-impl-on h = moved (λ d k. HasNoImplAt t.terms (view_in d k) w.references.items 0) (no-impl-later s.terms t.terms on.terms V s.of_crate w held h)
-
-  no-row-on : HasNoRowAt s.terms V w.references.items 0 → HasNoRowAt t.terms (view_in t.declarations t.of_crate) w.references.items 0
-  no-row-on h = moved (λ d k. HasNoRowAt t.terms (view_in d k) w.references.items 0) (no-row-later s.terms t.terms on.terms V s.of_crate w held h)
-
-  -- all claims
-  pub claims-on : (x : Claims) → ClaimsHold s w x → ClaimsHold t w x
-  claims-on x h = record {
-    candidates = checked-on x.candidates h.candidates;
-    refused = refused-on x.refused.items h.refused;
-    held = holds-on x.held.items h.held;
-    unseen = unseen-on x.unseen.items h.unseen;
-    adders = adders-on x.adders.items h.adders;
-    no_impl = λ e. no-impl-on (h.no_impl e);
-    no_built_in_rule = λ e. no-row-on (h.no_built_in_rule e);
-  }
 
 -- ---- few claims
 pub none-held : {A : Type 0} (P : A → Type 0) (xs : List A) → xs ≡ [] → Each P xs

@@ -8,7 +8,7 @@ use Rattle.type_terms.specs.LinkedSet.{is_stray}
 use Rattle.type_terms.specs.Rules.{by_impl, impl_rules}
 use Rattle.type_terms.specs.Worlds.{Reference, ImplDecl, with_args, all_with_args}
 use Rattle.type_terms.specs.Terms.{Entry, Keeps, trees_at}
-use Rattle.type_terms.proofs.Fitting.{no-left, or-no, child-shut, next-shut}
+use Rattle.type_terms.proofs.Fitting.{child-shut, next-shut}
 use Rattle.term_folds.specs.declared.predicate.TraitRef.{TraitRef}
 use Rattle.declarations.specs.Held.{ReferenceHeld}
 use Rattle.declarations.specs.declared.items.ImplDef.{ImplDef}
@@ -17,29 +17,21 @@ use Rattle.infer_table.specs.Content.{Table, Grows, content, variables_of}
 use Rattle.infer_table.specs.Covers.{AreKnown}
 use Rattle.infer_table.specs.Solutions.{Assignment, IsSorted, HasNoSolution, instance}
 use Rattle.infer_table.proofs.SolutionLaws.{instance-erase}
-use Rattle.overlap_check.specs.Fresh.{with_unknown, with_unknowns, fresh_unknowns, HasArguments}
+use Rattle.overlap_check.specs.Fresh.{with_unknowns, fresh_unknowns, HasArguments}
 use Rattle.overlap_check.specs.Headers.{sorts_of_impl, unknowns_for, with_unknowns_for, args_at, IsHeaderOver}
 use Rattle.overlap_check.specs.ImplRules.{ImplRulesAreInstances}
 use Rattle.overlap_check.specs.declared.header.ImplHeader.{ImplHeader}
-use Rattle.overlap_check.proofs.Instances.{node, joined, shut-stays, nth-shut, instance-put, closing, closed_off, shut_by, shut-by-sorted}
+use Rattle.overlap_check.proofs.Instances.{node, shut-stays, nth-shut, instance-put, closing, closed_off, shut_by, shut-by-sorted, closing-stays, closed-shut}
 use Rattle.overlap_check.proofs.Standing.{default_node, default-sorted, assigned as taking, assigned-sorted, assigned-older, fresh-gives, all-no-fewer}
 use Rattle.session_walks.specs.Rules.{HasNoRuleBy}
 use Rattle.session_walks.specs.Unknowns.{speaks_of_known}
 use Rattle.session_walks.proofs.OwnTerms.{IsOwn, here, below, behind, own, speaks-known}
+use Rattle.type_terms.proofs.TermBasics.{joined}
+use Rattle.type_terms.proofs.Matching.{or-false-left as no-left}
+use Rattle.type_terms.proofs.BooleanBasics.{true-false as no-true}
+use Rattle.overlap_check.proofs.Unknowns.{fresh-constraints as same-constraints, fresh-values as same-values}
 
 -- ---- open places closed
-default-shut : (k : Sort) → is_open (default_node k).0 ≡ false
-default-shut of_type = refl
-default-shut of_const = refl
-default-shut of_lifetime = refl
-
-closing-shut : (l : Label) → is_open (closing l) ≡ false
-closing-shut l = by (is_open l) refl
-  where
-    by : (b : Bool) → is_open l ≡ b → is_open (if b then (default_node (sort_of l)).0 else l) ≡ false
-    by true e = default-shut (sort_of l)
-    by false e = e
-
 closing-sort : (l : Label) → sort_of (closing l) ≡ sort_of l
 closing-sort l = by (is_open l)
   where
@@ -47,18 +39,9 @@ closing-sort l = by (is_open l)
     by true = default-sorted (sort_of l)
     by false = refl
 
-closing-stays : (l : Label) → is_open l ≡ false → closing l ≡ l
-closing-stays l e = ap (λ b. if b then (default_node (sort_of l)).0 else l) e
-
 closing-moved : (d a : ℕ) (l : Label) → closing (shift_label d a l) ≡ closing l
 closing-moved d a (bound s k v) = refl
 closing-moved d a l = refl
-
-closed-shut : (t : Trees) → some_node is_open (closed_off t) ≡ false
-closed-shut none = refl
-closed-shut (tree l c o) =
-    or-no (is_open (closing l) || some_node is_open (closed_off c)) (some_node is_open (closed_off o))
-    (or-no (is_open (closing l)) (some_node is_open (closed_off c)) (closing-shut l) (closed-shut c)) (closed-shut o)
 
 closed-joined : (x y : Trees) → closed_off (x +++ y) ≡ closed_off x +++ closed_off y
 closed-joined none y = refl
@@ -103,9 +86,6 @@ module _ (A : Trees) where
   closed-fits (tree l c o) h = (closed-fits c h.0, closed-fits o h.1)
 
 -- ---- instances of a reference closed
-no-true : true ≡ false → ⊥
-no-true e = cc
-
 closed-instance : (counts : Sort → ℕ) (s : Assignment) (t : Trees) → IsOwn counts t → instance (shut_by s) t ≡ closed_off (instance s t)
 closed-instance counts s none h = refl
 closed-instance counts s (tree (infer of_type v) c o) h = node refl refl (closed-instance counts s o (behind counts (infer of_type v) c o h))
@@ -164,17 +144,6 @@ module _ (t : Table) (ks : List Sort) where
       by (inr y) = absurd (clash y.0 y.1 y.2 apart)
 
 -- ---- a table with further unknowns
-same-values : (t : Table) (ks : List Sort) → (with_unknowns t ks).values ≡ t.values
-same-values t [] = refl
-same-values t (of_type ∷ ks) = same-values (with_unknown t of_type) ks
-same-values t (of_const ∷ ks) = same-values (with_unknown t of_const) ks
-same-values t (of_lifetime ∷ ks) = same-values (with_unknown t of_lifetime) ks
-
-same-constraints : (t : Table) (ks : List Sort) → (with_unknowns t ks).constraints ≡ t.constraints
-same-constraints t [] = refl
-same-constraints t (of_type ∷ ks) = same-constraints (with_unknown t of_type) ks
-same-constraints t (of_const ∷ ks) = same-constraints (with_unknown t of_const) ks
-same-constraints t (of_lifetime ∷ ks) = same-constraints (with_unknown t of_lifetime) ks
 
 -- has no values where the first has none
 pub no-values : (t u : Table) (ks : List Sort) → u ≡ with_unknowns t ks → t.values ≡ [] → u.values ≡ []

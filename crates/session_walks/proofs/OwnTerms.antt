@@ -1,26 +1,19 @@
 -- What is said of terms that speak of a table's own unknowns alone.
-use Rattle.std.proofs.Common.{◌≡◌, ℕ, ◌<◌, Bool, true, false, not, ◌||◌, refl, ◌∙◌, ap, arith}
+use Rattle.std.proofs.Common.{◌≡◌, ℕ, ◌<◌, true, false, not, ◌||◌, refl, ◌∙◌, ap, arith}
 use Rattle.std.proofs.lemmas.Bool.Decides.{nat_tests}
 use Rattle.std.specs.Prelude.{nat_lt}
 use Rattle.type_terms.specs.Label.{Label, Sort, of_type, of_const, of_lifetime, infer, canonical}
 use Rattle.type_terms.specs.Trees.{Trees, none, tree, some_node}
-use Rattle.type_terms.proofs.Fitting.{no-left, child-shut, next-shut, not-true}
+use Rattle.type_terms.proofs.Fitting.{child-shut, next-shut, not-true}
 use Rattle.infer_table.specs.Canonical.{HasNoCanonical}
 use Rattle.infer_table.specs.Content.{Table, variables_of, place_in}
 use Rattle.infer_table.specs.Covers.{AreKnown}
 use Rattle.infer_table.specs.declared.terms.Snapshot.{Snapshot}
-use Rattle.candidate_assembly.specs.Finding.{at_root}
-use Rattle.candidate_assembly.proofs.Finding.{some_tree}
 use Rattle.session_walks.specs.Unknowns.{is_other_place, known_to, speaks_of_known}
 use Rattle.session_walks.specs.declared.unknowns.FindsOther.{FindsOther}
+use Rattle.type_terms.proofs.Matching.{or-false-left as no-left}
 
 -- ---- what a visit finds
--- a test of labels
-pub some-at-root : (p : Label → Bool) (t : Trees) → some_tree (at_root p) t ≡ some_node p t
-some-at-root p none = refl
-some-at-root p (tree l c o) =
-    ap (λ x. p l || x || some_tree (at_root p) o) (some-at-root p c) ∙ ap (λ x. p l || some_node p c || x) (some-at-root p o)
-
 abbrev pub visitor_at : Snapshot → FindsOther
 visitor_at p = record { ty_vars = p.ty_vars; const_vars = p.const_vars; region_vars = p.region_vars }
 

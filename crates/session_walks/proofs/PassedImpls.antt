@@ -17,10 +17,7 @@ use Rattle.declarations.specs.Relevant.{is_above, is_match, matches_in, next_abo
 use Rattle.overlap_check.proofs.Written.{each-in}
 use Rattle.session_walks.specs.Rules.{HasNoImpl, HasNoRuleBy, HasNoRuleByImpl, begins_known}
 use Rattle.session_walks.proofs.Unmatched.{HasInstance, no-match}
-
--- ---- the next number
-not-both : (b : Bool) → b ≡ true → b ≡ false → ⊥
-not-both b e f = cc
+use Rattle.type_terms.proofs.BooleanBasics.{no-both as not-both}
 
 module _ (last : Option ImplId) where
   abbrev next : List ImplDecl → Option ℕ

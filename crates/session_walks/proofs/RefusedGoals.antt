@@ -44,19 +44,12 @@ use Rattle.session_walks.specs.Refusals.{IsRefusedGoal, IsRefusedAt}
 use Rattle.session_walks.specs.Unknowns.{is_other_place, speaks_of_known}
 use Rattle.session_walks.proofs.RuleCandidates.{there-held}
 use Rattle.session_walks.proofs.OwnTerms.{IsOwn, here, below, behind, own, speaks-known, speaks-clean}
+use Rattle.sessions.proofs.Basics.{all-consts, types-skipped}
 
 -- ---- how many of each kind
 types-first : (n : ℕ) (js : List Sort) → n ≤ number_of of_type (repeated of_type n ++ js)
 types-first zero js = omega arith
 types-first (suc n) js = let e = types-first n js in omega (arith, e)
-
-types-skipped : (n : ℕ) (js : List Sort) → number_of of_const (repeated of_type n ++ js) ≡ number_of of_const js
-types-skipped zero js = refl
-types-skipped (suc n) js = types-skipped n js
-
-all-consts : (n : ℕ) → number_of of_const (repeated of_const n) ≡ n
-all-consts zero = refl
-all-consts (suc n) = ap suc (all-consts n)
 
 enough-types : (t : Table) → t.ty_vars ≤ number_of of_type (unknown_kinds t)
 enough-types t = types-first t.ty_vars (repeated of_const t.const_vars)
@@ -184,9 +177,6 @@ when-refused P Q (Ok false) h f = λ e. absurd (never e)
 when-refused P Q (Err e) h f = tt
 
 -- ---- a walk's goals
-pub at-moved : (es : List Entry) (V W : World) (c d : ℕ) (rs : List TraitRef) (p : ℕ) → V ≡ W → c ≡ d → IsRefusedAt es V c rs p → IsRefusedAt es W d rs p
-at-moved es V W c d rs p e f x = subst (λ U. IsRefusedAt es U d rs p) e (subst (λ k. IsRefusedAt es V k rs p) f x)
-
 pub at-before : (old now : List Entry) → Keeps old now → (V : World) (c : ℕ) (rs : List TraitRef) → ReferencesHeld old rs → (p : ℕ) → IsRefusedAt now V c rs p → IsRefusedAt old V c rs p
 at-before old now k V c rs h p x = (x.0, x.1, refused-before old now k x.0 (there-held old rs p x.0 h x.1) V c x.2)
 

@@ -16,6 +16,7 @@ use Rattle.declarations.specs.declared.simplify.SimplifiedType.{SimplifiedType}
 use Rattle.candidate_assembly.proofs.Knowing.{traits-erased}
 use Rattle.proof_checker.specs.Steps.{term_of}
 use Rattle.session_walks.specs.Rules.{HasNoRow, is_bare}
+use Rattle.type_terms.proofs.TypeBasics.{some-not-none}
 
 -- ---- by the label of the self type
 bare-copy : (t : ℕ) (l : Label) (c o : Trees) → is_bare l ≡ true → copy_rules t (tree l c o) ≡ []
@@ -69,9 +70,6 @@ no-rows W t l c o bare auto uns siz =
     (bare-object W (record { trait = t; args = tree l c o }) l c o bare))))
 
 -- ---- a reference by its head
-some-not-none : (l : Label) → Some l ≡ None → ⊥
-some-not-none l e = cc
-
 same-some : (l m : Label) → Some l ≡ Some m → l ≡ m
 same-some l m e = cc
 

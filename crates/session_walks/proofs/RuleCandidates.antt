@@ -21,6 +21,7 @@ use Rattle.sessions.proofs.ProofsAside.{rules-aside}
 use Rattle.session_walks.specs.Rules.{AreChecked, Concludes, IsRuleCandidate, IsRuleAt, MayApplyAt, MayHaveRule, HasRulesByBoth}
 use Rattle.session_walks.specs.declared.walks.CheckedCandidates.{CheckedCandidates}
 use Rattle.session_walks.proofs.ShownSteps.{every-there}
+use Rattle.declarations.proofs.Basics.{each-push as each-put}
 
 -- one more item stands beside its own
 pub zip-push : {A B : Type 0} (R : A → B → Type 0) (xs : List A) (i j : ℕ) (x : A) (ys : List B) (y : B) → j ≡ i + 1 → AllZip R (take i xs) ys → slice_get xs i ≡ Some x → R x y → AllZip R (take j xs) (ys ++ y ∷ [])
@@ -33,10 +34,6 @@ zip-push R (z ∷ xs) zero (suc j) x [] y q h e p =
 zip-push R (z ∷ xs) zero (suc j) x (w ∷ ys) y q h e p = absurd h
 zip-push R (z ∷ xs) (suc i) (suc j) x [] y q h e p = absurd h
 zip-push R (z ∷ xs) (suc i) (suc j) x (w ∷ ys) y q h e p = (h.0, zip-push R xs i j x ys y (omega (arith, q)) h.1 e p)
-
-pub each-put : {A : Type 0} (P : A → Type 0) (xs : List A) (x : A) → Each P xs → P x → Each P (xs ++ x ∷ [])
-each-put P [] x h p = (p, tt)
-each-put P (y ∷ xs) x h p = (h.0, each-put P xs x h.1 p)
 
 pub put-if : {A : Type 0} (P : A → Type 0) (xs : List A) (x : A) (b : Bool) → Each P xs → (b ≡ true → P x) → Each P (if b then xs ++ x ∷ [] else xs)
 put-if P xs x true h p = each-put P xs x h (p refl)

@@ -6,7 +6,6 @@ use Rattle.type_terms.specs.Codes.{same_label}
 use Rattle.type_terms.specs.Rules.{by_impl, impl_rules}
 use Rattle.type_terms.specs.Terms.{Entry, Lawful, Has, Is, trees_at, types, args_lists}
 use Rattle.type_terms.specs.Kinds.{ArgHeld, ArgsHeld, arg_trees, args_trees}
-use Rattle.type_terms.specs.Kept.{is-at}
 use Rattle.type_terms.specs.declared.kinds.Ty.{Ty}
 use Rattle.type_terms.specs.declared.kinds.GenericArgKind.{GenericArgKind}
 use Rattle.type_terms.specs.declared.kinds.GenericArgKind.TheVariants.{Ty as AType}
@@ -22,11 +21,12 @@ use Rattle.type_terms.proofs.Walking.{both}
 use Rattle.declarations.specs.Apart.{levels, are_apart}
 use Rattle.declarations.specs.Heads.{head_of}
 use Rattle.declarations.specs.Relevant.{is_relevant_to, is_match}
-use Rattle.declarations.proofs.Fixed.{no-flags, top, child, next, three, fixed-label, fixed-erased, fixed-instance}
+use Rattle.declarations.proofs.Fixed.{no-flags, top, child, next, fixed-label, fixed-erased, fixed-instance}
 use Rattle.declarations.proofs.MeetingLaws.{Reads, ReadNode, erased-again, instantiate-reads, meet, not-apart}
 use Rattle.infer_table.specs.Solutions.{Assignment, instance}
 use Rattle.overlap_check.proofs.Tops.{erased-reads}
 use Rattle.session_walks.specs.Rules.{HasNoRuleBy, assigned, begins_known}
+use Rattle.type_terms.proofs.TermBasics.{three, type-is, trees-of as at-is}
 
 -- ---- what is apart
 -- an unknown is a variable of types, constants or lifetimes
@@ -118,12 +118,6 @@ begins (tree l c o) u h = h.0
 heads-first : (t u : Trees) → IsA of_type t → head_of (t +++ u) ≡ head_of t
 heads-first none u h = absurd h
 heads-first (tree l c o) u h = refl
-
-at-is : (es : List Entry) (k i : ℕ) (t : Trees) → Is es k i t → trees_at es i ≡ t
-at-is es k i t h = rw h refl
-
-type-is : (es : List Entry) → Lawful es → (i : ℕ) → Has es types i → IsA of_type (trees_at es i)
-type-is es law i h = (law.sorted i _ (is-at es types i h)).as_type refl
 
 pub held-type : (es : List Entry) (xs : List GenericArgKind) (t : Ty) → ArgsHeld es xs → slice_get xs 0 ≡ Some (AType t) → Has es types t.0
 held-type es [] t held e = cc

@@ -1,5 +1,5 @@
 -- What is known of an answer to a goal that was asked over a table without values.
-use Rattle.std.proofs.Common.{◌≡◌, ℕ, Bool, true, false, ◌||◌, List, [], ◌∷◌, map, refl, sym, ap, ◌∙◌, subst, inl, inr}
+use Rattle.std.proofs.Common.{◌≡◌, ℕ, Bool, true, false, List, [], ◌∷◌, map, refl, sym, ap, ◌∙◌, subst, inl, inr}
 use Rattle.type_terms.specs.Label.{Sort, predicate, PredicateKind}
 use Rattle.type_terms.specs.Trees.{Trees, none, tree, some_node}
 use Rattle.type_terms.specs.Kinds.{ArgsHeld, arg_trees}
@@ -28,13 +28,8 @@ use Rattle.sessions.specs.Tables.{table_of}
 use Rattle.sessions.specs.declared.answers.ProveAnswer.{ProveAnswer}
 use Rattle.sessions.specs.declared.answers.ProveAnswer.TheVariants.{Yes, Maybe, Unproved}
 use Rattle.sessions.proofs.Proved.{values-are-proved}
-
-two : {A : Type 0} {x y : A} {xs ys : List A} → x ≡ y → xs ≡ ys → x ∷ xs ≡ y ∷ ys
-two e f = cc
-
-no-more : (b : Bool) → b || false ≡ b
-no-more true = refl
-no-more false = refl
+use Rattle.type_terms.proofs.BooleanBasics.{no-more}
+use Rattle.type_terms.proofs.ListBasics.{two}
 
 -- ---- values are put in below a predicate
 resolved-below : (bs : List Binding) (k : PredicateKind) (c : Trees) → resolved bs (tree (predicate k) c none) ≡ tree (predicate k) (resolved bs c) none
@@ -45,9 +40,6 @@ bound-below : (bs : List Binding) (k : PredicateKind) (c : Trees) (b : Bool) →
 bound-below bs k c b e = ap (λ t. some_node is_bound_term t) (resolved-below bs k c) ∙ no-more (some_node is_bound_term (resolved bs c)) ∙ e
 
 module _ {Handler : Type 0} (handler : HandlerMeaning Handler) (ks : List Sort) (c : SolverCx Handler) (t : Table) (table_is : t ≡ table_of ks) (g : Goal) where
-  abbrev es : List Entry
-  es = entries_of c
-
   abbrev w : handler.goals.World
   w = handler.world c.handler (entries_of c)
 

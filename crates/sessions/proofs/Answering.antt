@@ -13,6 +13,8 @@ use Rattle.infer_table.specs.Content.{Table, Ready, content}
 use Rattle.infer_table.specs.Kept.{content-kept}
 use Rattle.infer_table.specs.Solutions.{Binding, resolved}
 use Rattle.sessions.specs.Proving.{is_bound_term}
+use Rattle.type_terms.proofs.BooleanBasics.{no-more}
+use Rattle.type_terms.proofs.ListBasics.{two}
 
 -- ---- bound terms
 label-bound : (l : Label) → is_bound_term l ≡ has_flag 8 l || has_flag 2048 l
@@ -55,10 +57,6 @@ bound-flags none = refl
 bound-flags (tree l c o) =
     regroup (has_flag 8 l) (has_flag 2048 l) (some_node (has_flag 8) c) (some_node (has_flag 2048) c) (some_node (has_flag 8) o) (some_node (has_flag 2048) o) _ _ _ (label-bound l) (bound-flags c) (bound-flags o)
 
-no-more : (b : Bool) → b || false ≡ b
-no-more true = refl
-no-more false = refl
-
 pub one-flag : (n : ℕ) (t : Trees) → some_node_of (has_flag n) (one_piece t) ≡ some_node (has_flag n) t
 one-flag n t = no-more (some_node (has_flag n) t)
 
@@ -68,10 +66,6 @@ bound-found t h = sym (bound-flags t ∙ ap (λ b. b || some_node (has_flag 2048
 
 pub bound-not-found : (t : Trees) → some_node_of (has_flag 8) (one_piece t) ≡ false → some_node_of (has_flag 2048) (one_piece t) ≡ some_node is_bound_term t
 bound-not-found t h = one-flag 2048 t ∙ sym (bound-flags t ∙ ap (λ b. b || some_node (has_flag 2048) t) (sym (one-flag 8 t) ∙ h))
-
--- ---- values
-two : {A : Type 0} {x y : A} {xs ys : List A} → x ≡ y → xs ≡ ys → x ∷ xs ≡ y ∷ ys
-two e f = cc
 
 module _ (old new : List Entry) (k : Keeps old new) (t : Table) (ready : Ready old t) where
   abbrev given : List Entry → GenericArgKind → Trees

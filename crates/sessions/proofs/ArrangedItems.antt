@@ -1,38 +1,23 @@
 -- What a set obeys with the auto traits of each `dyn` in another order, it obeys.
 use Rattle.std.proofs.Common.{◌≡◌, ℕ, true, ◌==◌, List, [], ◌∷◌, map, refl, sym, ap, ◌∙◌, subst}
-use Rattle.type_terms.specs.Label.{Sort, dynamic, auto_trait, adt, param}
-use Rattle.type_terms.specs.Trees.{Trees, none, tree}
+use Rattle.type_terms.specs.Label.{adt}
+use Rattle.type_terms.specs.Trees.{Trees, tree}
 use Rattle.type_terms.specs.Worlds.{World, TraitDecl, ImplDecl, Reference}
 use Rattle.type_terms.specs.Rules.{is_auto}
-use Rattle.type_terms.specs.Supers.{mentions_as}
 use Rattle.type_terms.specs.Proofs.{In}
 use Rattle.type_terms.specs.Walks.{struct_is, keeps_orphan_rule}
 use Rattle.type_terms.specs.Versions.{in_scope}
 use Rattle.type_terms.specs.LinkedSet.{is_stray}
-use Rattle.type_terms.specs.Arranging.{Arrangement, turned_back, autos_in, with_autos, arranged, arranged_reference, arranged_trait, arranged_impl, arranged_world}
+use Rattle.type_terms.specs.Arranging.{Arrangement, turned_back, arranged, arranged_reference, arranged_trait, arranged_impl, arranged_world}
 use Rattle.type_terms.proofs.Members.{in-map}
-use Rattle.type_terms.proofs.RenumberedRules.{or-same}
 use Rattle.type_terms.proofs.ArrangedTrees.{back-to, reference-back, dyns-stay}
 use Rattle.type_terms.proofs.ArrangedRules.{BoundWorld, auto-same}
 use Rattle.type_terms.proofs.ArrangedProofs.{world-back}
 use Rattle.type_terms.proofs.ArrangedAnswers.{some-same}
-use Rattle.type_terms.proofs.ArrangedSets.{term-there, scope-there, keeps-there, struct-so}
+use Rattle.type_terms.proofs.ArrangedSets.{term-there, scope-there, keeps-there, struct-so, mentions-stay}
 use Rattle.sessions.specs.JoinedSets.{IsPlainTerm, TraitObeys, ImplObeys}
 
 -- ---- trees
-mentions-filled : (s : Sort) (i : ℕ) (ns : List ℕ) (t : Trees) → mentions_as s i (with_autos ns t) ≡ mentions_as s i t
-mentions-filled s i ns none = refl
-mentions-filled s i [] (tree (auto_trait t) c o) = or-same refl (mentions-filled s i [] o)
-mentions-filled s i (n ∷ ns) (tree (auto_trait t) c o) = or-same refl (mentions-filled s i ns o)
-mentions-filled s i ns (tree (param r j) c o) = or-same refl (mentions-filled s i ns o)
-mentions-filled s i ns (tree l c o) = or-same refl (mentions-filled s i ns o)
-
-mentions-stay : (α : Arrangement) (s : Sort) (i : ℕ) (t : Trees) → mentions_as s i (arranged α t) ≡ mentions_as s i t
-mentions-stay α s i none = refl
-mentions-stay α s i (tree (param r j) c o) = or-same refl (mentions-stay α s i o)
-mentions-stay α s i (tree dynamic c o) = or-same (mentions-filled s i (α.to (autos_in c)) (arranged α c) ∙ mentions-stay α s i c) (mentions-stay α s i o)
-mentions-stay α s i (tree l c o) = or-same (mentions-stay α s i c) (mentions-stay α s i o)
-
 plain-there : (α : Arrangement) (t : Trees) → IsPlainTerm t → IsPlainTerm (arranged α t)
 plain-there α t p = record { term = term-there α t p.term; open_places = some-same α is_stray t ∙ p.open_places; dyns = dyns-stay α t ∙ p.dyns }
 

@@ -43,6 +43,8 @@ use Rattle.solver_exactness.proofs.QuestionNames.{names-numbered}
 use Rattle.solver_exactness.proofs.Renumbering.{kinds-known, made-numbered, made-in-clause, goal-open, goal-listed}
 use Rattle.solver_exactness.proofs.UnboundTerms.{numbered-unbound}
 use Rattle.sessions.specs.Goals.{goal_of, is_fixed, are_fixed, IsFormedQuestion, AsksUnderClauses, FormedQuestionsAreGoals}
+use Rattle.infer_table.proofs.Basics.{clause-known as clause-open}
+use Rattle.type_terms.proofs.BooleanBasics.{not-true}
 
 -- ---- labels
 abbrev is_loose : Label → Bool
@@ -58,10 +60,6 @@ none-of a b c e f g = rw (e, f, g) refl
 first-of : (a b c : Bool) → (a || b || c) ≡ false → a ≡ false
 first-of false b c h = refl
 first-of true b c h = absurd cc
-
-not-true : (b : Bool) → b ≡ true → not b ≡ false
-not-true true h = refl
-not-true false h = absurd cc
 
 not-false : (b : Bool) → not b ≡ false → b ≡ true
 not-false true h = refl
@@ -393,10 +391,6 @@ kind-closed (param of_const i) f h = absurd (false-true f)
 kind-closed (infer of_type i) f h = absurd (false-true f)
 kind-closed (infer of_const i) f h = absurd (false-true f)
 kind-closed l f h = absurd (false-true h)
-
-clause-open : (l : Label) → IsSome (kind_in_clause l) → IsSome (kind_of_leaf l)
-clause-open static h = refl
-clause-open l h = h
 
 all-closed : (ls : List Label) → Every (λ l. IsClosedKind (kind_of_leaf l)) ls → AreClosed (map kind_of_leaf ls)
 all-closed [] h = tt

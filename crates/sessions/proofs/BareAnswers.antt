@@ -20,12 +20,14 @@ use Rattle.infer_table.specs.Responses.{AnswerTrees}
 use Rattle.infer_table.specs.Unification.{TableTrees, with_equal, Solver, refused, onward, by_sort, compared, step, after, steps, rounds, unified}
 use Rattle.infer_table.specs.Values.{Value, value_for, if_of_sort, filled}
 use Rattle.infer_table.specs.declared.canonical.CanonicalVarKind.{CanonicalVarKind}
-use Rattle.infer_table.proofs.SolutionLaws.{is_sort-equal as is-sort, is_sort-self}
+use Rattle.infer_table.proofs.SolutionLaws.{is_sort-equal as is-sort}
 use Rattle.infer_table.proofs.UnifyFacts.{same-self}
 use Rattle.evaluation.specs.FrameTables.{kind_at}
 use Rattle.evaluation.specs.TableAnswers.{is_variable_itself, are_variables, has_values, is_kind_of, is_variable_of, is_fitting, are_fitting, is_fitting_answer, put_into, leaf_value}
 use Rattle.evaluation.proofs.Applying.{for-bindings, new-value}
 use Rattle.solver_context.specs.Roots.{left_by}
+use Rattle.type_terms.proofs.TermBasics.{is_sort-self}
+use Rattle.type_terms.proofs.NumberBasics.{itself, number-self}
 
 -- ---- leaves in pairs
 -- one leaf twice, or two lifetimes
@@ -154,17 +156,11 @@ one-sort : (s r : Sort) (k : Option CanonicalVarKind) → is_kind_of s k ≡ tru
 one-sort s r None h g = absurd (false-true h)
 one-sort s r (Some k) h g = sym (is-sort (sort_of_kind k) s h) ∙ is-sort (sort_of_kind k) r g
 
-number-self : (i : ℕ) → (i == i) ≡ true
-number-self i = grind (arith, nat_tests)
-
 number-other : (i j : ℕ) → suc i ≤ j → (i == j) ≡ false
 number-other i j h = grind (arith, nat_tests, h)
 
 less : (i j : ℕ) → suc i ≤ j → i ≤ j
 less i j h = omega (arith, h)
-
-itself : (n : ℕ) → n ≤ n
-itself n = omega arith
 
 module _ (t : TableTrees) (labels : List Label) (a : AnswerTrees) where
   abbrev known : ℕ → Option Value

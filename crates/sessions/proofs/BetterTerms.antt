@@ -2,9 +2,10 @@
 use Rattle.std.proofs.Common.{◌≡◌, Bool, true, false, ◌&&◌, ◌||◌, refl}
 use Rattle.type_terms.specs.Label.{Label, of_lifetime, dynamic, principal, auto_trait, predicate}
 use Rattle.type_terms.specs.Trees.{Trees, none, tree, sort_of, is_sort, is_no_tree, some_node}
-use Rattle.type_terms.proofs.Fitting.{no-left, child-shut, next-shut}
+use Rattle.type_terms.proofs.Fitting.{child-shut, next-shut}
 use Rattle.type_terms.specs.Made.{Standing, terms, bounds, traits, is_made}
 use Rattle.type_terms.proofs.Made.{left, right, both, false-true, made-ordinary, makes-ordinary, never-dynamic, never-dynamic-bound, never-principal}
+use Rattle.type_terms.proofs.Matching.{or-false-left as no-left}
 
 -- terms made of good labels, none of them bad, are made of labels that are good and not bad
 module _ (good better bad : Label → Bool) (label : (l : Label) → good l ≡ true → bad l ≡ false → better l ≡ true) where

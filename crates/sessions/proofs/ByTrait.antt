@@ -1,6 +1,5 @@
 -- The impls that a crate sees, by their traits: what the lists say after one of them has grown, and the pairs of an impl.
-use Rattle.std.proofs.Common.{◌≡◌, ◌==◌, ◌<◌, ◌≤◌, ◌+◌, ℕ, Bool, true, false, List, [], ◌∷◌, ◌++◌, map, Some, None, Result, Ok, Err, sym, ap, ◌∙◌, subst, arith, ◌⊎◌, inl, inr, if◌then◌else◌}
-use Rattle.std.specs.Prelude.{IfOk}
+use Rattle.std.proofs.Common.{◌≡◌, ◌==◌, ◌<◌, ◌≤◌, ◌+◌, ℕ, Bool, true, false, List, [], ◌∷◌, ◌++◌, map, Some, None, sym, ap, ◌∙◌, subst, arith, ◌⊎◌, inl, inr, if◌then◌else◌}
 use Rattle.type_terms.specs.Proofs.{In}
 use Rattle.type_terms.specs.Erased.{erased_impl}
 use Rattle.type_terms.specs.Trees.{erase}
@@ -20,10 +19,6 @@ use Rattle.sessions.specs.ByTrait.{is_trait, listed, HasNumber, IsListed, Declar
 use Rattle.sessions.specs.declared.by_trait.ImplsByTrait.{ImplsByTrait}
 use Rattle.sessions.proofs.ErasedHeads.{erased-head}
 use Rattle.sessions.proofs.TraitLists.{same-trait}
-
-pub ok-after : {A E : Type 0} (P Q : A → Type 0) (r : Result A E) → ((x : A) → P x → Q x) → IfOk r P → IfOk r Q
-ok-after P Q (Ok x) f h = f x h
-ok-after P Q (Err e) f h = tt
 
 -- ---- the impls with numbers below
 less-or : (k n : ℕ) → k < n + 1 → (k < n) ⊎ (k ≡ n)

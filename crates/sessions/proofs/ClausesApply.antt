@@ -1,11 +1,11 @@
 -- The where-clauses of a lowered question have an argument for each parameter of their traits, and lead out of no binder.
-use Rattle.std.proofs.Common.{◌≡◌, ℕ, ◌-◌, false, ◌||◌, List, [], ◌∷◌, Option, Some, None, max, pred, refl, ap, subst}
+use Rattle.std.proofs.Common.{◌≡◌, ℕ, ◌-◌, false, ◌||◌, List, [], ◌∷◌, Option, Some, None, max, refl, subst}
 use Rattle.std.specs.Option.{option_map_or}
 use Rattle.std.specs.Prelude.{IfSome}
-use Rattle.type_terms.specs.Label.{Label, Sort, bound, fn_ptr, principal}
+use Rattle.type_terms.specs.Label.{Label, Sort, bound}
 use Rattle.type_terms.specs.Trees.{Trees, none, tree, some_node, outer_binder, own_binder, outside}
 use Rattle.type_terms.specs.Proofs.{In}
-use Rattle.type_terms.proofs.Fitting.{child-shut, next-shut, no-left}
+use Rattle.type_terms.proofs.Fitting.{child-shut, next-shut}
 use Rattle.type_terms.proofs.Members.{here, there, in-map}
 use Rattle.type_terms.specs.Made.{terms}
 use Rattle.type_terms.specs.Terms.{trees_at}
@@ -18,16 +18,13 @@ use Rattle.assembly_laws.proofs.Instances.{is_bound}
 use Rattle.sessions.specs.Applying.{TextsClausesApply}
 use Rattle.sessions.proofs.AskedGoals.{all-fixed, none-pass, fixed-unbound}
 use Rattle.sessions.proofs.TextQuestions.{clause-formed}
+use Rattle.type_terms.proofs.Matching.{or-false-left as no-left}
+use Rattle.type_terms.proofs.TermBasics.{outside-zero}
 
 -- what is not bound leads out of no binder
 own-zero : (l : Label) → is_bound l ≡ false → own_binder l ≡ 0
 own-zero (bound s k i) h = cc
 own-zero l h = refl
-
-outside-zero : (l : Label) (n : ℕ) → n ≡ 0 → outside l n ≡ 0
-outside-zero (fn_ptr k) n e = ap pred e
-outside-zero (principal k t) n e = ap pred e
-outside-zero l n e = e
 
 pub unbound-outer : (t : Trees) → some_node is_bound t ≡ false → outer_binder t ≡ 0
 unbound-outer none h = refl

@@ -5,7 +5,7 @@ use Rattle.type_terms.specs.Trees.{Trees, none, tree, leaf, erase, erase_label, 
 use Rattle.type_terms.specs.Terms.{Entry}
 use Rattle.type_terms.specs.Proofs.{Every}
 use Rattle.type_terms.specs.Answers.{is_open, is_closed}
-use Rattle.type_terms.proofs.Fitting.{or-no, no-left, child-shut, next-shut}
+use Rattle.type_terms.proofs.Fitting.{or-no, child-shut, next-shut}
 use Rattle.type_terms.proofs.Made.{false-true}
 use Rattle.infer_table.specs.Content.{Table, content, Ready, IsProper}
 use Rattle.infer_table.specs.Covers.{AreKnown}
@@ -22,6 +22,7 @@ use Rattle.sessions.specs.Tables.{count_of}
 use Rattle.sessions.specs.Values.{unknowns_of}
 use Rattle.sessions.proofs.Filling.{values-fit-kinds, filled-is}
 use Rattle.sessions.proofs.Itself.{tidied}
+use Rattle.type_terms.proofs.Matching.{or-false-left as no-left}
 
 -- `bool` for a type, 0 for a constant
 abbrev pub ground : Assignment

@@ -7,6 +7,7 @@ use Rattle.term_folds.specs.Arguments.{arg_sort}
 use Rattle.type_terms.proofs.Items.{take-push}
 use Rattle.infer_table.specs.Content.{Table}
 use Rattle.sessions.specs.Tables.{count_of, table_of}
+use Rattle.type_terms.proofs.NumberBasics.{plus-zero as as-before}
 
 -- one more
 one-if : (b : Bool) (n : ℕ) → (if b then suc n else n) ≡ n + (if b then 1 else 0)
@@ -27,9 +28,6 @@ counted a b c = record { ty_vars = a; const_vars = b; region_vars = c; values = 
 
 same-table : (a b c d e f : ℕ) → a ≡ b → c ≡ d → e ≡ f → counted a c e ≡ counted b d f
 same-table a b c d e f p q r = cc
-
-as-before : (n : ℕ) → n + 0 ≡ n
-as-before n = omega arith
 
 -- a table with one more
 pub one-more-type : (t u : Table) (ks : List Sort) → u ≡ record t { ty_vars = t.ty_vars + 1 } → t ≡ table_of ks → u ≡ table_of (ks ++ of_type ∷ [])

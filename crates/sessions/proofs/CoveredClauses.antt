@@ -13,10 +13,11 @@ use Rattle.view_lowering.specs.Plain.{plain, plain_label, all_kept}
 use Rattle.view_lowering.proofs.Sorts.{is_bad}
 use Rattle.view_lowering.proofs.Tests.{is_good, all_stand}
 use Rattle.view_lowering.proofs.Trees.{and-left, or-left, or-right}
-use Rattle.view_lowering.proofs.SeenViews.{good-fits, sort-same, sort-there, stands-by}
+use Rattle.view_lowering.proofs.SeenViews.{good-fits, sort-there, stands-by}
 use Rattle.type_terms.specs.Supers.{mentions_as}
 use Rattle.sessions.proofs.SeenPlainly.{plain-erased}
 use Rattle.sessions.proofs.Mentioned.{Place, at_label, at_child, at_next, place-of, either, in-label, in-child, in-next}
+use Rattle.type_terms.proofs.TermBasics.{sort-equal as sort-same}
 
 -- a parameter that stays when lifetimes are erased
 abbrev is_kept_param : Label → Bool

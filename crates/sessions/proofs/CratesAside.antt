@@ -25,9 +25,6 @@ module _ (V : World) (cs : List CrateDecl) where
   abbrev W : World
   W = record V { crates = cs }
 
-  cons : (m : Met) (xs ys : List Met) → xs ≡ ys → m ∷ xs ≡ m ∷ ys
-  cons m xs ys e = ap (λ l. m ∷ l) e
-
   dyn-same : (d : Option ℕ) (t : Trees) → dyn_met W d t ≡ dyn_met V d t
   dyn-same d none = refl
   dyn-same d (tree (principal n t) c o) = refl

@@ -1,12 +1,11 @@
 -- Decided references are answered rightly by the search of a session.
-use Rattle.std.proofs.Common.{◌≡◌, ◌+◌, ◌-◌, ◌≤◌, ℕ, Bool, true, false, not, List, [], map, Option, Some, None, inl, inr, refl, sym, ◌∙◌, ap, subst, arith}
+use Rattle.std.proofs.Common.{◌≡◌, ◌+◌, ◌-◌, ℕ, Bool, true, false, not, List, map, Option, Some, None, inl, inr, refl, sym, ◌∙◌, ap, subst}
 use Rattle.type_terms.specs.Answers.{SingleWay, IsUnambiguous, is_variable}
 use Rattle.type_terms.specs.Erased.{erased_reference}
-use Rattle.type_terms.specs.Trees.{none, erase, some_node}
+use Rattle.type_terms.specs.Trees.{erase, some_node}
 use Rattle.type_terms.specs.Worlds.{World, CrateDecl, Reference}
 use Rattle.type_terms.specs.Terms.{Entry}
 use Rattle.infer_table.specs.Responses.{AnswerTrees}
-use Rattle.infer_table.specs.declared.certainty.Certainty.TheVariants.{Yes}
 use Rattle.infer_table.specs.declared.certainty.TypingMode.TheVariants.{PostAnalysis}
 use Rattle.declarations.specs.Elaboration.{elaborate}
 use Rattle.declarations.specs.Items.{Items, written}
@@ -38,19 +37,12 @@ use Rattle.sessions.proofs.TextAnswers.{well, answered-by-view}
 use Rattle.sessions.proofs.TextQuestions.{written-if-closed}
 use Rattle.sessions.proofs.WithoutLifetimes.{erased-is}
 use Rattle.sessions.proofs.GivenTexts.{text-given}
+use Rattle.type_terms.proofs.NumberBasics.{itself, one-more}
+use Rattle.infer_table.proofs.TypeBasics.{some-answer}
 
 -- the search of a session
 abbrev session_handles : Handles (SolverCx Solver) InputId (Option ResponseId) GoalFrame Solving (GoalInMode frame_tables solver_goals) (Option AnswerTrees)
 session_handles = handles solver_by_view
-
-some-answer : AnswerTrees
-some-answer = record { kinds = []; certainty = Yes; values = []; constraints = none }
-
-one-more : (n : ℕ) → n ≤ n + 1
-one-more n = omega arith
-
-itself : (n : ℕ) → n ≤ n
-itself n = omega arith
 
 abbrev with_crates : World → List CrateDecl → World
 with_crates W cs = record W { crates = cs }

@@ -10,7 +10,6 @@ use Rattle.evaluation.specs.Lists.{Every, SomeOf}
 use Rattle.evaluation.specs.Content.{Fact}
 use Rattle.evaluation.proofs.ListLaws.{Every-mono}
 use Rattle.assembly_laws.specs.Facts.{clauses_of, reference_in, beside}
-use Rattle.assembly_laws.proofs.CandidateKinds.{every-append}
 use Rattle.solver_exactness.specs.ModelWays.{ways_under}
 use Rattle.solver_exactness.specs.SolverChoices.{IsElaborated}
 use Rattle.solver_exactness.specs.SolverGoals.{FactIsProved}
@@ -19,6 +18,9 @@ use Rattle.solver_exactness.specs.Ways.{AtMostOneHolds, HasOneWayWithin, HoldsBy
 use Rattle.solver_exactness.proofs.ModelWays.{proofs_are_by_ways}
 use Rattle.solver_exactness.proofs.MovedWays.{every-from, every-to, some-from, some-to, one-to}
 use Rattle.solver_exactness.proofs.Selecting.{every-left, some-cases, some-both, one-left, one-right, one-cross, one-both, copies, hits, hit, which, AreOnce, map-either}
+use Rattle.evaluation.proofs.Basics.{every-append}
+use Rattle.type_terms.proofs.ListBasics.{append-assoc}
+use Rattle.solver_exactness.proofs.Basics.{premises-append}
 
 -- ---- the rules
 abbrev pub own_rules : Reference → ℕ → List Reference → List Rule
@@ -38,13 +40,6 @@ abbrev pub direct_ways : World → Fact → List (List Fact)
 direct_ways V f = facts_beside f (direct_under V (clauses_of f.goal.environment) (reference_in f))
 
 -- ---- lists
-pub append-assoc : {A : Type 0} (xs ys zs : List A) → (xs ++ ys) ++ zs ≡ xs ++ (ys ++ zs)
-append-assoc [] ys zs = refl
-append-assoc (x ∷ xs) ys zs = ap (λ z. x ∷ z) (append-assoc xs ys zs)
-
-premises-append : (us ts : List Rule) → premises_of (us ++ ts) ≡ premises_of us ++ premises_of ts
-premises-append [] ts = refl
-premises-append (u ∷ us) ts = ap (λ z. u.premises ∷ z) (premises-append us ts)
 
 split : (i b w : List Rule) → premises_of (i ++ (b ++ w)) ≡ premises_of (i ++ b) ++ premises_of w
 split i b w = ap (λ us. premises_of us) (sym (append-assoc i b w)) ∙ premises-append (i ++ b) w
@@ -102,10 +97,6 @@ hits-append p (x ∷ xs) ys = by (p x) (hits-append p xs ys)
     by : (b : Bool) → hits p (xs ++ ys) ≡ hits p xs + hits p ys → (if b then suc (hits p (xs ++ ys)) else hits p (xs ++ ys)) ≡ (if b then suc (hits p xs) else hits p xs) + hits p ys
     by true e = omega (arith, e)
     by false e = e
-
-pub hits-map : {A B : Type 0} (p : B → Bool) (f : A → B) (xs : List A) → hits p (map f xs) ≡ hits (λ x. p (f x)) xs
-hits-map p f [] = refl
-hits-map p f (x ∷ xs) = ap (λ n. if p (f x) then suc n else n) (hits-map p f xs)
 
 record Without {A : Type 0} (x : A) (ss : List A) : Type 0 where
   rest : List A

@@ -1,5 +1,5 @@
 -- Supertraits without lifetimes.
-use Rattle.std.proofs.Common.{◌≡◌, ℕ, zero, suc, List, [], ◌∷◌, map, length, ◌⊎◌, inl, inr, refl, sym, ap, subst, ◌==◌}
+use Rattle.std.proofs.Common.{◌≡◌, ℕ, zero, suc, List, ◌∷◌, map, length, ◌⊎◌, inl, inr, sym, ap, subst, ◌==◌}
 use Rattle.type_terms.specs.Erased.{erased_reference, erased_trait, erased_world}
 use Rattle.type_terms.specs.Trees.{Trees, Fits, erase}
 use Rattle.type_terms.specs.Worlds.{World, Reference, TraitDecl, traits_named, with_args, all_with_args}
@@ -10,10 +10,7 @@ use Rattle.type_terms.proofs.Members.{here, there, in-cases, in-nothing, in-filt
 use Rattle.type_terms.proofs.TreeLaws.{erase-instantiate}
 use Rattle.declarations.proofs.Levels.{all-closed}
 use Rattle.sessions.specs.Clauses.{BoundsLeadDown, BoundsFit, SupertraitsAreErased}
-
-length-map : {A B : Type 0} (f : A → B) (xs : List A) → length (map f xs) ≡ length xs
-length-map f [] = refl
-length-map f (x ∷ xs) = ap suc (length-map f xs)
+use Rattle.type_terms.proofs.ListBasics.{map-length as length-map}
 
 pub erased-with : (A : Trees) (b : Reference) → Fits A b.args → with_args (erase A) (erased_reference b) ≡ erased_reference (with_args A b)
 erased-with A b f = ap (λ a. (let x : Reference = record { trait = b.trait; args = a } in x)) (sym (erase-instantiate zero A b.args f))

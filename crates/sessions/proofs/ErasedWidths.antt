@@ -10,11 +10,11 @@ use Rattle.type_terms.specs.Worlds.{World, Reference, StructDecl, TraitDecl, Imp
 use Rattle.type_terms.proofs.RenumberedRules.{map-append}
 use Rattle.type_terms.proofs.TermRules.{filter-map}
 use Rattle.evaluation.specs.Widths.{count, width, with_self}
-use Rattle.evaluation.proofs.ListLaws.{length-map}
 use Rattle.evaluation.proofs.Widths.{count-append}
 use Rattle.assembly_laws.specs.Solver.{clauses_in, declared_width, greatest, supers_of, width_of}
 use Rattle.view_lowering.specs.Plain.{plain_reference}
 use Rattle.sessions.proofs.SeenPlainly.{reference-erased}
+use Rattle.type_terms.proofs.ListBasics.{map-length as length-map}
 
 -- ---- terms
 count-erased : (t : Trees) → count (erase t) ≡ count t

@@ -1,17 +1,16 @@
 -- What a search in coherence leaves open is possible, and what it refuses is not.
-use Rattle.std.proofs.Common.{◌≡◌, ◌+◌, ◌-◌, ◌≤◌, ℕ, Bool, true, false, not, ◌&&◌, ◌||◌, List, [], Option, Some, None, inl, inr, refl, sym, ◌∙◌, ap, subst, arith}
+use Rattle.std.proofs.Common.{◌≡◌, ◌+◌, ◌-◌, ℕ, Bool, true, false, not, ◌&&◌, ◌||◌, List, [], Option, Some, None, inl, inr, refl, sym, ◌∙◌, ap, subst}
 use Rattle.type_terms.specs.Label.{Label, Sort, of_type, of_const, of_lifetime, param, infer, canonical, bound}
 use Rattle.type_terms.specs.Erased.{erased_reference, erased_world}
 use Rattle.type_terms.specs.Trees.{Trees, none, tree, erase, erase_label, some_node}
 use Rattle.type_terms.specs.Worlds.{World, CrateDecl, Reference}
 use Rattle.type_terms.specs.Answers.{is_open, is_closed, is_bounded, is_possible, written_in, short_chains}
-use Rattle.type_terms.proofs.Fitting.{or-no, no-left, child-shut, next-shut}
+use Rattle.type_terms.proofs.Fitting.{or-no, child-shut, next-shut}
 use Rattle.type_terms.proofs.Members.{in-nothing}
 use Rattle.type_terms.specs.Made.{terms, is_made, is_in_range}
 use Rattle.type_terms.proofs.Made.{left, false-true}
 use Rattle.type_terms.specs.Terms.{Entry}
 use Rattle.infer_table.specs.Responses.{AnswerTrees}
-use Rattle.infer_table.specs.declared.certainty.Certainty.TheVariants.{Yes}
 use Rattle.infer_table.specs.declared.certainty.TypingMode.TheVariants.{Coherence}
 use Rattle.declarations.specs.Items.{Items, written}
 use Rattle.goal_frames.specs.declared.store.InputId.{InputId}
@@ -48,6 +47,9 @@ use Rattle.sessions.proofs.TextAnswers.{well, formed, told-possible}
 use Rattle.sessions.proofs.TextQuestions.{question-fits}
 use Rattle.sessions.proofs.WithoutLifetimes.{FieldsAreErased, erased-is, bounded-same, possible-same}
 use Rattle.sessions.proofs.GivenTexts.{text-given}
+use Rattle.type_terms.proofs.Matching.{or-false-left as no-left}
+use Rattle.type_terms.proofs.NumberBasics.{itself, one-more}
+use Rattle.infer_table.proofs.TypeBasics.{some-answer}
 
 -- ---- of a closed reference no type and no constant is open
 fixed-label : (l : Label) → stands_free l ≡ true → is_open (erase_label l) ≡ false → is_fixed l ≡ true
@@ -88,15 +90,6 @@ closed-question V sorts r h e = record {
 -- ---- the search of a session
 abbrev session_handles : Handles (SolverCx Solver) InputId (Option ResponseId) GoalFrame Solving (GoalInMode frame_tables solver_goals) (Option AnswerTrees)
 session_handles = handles solver_by_view
-
-some-answer : AnswerTrees
-some-answer = record { kinds = []; certainty = Yes; values = []; constraints = none }
-
-one-more : (n : ℕ) → n ≤ n + 1
-one-more n = omega arith
-
-itself : (n : ℕ) → n ≤ n
-itself n = omega arith
 
 abbrev with_crates : World → List CrateDecl → World
 with_crates W cs = record W { crates = cs }

@@ -27,13 +27,10 @@ use Rattle.candidate_assembly.specs.Fitting.{same_sorts, are_of_trait, is_shut, 
 use Rattle.solver_exactness.specs.FormedFacts.{Sorts, EachNode, IsParamOf, HasParams, IsTraitOf, NodesFit, FitsSorts, IsFormedView}
 use Rattle.solver_exactness.specs.UnboundGoals.{is_unbound}
 use Rattle.sessions.specs.Fitting.{sorts_in, fits_in, SortsTellFits}
+use Rattle.type_terms.proofs.TermBasics.{sort-self as same-sort}
+use Rattle.type_terms.proofs.BooleanBasics.{none-of}
 
 -- ---- sorts
-same-sort : (s : Sort) → is_sort s s ≡ true
-same-sort of_type = refl
-same-sort of_const = refl
-same-sort of_lifetime = refl
-
 same-ones : (ss : List Sort) → same_sorts ss ss ≡ true
 same-ones [] = refl
 same-ones (s ∷ ss) = both (is_sort s s) (same_sorts ss ss) (same-sort s) (same-ones ss)
@@ -83,9 +80,6 @@ lifetime-ordinary l e = refl
 second : (b c : Bool) → b ≡ true → (not b || c) ≡ true → c ≡ true
 second true c e h = h
 second false c e h = absurd cc
-
-none-of : (a b c : Bool) → a ≡ false → b ≡ false → c ≡ false → (a || b || c) ≡ false
-none-of a b c e f g = rw (e, f, g) refl
 
 all-of : {A : Type 0} (p : A → Bool) (xs : List A) → ((x : A) → In x xs → p x ≡ true) → list_all p xs ≡ true
 all-of p [] f = refl

@@ -1,5 +1,5 @@
 -- What visits find of the parameters of a question and of what is foreign to it.
-use Rattle.std.proofs.Common.{◌≡◌, ℕ, zero, suc, Bool, true, false, not, ◌||◌, ◌&&◌, List, [], ◌∷◌, map, length, arith, refl, sym, ap, ◌∙◌, subst}
+use Rattle.std.proofs.Common.{◌≡◌, ℕ, zero, suc, Bool, true, false, not, ◌||◌, ◌&&◌, List, [], ◌∷◌, map, refl, sym, ap, ◌∙◌, subst}
 use Rattle.type_terms.specs.Answers.{is_undeclared}
 use Rattle.type_terms.specs.Kinds.{ArgsHeld, arg_trees}
 use Rattle.type_terms.specs.Label.{Label, of_type, of_const, of_lifetime, param, placeholder, infer, canonical, bound, fn_ptr, principal, static}
@@ -11,22 +11,10 @@ use Rattle.type_terms.specs.Worlds.{World, Reference}
 use Rattle.type_terms.specs.declared.kinds.GenericArgKind.{GenericArgKind}
 use Rattle.term_folds.specs.declared.predicate.TraitRef.{TraitRef}
 use Rattle.declarations.specs.Applied.{TraitRefsHeld, references_in}
-use Rattle.candidate_assembly.specs.Finding.{at_root}
-use Rattle.candidate_assembly.proofs.Finding.{some_tree}
 use Rattle.sessions.specs.Foreign.{is_foreign_term, are_own_terms, is_unknown_term, strays}
 use Rattle.sessions.specs.OwnValues.{is_same_param, stands_in}
 use Rattle.sessions.proofs.OwnValues.{some-either}
-
--- a list without items
-pub empty-is : {A : Type 0} (xs : List A) → length xs ≡ 0 → xs ≡ []
-empty-is [] h = refl
-empty-is (x ∷ xs) h = absurd (omega (arith, h))
-
--- a test of labels
-pub found-at-root : (p : Label → Bool) (t : Trees) → some_tree (at_root p) t ≡ some_node p t
-found-at-root p none = refl
-found-at-root p (tree l c o) =
-    ap (λ x. p l || x || some_tree (at_root p) o) (found-at-root p c) ∙ ap (λ x. p l || some_node p c || x) (found-at-root p o)
+use Rattle.type_terms.proofs.BooleanBasics.{or-false as no-more, de-morgan}
 
 -- ---- unknowns, by the flags of terms
 label-unknown : (l : Label) → is_unknown_term l ≡ (has_flag 2 l || has_flag 512 l)
@@ -59,10 +47,6 @@ same-tests p q e (tree l c o) =
 
 unknown-flags : (t : Trees) → some_node is_unknown_term t ≡ (some_node (has_flag 2) t || some_node (has_flag 512) t)
 unknown-flags t = same-tests is_unknown_term (λ l. has_flag 2 l || has_flag 512 l) label-unknown t ∙ some-either (has_flag 2) (has_flag 512) t
-
-no-more : (b : Bool) → (b || false) ≡ b
-no-more true = refl
-no-more false = refl
 
 one-flag : (n : ℕ) (t : Trees) → some_node_of (has_flag n) (one_piece t) ≡ some_node (has_flag n) t
 one-flag n t = no-more (some_node (has_flag n) t)
@@ -110,10 +94,6 @@ pub own-all : (es : List Entry) (V : World) (rs : List Reference) (left : List G
 own-all es V rs left b e k = ap (λ xs. are_own_terms V rs (map (arg_trees es) xs)) (sym e) ∙ k
 
 -- ---- a type
-de-morgan : (a b : Bool) → (not a && not b) ≡ not (a || b)
-de-morgan true b = refl
-de-morgan false b = refl
-
 -- its names are declared and it holds no stray place
 pub type-own : (V : World) (rs : List Reference) (t : Trees) → (not (some_node (is_undeclared V) t) && not (some_node (strays rs) t)) ≡ not (some_node (is_foreign_term V rs) t)
 type-own V rs t = de-morgan (some_node (is_undeclared V) t) (some_node (strays rs) t) ∙ ap not (sym (some-either (is_undeclared V) (strays rs) t))

@@ -24,13 +24,14 @@ use Rattle.text_definitions.specs.Text.{LineGives, other_byte, blank, unwritten,
 use Rattle.line_reader.specs.Faultless.{UsesFit, names_crate}
 use Rattle.line_reader.proofs.NoFault.{passes-tests, belongs-to-crate, uses-crates}
 use Rattle.line_reader.proofs.FittingUses.{faultless-uses}
-use Rattle.view_lowering.proofs.Applied.{each-map, each-more, still-there}
+use Rattle.view_lowering.proofs.Applied.{each-more, still-there}
 use Rattle.view_lowering.proofs.ScalarTokens.{ScalarBounds, ScalarClause, ScalarClauses, struct-scalars, trait-scalars, impl-scalars, prove-scalars, refute-scalars}
 use Rattle.view_lowering.proofs.Scalars.{ScalarTypes, ScalarArgs}
 use Rattle.view_lowering.proofs.Standing.{AutosAreBare}
 use Rattle.view_lowering.proofs.Texts.{Well, is_bare, autos-bare, line-added, core-well}
 use Rattle.sessions.proofs.Seeing.{seen-more}
 use Rattle.sessions.proofs.TextTerms.{Scope, IsStructAt, IsTraitAt, TextNode, TextNodes, IsPlaced, scope_of, nodes-append, FitSeen, first-seen, rest-seen, tail-seen, trait-used, type-sorts, args-sorts, type-nodes, args-nodes}
+use Rattle.declarations.proofs.Growth.{each-kept as each-map}
 
 -- ---- what is kept from line to line
 -- what is declared, as crate h sees it

@@ -1,7 +1,7 @@
 -- The frames of a session's questions are within numbers of what the crate sees, of the question and of the depth.
 use Rattle.std.proofs.Common.{◌≡◌, ◌≤◌, ◌+◌, ◌*◌, ℕ, zero, suc, max, List, [], ◌∷◌, inl, inr, Some, length, false, arith, refl, sym, ap, subst}
 use Rattle.std.proofs.Math.Nat.{le_refl, mul-le-mul_left}
-use Rattle.type_terms.specs.Label.{Label, Sort, of_type, of_const, of_lifetime}
+use Rattle.type_terms.specs.Label.{Sort, of_type, of_const, of_lifetime}
 use Rattle.type_terms.specs.Trees.{Trees, none, tree, IsA}
 use Rattle.type_terms.specs.Worlds.{World, Reference, TraitDecl}
 use Rattle.type_terms.specs.Proofs.{In}
@@ -26,14 +26,14 @@ use Rattle.declarations.specs.Items.{Items, written}
 use Rattle.evaluation.specs.declared.TheConstants.{FIXPOINT_STEP_LIMIT}
 use Rattle.evaluation.specs.Lists.{Every}
 use Rattle.evaluation.specs.Widths.{count, width, number_of, number_of_values, BindingsWithin}
-use Rattle.evaluation.proofs.Widths.{AllOne, ArePredicatesWithin, IsWithin, MakesNoBounds, leaf-values-one, predicates-relabeled, predicates-resolved, width-of-predicates, within}
-use Rattle.evaluation.proofs.WidthLaws.{put-into-within}
+use Rattle.evaluation.proofs.Widths.{AllOne, ArePredicatesWithin, IsWithin, leaf-values-one, predicates-relabeled, predicates-resolved, width-of-predicates, within}
+use Rattle.evaluation.proofs.WidthLaws.{put-into-within, makes-canonical as makes-no-bounds}
 use Rattle.goal_frames.proofs.HandlerPrograms.{handlers-are-programs}
 use Rattle.assembly_laws.specs.Facts.{trees_of_clauses}
 use Rattle.assembly_laws.specs.Solver.{declared_width, greatest, number_at, supers_of, widest_of, width_of}
 use Rattle.assembly_laws.proofs.CandidateWidths.{instance-within}
 use Rattle.assembly_laws.proofs.DeclaredWidths.{greatest-at}
-use Rattle.assembly_laws.proofs.Elaborating.{elaborated-so, every-in, every-map}
+use Rattle.assembly_laws.proofs.Elaborating.{elaborated-so, every-in}
 use Rattle.candidate_assembly.specs.Solving.{Solving}
 use Rattle.candidate_assembly.specs.SolverLaws.{goals-are-lawful}
 use Rattle.candidate_assembly.specs.SolverMeaning.{goals_by_view, solver_by_view}
@@ -54,6 +54,7 @@ use Rattle.sessions.specs.Tables.{table_of}
 use Rattle.sessions.specs.declared.settling.TheConstants.{MAX_ASKINGS}
 use Rattle.sessions.proofs.SeenPlainly.{rules-are}
 use Rattle.sessions.proofs.ErasedWidths.{IsErasedWorld, clauses-in-erased, declared-erased, plain-width}
+use Rattle.evaluation.proofs.ListLaws.{Every-map as every-map}
 
 -- ---- what a search finds is no wider than its goal
 module _ {C I R F : Type 0} (m : Meaning C I R F) (law : IsLawful m) (w : m.World) where
@@ -141,9 +142,6 @@ resolved-within n t g one h = record {
   environment = predicates-resolved n t.bindings g.environment one h.environment;
   predicate = predicates-resolved n t.bindings g.predicate one h.predicate;
 }
-
-makes-no-bounds : (ls : List Label) → MakesNoBounds (canonical_label ls)
-makes-no-bounds ls l m = omega arith
 
 form-within : (n : ℕ) (g : GoalTrees) → IsGoalWithin n g → number_of (record { form = canonical_form g; coinductive = false }) ≤ n
 form-within n g h =

@@ -6,11 +6,13 @@ use Rattle.type_terms.specs.Label.{Label, Sort, of_type, of_const, of_lifetime, 
 use Rattle.type_terms.specs.Trees.{Trees, none, tree, leaf, ◌+++◌, IsA, erase, erase_label, some_node, sort_of, is_sort}
 use Rattle.type_terms.specs.Proofs.{Every}
 use Rattle.type_terms.specs.Answers.{is_open, is_closed}
-use Rattle.type_terms.proofs.Fitting.{child-shut, next-shut, no-left, not-true, or-no}
+use Rattle.type_terms.proofs.Fitting.{child-shut, next-shut, not-true, or-no}
 use Rattle.infer_table.specs.Solutions.{Assignment, instance, IsSorted}
-use Rattle.infer_table.proofs.SolutionLaws.{is_sort-equal, is_sort-self}
+use Rattle.infer_table.proofs.SolutionLaws.{is_sort-equal}
 use Rattle.overlap_check.specs.Questions.{FitKinds, of_kind, filled}
 use Rattle.view_lowering.specs.QuestionVariables.{number_of, is_stray}
+use Rattle.type_terms.proofs.Matching.{or-false-left as no-left}
+use Rattle.type_terms.proofs.TermBasics.{is_sort-self}
 
 node : {l m : Label} {c d o p : Trees} → l ≡ m → c ≡ d → o ≡ p → tree l c o ≡ tree m d p
 node a b e = cc
@@ -160,9 +162,6 @@ module _ (ks : List Sort) (ts : List Trees) (fit : FitKinds ks ts) (shut : Every
       let r = root-is s (slice_get (of_kind s ks ts) i) at in
       ap (λ (x : Label × Trees). some_node is_open (tree x.0 x.1 o)) r
       ∙ or-no (is_open at.label || some_node is_open at.children) (some_node is_open o) (no-left (is_open at.label || some_node is_open at.children) false at.closed) e
-
-  no-unknown : (l : Label) → Type 0
-  no-unknown l = (s : Sort) (i : ℕ) → l ≡ infer s i → ⊥
 
   pub instance-shut : (t : Trees) → NoStray t → some_node is_open (instance S t) ≡ false
   instance-shut none h = refl

@@ -30,16 +30,12 @@ use Rattle.sessions.specs.declared.supertraits.HeaderAnswer.TheVariants.{Held}
 use Rattle.sessions.specs.declared.supertraits.SupertraitGoals.{SupertraitGoals}
 use Rattle.sessions.proofs.CheckedSubjects.{one-more}
 use Rattle.sessions.proofs.ImplNumbers.{names-below}
+use Rattle.type_terms.proofs.ListBasics.{take-map}
 
 -- ---- lists
 every-last : {A : Type 0} (P : A → Type 0) (xs : List A) (x : A) → Every P xs → P x → Every P (xs ++ x ∷ [])
 every-last P [] x h p = (p, tt)
 every-last P (y ∷ ys) x h p = (h.0, every-last P ys x h.1 p)
-
-take-map : {A B : Type 0} (f : A → B) (n : ℕ) (xs : List A) → take n (map f xs) ≡ map f (take n xs)
-take-map f zero xs = refl
-take-map f (suc n) [] = refl
-take-map f (suc n) (x ∷ xs) = ap (λ zs. f x ∷ zs) (take-map f n xs)
 
 there-at : {A : Type 0} (xs : List A) (i : ℕ) (d : A) → i < length xs → slice_get xs i ≡ Some (get_or xs i d)
 there-at [] i d l = absurd (omega arith)
@@ -92,23 +88,6 @@ module _ (s : Solving) (depth : ℕ) (F : List Reference) (es : List Entry) (xs 
 pub told-of : (s t : Solving) (n m : ℕ) (F G : List Reference) (r q : Reference) (o : Outcome) → s ≡ t → n ≡ m → F ≡ G → r ≡ q → SolverTells s n F r o → SolverTells t m G q o
 told-of s t n m F G r q o e f g h x =
     subst (λ z. SolverTells t m G z o) h (subst (λ z. SolverTells t m z r o) g (subst (λ z. SolverTells t z F r o) f (subst (λ z. SolverTells z n F r o) e x)))
-
--- all of them
-pub all-told : (s : Solving) (depth : ℕ) (F rs : List Reference) (n : ℕ) → length rs ≤ n → Every (λ r. SolverTells s depth F r Proved) (take n rs) → Every (λ r. SolverTells s depth F r Proved) rs
-all-told s depth F rs n l h = subst (Every (λ r. SolverTells s depth F r Proved)) (whole rs n l) h
-  where
-    whole : (xs : List Reference) (k : ℕ) → length xs ≤ k → take k xs ≡ xs
-    whole [] zero q = refl
-    whole [] (suc k) q = refl
-    whole (y ∷ xs) zero q = absurd (omega arith)
-    whole (y ∷ xs) (suc k) q = ap (λ zs. y ∷ zs) (whole xs k (omega arith))
-
-pub as-long : (es : List Entry) (xs : List TraitRef) (n : ℕ) → length xs ≤ n → length (references_in es xs) ≤ n
-as-long es xs n l = subst (λ k. k ≤ n) (sym (long xs)) l
-  where
-    long : (ys : List TraitRef) → length (references_in es ys) ≡ length ys
-    long [] = refl
-    long (y ∷ ys) = ap suc (long ys)
 
 -- ---- an impl of a session's crate
 abbrev solved : SolverCx Solver → Solving

@@ -30,7 +30,6 @@ use Rattle.text_definitions.specs.Declarations.{Declarations, NamedCrate, NamedS
 use Rattle.view_lowering.specs.Plain.{plain, all_kept, none_kept, stands_in}
 use Rattle.view_lowering.specs.Seen.{param_sorts}
 use Rattle.view_lowering.proofs.Tests.{is_good, is_good_struct, is_good_trait, is_good_impl, all_stand}
-use Rattle.view_lowering.proofs.Applied.{each-map}
 use Rattle.view_lowering.proofs.Trees.{and, and-left, and-right}
 use Rattle.type_terms.specs.Supers.{dyns_of_bounds, mentions_as}
 use Rattle.sessions.specs.JoinedSets.{IsPlainTerm, TraitObeys, ImplObeys, ObeysTextRules, OrderedCrates}
@@ -46,6 +45,7 @@ use Rattle.sessions.proofs.SeenPlainly.{plain-erased}
 use Rattle.sessions.proofs.RisingBounds.{Rises}
 use Rattle.sessions.proofs.KeptTexts.{AtHome, HeaderKept, ImplRises, AllKept, texts-are-kept}
 use Rattle.language_definitions.proofs.SameTexts.{text-gives}
+use Rattle.declarations.proofs.Growth.{each-kept as each-map}
 
 -- ---- lists
 pub map-at : {A B : Type 0} (f : A → B) (xs : List A) (y : B) → In y (map f xs) → (k : ℕ) × (x : A) × (slice_get xs k ≡ Some x) × (y ≡ f x)
@@ -337,12 +337,6 @@ module _ (d : Declarations) (a : AllKept d) where
           ∙ ap (λ z. (let V : World = record { crates = core_world.crates; structs = core_world.structs; traits = core_world.traits; impls = z } in V)) s
 
   -- ---- auto traits
-  bare-autos : (x : TraitDecl) → In x W.traits → x.is_auto ≡ true → x.bounds ≡ []
-  bare-autos x i h =
-      let q = trait-at x i in
-      ap (λ (z : TraitDecl). z.bounds) q.3
-      ∙ ap (map erased_reference) (each-at (λ (n : NamedTrait). n.item.is_auto ≡ true → n.item.bounds ≡ []) d.traits a.kept.autos q.0 q.1 q.2 (ap (λ (z : TraitDecl). z.is_auto) (sym q.3) ∙ h))
-
   at-home : (i : ImplDecl) (n : NamedImpl) → i ≡ erased_impl n.item → AtHome d n
       → (s : ℕ) × (ks : Trees) × (os : Trees) × (i.header.args ≡ tree (adt s) ks os) × (struct_is (λ x. x.home == i.home) W s ≡ true)
   at-home i n e own = (

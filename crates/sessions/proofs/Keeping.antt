@@ -55,9 +55,6 @@ module _ {Handler : Type 0} (handler : HandlerMeaning Handler) where
   pub limits-searched : (c d : SolverCx Handler) → Search.Keeps (solver_meaning handler) c d → KeepsLimits c d
   limits-searched c d k = let same = k.held (of_limits c.interner.limit (limit_of c.store)) (refl, refl) in record { terms = same.0; kept = same.1 }
 
-  pub resting-as-deep : (n : ℕ) (c : SolverCx Handler) (s : SearchState) (ks : Cached) → AreAtRest handler n c s ks → AreAtRest handler s.root_depth c s ks
-  resting-as-deep n c s ks r = record { empty = r.empty; depth = refl; cached = r.cached; ready = r.ready }
-
   pub resting-first : (n : ℕ) (c : SolverCx Handler) (s : SearchState) (ks : Cached) → s ≡ record { root_depth = n; current_depth = 0; frames = 0; limits_met = false } → ks ≡ [] → IsReadyContext handler.IsReady c
       → AreAtRest handler n c s ks
   resting-first n c s ks e f r = record {

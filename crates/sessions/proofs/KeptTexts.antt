@@ -23,7 +23,7 @@ use Rattle.text_definitions.specs.Written.{IsWritten}
 use Rattle.text_definitions.specs.Text.{LineGives, other_byte, blank, unwritten, faulty, adds, LinesGive, ends, fails, goes_on, TextGives, too_long, fits}
 use Rattle.line_reader.proofs.NoFault.{passes-tests, belongs-to-crate, uses-crates}
 use Rattle.line_reader.proofs.FittingUses.{faultless-uses}
-use Rattle.view_lowering.proofs.Applied.{each-map, each-more, still-there}
+use Rattle.view_lowering.proofs.Applied.{each-more, still-there}
 use Rattle.view_lowering.proofs.Texts.{Well, AtPlaces, autos-bare, line-added, core-well}
 use Rattle.view_lowering.proofs.Trees.{and-left, and-right, or-left}
 use Rattle.type_terms.proofs.Made.{false-true}
@@ -31,6 +31,9 @@ use Rattle.sessions.proofs.Seeing.{seen-more}
 use Rattle.sessions.proofs.TextTerms.{scope_of, trait-used, found-placed}
 use Rattle.sessions.proofs.FormedTexts.{Formed, line-formed, core-formed, pushed, param-sorted, param-free, seen-still, crate-there, no-section, with_impl_at}
 use Rattle.sessions.proofs.RisingBounds.{Rises, fields-rise, clause-rises, clauses-rise, bounds-rise}
+use Rattle.declarations.proofs.Growth.{each-kept as each-map}
+use Rattle.type_terms.proofs.NumberBasics.{itself as same-length}
+use Rattle.type_terms.proofs.BooleanBasics.{implied, not-false as not-true}
 
 -- ---- what is kept
 -- xs are the items of `core` and then items of other crates
@@ -154,11 +157,6 @@ own-known d n w h = by (find (λ (x : NamedCrate). bytes_eq x.text n) d.crates) 
     by None None (Some x) e g = absurd (false-true g)
 
 -- ---- the header of an impl
-implied : (a b : Bool) → a && not b ≡ false → a ≡ true → b ≡ true
-implied true true h e = refl
-implied true false h e = absurd cc
-implied false b h e = absurd cc
-
 not-built-in : (o : Option Known) (k : ℕ) → option_map_or (is_trait_of k) o false ≡ true → option_map_or is_built_in o false ≡ false → (trait_number o == sized) ≡ false
 not-built-in None k t h = absurd cc
 not-built-in (Some (a_crate i)) k t h = absurd cc
@@ -179,10 +177,6 @@ module _ (d : Declarations) (line : List ℕ) (ps : Params) (k : Clause) (ks : L
       by : (b : Bool) → b || is_among n (xs ++ bs) ≡ false → (is_among n (xs ++ bs) ≡ false → is_among n xs ≡ false) → b || is_among n xs ≡ false
       by true g r = absurd cc
       by false g r = r g
-
-  not-true : (b : Bool) → not b ≡ true → b ≡ false
-  not-true false h = refl
-  not-true true h = absurd cc
 
   own-self : (t : TypeTree) (more : Trees) → is_own_struct d l t ≡ true
       → (s : ℕ) × (cs : Trees) × (os : Trees) × (type_tree (item_meanings d l 0) [] of_type t +++ more ≡ tree (adt s) cs os) × ((y : NamedStruct) × (slice_get d.structs s ≡ Some y) × (y.item.home ≡ impl_owner d))
@@ -237,9 +231,6 @@ some-more (x ∷ cs) c = omega arith
 grown : (xs : List NamedCrate) (y : NamedCrate) → length xs ≤ length (xs ++ y ∷ [])
 grown [] y = omega arith
 grown (z ∷ zs) y = omega (arith, grown zs y)
-
-same-length : (n : ℕ) → n ≤ n
-same-length n = omega arith
 
 sections-more : (d : Declarations) (y : NamedCrate) → Each (λ (c : ℕ). c < length d.crates) d.sections → Each (λ (c : ℕ). c < length (d.crates ++ y ∷ [])) d.sections
 sections-more d y h = each-map (λ (c : ℕ). c < length d.crates) (λ (c : ℕ). c < length (d.crates ++ y ∷ [])) (λ c q. omega (arith, q, grown d.crates y)) d.sections h

@@ -36,6 +36,7 @@ use Rattle.sessions.proofs.KeptTexts.{IsOfSection, AllKept, texts-are-kept}
 use Rattle.sessions.proofs.ScopedTexts.{later-scoped}
 use Rattle.sessions.proofs.SeenPlainly.{reference-erased}
 use Rattle.language_definitions.proofs.SameTexts.{text-gives}
+use Rattle.type_terms.proofs.ListBasics.{map-length as map-long}
 
 -- ---- lists
 every-more : {A : Type 0} (P : A → Type 0) (xs : List A) (n : ℕ) (x : A) → slice_get xs n ≡ Some x → Every P (take n xs) → P x → Every P (take (suc n) xs)
@@ -55,10 +56,6 @@ map-twice f g (x ∷ xs) = ap (λ ys. g (f x) ∷ ys) (map-twice f g xs)
 map-same : {A B : Type 0} (f g : A → B) → ((x : A) → f x ≡ g x) → (xs : List A) → map f xs ≡ map g xs
 map-same f g h [] = refl
 map-same f g h (x ∷ xs) = ap (λ y. y ∷ map f xs) (h x) ∙ ap (λ ys. g x ∷ ys) (map-same f g h xs)
-
-map-long : {A B : Type 0} (f : A → B) (xs : List A) → length (map f xs) ≡ length xs
-map-long f [] = refl
-map-long f (x ∷ xs) = ap suc (map-long f xs)
 
 filter-short : {A : Type 0} (p : A → Bool) (xs : List A) → length (filter p xs) ≤ length xs
 filter-short p [] = omega arith

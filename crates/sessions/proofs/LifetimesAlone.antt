@@ -5,7 +5,7 @@ use Rattle.type_terms.specs.Label.{Label, of_type, of_const, of_lifetime, static
 use Rattle.type_terms.specs.Trees.{Trees, none, tree, leaf, erase, erase_label, sort_of, is_sort, some_node}
 use Rattle.type_terms.specs.Worlds.{Reference}
 use Rattle.type_terms.specs.Answers.{is_open}
-use Rattle.type_terms.proofs.Fitting.{no-left, child-shut, next-shut}
+use Rattle.type_terms.proofs.Fitting.{child-shut, next-shut}
 use Rattle.type_terms.specs.Made.{terms, is_made}
 use Rattle.type_terms.proofs.Made.{left, false-true}
 use Rattle.infer_table.specs.Applied.{applied, with_constraints}
@@ -22,13 +22,15 @@ use Rattle.evaluation.specs.Equations.{Hold}
 use Rattle.evaluation.specs.FrameTables.{FrameTable, IsMadeFrame, AllowsApart, TellsApart, is_good}
 use Rattle.evaluation.specs.Instances.{default_label, first_term, other_terms}
 use Rattle.evaluation.specs.TableAnswers.{ArePicked, IsPicked, is_fitting_answer, put_into, leaf_value}
-use Rattle.evaluation.proofs.Applying.{AreTheirs, all-agree, extended-sorted, for-bindings, further, grown-made, pairs-made, pairs-one, turns, zero-plus}
+use Rattle.evaluation.proofs.Applying.{AreTheirs, all-agree, extended-sorted, for-bindings, further, grown-made, pairs-made, pairs-one, turns}
 use Rattle.evaluation.proofs.Equating.{in-turn-keeps, lifetimes-good, further-apart}
 use Rattle.evaluation.proofs.Nodes.{every-leaf}
 use Rattle.evaluation.proofs.TableBeginning.{below-is}
 use Rattle.assembly_laws.proofs.Plain.{is-sort}
 use Rattle.solver_context.specs.Roots.{left_by, values_in}
 use Rattle.sessions.specs.Asking.{goal_alone}
+use Rattle.type_terms.proofs.Matching.{or-false-left as no-left}
+use Rattle.type_terms.proofs.NumberBasics.{zero-first as zero-plus}
 
 -- ---- lifetimes as leaves
 abbrev is_lifetime : Label → Bool

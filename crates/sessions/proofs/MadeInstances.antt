@@ -6,6 +6,8 @@ use Rattle.type_terms.specs.Made.{Standing, terms, bounds, traits, is_leaf_label
 use Rattle.type_terms.proofs.Made.{left, right, both, false-true, no-tree, IsLast, made-ordinary, makes-ordinary, made-rest, made-alone, made-append, last-bound, last-trait, never-dynamic, never-dynamic-bound, never-principal}
 use Rattle.assembly_laws.specs.Declared.{is_declared, is_lifetime_parameter}
 use Rattle.assembly_laws.proofs.Instances.{is_bound, shift-unbound}
+use Rattle.type_terms.proofs.TermBasics.{gone}
+use Rattle.type_terms.proofs.BooleanBasics.{none-of}
 
 -- a label of no open place
 abbrev pub is_closed_label : Label → Bool
@@ -15,9 +17,6 @@ is_closed_label (infer k i) = false
 is_closed_label (canonical k i) = false
 is_closed_label (bound k j i) = false
 is_closed_label l = true
-
-none-of : (a b c : Bool) → a ≡ false → b ≡ false → c ≡ false → (a || b || c) ≡ false
-none-of a b c e f g = rw (e, f, g) refl
 
 none-parts : (a b c : Bool) → a || b || c ≡ false → (a ≡ false) × (b ≡ false) × (c ≡ false)
 none-parts false false false h = (refl, refl, refl)
@@ -30,9 +29,6 @@ no-children : (b : Bool) (f : Trees → Trees) → f none ≡ none → (c : Tree
 no-children false f e c h = refl
 no-children true f e none h = ap is_no_tree e
 no-children true f e (tree l c o) h = absurd (false-true h)
-
-gone : (f : Trees → Trees) → f none ≡ none → (c : Trees) → c ≡ none → is_no_tree (f c) ≡ true
-gone f e c h = subst (λ z. is_no_tree (f z) ≡ true) (sym h) (ap is_no_tree e)
 
 -- ---- what is declared without lifetime parameters
 abbrev NoLifetimes : Trees → Type 0

@@ -141,12 +141,6 @@ names-ascend p es (i ∷ is) h = by (p (impl_in es i.id i.def)) (names-ascend p 
 abbrev pub AreFound : List ℕ → Option ImplId → List ImplId → Type 0
 AreFound ns last ids = (k : ℕ) → In k ns → is_above last k ≡ false → HasNumber k ids
 
-pub none-found : (ns : List ℕ) (ids : List ImplId) → AreFound ns None ids
-none-found ns ids k i h = absurd (clash h)
-  where
-    clash : true ≡ false → ⊥
-    clash q = cc
-
 pub one-found : (ns : List ℕ) → Ascends ns → (last : Option ImplId) (ids : List ImplId) (id : ImplId) → Some id.index ≡ next_above last ns → AreFound ns last ids → AreFound ns (Some id) (ids ++ id ∷ [])
 one-found ns a last ids id e found k i h = by (is_above last k) refl
   where

@@ -1,7 +1,5 @@
 -- An impl over the terms of an interner, with placeholders in the place of its parameters, and what is asked of the impl of a number.
-use Rattle.std.proofs.Common.{◌≡◌, ◌==◌, ℕ, true, false, List, [], ◌∷◌, map, None, refl, sym, ap, ◌∙◌, subst, arith}
-use Rattle.std.proofs.Math.Nat.{min-le_right}
-use Rattle.std.proofs.lemmas.Bool.Decides.{nat_tests}
+use Rattle.std.proofs.Common.{◌≡◌, ◌==◌, ℕ, true, false, List, [], ◌∷◌, map, None, refl, sym, ap, ◌∙◌, subst}
 use Rattle.type_terms.specs.Label.{Sort}
 use Rattle.type_terms.specs.Proofs.{In}
 use Rattle.type_terms.specs.Supers.{opaque_reference}
@@ -9,8 +7,6 @@ use Rattle.type_terms.specs.Trees.{Trees}
 use Rattle.type_terms.specs.Worlds.{World, Reference, ImplDecl, with_args, all_with_args}
 use Rattle.type_terms.proofs.Members.{here, there}
 use Rattle.type_terms.specs.Terms.{Entry, Keeps, Lawful, trees_at}
-use Rattle.type_terms.specs.declared.ImplId.{ImplId}
-use Rattle.type_terms.specs.declared.TheConstants.{MAX_INDEX}
 use Rattle.term_folds.specs.Arguments.{first_misfit}
 use Rattle.term_folds.specs.declared.predicate.TraitRef.{TraitRef}
 use Rattle.declarations.specs.Applied.{TraitRefsHeld, AreApplied, IsApplied, SpeaksOf, references_in, sort_of_param}
@@ -29,6 +25,8 @@ use Rattle.sessions.specs.Placeholders.{placeholders_from}
 use Rattle.sessions.specs.Supertraits.{AreGoalsFor, AreOfImpl, HasApplied, HasNoOwn}
 use Rattle.sessions.specs.declared.supertraits.SupertraitGoals.{SupertraitGoals}
 use Rattle.sessions.proofs.OpaqueTerms.{arguments-too, placeholders-sorts, put-in}
+use Rattle.type_terms.proofs.TypeBasics.{first_id}
+use Rattle.type_terms.proofs.NumberBasics.{is-number, other-number}
 
 abbrev sorts_of_impl : ImplDef → List Sort
 sorts_of_impl def = map sort_of_param def.params.items
@@ -51,10 +49,6 @@ module _ (old new : List Entry) (k : Keeps old new) (def : ImplDef) (h : ImplHel
 
   pub clauses-fit : (rs : List TraitRef) → rs ≡ def.clauses.items → Each (λ (r : TraitRef). first_misfit (trees_at new a) (trees_at new r.args.0) ≡ None) rs
   clauses-fit rs q = subst (Each (λ (r : TraitRef). first_misfit (trees_at new a) (trees_at new r.args.0) ≡ None)) (sym q) (all-fit def.clauses.items h.clauses w.clauses)
-
--- ---- and is opaque with them
-first_id : ImplId
-first_id = record { index = 0; in_range = min-le_right 0 MAX_INDEX }
 
 module _ (es : List Entry) (lawful : Lawful es) (def : ImplDef) (h : ImplHeld es def) (w : IsWrittenWell es def) where
   abbrev P : Trees
@@ -98,11 +92,6 @@ module _ (d : Items) (header : Reference) (clauses : List Reference) (applied : 
   clauses-apply es rs e = each-applies es rs (λ x i. subst (In x) e i)
 
 -- ---- the impl of a number
-other-number : (x y : ℕ) → (x == y) ≡ false → x ≡ y → ⊥
-other-number x y e f = grind (arith, nat_tests)
-
-is-number : (x y : ℕ) → (x == y) ≡ true → x ≡ y
-is-number x y e = grind (arith, nat_tests)
 
 module _ (V : World) (c k : ℕ) where
   pub none-own : impls_named V k ≡ [] → HasNoOwn V c k

@@ -1,5 +1,5 @@
 -- Terms with placeholders in the place of parameters: what is put in makes each parameter opaque, and they stay formed.
-use Rattle.std.proofs.Common.{◌≡◌, ℕ, zero, suc, ◌+◌, max, Bool, true, false, not, ◌||◌, List, [], ◌∷◌, ◌++◌, map, Some, refl, sym, ap, ◌∙◌, subst, arith}
+use Rattle.std.proofs.Common.{◌≡◌, ℕ, zero, suc, ◌+◌, max, Bool, true, false, not, ◌||◌, List, [], ◌∷◌, ◌++◌, Some, refl, sym, ap, ◌∙◌, subst, arith}
 use Rattle.std.proofs.lemmas.Option.{same_Some}
 use Rattle.type_terms.specs.Label.{Label, Sort, of_type, of_const, of_lifetime, static, fn_ptr, dynamic, principal, auto_trait, predicate, param, placeholder, infer, canonical, bound, inside}
 use Rattle.type_terms.specs.Rules.{autos_with, asked}
@@ -17,7 +17,6 @@ use Rattle.type_terms.proofs.Made.{left, right, both, false-true, no-tree, IsLas
 use Rattle.term_folds.specs.Arguments.{sort_at}
 use Rattle.declarations.specs.Applied.{sorts_of}
 use Rattle.assembly_laws.specs.Declared.{is_declared}
-use Rattle.assembly_laws.specs.DeclaredWell.{are_distinct}
 use Rattle.overlap_check.specs.Fresh.{HasArguments}
 use Rattle.solver_exactness.specs.FormedFacts.{Sorts, NodesFit}
 use Rattle.solver_exactness.proofs.FormedInstances.{node-same}
@@ -25,6 +24,7 @@ use Rattle.view_lowering.specs.Plain.{plain, plain_reference}
 use Rattle.sessions.specs.Goals.{is_fixed}
 use Rattle.sessions.specs.Placeholders.{placeholders_from}
 use Rattle.sessions.proofs.SeenPlainly.{plain-erased}
+use Rattle.assembly_laws.proofs.Basics.{same-autos}
 
 -- ---- placeholders in a row
 pub placeholders-closed : (n : ℕ) (ss : List Sort) → outer_binder (placeholders_from n ss) ≡ 0
@@ -102,9 +102,6 @@ opaque-autos none = refl
 opaque-autos (tree (param s i) c o) = opaque-autos o
 opaque-autos (tree (auto_trait t) c o) = ap (λ z. asked t none ∷ z) (opaque-autos o)
 opaque-autos (tree l c o) = opaque-autos o
-
-same-autos : (c d : Trees) → autos_with none d ≡ autos_with none c → are_distinct (map (λ (r : Reference). r.trait) (autos_with none d)) ≡ are_distinct (map (λ (r : Reference). r.trait) (autos_with none c))
-same-autos c d e = ap (λ z. are_distinct (map (λ (r : Reference). r.trait) z)) e
 
 pub opaque-nodes : (V : World) (sorts : Sorts) (t : Trees) → NodesFit V sorts t → NodesFit V sorts (opaque t)
 opaque-nodes V sorts none n = tt

@@ -7,21 +7,17 @@ use Rattle.type_terms.specs.Label.{Label, Sort, of_type, of_const, of_lifetime, 
 use Rattle.type_terms.specs.Proofs.{Every, HasProof}
 use Rattle.type_terms.specs.Trees.{Trees, none, tree, leaf, erase, erase_label, some_node}
 use Rattle.type_terms.specs.Worlds.{World, CrateDecl, StructDecl, Reference}
-use Rattle.type_terms.proofs.Fitting.{or-no, no-left, child-shut, next-shut}
+use Rattle.type_terms.proofs.Fitting.{or-no, child-shut, next-shut}
 use Rattle.type_terms.proofs.Made.{false-true}
 use Rattle.assembly_laws.proofs.ErasedCandidates.{without_lifetimes}
 use Rattle.overlap_check.specs.Questions.{FitKinds, filled_reference, HoldUnknownsAlone, SolutionBy, IsProveAnswer, yes, is_bound_place}
 use Rattle.overlap_check.proofs.Filling.{filled-shut}
 use Rattle.sessions.specs.Foreign.{is_unknown_term, is_foreign_term, are_own_terms}
 use Rattle.sessions.specs.OwnValues.{is_unknown, is_same_param, stands_in, is_stray, is_foreign, are_own, HasNoParameter, SpeakOfOwn}
+use Rattle.type_terms.proofs.Matching.{or-false-left as no-left}
+use Rattle.type_terms.proofs.BooleanBasics.{or-swap as swapped}
 
 -- ---- tests of nodes
-swapped : (a b c d : Bool) → (a || b) || (c || d) ≡ (a || c) || (b || d)
-swapped true b c d = refl
-swapped false true true d = refl
-swapped false true false d = refl
-swapped false false c d = refl
-
 pub some-either : (p q : Label → Bool) (t : Trees) → some_node (λ l. p l || q l) t ≡ (some_node p t || some_node q t)
 some-either p q none = refl
 some-either p q (tree l c o) =

@@ -7,7 +7,7 @@ use Rattle.type_terms.specs.Trees.{Trees, none, tree, leaf, ◌+++◌, erase, er
 use Rattle.type_terms.specs.Worlds.{Reference}
 use Rattle.type_terms.specs.Proofs.{Every}
 use Rattle.type_terms.specs.Answers.{is_open, is_closed}
-use Rattle.type_terms.proofs.Fitting.{child-shut, next-shut, no-left, or-no}
+use Rattle.type_terms.proofs.Fitting.{child-shut, next-shut, or-no}
 use Rattle.type_terms.specs.Made.{terms, is_made, is_in_range}
 use Rattle.type_terms.specs.Terms.{Entry, Has, Lawful, args_lists, trees_at}
 use Rattle.type_terms.proofs.Made.{made-weaker}
@@ -35,9 +35,9 @@ use Rattle.view_lowering.specs.QuestionVariables.{number_of}
 use Rattle.sessions.specs.Asking.{goal_alone}
 use Rattle.sessions.specs.Impossible.{resolved_alone, HasNoProofInWorlds}
 use Rattle.sessions.proofs.Given.{IsPlaced, placed-at}
-
-no-true : true ≡ false → ⊥
-no-true e = cc
+use Rattle.type_terms.proofs.Matching.{or-false-left as no-left}
+use Rattle.type_terms.proofs.BooleanBasics.{true-false as no-true}
+use Rattle.sessions.proofs.Basics.{all-consts, types-skipped}
 
 -- ---- open places that get no value: parameters, placeholders, bound and canonical variables that are types or constants
 abbrev pub is_place : Label → Bool
@@ -111,14 +111,6 @@ types-first (suc n) js = ap suc (types-first n js) ∙ one-first n (number_of of
   where
     one-first : (n m : ℕ) → suc (n + m) ≡ suc n + m
     one-first n m = omega arith
-
-types-skipped : (n : ℕ) (js : List Sort) → number_of of_const (repeated of_type n ++ js) ≡ number_of of_const js
-types-skipped zero js = refl
-types-skipped (suc n) js = types-skipped n js
-
-all-consts : (n : ℕ) → number_of of_const (repeated of_const n) ≡ n
-all-consts zero = refl
-all-consts (suc n) = ap suc (all-consts n)
 
 module _ (t : Table) (vs : List Trees) (fit : FitKinds (unknown_kinds t) vs) (closed : Every (λ v. IsTrue (is_closed v)) vs) where
   abbrev ks : List Sort

@@ -1,10 +1,10 @@
 -- Terms with unknowns in the place of parameters, and with what equations give to these in their place: they stay formed.
-use Rattle.std.proofs.Common.{◌≡◌, ℕ, zero, suc, ◌+◌, Bool, true, false, List, [], ◌∷◌, ◌++◌, map, Some, refl, sym, ap, ◌∙◌, subst, cond, if◌then◌else◌}
+use Rattle.std.proofs.Common.{◌≡◌, ℕ, zero, suc, ◌+◌, Bool, true, false, List, [], ◌∷◌, ◌++◌, Some, refl, sym, ap, ◌∙◌, subst, cond, if◌then◌else◌}
 use Rattle.std.proofs.lemmas.Option.{same_Some}
 use Rattle.type_terms.specs.Label.{Label, Sort, of_type, of_const, of_lifetime, param, infer, canonical, bound, fn_ptr, dynamic, principal, auto_trait, predicate, inside}
 use Rattle.type_terms.specs.Trees.{Trees, none, tree, leaf, ◌+++◌, nth, shift, instantiate, sort_of, IsA, Single}
 use Rattle.type_terms.specs.Rules.{autos_with, asked}
-use Rattle.type_terms.specs.Worlds.{World, Reference}
+use Rattle.type_terms.specs.Worlds.{World}
 use Rattle.type_terms.specs.Made.{terms}
 use Rattle.type_terms.proofs.Made.{false-true}
 use Rattle.term_folds.specs.Arguments.{sort_at}
@@ -23,12 +23,12 @@ use Rattle.evaluation.specs.Equations.{IsValue}
 use Rattle.evaluation.proofs.Resolved.{made-resolved}
 use Rattle.declarations.specs.Applied.{sorts_of}
 use Rattle.assembly_laws.specs.Declared.{is_declared}
-use Rattle.assembly_laws.specs.DeclaredWell.{are_distinct}
 use Rattle.overlap_check.specs.Fresh.{with_unknown, fresh_unknowns, HasArguments}
 use Rattle.solver_exactness.specs.FormedFacts.{Sorts, NodesFit, FitsNode}
 use Rattle.solver_exactness.proofs.FormedInstances.{node-same, sorts-append}
 use Rattle.sessions.specs.Goals.{stands_free}
 use Rattle.sessions.proofs.TextTerms.{nodes-append}
+use Rattle.assembly_laws.proofs.Basics.{same-autos}
 
 -- ---- the auto traits in a row
 autos-append : (x y : Trees) → autos_with none (x +++ y) ≡ autos_with none x ++ autos_with none y
@@ -45,9 +45,6 @@ no-autos good (tree (auto_trait t) c o) h = absurd h
 no-autos good (tree (predicate k) c o) h = absurd h
 no-autos good (tree dynamic c o) h = no-autos good o h.1
 no-autos good (tree l c o) h = no-autos good o h.2
-
-same-autos : (c d : Trees) → autos_with none d ≡ autos_with none c → are_distinct (map (λ (r : Reference). r.trait) (autos_with none d)) ≡ are_distinct (map (λ (r : Reference). r.trait) (autos_with none c))
-same-autos c d e = ap (λ z. are_distinct (map (λ (r : Reference). r.trait) z)) e
 
 -- ---- unknowns in a row
 abbrev pub AreUnknowns : Trees → Type 0

@@ -3,7 +3,7 @@ use Rattle.std.proofs.Common.{◌≡◌, ℕ, ◌≤◌, ◌<◌, arith, Bool, t
 use Rattle.type_terms.specs.Label.{Label, Sort, of_type, of_const, of_lifetime, param, placeholder, infer, canonical, static}
 use Rattle.type_terms.specs.Trees.{Trees, none, tree, some_node}
 use Rattle.type_terms.specs.Worlds.{Reference}
-use Rattle.type_terms.proofs.Fitting.{child-shut, next-shut, no-left}
+use Rattle.type_terms.proofs.Fitting.{child-shut, next-shut}
 use Rattle.infer_table.specs.Canonical.{HasNoCanonical, kind_of_leaf, leaves, with_label, is_among, canonical_form}
 use Rattle.infer_table.specs.Covers.{AreKnown}
 use Rattle.evaluation.specs.FrameTables.{kinds_known}
@@ -11,13 +11,12 @@ use Rattle.assembly_laws.specs.Solver.{has_placeholder}
 use Rattle.view_lowering.specs.QuestionVariables.{number_of, is_stray}
 use Rattle.sessions.specs.Asking.{goal_alone}
 use Rattle.sessions.proofs.Given.{below}
+use Rattle.type_terms.proofs.Matching.{or-false-left as no-left}
+use Rattle.type_terms.proofs.BooleanBasics.{true-false as no-true}
 
 module _ (ks : List Sort) where
   abbrev NoStray : Trees → Type 0
   NoStray t = some_node (is_stray ks) t ≡ false
-
-  no-true : true ≡ false → ⊥
-  no-true e = cc
 
   first-fine : (l : Label) (c o : Trees) → NoStray (tree l c o) → is_stray ks l ≡ false
   first-fine l c o h = no-left (is_stray ks l) (some_node (is_stray ks) c) (no-left (is_stray ks l || some_node (is_stray ks) c) (some_node (is_stray ks) o) h)

@@ -21,6 +21,7 @@ use Rattle.sessions.specs.Goals.{goal_of}
 use Rattle.sessions.specs.Proving.{IsAnsweredInSearch, IsGoalAnswered, goal_asking}
 use Rattle.sessions.specs.Questions.{where_clauses}
 use Rattle.sessions.specs.declared.answers.ProveAnswer.{ProveAnswer}
+use Rattle.type_terms.proofs.ListBasics.{two}
 
 -- what follows of each value follows where there is one
 pub over-ok : {A E : Type 0} {P Q : A → Type 0} (r : Result A E) → ((a : A) → P a → Q a) → IfOk r P → IfOk r Q
@@ -39,9 +40,6 @@ pub same-asked : (E F : List Reference) (r s : Reference) → E ≡ F → r ≡ 
 same-asked E F r s e f = ap (λ z. goal_of z r) e ∙ ap (λ z. goal_of F z) f
 
 -- ---- the unknowns
-two : {A : Type 0} {x y : A} {xs ys : List A} → x ≡ y → xs ≡ ys → x ∷ xs ≡ y ∷ ys
-two e f = cc
-
 pub args-later : (old new : List Entry) → Keeps old new → (us : List GenericArgKind) → ArgsHeld old us → map (arg_trees new) us ≡ map (arg_trees old) us
 args-later old new k [] h = refl
 args-later old new k (u ∷ us) h = two (arg-trees-later old new k u h.0) (args-later old new k us h.1)

@@ -9,7 +9,7 @@ use Rattle.type_terms.specs.Erased.{erased_reference}
 use Rattle.type_terms.specs.Trees.{Trees, none, tree, leaf, is_sort, is_no_tree, erase, erase_label, some_node}
 use Rattle.type_terms.specs.Worlds.{World, CrateDecl, Reference}
 use Rattle.type_terms.proofs.ProofEntries.{map-in}
-use Rattle.type_terms.proofs.Fitting.{or-no, no-left, child-shut, next-shut}
+use Rattle.type_terms.proofs.Fitting.{or-no, child-shut, next-shut}
 use Rattle.type_terms.proofs.Members.{in-map}
 use Rattle.type_terms.specs.Kinds.{arg_trees}
 use Rattle.type_terms.specs.declared.kinds.GenericArgKind.{GenericArgKind}
@@ -76,6 +76,7 @@ use Rattle.sessions.proofs.Refusals.{plain-erased}
 use Rattle.sessions.proofs.FormedViews.{texts-views-are-formed}
 use Rattle.sessions.proofs.TextQuestions.{fixed, clause-formed}
 use Rattle.sessions.proofs.GivenTexts.{text-given}
+use Rattle.type_terms.proofs.Matching.{or-false-left as no-left}
 
 -- ---- trees of good labels
 abbrev pub AllGood : (Label → Bool) → Trees → Type 0

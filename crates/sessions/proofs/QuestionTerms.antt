@@ -1,6 +1,5 @@
 -- The types of a question are made as terms are, of placeholders and its own unknowns and no other open places, once they are plain.
-use Rattle.std.proofs.Common.{◌≡◌, ℕ, suc, ◌-◌, Bool, true, false, ◌&&◌, ◌||◌, List, [], ◌∷◌, ◌++◌, map, length, Option, Some, None, Result, Ok, Err, refl, sym, ap, ◌∙◌, subst, arith}
-use Rattle.std.proofs.lemmas.Bool.{eqb-true}
+use Rattle.std.proofs.Common.{◌≡◌, ℕ, suc, ◌-◌, Bool, true, false, ◌&&◌, List, [], ◌∷◌, ◌++◌, map, length, Option, Some, None, Result, Ok, Err, refl, sym, ap, ◌∙◌, subst, arith}
 use Rattle.std.proofs.lemmas.Bool.Decides.{nat_tests}
 use Rattle.std.specs.Prelude.{not, ltb, ◌<◌, if◌then◌else◌, ◌==◌, ◌+◌}
 use Rattle.std.specs.List.{list_any, list_all, flat_map}
@@ -32,6 +31,8 @@ use Rattle.view_lowering.proofs.ScalarTokens.{ScalarClause, ScalarClauses, prove
 use Rattle.view_lowering.proofs.Applied.{each-more}
 use Rattle.view_lowering.proofs.Trees.{and, and-left, and-right, or-left, or-right}
 use Rattle.sessions.specs.Goals.{is_fixed, are_fixed}
+use Rattle.text_definitions.proofs.Basics.{among-first, no-count}
+use Rattle.type_terms.proofs.BooleanBasics.{and-end}
 
 -- ---- which unknowns may stand
 module _ (w : Sort → ℕ → Bool) where
@@ -84,10 +85,6 @@ module _ (w : Sort → ℕ → Bool) where
       by (canonical s i) q r = absurd cc
       by (bound s j i) q r = absurd cc
 
-  and-end : (b : Bool) → b ≡ true → b && true ≡ true
-  and-end true h = refl
-  and-end false h = absurd cc
-
   -- a lifetime is one too where the bounds of a `dyn` end
   record Ends (t : Trees) : Type 0 where
     after_none : is_made is_good bounds (plain all_kept t) ≡ true
@@ -139,17 +136,6 @@ module _ (w : Sort → ℕ → Bool) where
   good-scalar (predicate k) g = absurd cc
 
   -- ---- lists of names
-  among-first : (n : List ℕ) (xs ys : List (List ℕ)) → is_among n xs ≡ true → is_among n (xs ++ ys) ≡ true
-  among-first n [] ys h = absurd cc
-  among-first n (x ∷ xs) ys h = by (bytes_eq x n) h (among-first n xs ys)
-    where
-      by : (b : Bool) → b || is_among n xs ≡ true → (is_among n xs ≡ true → is_among n (xs ++ ys) ≡ true) → b || is_among n (xs ++ ys) ≡ true
-      by true g r = refl
-      by false g r = r g
-
-  no-count : (args : Args) → (args_count args == 0) ≡ true → args ≡ no_args
-  no-count no_args h = refl
-  no-count (and_arg a args) h = absurd (omega (arith, eqb-true (suc (args_count args)) 0 h))
 
   -- ---- uses, each of which fits, and is a variable only where it may stand
   module _ (d : Declarations) (l : Line) (variables : List (List ℕ × Sort)) where

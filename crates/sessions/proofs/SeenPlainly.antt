@@ -1,9 +1,8 @@
 -- What a crate sees of a text, without binders: up to lifetimes it is what rules are read from, no lifetime parameter stands in fields, and
 -- each impl begins with a parameter or a rigid type.
 use Rattle.std.proofs.Common.{◌≡◌, ◌⊎◌, ℕ, zero, suc, Bool, true, false, List, [], ◌∷◌, map, Some, Ok, inl, inr, refl, sym, ap, ◌∙◌, subst}
-use Rattle.std.specs.Prelude.{if◌then◌else◌, filter, slice_get}
-use Rattle.type_terms.specs.Label.{Label, of_lifetime, of_type, of_const, static, fn_ptr, principal, param, placeholder, infer, canonical, bound}
-use Rattle.type_terms.specs.Trees.{Trees, none, tree, erase, erase_label, some_node}
+use Rattle.std.specs.Prelude.{filter, slice_get}
+use Rattle.type_terms.specs.Trees.{Trees, none, tree, erase, some_node}
 use Rattle.type_terms.specs.Erased.{erased_reference, erased_struct, erased_trait, erased_impl, erased_world}
 use Rattle.type_terms.specs.Worlds.{World, Reference, StructDecl, TraitDecl, ImplDecl, sees}
 use Rattle.type_terms.specs.Proofs.{In}
@@ -17,31 +16,18 @@ use Rattle.text_definitions.specs.Declarations.{NamedImpl, world_of}
 use Rattle.text_definitions.specs.Text.{TextGives}
 use Rattle.assembly_laws.specs.Declared.{is_lifetime_parameter}
 use Rattle.assembly_laws.specs.Meaning.{SelfTypesBegin}
-use Rattle.view_lowering.specs.Plain.{plain_label, plain, plain_reference, plain_struct, plain_trait, plain_impl, plain_world, plainly_seen_from, all_kept, none_kept, stands_in}
+use Rattle.view_lowering.specs.Plain.{plain, plain_reference, plain_struct, plain_trait, plain_impl, plain_world, plainly_seen_from, all_kept, none_kept, stands_in}
 use Rattle.view_lowering.specs.Seen.{seen_from, rules_seen_from}
 use Rattle.view_lowering.proofs.Begins.{texts-begin}
 use Rattle.view_lowering.proofs.SeenViews.{none-left}
 use Rattle.sessions.proofs.FormedViews.{map-in}
 use Rattle.sessions.proofs.WithoutLifetimes.{FieldsAreErased}
-
-node : {l m : Label} {c d o p : Trees} → l ≡ m → c ≡ d → o ≡ p → tree l c o ≡ tree m d p
-node e f g = cc
-
-two : {A : Type 0} {a b : A} {c d : List A} → a ≡ b → c ≡ d → a ∷ c ≡ b ∷ d
-two p q = cc
+use Rattle.type_terms.proofs.RenumberedRules.{cons-same as two}
+use Rattle.type_terms.proofs.TermBasics.{three as node}
+use Rattle.view_lowering.proofs.Plainly.{begins-plain}
+use Rattle.view_lowering.proofs.Basics.{label-erased}
 
 -- ---- up to lifetimes nothing changes
-label-erased : (k : ℕ → Bool) (l : Label) → erase_label (plain_label k l) ≡ erase_label l
-label-erased k (param of_lifetime i) = by (k i)
-  where
-    by : (b : Bool) → erase_label (if b then param of_lifetime i else static) ≡ static
-    by true = refl
-    by false = refl
-label-erased k (bound of_lifetime _ _) = refl
-label-erased k (fn_ptr _) = refl
-label-erased k (principal _ i) = refl
-label-erased k l = refl
-
 pub plain-erased : (k : ℕ → Bool) (t : Trees) → erase (plain k t) ≡ erase t
 plain-erased k none = refl
 plain-erased k (tree l c o) = node (label-erased k l) (plain-erased k c) (plain-erased k o)
@@ -86,29 +72,6 @@ seen-erased d c x f i j =
     subst (λ t. some_node is_lifetime_parameter t ≡ false) (sym b.2) (none-left b.0)
 
 -- ---- how impls begin
-begins-plain : (k : ℕ → Bool) (t : Trees) → begins_declared (plain k t) ≡ begins_declared t
-begins-plain k none = refl
-begins-plain k (tree (param of_lifetime i) c o) = by (k i)
-  where
-    by : (b : Bool) → begins_declared (tree (if b then param of_lifetime i else static) (plain k c) (plain k o)) ≡ begins_declared (tree (param of_lifetime i) c o)
-    by true = refl
-    by false = refl
-begins-plain k (tree (param of_type i) c o) = refl
-begins-plain k (tree (param of_const i) c o) = refl
-begins-plain k (tree (bound of_lifetime i j) c o) = refl
-begins-plain k (tree (bound of_type i j) c o) = refl
-begins-plain k (tree (bound of_const i j) c o) = refl
-begins-plain k (tree (placeholder of_lifetime i) c o) = refl
-begins-plain k (tree (placeholder of_type i) c o) = refl
-begins-plain k (tree (placeholder of_const i) c o) = refl
-begins-plain k (tree (infer of_lifetime i) c o) = refl
-begins-plain k (tree (infer of_type i) c o) = refl
-begins-plain k (tree (infer of_const i) c o) = refl
-begins-plain k (tree (canonical of_lifetime i) c o) = refl
-begins-plain k (tree (canonical of_type i) c o) = refl
-begins-plain k (tree (canonical of_const i) c o) = refl
-begins-plain k (tree l c o) = refl
-
 -- what holds of each at its place holds of all that are there
 placed : {A : Type 0} (P : A → Type 0) (xs : List A) → ((k : ℕ) (x : A) → slice_get xs k ≡ Some x → P x) → (x : A) → In x xs → P x
 placed P [] f x i = absurd (in-nothing x i)

@@ -3,11 +3,11 @@ use Rattle.std.proofs.Common.{◌≡◌, ◌∙◌, Bool, true, false, ◌&&◌,
 use Rattle.type_terms.specs.Terms.{Entry, Keeps}
 use Rattle.search_graph.specs.Cache.{KnownResult}
 use Rattle.search_graph.specs.SearchState.{SearchState}
-use Rattle.search_graph.proofs.Graphs.{Keeps-refl, Keeps-trans}
+use Rattle.search_graph.proofs.Graphs.{Keeps-trans}
 use Rattle.infer_table.specs.Certainties.{is_certain}
 use Rattle.infer_table.specs.Content.{Table, content, Ready}
 use Rattle.infer_table.specs.Goals.{GoalHeld, goal_trees}
-use Rattle.infer_table.specs.Growth.{grows-trans, grows-refl}
+use Rattle.infer_table.specs.Growth.{grows-trans}
 use Rattle.infer_table.specs.Inputs.{IsWithoutCanonical}
 use Rattle.infer_table.specs.Kept.{content-kept}
 use Rattle.infer_table.specs.Responses.{AnswerTrees}
@@ -32,15 +32,12 @@ use Rattle.solver_context.specs.Roots.{fact_under, SolutionsAreProved}
 use Rattle.solver_context.specs.declared.context.SolverCx.{SolverCx}
 use Rattle.goal_frames.specs.Meanings.{HandlerMeaning}
 use Rattle.sessions.specs.Settling.{m, HasAsked, IsProvedBy}
+use Rattle.type_terms.proofs.BooleanBasics.{no-and as and-false}
 
 -- ---- answers that are no definite yes
 values-true : (b : Bool) → changed b ≡ Changed.Yes → b ≡ true
 values-true true e = refl
 values-true false e = cc
-
-and-false : (b : Bool) → b && false ≡ false
-and-false true = refl
-and-false false = refl
 
 pub not-definite-changed : (a : AnswerTrees) → changed (has_values a) ≡ Changed.Yes → is_yes_answer frame_tables (Some a) ≡ false
 not-definite-changed a e = ap (λ b. is_certain a.certainty && not b) (values-true (has_values a) e) ∙ and-false (is_certain a.certainty)
@@ -70,18 +67,6 @@ module _ {Handler : Type 0} (handler : HandlerMeaning Handler) where
   Asked = HasAsked handler
 
   -- ---- nothing asked, and one run after the other
-  pub asked-nothing : (g : SearchState) (ks : List (KnownResult InputId (Option ResponseId))) (c : SolverCx Handler) (t : Table) → Asked g ks c t g ks c t
-  asked-nothing g ks c t = record {
-    depth = refl;
-    results = λ place x e. e;
-    consistent = λ h. h;
-    keeps = Keeps-refl (m handler) c;
-    entries = λ i e h. h;
-    grows = grows-refl t;
-    narrows = λ s h. h;
-    clean = λ h. h;
-  }
-
   pub asked-further : (f g h : SearchState) (ks ls ms : List (KnownResult InputId (Option ResponseId))) (c d e : SolverCx Handler) (t u v : Table)
       → Asked f ks c t g ls d u → Asked g ls d u h ms e v → Asked f ks c t h ms e v
   asked-further f g h ks ls ms c d e t u v a b = record {

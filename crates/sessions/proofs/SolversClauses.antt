@@ -18,13 +18,9 @@ use Rattle.candidate_assembly.specs.Fitting.{same_sorts, are_of_trait, is_shut, 
 use Rattle.candidate_assembly.specs.Solving.{Solving}
 use Rattle.sessions.specs.Applying.{SolversClausesApply}
 use Rattle.sessions.proofs.ClausesApply.{texts-clauses-apply}
+use Rattle.type_terms.proofs.TermBasics.{sort-self as same-sort}
 
 -- ---- sorts
-same-sort : (s : Sort) → is_sort s s ≡ true
-same-sort of_type = refl
-same-sort of_const = refl
-same-sort of_lifetime = refl
-
 same-ones : (ss : List Sort) → same_sorts ss ss ≡ true
 same-ones [] = refl
 same-ones (s ∷ ss) = both (is_sort s s) (same_sorts ss ss) (same-sort s) (same-ones ss)

@@ -60,6 +60,7 @@ use Rattle.sessions.proofs.StrictSupertraits.{strict-among}
 use Rattle.sessions.proofs.WithoutLifetimes.{FieldsAreErased, erased-is, supers-same}
 use Rattle.assembly_laws.specs.Meaning.{SelfTypesBegin}
 use Rattle.sessions.proofs.GivenTexts.{text-given}
+use Rattle.type_terms.proofs.ListBasics.{take-map}
 
 -- ---- lists
 every-in : {A : Type 0} (P : A → Type 0) (xs : List A) → Every P xs → (x : A) → In x xs → P x
@@ -82,11 +83,6 @@ in-take (suc n) (y ∷ xs) x i = by (in-cases x y (take n xs) i) (in-take n xs x
     by : (y ≡ x) ⊎ In x (take n xs) → (In x (take n xs) → In x xs) → In x (y ∷ xs)
     by (inl e) f = subst (λ z. In z (y ∷ xs)) e (here y xs)
     by (inr j) f = there x y xs (f j)
-
-take-map : {A B : Type 0} (f : A → B) (n : ℕ) (xs : List A) → take n (map f xs) ≡ map f (take n xs)
-take-map f zero xs = refl
-take-map f (suc n) [] = refl
-take-map f (suc n) (x ∷ xs) = ap (λ zs. f x ∷ zs) (take-map f n xs)
 
 get-map : {A B : Type 0} (f : A → B) (xs : List A) (n : ℕ) (x : A) → slice_get xs n ≡ Some x → slice_get (map f xs) n ≡ Some (f x)
 get-map f [] n x e = absurd cc

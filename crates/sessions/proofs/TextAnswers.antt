@@ -51,7 +51,7 @@ use Rattle.solver_exactness.specs.Ways.{HasOneWayWithin}
 use Rattle.solver_exactness.proofs.FormedAnswers.{formed-searches-are-right, formed-tells-possible}
 use Rattle.solver_exactness.proofs.ModelWays.{single_way_is_decided}
 use Rattle.solver_exactness.proofs.Once.{elaborated-once}
-use Rattle.solver_exactness.proofs.Selecting.{hits}
+use Rattle.solver_exactness.proofs.Selecting.{hits, hits-map}
 use Rattle.solver_exactness.proofs.UnboundGoals.{unbound-are-admitted}
 use Rattle.sessions.specs.Answers.{solver_goals, IsOnlyAnswer, IsRightOf, AreAnsweredRight, AreAnsweredAsWritten, AreToldPossible}
 use Rattle.sessions.specs.Clauses.{AddSupertraits}
@@ -60,7 +60,7 @@ use Rattle.sessions.specs.Goals.{goal_of, are_fixed, IsFormedQuestion, AsksUnder
 use Rattle.sessions.specs.Questions.{IsFormedAsWritten}
 use Rattle.sessions.proofs.AskedGoals.{formed-question}
 use Rattle.sessions.proofs.Clauses.{supertraits-prove-no-more}
-use Rattle.sessions.proofs.DirectRules.{own_rules, direct_clauses, direct_under, direct_ways, others, direct-split, direct-decided, decided-directly, hits-fewer, hits-map}
+use Rattle.sessions.proofs.DirectRules.{own_rules, direct_clauses, direct_under, direct_ways, others, direct-split, direct-decided, decided-directly, hits-fewer}
 use Rattle.sessions.proofs.DirectWays.{directly-right}
 use Rattle.sessions.proofs.ElaboratedClauses.{IsFormedClause, elaborated-formed, elaborated-closed, all-are-fixed, levels-erased}
 use Rattle.sessions.proofs.Fitting.{sorts-tell}

@@ -28,6 +28,7 @@ use Rattle.assembly_laws.specs.DeclaredWell.{are_distinct}
 use Rattle.solver_exactness.specs.GoalSets.{begins_typed}
 use Rattle.solver_exactness.specs.RowWays.{autos_stand_once}
 use Rattle.solver_exactness.specs.FormedFacts.{EachNode, AreTypeSorts}
+use Rattle.solver_exactness.proofs.Basics.{are-types-append}
 
 -- ---- what is declared, and of which crates it is seen
 pub record Scope : Type 0 where
@@ -72,10 +73,6 @@ head-is s t xs ys e = cc
 begins-by : (x o : Trees) → sorts_of x ≡ of_type ∷ [] → begins_typed (x +++ o) ≡ true
 begins-by none o e = absurd cc
 begins-by (tree l c p) o e = ap (λ s. is_sort s of_type) (head-is (sort_of l) of_type (sorts_of p) [] e)
-
-are-types-append : (xs ys : List Sort) → AreTypeSorts xs → AreTypeSorts ys → AreTypeSorts (xs ++ ys)
-are-types-append [] ys h g = g
-are-types-append (x ∷ xs) ys h g = (h.0, are-types-append xs ys h.1 g)
 
 found-at : {A : Type 0} (f : A → Bool) (xs : List A) (x : A) → find f xs ≡ Some x → (i : ℕ) × (slice_get xs i ≡ Some x)
 found-at f [] x h = absurd cc

@@ -14,6 +14,7 @@ use Rattle.term_folds.specs.Arguments.{arg_sort}
 use Rattle.infer_table.proofs.BindFacts.{type-is, const-is}
 use Rattle.text_definitions.specs.Declarations.{Variable}
 use Rattle.text_definitions.specs.Names.{own_from}
+use Rattle.type_terms.proofs.ListBasics.{first-same, rest-same, two}
 
 -- what stands for a variable, by its kind
 not-type : (es : List Entry) → Lawful es → (i : ℕ) → Has es types i → (s : Sort) (n : ℕ) → trees_at es i ≡ leaf (infer s n) → s ≡ of_type
@@ -64,17 +65,8 @@ own-next n m v vs = by v.text v.kind
     by x of_const = refl
     by x of_lifetime = refl
 
-first-same : {A : Type 0} (x y : A) (xs ys : List A) → x ∷ xs ≡ y ∷ ys → x ≡ y
-first-same x y xs ys e = cc
-
-rest-same : {A : Type 0} (x y : A) (xs ys : List A) → x ∷ xs ≡ y ∷ ys → xs ≡ ys
-rest-same x y xs ys e = cc
-
 not-empty : {A : Type 0} (y : A) (ys : List A) → [] ≡ y ∷ ys → ⊥
 not-empty y ys e = cc
-
-two : {A : Type 0} {x y : A} {xs ys : List A} → x ≡ y → xs ≡ ys → x ∷ xs ≡ y ∷ ys
-two e f = cc
 
 module _ (es : List Entry) (law : Lawful es) where
   pub kinds-are : (us : List GenericArgKind) (vs : List Variable) (n m : ℕ) → ArgsHeld es us → map (arg_trees es) us ≡ own_from n m vs → map arg_sort us ≡ map (λ v. v.kind) vs

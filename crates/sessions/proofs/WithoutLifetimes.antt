@@ -13,8 +13,8 @@ use Rattle.type_terms.specs.Walks.{Met, local, entered, struct_leaf, open_place,
 use Rattle.type_terms.specs.Codes.{same}
 use Rattle.type_terms.specs.Proofs.{In}
 use Rattle.type_terms.proofs.Applies.{applies-in, fits-erased}
-use Rattle.type_terms.proofs.Fitting.{not-true, append-shut, no-left, child-shut, next-shut, head-shut, fits-sound, same-reference-sound}
-use Rattle.type_terms.proofs.Matching.{same-where-asked}
+use Rattle.type_terms.proofs.Fitting.{not-true, append-shut, child-shut, next-shut, head-shut, fits-sound, same-reference-sound}
+use Rattle.type_terms.proofs.Matching.{same-where-asked, or-false-left as no-left}
 use Rattle.type_terms.proofs.ProofEntries.{map-in}
 use Rattle.type_terms.proofs.Members.{here, there, in-cases, in-nothing, same-number}
 use Rattle.type_terms.proofs.NoHolds.{member-each}
@@ -31,22 +31,19 @@ use Rattle.assembly_laws.specs.Facts.{is_unerased}
 use Rattle.assembly_laws.specs.Meaning.{SelfTypesBegin}
 use Rattle.assembly_laws.proofs.DeclaredParts.{header-declared, clause-declared, bound-declared}
 use Rattle.assembly_laws.proofs.ErasedCandidates.{types-same, consts-same, without_lifetimes}
-use Rattle.assembly_laws.proofs.CandidateKinds.{every-append}
 use Rattle.assembly_laws.proofs.ErasedRows.{declared-head, label-stays as kept-label}
 use Rattle.assembly_laws.proofs.ErasedTerms.{erased-lifetimes, declared-stays}
 use Rattle.assembly_laws.proofs.PlainRules.{is_wild, tame, Plain, IsPlainReference, HavePlainPremises, plain-unbound, plain-instance}
 use Rattle.assembly_laws.proofs.ReadOff.{by-declared, is_kept, none-passes, below, one-sort, arguments-plain}
 use Rattle.assembly_laws.proofs.Headers.{child-some, next-some, here-some}
-use Rattle.assembly_laws.proofs.Plain.{sort-self}
 use Rattle.assembly_laws.proofs.Rows.{fields-declared}
 use Rattle.sessions.proofs.PlainPremises.{supers-plain, rules-plain}
 use Rattle.solver_exactness.proofs.FormedInstances.{Stands, stands-cases, fits-by, sort-where}
 use Rattle.sessions.proofs.Fitting.{shut}
+use Rattle.type_terms.proofs.TermBasics.{three as same-node, is_sort-self as sort-self, if-same}
+use Rattle.evaluation.proofs.Basics.{every-append}
 
 -- ---- terms
-same-node : {l m : Label} {c d o p : Trees} → l ≡ m → c ≡ d → o ≡ p → tree l c o ≡ tree m d p
-same-node e f g = cc
-
 label-stays : (l : Label) → is_unerased l ≡ false → erase_label l ≡ l
 label-stays (fn_ptr zero) h = refl
 label-stays (fn_ptr (suc n)) h = absurd (false-true (sym h))
@@ -512,10 +509,6 @@ module _ (V : World) (well : IsDeclaredWell V) (begin : SelfTypesBegin V) (erase
   dyn-same d (tree (principal n t) c o) = refl
   dyn-same d none = refl
   dyn-same d (tree l c o) = refl
-
-  if-same : (p q x y : Bool) (u w : List Met) (s : ℕ) → p ≡ q → x ≡ y → u ≡ w
-      → (if p then local ∷ [] else if x then entered s ∷ u else struct_leaf s ∷ []) ≡ (if q then local ∷ [] else if y then entered s ∷ w else struct_leaf s ∷ [])
-  if-same p q x y u w s e f g = cc
 
   visited-same : (d : Option ℕ) (t : Trees) → visited U d t ≡ visited V d t
   visited-same d none = refl

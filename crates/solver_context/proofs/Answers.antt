@@ -22,26 +22,21 @@ use Rattle.infer_table.specs.Answers.{have_same_sorts, is_answer_to}
 use Rattle.infer_table.specs.Responses.{answer_trees}
 use Rattle.infer_table.specs.Covers.{chosen, AreNumbered, AreKnown, IsOfKnown, IsWellPosed}
 use Rattle.infer_table.specs.Covers as OfValues
-use Rattle.infer_table.proofs.Covers.{chosen-append, instance-single, instance-root, arg-root}
-use Rattle.infer_table.proofs.SolutionLaws.{instance-append}
+use Rattle.infer_table.proofs.Covers.{chosen-append, instance-root, arg-root}
+use Rattle.infer_table.proofs.SolutionLaws.{instance-append, instance-single}
 use Rattle.evaluation.specs.Lists.{Every}
 use Rattle.evaluation.specs.TableAnswers.{picked, IsPicked, ArePicked, IsInstanceOfAnswer, is_variable_of, is_kind_of, is_fitting, IsWellFormed, leaf_value}
 use Rattle.evaluation.specs.FrameTables.{kind_at}
 use Rattle.evaluation.specs.Instances.{read_with, of_sort}
 use Rattle.evaluation.proofs.Labels.{IsGoodLabel, made-labels}
-use Rattle.type_terms.proofs.Made.{left, right}
+use Rattle.type_terms.proofs.Made.{left, right, false-true}
 use Rattle.evaluation.proofs.Nodes.{every-leaf}
 use Rattle.evaluation.proofs.Questions.{sort-of-sort}
 use Rattle.evaluation.proofs.Reading.{EachLabel}
 use Rattle.evaluation.proofs.Readings.{HasLeaves, made-leaves}
 use Rattle.solver_context.specs.Roots.{values_under, values_in}
 use Rattle.solver_context.proofs.Leaves.{arg-leaves}
-
-false-true : false ≡ true → ⊥
-false-true e = cc
-
-two : (a a' b b' : Trees) → a ≡ a' → b ≡ b' → a +++ b ≡ a' +++ b'
-two a a' b b' p q = cc
+use Rattle.type_terms.proofs.TermBasics.{two}
 
 -- ---- terms chosen for an answer's variables
 module _ (q : Assignment) where

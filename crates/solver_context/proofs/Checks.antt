@@ -1,6 +1,5 @@
 -- When an answer in code says nothing of its goal's variables.
 use Rattle.std.proofs.Common.{rules, ◌≡◌, ℕ, zero, suc, ◌+◌, ◌==◌, arith, Bool, true, false, not, ◌&&◌, List, [], ◌∷◌, length, refl, sym, ◌∙◌, ap, subst, Some}
-use Rattle.std.proofs.lemmas.Bool.Decides.{nat_tests}
 use Rattle.std.proofs.lemmas.Bool.{eqb-true}
 use Rattle.std.specs.Cmp.Lexicographic.{pointwise}
 use Rattle.std.proofs.lemmas.Slice.Eq.{slice_eq-Decides}
@@ -24,7 +23,7 @@ use Rattle.infer_table.specs.Raw.{sort_of_kind, variable_value, variables_from}
 use Rattle.infer_table.specs.Responses.{AnswerTrees, answer_trees}
 use Rattle.evaluation.specs.Lists.{Every}
 use Rattle.evaluation.specs.Responses.{is_variable, are_variables, says_nothing, is_identity_modulo_regions}
-use Rattle.evaluation.proofs.SameResponses.{kind-eq, certainty-eq}
+use Rattle.evaluation.proofs.SameResponses.{certainty-eq}
 use Rattle.evaluation.specs.TableAnswers.{is_kind_of, is_variable_of, is_fitting, IsWellFormed, has_values, without_values}
 use Rattle.evaluation.specs.FrameTables.{kind_at}
 use Rattle.type_terms.proofs.Made.{false-true, left, right, both, no-tree, made-ordinary}
@@ -35,6 +34,10 @@ use Rattle.evaluation.specs.Tables.{frame_tables}
 use Rattle.goal_frames.specs.Searches.{is_ambiguous_answer}
 use Rattle.evaluation.proofs.Filling.{same-values}
 use Rattle.solver_context.specs.Answers.{holds_nothing}
+use Rattle.infer_table.proofs.TypeBasics.{kind-eq}
+use Rattle.type_terms.proofs.NumberBasics.{place-here as here, number-self}
+use Rattle.infer_table.proofs.Basics.{first-and-rest}
+use Rattle.type_terms.proofs.BooleanBasics.{twice as not-not}
 
 is-sort : (j k : Sort) → is_sort j k ≡ true → j ≡ k
 is-sort j k h = search rules
@@ -57,14 +60,8 @@ root-is all i k s (tree (canonical r j) c o) h e v =
     ∙ ap (λ z. leaf (canonical z j)) (sym sort) ∙ ap (λ n. leaf (canonical (sort_of_kind k) n)) (sym number))
 root-is all i k s (tree l c o) h e v = absurd (false-true v)
 
-first-and-rest : (x y : Value) (xs ys : List Value) → x ≡ y → xs ≡ ys → ◌≡◌ {A = List Value} (x ∷ xs) (y ∷ ys)
-first-and-rest x y xs ys e f = ap (λ z. z ∷ xs) e ∙ ap (λ zs. y ∷ zs) f
-
 same-length : (n m : ℕ) → suc n ≡ suc m → n ≡ m
 same-length n m h = omega (arith, h)
-
-here : (i : ℕ) → i ≡ i + zero
-here i = omega arith
 
 next : (i j : ℕ) → (i + 1) + j ≡ i + suc j
 next i j = omega arith
@@ -82,9 +79,6 @@ module _ (es : List Entry) (all : List CanonicalVarKind) where
       (values-are (i + 1) vs ks f.1 (same-length (length vs) (length ks) n) (λ j. ap (kind_at all) (next i j) ∙ at (suc j)) (right (is_variable i (leaf_label es x)) _ v))
 
   -- ---- and back
-  number-self : (i : ℕ) → (i == i) ≡ true
-  number-self i = grind (arith, nat_tests)
-
   variables-are : (i : ℕ) (vs : List GenericArgKind) (ks : List CanonicalVarKind) → values_of es vs ≡ variables_from i ks → (are_variables es i vs ≡ true) × (length vs ≡ length ks)
   variables-are i [] [] e = (refl, refl)
   variables-are i [] (k ∷ ks) e = cc
@@ -150,10 +144,6 @@ kinds-differ xs ys x e f h = clash (pointwise kind.eq xs ys) x e f ((slice_eq-De
 pub raw-is : (es : List Entry) (r : CanonicalResponse) (ks : List CanonicalVarKind) (k : Certainty) → r.variables.items ≡ ks → r.certainty ≡ k → values_of es r.var_values.items ≡ variables_from 0 ks
     → r.region_constraints.items ≡ [] → answer_trees es r ≡ without_values ks k
 raw-is es r ks k a b c d = answer-cong _ _ _ _ _ _ _ _ a b c (ap (constraints_trees es) d)
-
-not-not : (b : Bool) → not (not b) ≡ b
-not-not true = refl
-not-not false = refl
 
 -- an answer that is not sure is ambiguous exactly if it holds nothing
 pub ambiguous-is : (a : AnswerTrees) (cause : MaybeCause) → a.certainty ≡ Maybe cause → is_ambiguous_answer frame_tables (Some a) ≡ holds_nothing a

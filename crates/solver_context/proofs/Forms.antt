@@ -1,5 +1,5 @@
 -- An instance of a goal's canonical form, by what is assigned to the goal's leaves, is an instance of the goal.
-use Rattle.std.proofs.Common.{◌≡◌, ℕ, Bool, true, false, ◌&&◌, List, [], ◌∷◌, ◌++◌, map, refl, sym, ◌∙◌, ap, Option, Some, None, if◌then◌else◌, is_some, inl, inr}
+use Rattle.std.proofs.Common.{◌≡◌, ℕ, Bool, true, ◌&&◌, List, [], ◌∷◌, ◌++◌, map, refl, sym, ◌∙◌, ap, Option, Some, None, if◌then◌else◌, is_some, inl, inr}
 use Rattle.std.specs.Prelude.{IsSome}
 use Rattle.type_terms.specs.Label.{Label, Sort, of_type, of_const, of_lifetime, infer, param, placeholder, canonical, bound, static}
 use Rattle.type_terms.specs.Trees.{Trees, none, tree, leaf, ◌+++◌, erase_label, is_sort, is_a, placed}
@@ -20,9 +20,6 @@ use Rattle.evaluation.proofs.Questions.{sort-of-sort, term-place}
 use Rattle.infer_table.proofs.WithoutCanonical.{IsNoCanonical, clean-parts}
 use Rattle.evaluation.proofs.Readings.{HasLeaves}
 use Rattle.solver_context.specs.Roots.{fact_under, values_under, question_of}
-
-false-true : false ≡ true → ⊥
-false-true e = cc
 
 -- ---- reading the form
 module _ (s : Assignment) (sorted : IsSorted s) (ls : List Label) where

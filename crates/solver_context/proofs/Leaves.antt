@@ -18,9 +18,7 @@ use Rattle.infer_table.proofs.Places.{ready-terms, arg-term}
 use Rattle.infer_table.specs.declared.goal.Goal.{Goal}
 use Rattle.infer_table.specs.Goals.{clause_label, clause_terms, environment_trees, ClausesHeld, GoalHeld, goal_trees, goal_resolved}
 use Rattle.evaluation.proofs.Readings.{HasLeaves, made-leaves}
-
-false-true : false ≡ true → ⊥
-false-true e = cc
+use Rattle.type_terms.proofs.Made.{false-true}
 
 -- ---- lists, and terms in the place of unknowns
 pub leaves-append : (x y : Trees) → HasLeaves x → HasLeaves y → HasLeaves (x +++ y)

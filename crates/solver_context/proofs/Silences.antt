@@ -1,5 +1,5 @@
 -- The silent answer to a goal that is kept: each variable stands for itself.
-use Rattle.std.proofs.Common.{◌≡◌, List, ◌∙◌, ap, Some, None, Result, Ok, Err, IfOk, subst}
+use Rattle.std.proofs.Common.{◌≡◌, List, ◌∙◌, ap, Some, Result, Ok, Err, IfOk, subst}
 use Rattle.search_graph.specs.declared.path_kind.PathKind.{PathKind}
 use Rattle.infer_table.specs.Canonical.{CanonicalForm}
 use Rattle.infer_table.specs.declared.canonical.CanonicalVarKind.{CanonicalVarKind}
@@ -32,9 +32,6 @@ silent-fits ks k = subst IsWellFormed (silent-is ks k) (answers_well_formed (beg
 -- what a goal is answered that is asked under itself
 pub cycle-some : (mode : TypingMode) (f : CanonicalForm) (kind : PathKind) (k : Certainty) → cycle_certainty mode kind ≡ Some k → cycle_answer mode f kind ≡ silent f k
 cycle-some mode f kind k e = ap (silent_if f) e
-
-pub cycle-none : (mode : TypingMode) (f : CanonicalForm) (kind : PathKind) → cycle_certainty mode kind ≡ None → cycle_answer mode f kind ≡ None
-cycle-none mode f kind e = ap (silent_if f) e
 
 -- ---- what holds of a result where it is one
 pub one-ok : {T E : Type 0} (P R : T → Type 0) (r : Result T E) → ((x : T) → P x → R x) → IfOk r P → IfOk r R

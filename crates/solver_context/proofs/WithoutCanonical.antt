@@ -17,6 +17,7 @@ use Rattle.evaluation.specs.TableAnswers.{is_fitting, are_fitting, is_fitting_an
 use Rattle.solver_context.specs.Roots.{values_in}
 use Rattle.solver_context.specs.WithoutCanonical.{EvaluationsKeepOut}
 use Rattle.solver_context.proofs.Answers.{values-numbered}
+use Rattle.infer_table.proofs.TypeBasics.{some-one}
 
 -- ---- the leaves of a goal are no canonical variables
 module _ (kind : OpenKinds) (never : (s : Sort) (i : ℕ) → kind (canonical s i) ≡ None) where
@@ -72,9 +73,6 @@ is-sorted of_lifetime (tree l c o) e = is_sort-equal (sort_of l) of_lifetime (an
 are-sorted : (ks : List CanonicalVarKind) (vs : List Value) → Every (λ v. is_fitting ks v ≡ true) vs → AreOfTheirSorts vs
 are-sorted ks [] h = tt
 are-sorted ks (v ∷ vs) h = (is-sorted v.sort v.trees (and-left (is_a v.sort v.trees) _ h.0), are-sorted ks vs h.1)
-
-some-one : (t u : TableTrees) → Some t ≡ Some u → t ≡ u
-some-one t u e = cc
 
 pub evaluations-keep-out : EvaluationsKeepOut
 evaluations-keep-out t u g a h e = by (is_fitting_answer (values_in g) a) refl e

@@ -8,10 +8,13 @@ use Rattle.evaluation.specs.Lists.{Every, SomeOf}
 use Rattle.evaluation.specs.Content.{Fact}
 use Rattle.solver_exactness.specs.Ways.{AtMostOneHolds, IsSelection}
 use Rattle.assembly_laws.specs.Facts.{beside}
-use Rattle.assembly_laws.proofs.CandidateKinds.{every-append}
 use Rattle.solver_exactness.specs.SolverWays.{facts_beside, premises_of}
 use Rattle.solver_exactness.specs.RowWays.{clause_ways}
 use Rattle.solver_exactness.proofs.Selecting.{every-left, every-right, some-cases, some-both, one-left, one-right, one-cross, one-both, map-either, turned, hits, hit, which, copies, copies-select, facts-copies}
+use Rattle.evaluation.proofs.Basics.{every-append}
+use Rattle.type_terms.proofs.ListBasics.{append-assoc}
+use Rattle.type_terms.proofs.NumberBasics.{one-up as one-more}
+use Rattle.solver_exactness.proofs.Basics.{premises-append}
 
 -- the one list is the other in another order
 pub record IsMixed {A : Type 0} (xs ys : List A) : Type 1 where
@@ -41,10 +44,6 @@ swap xs ys = record {
   back = λ Q s. some-both Q ys xs (turned (some-cases Q xs ys s));
   one = λ Q h. one-both Q xs ys (one-right Q ys xs h) (one-left Q ys xs h) (λ s t. one-cross Q ys xs h t s);
 }
-
-append-assoc : {A : Type 0} (xs ys zs : List A) → (xs ++ ys) ++ zs ≡ xs ++ (ys ++ zs)
-append-assoc [] ys zs = refl
-append-assoc (x ∷ xs) ys zs = ap (λ z. x ∷ z) (append-assoc xs ys zs)
 
 -- the second part comes first
 front : {A : Type 0} (xs ys zs : List A) → IsMixed (xs ++ (ys ++ zs)) (ys ++ (xs ++ zs))
@@ -144,17 +143,10 @@ module _ (V : World) (r : Reference) where
       by true e = ap (λ z. [] ∷ z) e
       by false e = e
 
-  one-more : (n : ℕ) → 1 + n ≡ suc n
-  one-more n = omega arith
-
   -- how many rules there are by a list of where-clauses
   abbrev rule_hits : List Reference → ℕ
   rule_hits [] = 0
   rule_hits (s ∷ ss) = (if same_reference s r then 1 else 0) + (hits is_r (strict_supertraits V s) + rule_hits ss)
-
-  premises-append : (us ts : List Rule) → premises_of (us ++ ts) ≡ premises_of us ++ premises_of ts
-  premises-append [] ts = refl
-  premises-append (u ∷ us) ts = ap (λ z. u.premises ∷ z) (premises-append us ts)
 
   super-copies : (k n : ℕ) (ss : List Reference) → premises_of (super_rules r k n ss) ≡ copies (hits is_r ss) []
   super-copies k n [] = refl

@@ -279,9 +279,6 @@ module _ (m : ViewMeaning) (well : IsDeclaredWell m.view) (f : CanonicalForm) (a
           ∙ ap (λ b. if b then autos_of unsized ++ (if unsized then equal_rows object_principal all_asked r 0 (elaborated V (map rd ps)) else []) else []) (compatible-same V (map rd ps) ps (traits-stay V well.terms xs ps))
           ∙ ap (λ rs. if compatible then autos_of unsized ++ (if unsized then equal_rows object_principal all_asked r 0 rs else []) else []) (elaborated-open V well.terms xs ps ps-plain)
 
-      abbrev found_principals : Bool → List (List Reference)
-      found_principals b = if b then equal_ways asks r (map rd (elaborate V ps)) else []
-
       principals : (b : Bool) → Selected (if_so b (bounds_from V a object_source 0 (elaborate V ps))) (premises_of (principals_of b))
       principals true = record {
         found = equal_ways asks r (map rd (elaborate V ps));

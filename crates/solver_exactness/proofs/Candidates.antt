@@ -12,6 +12,8 @@ use Rattle.solver_exactness.specs.Plays.{Ends}
 use Rattle.solver_exactness.specs.Closed.{Closing, IsClosing, IsBare, Applies, EquationsRefuse, DeterminesNested, TableReaches, AsksSuch}
 use Rattle.solver_exactness.proofs.Plays.{Ends-followed}
 use Rattle.solver_exactness.proofs.Rounds.{Says, SaysSome, SaysYes, SaysMaybe, IsNested, Lasts, RoundEnds, one_round}
+use Rattle.type_terms.proofs.Made.{false-true as not-both}
+use Rattle.type_terms.proofs.TypeBasics.{some-is}
 
 module _ {Question Response : Type 0} (t : Tables Question Response) (laws : IsTable t) (k : Closing t) (closing : IsClosing t k) (IsAsked : Question → t.Values → Type 0) (P : Question → Option Response → Type 0) where
   -- what a candidate with these premises says
@@ -66,12 +68,6 @@ module _ {Question Response : Type 0} (t : Tables Question Response) (laws : IsT
         record { determined = λ s r x y e. (both s r x y e).0; is = λ s x e. (one s x (e ∙ sym o)).0; asked = h.0 },
         nested_all U a o ns (λ s r x y e. (both s r x y e).1) (λ s x e. (one s x e).1) h.1,
       )
-
-      some-is : {A : Type 0} (x y : A) → Some x ≡ Some y → x ≡ y
-      some-is x y e = cc
-
-      not-both : false ≡ true → ⊥
-      not-both e = cc
 
       no-cons : (n : t.Nested) (ns : List t.Nested) → [] ≡ n ∷ ns → ⊥
       no-cons n ns e = cc

@@ -33,11 +33,9 @@ use Rattle.assembly_laws.proofs.Impls.{pairwise}
 use Rattle.assembly_laws.proofs.Moving.{met-reads}
 use Rattle.solver_exactness.specs.RowWays.{clause_ways, AreWaysOf, ClausesAreWays}
 use Rattle.solver_exactness.proofs.Instances.{is, are, terms_of, allowed, Read, instance, instance-is, rule-applies}
+use Rattle.type_terms.proofs.BooleanBasics.{both}
 
 -- ---- the sides of equations between made terms are terms
-both : (x y : Bool) → x ≡ true → y ≡ true → x && y ≡ true
-both x y p q = rw (p, q) refl
-
 rests : (x y z w : Bool) → x && (y && (z && w)) ≡ true → (z ≡ true) × (w ≡ true)
 rests x y z w h = let q = right y (z && w) (right x (y && (z && w)) h) in (left z w q, right z w q)
 

@@ -1,5 +1,5 @@
 -- What the solver's search answers in coherence to closed references without where-clauses, in the model's words.
-use Rattle.std.proofs.Common.{◌≡◌, ◌&&◌, ℕ, zero, suc, Bool, true, false, List, [], ◌∷◌, ◌++◌, inl, inr, map, refl, sym, ◌∙◌, ap, subst, Option, Some, None, if◌then◌else◌}
+use Rattle.std.proofs.Common.{◌≡◌, ◌&&◌, ℕ, zero, suc, Bool, true, false, List, [], ◌∷◌, inl, inr, map, refl, sym, ◌∙◌, ap, subst, Option, Some, None, if◌then◌else◌}
 use Rattle.std.specs.List.{flat_map}
 use Rattle.type_terms.specs.Worlds.{World, Reference}
 use Rattle.type_terms.specs.Rules.{Rule, rules, strict_supertraits}
@@ -27,6 +27,7 @@ use Rattle.solver_exactness.specs.SolverAnswers.{solver_programs, TellsPossible,
 use Rattle.solver_exactness.proofs.ReadBack.{ways-back, coherence-comes-back}
 use Rattle.assembly_laws.proofs.ClosedPremises.{LeadsToClosed, leads-to-closed}
 use Rattle.solver_exactness.proofs.SolverAnswers.{solver-searches-are-exact}
+use Rattle.evaluation.proofs.Basics.{both-lists as every-append}
 
 -- ---- lists of which something else is known too
 every-both : {A : Type 0} (P S R : A → Type 0) → ((x : A) → P x → S x → R x) → (xs : List A) → Every P xs → Every S xs → Every R xs
@@ -41,10 +42,6 @@ some-both P S R f (x ∷ xs) h (inr s) = inr (some-both P S R f xs h.1 s)
 each-in : {A : Type 0} (P : A → Type 0) (xs : List A) → ((x : A) → In x xs → P x) → Every P xs
 each-in P [] h = tt
 each-in P (x ∷ xs) h = (h x (here x xs), each-in P xs (λ y i. h y (there y x xs i)))
-
-every-append : {A : Type 0} (P : A → Type 0) (xs ys : List A) → Every P xs → Every P ys → Every P (xs ++ ys)
-every-append P [] ys h g = g
-every-append P (x ∷ xs) ys h g = (h.0, every-append P xs ys h.1 g)
 
 module _ (m : ViewMeaning) (is-shut : LeadsToClosed m.view m.crate) where
   abbrev V : World

@@ -11,7 +11,6 @@ use Rattle.evaluation.specs.FrameTables.{FrameTable, Allows, AllowsApart, FitPla
 use Rattle.evaluation.specs.TableAnswers.{put_into, originals_of}
 use Rattle.type_terms.proofs.Made.{false-true}
 use Rattle.evaluation.specs.TableOperations.{equate, apply}
-use Rattle.infer_table.proofs.SolutionLaws.{is_sort-self}
 use Rattle.evaluation.proofs.Equating.{with-content-is}
 use Rattle.evaluation.specs.Tables.{frame_tables}
 use Rattle.solver_exactness.specs.Closed.{IsClosing}
@@ -19,6 +18,7 @@ use Rattle.solver_exactness.specs.ClosedTables.{Kinds, AreClosed, kind_in, FitPl
 use Rattle.solver_exactness.proofs.FreeTables.{free}
 use Rattle.solver_exactness.proofs.SilentTables.{silent}
 use Rattle.solver_exactness.proofs.ClosedQuestions.{kind-same, question-closed, question-apart}
+use Rattle.type_terms.proofs.TermBasics.{is_sort-self}
 
 -- ---- the kinds stay
 equate-kinds : (t u : FrameTable) (es : List Equation) → equate t es ≡ Some u → map Some u.kinds ≡ map Some t.kinds

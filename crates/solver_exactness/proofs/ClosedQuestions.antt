@@ -1,6 +1,6 @@
 -- The questions of nested goals that a goal without unknowns determines: they have no unknowns, and their placeholders stand for
 -- different places.
-use Rattle.std.proofs.Common.{◌≡◌, ℕ, zero, suc, Bool, true, false, ◌&&◌, ◌||◌, List, [], ◌∷◌, ◌++◌, map, refl, sym, ◌∙◌, ap, subst, Some, None, if◌then◌else◌, is_some, inl, inr}
+use Rattle.std.proofs.Common.{◌≡◌, ℕ, zero, suc, Bool, true, false, ◌||◌, List, [], ◌∷◌, ◌++◌, map, refl, sym, ◌∙◌, ap, subst, Some, None, if◌then◌else◌, is_some, inl, inr}
 use Rattle.type_terms.specs.Label.{Label, Sort, of_type, of_const, of_lifetime, infer, param, placeholder, static}
 use Rattle.type_terms.specs.Trees.{Trees, none, tree, leaf, ◌+++◌, is_sort}
 use Rattle.type_terms.specs.Codes.{same_label}
@@ -23,14 +23,9 @@ use Rattle.evaluation.proofs.Nodes.{AreNodes, nodes-put, nodes-resolved, IsOpenN
 use Rattle.evaluation.proofs.Applying.{goal-leaves}
 use Rattle.solver_exactness.specs.ClosedTables.{Kinds, IsClosedKind, AreClosed, kind_in, FitPlaces, TellPlaces, ArePlaces}
 use Rattle.solver_exactness.proofs.FreeTables.{no-unknown}
-
--- ---- no unknown stands in the goal
-open-in-clause : (l : Label) → IsOpenNode kind_in_clause l → IsOpenNode kind_of_leaf l
-open-in-clause static x = record { children = none; node = refl; is_open = refl }
-open-in-clause (infer k v) x = record { children = x.children; node = x.node; is_open = x.is_open }
-open-in-clause (param k v) x = record { children = x.children; node = x.node; is_open = x.is_open }
-open-in-clause (placeholder k v) x = record { children = x.children; node = x.node; is_open = x.is_open }
-open-in-clause l x = absurd (false-true x.is_open)
+use Rattle.type_terms.proofs.BooleanBasics.{or-right, both-true}
+use Rattle.evaluation.proofs.FirstAnswers.{among-has}
+use Rattle.evaluation.proofs.Determined.{open-in-clause}
 
 module _ (t : FrameTable) (m : IsMadeFrame t) (closed : AreClosed (map Some t.kinds)) (n : Nested) (determined : IsDetermined t n) where
   nodes : (x : Trees) → AreNodes (resolved t.content.bindings (put_in (slot_at t.labels) x))
@@ -130,10 +125,6 @@ HasPlaceholder k ls i = (a : ℕ) × StandsAt (placeholder k a) ls i
 among-first : (l : Label) (ls : List Label) → is_among l (l ∷ ls) ≡ true
 among-first l ls = ap (λ b. b || is_among l ls) (same_label-self l)
 
-or-right : (a b : Bool) → b ≡ true → (a || b) ≡ true
-or-right true b e = refl
-or-right false b e = e
-
 here : (l : Label) (ls : List Label) → StandsAt l (l ∷ ls) zero
 here l ls = record { kind = refl; term = λ s. refl; among = among-first l ls; at = refl }
 
@@ -188,14 +179,6 @@ one-place l (m ∷ ls) zero (suc j) o h g = absurd (false-true (sym (subst (λ z
 one-place l (m ∷ ls) (suc i) zero o h g = absurd (false-true (sym (subst (λ z. is_among z ls ≡ false) g o.0) ∙ at-among l ls i h))
 one-place l (m ∷ ls) (suc i) (suc j) o h g = ap suc (one-place l ls i j o.1 h g)
 
-among-has : (P : Label → Type 0) (l : Label) (ms : List Label) → Every P ms → is_among l ms ≡ true → P l
-among-has P l [] h e = absurd (false-true e)
-among-has P l (m ∷ ms) h e = by (same_label m l) refl e (among-has P l ms h.1)
-  where
-    by : (b : Bool) → same_label m l ≡ b → (b || is_among l ms) ≡ true → (is_among l ms ≡ true → P l) → P l
-    by true q f g = subst P (same-label-sound m l q) h.0
-    by false q f g = g f
-
 -- ---- places of terms
 same-place : (k : Sort) (t : Trees) → as_place k (as_place k t +++ none) ≡ as_place k t
 same-place k t = ap (as_place k) (append-none (as_place k t)) ∙ ap (λ b. if b then as_place k t else leaf (placeholder k 0)) (is-place k t)
@@ -213,9 +196,6 @@ fit-leaves s (placeholder of_const v ∷ ls) = (ap (is_place of_const) (append-n
 fit-leaves s (placeholder of_lifetime v ∷ ls) = fit-leaves s ls
 fit-leaves s (static ∷ ls) = fit-leaves s ls
 fit-leaves s (l ∷ ls) = fit-leaves s ls
-
-both-true : (a b : Bool) → a ≡ true → b ≡ true → (a && b) ≡ true
-both-true a b e f = ap (λ x. x && b) e ∙ f
 
 pub places-fit : (ks : Kinds) (ts : List Trees) → AreClosed ks → FitPlaces ks ts → fits ks ts ≡ true
 places-fit [] ts c f = refl

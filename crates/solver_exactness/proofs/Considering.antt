@@ -8,14 +8,7 @@ use Rattle.evaluation.specs.Merge.{if_there, responses}
 use Rattle.solver_exactness.specs.Plays.{Ends, FrameEnds, CanEnd}
 use Rattle.solver_exactness.specs.Exact.{WereConsidered, GoesTo}
 use Rattle.solver_exactness.proofs.Merging.{present}
-
-append-nil : {A : Type 0} (xs : List A) → xs ++ [] ≡ xs
-append-nil [] = refl
-append-nil (x ∷ xs) = ap (λ z. x ∷ z) (append-nil xs)
-
-append-all : {A : Type 0} (xs ys zs : List A) → (xs ++ ys) ++ zs ≡ xs ++ (ys ++ zs)
-append-all [] ys zs = refl
-append-all (x ∷ xs) ys zs = ap (λ z. x ∷ z) (append-all xs ys zs)
+use Rattle.type_terms.proofs.ListBasics.{append-empty as append-nil, append-assoc as append-all}
 
 -- the second list is the first with some left out, up to where the third begins
 pub data IsThinned {A : Type 0} (left : List A) : List A → List A → Type 0 where

@@ -45,6 +45,7 @@ use Rattle.solver_exactness.specs.RowWays.{AreWaysOf, if_of, EquatedRowsAreWaysA
 use Rattle.solver_exactness.proofs.Instances.{is, terms_of, instance, instance-is, BeginsWithPlace, read-place}
 use Rattle.solver_exactness.proofs.Rows.{is-held, written-ways}
 use Rattle.solver_exactness.proofs.Equating.{args-over, args-open, equated, at-place}
+use Rattle.type_terms.proofs.BooleanBasics.{both}
 
 -- ---- rules, one test each
 call-is : (t : Trees) (l : Label) (d o : Trees) → call_rules (tree (fn_ptr 0) t (tree l d o)) ≡ (if same (tree tuple (but_last t) none) (tree l d none) then row fn_ptr_call (last_asked sized t) else [])
@@ -64,9 +65,6 @@ no-array : (c : Trees) (k : Label) (d p : Trees) → is_slice k ≡ false → un
 no-array none k d p e = refl
 no-array (tree l c o) slice d p e = absurd (false-true (sym e))
 no-array (tree l c o) k d p e = refl
-
-both : (x y : Bool) → x ≡ true → y ≡ true → x && y ≡ true
-both x y p q = rw (p, q) refl
 
 -- one tree of made terms
 alone-made : (l : Label) (c o : Trees) → IsOpenTerms (tree l c o) → IsOpenTerms (tree l c none)

@@ -21,7 +21,9 @@ use Rattle.evaluation.proofs.Slots.{own_slot, slot-is}
 use Rattle.goal_frames.proofs.Behind.{dropped, term-dropped}
 use Rattle.solver_exactness.specs.ClosedTables.{AreClosed}
 use Rattle.solver_exactness.proofs.FreeTables.{low, whole, whole-allowed, whole-reads}
-use Rattle.solver_exactness.proofs.RuleFilling.{plus-one, no-types, no-consts, drop-first}
+use Rattle.solver_exactness.proofs.RuleFilling.{no-types, no-consts, drop-first}
+use Rattle.type_terms.proofs.ListBasics.{cons}
+use Rattle.type_terms.proofs.NumberBasics.{plus-one}
 
 -- an unknown or a lifetime
 abbrev pub IsOwnKind : CanonicalVarKind → Type 0
@@ -30,9 +32,6 @@ IsOwnKind Const = Unit {0}
 IsOwnKind PlaceholderTy = ⊥
 IsOwnKind PlaceholderConst = ⊥
 IsOwnKind Region = Unit {0}
-
-cons : {A : Type 0} (x y : A) (xs ys : List A) → x ≡ y → xs ≡ ys → x ∷ xs ≡ y ∷ ys
-cons x y xs ys e f = cc
 
 -- the labels of new variables are read as those of a frame that begins with them
 read-labels : (s u : ChosenTerms) → ((k : Sort) (n : ℕ) → HasValues k → reading_of s (infer k n) ≡ reading_of u (infer k n)) → (t : TableTrees) (i j c : ℕ) (ks : List CanonicalVarKind) → Every IsOwnKind ks

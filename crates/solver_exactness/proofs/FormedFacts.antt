@@ -18,12 +18,13 @@ use Rattle.declarations.specs.Applied.{sorts_of}
 use Rattle.assembly_laws.specs.Facts.{is_unerased}
 use Rattle.assembly_laws.specs.Declared.{is_declared, are_terms, are_references}
 use Rattle.assembly_laws.specs.DeclaredWell.{IsDeclaredWell}
-use Rattle.assembly_laws.proofs.CandidateKinds.{every-append}
 use Rattle.assembly_laws.proofs.PlainRules.{every-flat}
 use Rattle.assembly_laws.proofs.Rows.{fields-declared}
 use Rattle.solver_exactness.specs.GoalSets.{begins_typed, any_label}
 use Rattle.solver_exactness.specs.FormedFacts.{Sorts, EachNode, AreTypeSorts, NodesFit, AreFormed, IsTraitOf, IsFormed, IsFormedView, HasParams, IsParamOf, IsField}
 use Rattle.solver_exactness.proofs.FormedInstances.{formed-append, instance-formed, made-where, sorts-put, sorts-append, fits-by, sort-where, Stands, stands-cases, param-is, begins-by}
+use Rattle.evaluation.proofs.Basics.{every-append}
+use Rattle.solver_exactness.proofs.Basics.{are-types-append as types-append}
 
 module _ (V : World) (sorts : Sorts) where
   abbrev Formed : Trees → Type 0
@@ -71,10 +72,6 @@ module _ (V : World) (sorts : Sorts) where
 
   first-good : (t : ℕ) → IsTraitOf V sorts t (of_type ∷ []) → (l : Label) (c o : Trees) → Formed (tree l c o) → begins_typed (tree l c o) ≡ true → Good (asked t (tree l c none))
   first-good t p l c o h g = record { args = alone l c o h; trait = one-type t l p (begins-sort l c o g) }
-
-  types-append : (xs ys : List Sort) → AreTypeSorts xs → AreTypeSorts ys → AreTypeSorts (xs ++ ys)
-  types-append [] ys h g = g
-  types-append (x ∷ xs) ys h g = (h.0, types-append xs ys h.1 g)
 
   -- ---- lists of rules
   if-good : (b : Bool) (us : List Rule) → (b ≡ true → HaveGood us) → HaveGood (if b then us else [])

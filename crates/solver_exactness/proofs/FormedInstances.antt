@@ -4,12 +4,12 @@ use Rattle.type_terms.specs.Label.{Label, Sort, of_type, of_const, of_lifetime, 
 use Rattle.type_terms.specs.Trees.{Trees, none, tree, leaf, ◌+++◌, nth, shift, instantiate, is_a, is_no_tree, is_sort, sort_of, some_node, fits}
 use Rattle.type_terms.specs.Worlds.{World, Reference}
 use Rattle.type_terms.specs.Rules.{autos_with, asked, is_dyn}
-use Rattle.type_terms.proofs.Fitting.{head-shut, next-shut, append-shut}
+use Rattle.type_terms.proofs.Fitting.{append-shut}
 use Rattle.type_terms.proofs.Members.{same-number, self-number}
 use Rattle.type_terms.proofs.TreeLaws.{append-none}
 use Rattle.type_terms.specs.Made.{Standing, terms, bounds, traits, is_leaf_label, is_made}
 use Rattle.type_terms.proofs.Made.{left, right, both, false-true, no-tree, made-ordinary, makes-ordinary, made-rest, made-alone, made-append, last-bound, last-trait, never-dynamic, never-dynamic-bound, never-principal}
-use Rattle.infer_table.proofs.SolutionLaws.{is_sort-equal as is-sort, is_sort-self as sort-self}
+use Rattle.infer_table.proofs.SolutionLaws.{is_sort-equal as is-sort}
 use Rattle.declarations.specs.Applied.{sorts_of}
 use Rattle.assembly_laws.specs.Candidates.{is_param}
 use Rattle.assembly_laws.specs.Declared.{is_declared, are_terms}
@@ -17,9 +17,11 @@ use Rattle.assembly_laws.specs.Asking.{next_of}
 use Rattle.assembly_laws.specs.DeclaredWell.{are_distinct}
 use Rattle.assembly_laws.specs.Facts.{is_unerased}
 use Rattle.assembly_laws.proofs.Instances.{shift-unbound}
-use Rattle.assembly_laws.proofs.PlainRules.{Plain, plain-unbound, plain-instance}
+use Rattle.assembly_laws.proofs.PlainRules.{Plain, plain-unbound, plain-instance, nth-plain}
 use Rattle.solver_exactness.specs.GoalSets.{begins_typed, any_label}
 use Rattle.solver_exactness.specs.FormedFacts.{Sorts, AreTypeSorts, FitsNode, NodesFit, AreFormed}
+use Rattle.type_terms.proofs.TermBasics.{is_sort-self as sort-self}
+use Rattle.type_terms.proofs.BooleanBasics.{either-last}
 
 -- ---- one tree of a sort
 pub record IsOne (s : Sort) (t : Trees) : Type 0 where
@@ -73,11 +75,6 @@ either-middle : (a b c : Bool) → b ≡ true → (a || b || c) ≡ true
 either-middle true b c h = refl
 either-middle false true c h = refl
 either-middle false false c h = absurd (false-true h)
-
-either-last : (a b c : Bool) → c ≡ true → (a || b || c) ≡ true
-either-last true b c h = refl
-either-last false true c h = refl
-either-last false false c h = h
 
 abbrev pub Stands : Sort → ℕ → Trees → Type 0
 Stands s j t = some_node (is_param s j) t ≡ true
@@ -176,12 +173,6 @@ sort-where A (tree (param k i) c o) h s j g =
     (λ e. sort-where A o (right (is_no_tree c) _ r) s j e)
 sort-where A (tree l c o) h s j g =
     stands-cases s j l c o g (λ e. absurd (false-true e)) (λ e. sort-where A c (left (fits A c) (fits A o) h) s j e) (λ e. sort-where A o (right (fits A c) (fits A o) h) s j e)
-
--- ---- instances
-nth-plain : (t : Trees) (i : ℕ) → Plain t → Plain (nth t i)
-nth-plain none i h = refl
-nth-plain (tree l c o) zero h = head-shut is_unerased l c o h
-nth-plain (tree l c o) (suc i) h = nth-plain o i (next-shut is_unerased l c o h)
 
 module _ (V : World) (sorts : Sorts) where
   nodes-append : (x y : Trees) → NodesFit V sorts x → NodesFit V sorts y → NodesFit V sorts (x +++ y)

@@ -20,7 +20,6 @@ use Rattle.assembly_laws.specs.DeclaredWell.{IsDeclaredWell}
 use Rattle.assembly_laws.specs.Knowing.{is_knowable}
 use Rattle.assembly_laws.specs.Meaning.{ViewMeaning}
 use Rattle.assembly_laws.specs.Asking.{next_of}
-use Rattle.assembly_laws.proofs.CandidateKinds.{every-append}
 use Rattle.solver_exactness.specs.RowWays.{autos_stand_once}
 use Rattle.solver_exactness.specs.SolverChoices.{IsElaborated}
 use Rattle.solver_exactness.specs.SolverWays.{facts_beside}
@@ -28,12 +27,10 @@ use Rattle.solver_exactness.specs.SolverGoals.{ways_by}
 use Rattle.solver_exactness.specs.GoalSets.{begins_typed, IsAskableFact}
 use Rattle.solver_exactness.specs.FormedFacts.{Sorts, NodesFit, IsFormed, IsFormedFact, IsFormedView, FormedAreKept}
 use Rattle.solver_exactness.proofs.FormedFacts.{begins, supers-good, rules-good}
+use Rattle.evaluation.proofs.Basics.{every-append}
+use Rattle.type_terms.proofs.BooleanBasics.{none-of}
 
 module _ (V : World) (sorts : Sorts) where
-  -- names are declared
-  none-of : (a b c : Bool) → a ≡ false → b ≡ false → c ≡ false → (a || b || c) ≡ false
-  none-of a b c e f g = rw (e, f, g) refl
-
   label-declared : (l : Label) (c : Trees) → NodesFit V sorts (tree l c none) → is_undeclared V l ≡ false
   label-declared (adt s) c h = ap not h.0.0
   label-declared (principal n t) c h = ap not h.0.0

@@ -18,6 +18,7 @@ use Rattle.evaluation.proofs.Free.{based, completed, completed-reads, completed-
 use Rattle.evaluation.proofs.Nodes.{AreNodes, nodes-proper, nodes-put, nodes-resolved, read-at}
 use Rattle.infer_table.specs.Content.{IsProper}
 use Rattle.solver_exactness.specs.ClosedTables.{AreClosed}
+use Rattle.evaluation.proofs.Equating.{default-sort}
 
 -- no variable of the goal is an unknown, so nothing is asked of its values
 have-any : (ks : List CanonicalVarKind) → AreClosed (map Some ks) → (ts slots : List Trees) → HaveValues ks ts slots
@@ -55,11 +56,6 @@ module _ (t : FrameTable) (m : IsMadeFrame t) (closed : AreClosed (map Some t.ki
 -- one node for each unknown, and the default for all others
 abbrev pub with_node : Sort → ℕ → Label → Assignment
 with_node k v x j w = if is_variable j w k v then (x, none) else (default_label j, none)
-
-default-sort : (k : Sort) → sort_of (default_label k) ≡ k
-default-sort of_type = refl
-default-sort of_const = refl
-default-sort of_lifetime = refl
 
 pub node-sorted : (k : Sort) (v : ℕ) (x : Label) → sort_of x ≡ k → (j : Sort) (w : ℕ) → sort_of (with_node k v x j w).0 ≡ j
 node-sorted k v x h j w = by (is_variable j w k v) refl

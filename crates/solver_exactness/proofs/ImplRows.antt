@@ -41,7 +41,6 @@ use Rattle.assembly_laws.proofs.Apart.{instances-meet}
 use Rattle.assembly_laws.proofs.Impls.{fits-sorted}
 use Rattle.assembly_laws.proofs.PlainRules.{Plain, plain-unbound}
 use Rattle.assembly_laws.proofs.ReadOff.{AreValues, read_behind, instance-is, below, one-sort, arguments-plain}
-use Rattle.assembly_laws.proofs.Reading.{append-none}
 use Rattle.assembly_laws.proofs.SoundCandidates.{goal-is}
 use Rattle.assembly_laws.proofs.SoundImpls.{impl-sorted, own-rule}
 use Rattle.assembly_laws.proofs.SoundRows.{Unknown, Rigid}
@@ -55,6 +54,7 @@ use Rattle.solver_exactness.proofs.Equating.{args-over, args-open}
 use Rattle.solver_exactness.proofs.EquatedRows.{both-rules, first-of}
 use Rattle.solver_exactness.proofs.Filling.{IsOwnKind, filled, filled-allowed, slot-behind}
 use Rattle.assembly_laws.proofs.ByView.{rigid-read}
+use Rattle.type_terms.proofs.TermBasics.{append-none}
 
 -- ---- kinds of parameters
 own-kind : (h : Trees) (i : ℕ) → IsOwnKind (kind_of_param h i)

@@ -25,14 +25,8 @@ use Rattle.solver_exactness.proofs.Rounds.{Says, SaysSome}
 use Rattle.solver_exactness.proofs.Verdicts.{Tells, tells, tells_bare, tells_none, tells_some, tells_settled}
 use Rattle.solver_exactness.proofs.Plainly.{plays, completes}
 use Rattle.solver_exactness.proofs.Answering.{can_all}
-
-every-unit : {A : Type 0} (xs : List A) → Every (λ x. Unit {0}) xs
-every-unit [] = tt
-every-unit (x ∷ xs) = (tt, every-unit xs)
-
-append-nil : {A : Type 0} (xs : List A) → xs ++ [] ≡ xs
-append-nil [] = refl
-append-nil (x ∷ xs) = ap (λ z. x ∷ z) (append-nil xs)
+use Rattle.type_terms.proofs.ListBasics.{append-empty as append-nil}
+use Rattle.evaluation.proofs.Basics.{every-unit}
 
 less-next : (a b : ℕ) → a ≤ b → a < suc b
 less-next a b h = omega (arith, h)

@@ -1,3 +1,4 @@
+pub mod Basics
 pub mod ModelWays
 pub mod ProofWays
 pub mod MovedWays

@@ -1,5 +1,5 @@
 -- Lists of candidates that are considered one after the other are exact handlers.
-use Rattle.std.proofs.Common.{◌≡◌, ◌≤◌, ℕ, arith, Bool, false, List, [], ◌∷◌, length, refl, ◌∙◌, ap, Option}
+use Rattle.std.proofs.Common.{◌≡◌, Bool, false, List, [], ◌∷◌, length, refl, ◌∙◌, ap, Option}
 use Rattle.infer_table.specs.declared.certainty.Certainty.{Certainty}
 use Rattle.evaluation.specs.Lists.{Every}
 use Rattle.evaluation.specs.Table.{Tables, workings}
@@ -13,6 +13,7 @@ use Rattle.solver_exactness.specs.Ways.{IsSelection}
 use Rattle.solver_exactness.specs.Exact.{IsExactHandler}
 use Rattle.solver_exactness.proofs.ExactPlans.{IsExactFrom, IsExactPlan, planned-exact}
 use Rattle.solver_exactness.proofs.Merging.{merged-one, merged-some, merged-bare}
+use Rattle.type_terms.proofs.NumberBasics.{itself}
 
 -- a list whose candidates are the ways of its goal
 module _ {Question Response : Type 0} (t : Tables Question Response) (k : Closing t) (ways : t.Fact → List (List t.Fact)) (IsAsked : Question → t.Values → Type 0) (q : Question) (v : t.Values) where
@@ -43,9 +44,6 @@ module _ {Question Response : Type 0} (t : Tables Question Response) (applicable
 
 module _ {Question Response : Type 0} (t : Tables Question Response) (k : Closing t) (closing : IsClosing t k) (ways : t.Fact → List (List t.Fact)) (IsAsked : Question → t.Values → Type 0) (q : Question) (v : t.Values)
     (applicable : Response → Bool) (same : Response → Response → Bool) (l : Listing t) (is : IsExactListing t k ways IsAsked q v l) where
-  pub itself : (n : ℕ) → n ≤ n
-  itself n = omega arith
-
   abbrev pub listed-plan : IsExactPlan t k ways IsAsked q v (as_plan t applicable same l)
   listed-plan = record {
     begins = is.begins;

@@ -16,9 +16,6 @@ module _ {Question Response : Type 0} (t : Tables Question Response) (applicable
   abbrev pub merged : List Response → Option Response
   merged rs = merge_or_flounder t applicable same begin rs
 
-  pub merged-none : merged [] ≡ None
-  merged-none = refl
-
   pub merged-one : (r : Response) → merged (r ∷ []) ≡ Some r
   merged-one r = by (applicable r) refl
     where

@@ -1,12 +1,12 @@
 -- What is possible, decided, bounded and proved by rules is so by ways.
-use Rattle.std.proofs.Common.{◌≡◌, ℕ, zero, suc, Bool, true, false, not, ◌&&◌, ◌||◌, List, [], ◌∷◌, ◌++◌, map, refl, sym, ◌∙◌, ap, subst, ◌⊎◌, inl, inr, if◌then◌else◌, append_assoc}
+use Rattle.std.proofs.Common.{◌≡◌, ℕ, zero, suc, Bool, true, false, not, ◌&&◌, ◌||◌, List, [], ◌∷◌, ◌++◌, map, refl, sym, ap, subst, ◌⊎◌, inl, inr, if◌then◌else◌, append_assoc}
 use Rattle.std.specs.List.{flat_map, list_all, list_any}
 use Rattle.type_terms.specs.Worlds.{World, Reference}
 use Rattle.type_terms.specs.Rules.{Rule, rules, strict_supertraits, is_coinductive}
 use Rattle.type_terms.specs.Proofs.{ProofEntry, In, Stands, Follows, IsProof, HasProof}
 use Rattle.type_terms.specs.Walks.{is_known_in}
 use Rattle.type_terms.specs.Answers.{children, short_chains, is_possible, SingleWay}
-use Rattle.type_terms.proofs.Members.{here, there, in-cases, in-nothing, in-right, in-map}
+use Rattle.type_terms.proofs.Members.{here, there, in-cases, in-nothing, in-map}
 use Rattle.type_terms.proofs.ProofEntries.{map-in, stands-more}
 use Rattle.type_terms.proofs.WorkedProofs.{needs-rule}
 use Rattle.evaluation.specs.Lists.{Every, SomeOf}
@@ -14,20 +14,14 @@ use Rattle.solver_exactness.specs.Ways.{AtMostOneHolds, HasShortChains, IsPossib
 use Rattle.solver_exactness.specs.ModelWays.{ways_under, ways_for, ProofsAreByWays, SingleWayIsDecided, PossibleIsByWays, ShortIsByWays}
 use Rattle.type_terms.specs.Proofs as Model
 use Rattle.type_terms.specs.Answers as Answers
-
-no-true : false ≡ true → ⊥
-no-true e = cc
-
-left : (a b : Bool) → (a && b) ≡ true → a ≡ true
-left true b e = refl
-left false b e = e
+use Rattle.type_terms.proofs.Made.{false-true as no-true}
+use Rattle.type_terms.proofs.ProofLists.{stands-after}
+use Rattle.type_terms.proofs.BooleanBasics.{or-right, both-left as left, both-true as both}
+use Rattle.evaluation.proofs.Basics.{both-lists as every-append}
 
 right : (a b : Bool) → (a && b) ≡ true → b ≡ true
 right true b e = e
 right false b e = absurd (no-true e)
-
-both : (a b : Bool) → a ≡ true → b ≡ true → (a && b) ≡ true
-both a b e f = ap (λ x. x && b) e ∙ f
 
 -- ---- lists
 every-to : {A : Type 0} (P Q : A → Type 0) → ((x : A) → P x → Q x) → (xs : List A) → Model.Every P xs → Every Q xs
@@ -50,12 +44,6 @@ in-some : {A : Type 0} (P : A → Type 0) (xs : List A) → SomeOf P xs → (x :
 in-some P [] s = absurd s
 in-some P (x ∷ xs) (inl p) = (x, here x xs, p)
 in-some P (x ∷ xs) (inr s) = let y = in-some P xs s in (y.0, there y.0 x xs y.1, y.2)
-
--- ---- proofs, one after the other
-stands-after : (p : Reference) (xs ys : List ProofEntry) → Stands p ys → Stands p (xs ++ ys)
-stands-after p xs ys h =
-    let m = map-in (λ (e : ProofEntry). e.of) ys p h in
-    subst (λ q. Stands q (xs ++ ys)) m.2 (in-map (λ (e : ProofEntry). e.of) (xs ++ ys) m.0 (in-right m.0 xs ys m.1))
 
 module _ (W : World) (E : List Reference) where
   abbrev Within : List ProofEntry → List ProofEntry → Type 0
@@ -221,10 +209,6 @@ any-to f P g (x ∷ xs) h = by (f x) refl h (λ e. any-to f P g xs e)
 or-left : (a b : Bool) → a ≡ true → (a || b) ≡ true
 or-left a b e = ap (λ x. x || b) e
 
-or-right : (a b : Bool) → b ≡ true → (a || b) ≡ true
-or-right true b e = refl
-or-right false b e = e
-
 any-from : {A : Type 0} (f : A → Bool) (P : A → Type 0) → ((x : A) → P x → f x ≡ true) → (xs : List A) → SomeOf P xs → list_any f xs ≡ true
 any-from f P g [] s = absurd s
 any-from f P g (x ∷ xs) (inl p) = or-left (f x) _ (g x p)
@@ -247,10 +231,6 @@ some-parts P (x ∷ xs) ys (inr s) = by (some-parts P xs ys s)
     by : SomeOf P xs ⊎ SomeOf P ys → SomeOf P (x ∷ xs) ⊎ SomeOf P ys
     by (inl a) = inl (inr a)
     by (inr b) = inr b
-
-every-append : {A : Type 0} (P : A → Type 0) (xs ys : List A) → Every P xs → Every P ys → Every P (xs ++ ys)
-every-append P [] ys h g = g
-every-append P (x ∷ xs) ys h g = (h.0, every-append P xs ys h.1 g)
 
 -- ---- possible
 module _ (V : World) (c : ℕ) where

@@ -43,18 +43,6 @@ one-to f P S g [] h = tt
 one-to f P S g (x ∷ xs) h = (λ p s. h.0 (g x p) (some-from f P S g xs s), one-to f P S g xs h.1)
 
 module _ {A B : Type 0} (read : A → B) (ways : A → List (List A)) (others : B → List (List B)) (are : AreMoved read ways others) where
-  possible-to : (n : ℕ) (a : A) → IsPossible others n (read a) → IsPossible ways n a
-  possible-to zero a h = h
-  possible-to (suc n) a h =
-      some-from (map read) (Every (IsPossible others n)) (Every (IsPossible ways n)) (λ ps i. every-from read (IsPossible others n) (IsPossible ways n) (λ b j. possible-to n b j) ps i) (ways a)
-      (subst (SomeOf (Every (IsPossible others n))) (sym (are a)) h)
-
-  possible-from : (n : ℕ) (a : A) → IsPossible ways n a → IsPossible others n (read a)
-  possible-from zero a h = h
-  possible-from (suc n) a h =
-      subst (SomeOf (Every (IsPossible others n))) (are a)
-      (some-to (map read) (Every (IsPossible others n)) (Every (IsPossible ways n)) (λ ps i. every-to read (IsPossible others n) (IsPossible ways n) (λ b j. possible-from n b j) ps i) (ways a) h)
-
   short : (n : ℕ) (a : A) → HasShortChains others n (read a) → HasShortChains ways n a
   short zero a h = h
   short (suc n) a h =
@@ -78,6 +66,3 @@ module _ {A B : Type 0} (read : A → B) (ways : A → List (List A)) (others : 
       by_way = λ a s. h.by_way (read a) (subst (SomeOf (Every Holds)) (are a) (some-to (map read) (Every Holds) (Every Held) (λ ps i. every-to read Holds Held (λ b j. j) ps i) (ways a) s));
       has_way = λ a p. some-from (map read) (Every Holds) (Every Held) (λ ps i. every-from read Holds Held (λ b j. j) ps i) (ways a) (subst (SomeOf (Every Holds)) (sym (are a)) (h.has_way (read a) p));
     }
-
-  pub moves : Moves read ways others
-  moves = record { possible_to = possible-to; possible_from = possible-from; short = short; decided = decided; holds = holds }

@@ -1,18 +1,13 @@
 -- Proofs as lists are by the ways of references.
 use Rattle.std.proofs.Common.{◌≡◌, Bool, true, false, if◌then◌else◌, List, [], ◌∷◌, ◌++◌, refl, sym, ap, subst, inl, inr}
 use Rattle.evaluation.specs.Lists.{Every, SomeOf, IsAmong}
-use Rattle.evaluation.proofs.ListLaws.{SomeOf-found, SomeOf-at, Every-mono}
+use Rattle.evaluation.proofs.ListLaws.{SomeOf-at, Every-mono}
 use Rattle.evaluation.specs.Proof.{FactEntry, facts, EntriesContinue, IsFactProof, FactHasProof}
-use Rattle.solver_exactness.specs.Ways.{HoldsByWays}
 
 -- the rules are the ways
 pub record AreTheWays {Fact : Type 0} (ways : Fact → List (List Fact)) (Rule : Fact → List Fact → Type 0) : Type 0 where
   pub to : (f : Fact) (premises : List Fact) → Rule f premises → IsAmong premises (ways f)
   pub from : (f : Fact) (premises : List Fact) → IsAmong premises (ways f) → Rule f premises
-
--- then a reference has a proof exactly if the premises of some way have proofs, whichever references are coinductive
-abbrev pub ListProofsAreByWays : {Fact : Type 0} → (Fact → List (List Fact)) → (Fact → List Fact → Type 0) → (Fact → Bool) → Type 0
-ListProofsAreByWays {Fact = Fact} ways Rule coinductive = AreTheWays ways Rule → HoldsByWays ways (FactHasProof Fact Rule coinductive)
 
 among-left : {A : Type 0} (x : A) (xs ys : List A) → IsAmong x xs → IsAmong x (xs ++ ys)
 among-left x [] ys i = absurd i
@@ -110,26 +105,3 @@ module _ {Fact : Type 0} (ways : Fact → List (List Fact)) (Rule : Fact → Lis
             (λ later g k. more (facts' y.entries) all [] later y.entries second (λ q i. absurd i) y.proof);
         each = (first p x.2, Every-mono (λ q. IsAmong q (facts' y.entries)) (λ q. IsAmong q all) second ps y.each);
       }
-
-  by-way : (f : Fact) → SomeOf (Every Proved) (ways f) → Proved f
-  by-way f s =
-      let w = SomeOf-found (Every Proved) (ways f) s in
-      let x = together w.0 w.2 in
-      let last : List Entry' = (f, w.0) ∷ [] in
-      let all = facts' (x.entries ++ last) in
-      let first : Within (facts' x.entries) all = λ q i. subst (IsAmong q) (sym (facts-append x.entries last)) (among-left q (facts' x.entries) (facts' last) i) in (
-        x.entries ++ last,
-        onward all [] x.entries last (more (facts' x.entries) all [] [] x.entries first (λ q i. i) x.proof)
-            (λ later g k. (are.from f w.0 w.1, Every-mono (λ q. IsAmong q (facts' x.entries)) (λ q. IsAmong q (if coinductive f then all else later)) (pick (coinductive f) all later (facts' x.entries) first k) w.0 x.each, tt)),
-        subst (IsAmong f) (sym (facts-append x.entries last)) (among-right f (facts' x.entries) (facts' last) (inl refl)),
-      )
-    where
-      pick : (b : Bool) (all later xs : List Fact) → Within xs all → Within xs later → (q : Fact) → IsAmong q xs → IsAmong q (if b then all else later)
-      pick true all later xs g h q i = g q i
-      pick false all later xs g h q i = h q i
-
-  proved_by_ways : HoldsByWays ways Proved
-  proved_by_ways = record { by_way = by-way; has_way = needs }
-
-pub list_proofs_are_by_ways : {Fact : Type 0} (ways : Fact → List (List Fact)) (Rule : Fact → List Fact → Type 0) (coinductive : Fact → Bool) → ListProofsAreByWays ways Rule coinductive
-list_proofs_are_by_ways ways Rule coinductive are = proved_by_ways ways Rule coinductive are

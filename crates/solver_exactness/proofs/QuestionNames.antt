@@ -12,13 +12,11 @@ use Rattle.evaluation.specs.Content.{ChosenTerms, standing}
 use Rattle.evaluation.proofs.Nodes.{AreNodes}
 use Rattle.evaluation.proofs.Whole.{as-place-one}
 use Rattle.solver_exactness.proofs.QuestionTerms.{is_unknown}
+use Rattle.type_terms.proofs.BooleanBasics.{none-of as or-none}
 
 module _ (V : World) where
   abbrev pub Declares : Trees → Type 0
   Declares t = some_node (is_undeclared V) t ≡ false
-
-  or-none : (a b c : Bool) → a ≡ false → b ≡ false → c ≡ false → (a || b || c) ≡ false
-  or-none a b c e f g = rw (e, f, g) refl
 
   or-first : (a b c : Bool) → (a || b || c) ≡ false → a ≡ false
   or-first false b c h = refl

@@ -18,6 +18,7 @@ use Rattle.evaluation.proofs.Nodes.{every-leaf}
 use Rattle.goal_frames.specs.Forms.{is_unnumbered}
 use Rattle.evaluation.specs.Variables.{is_variable_over}
 use Rattle.assembly_laws.specs.Asking.{with_first, all_known}
+use Rattle.evaluation.proofs.Labels.{each-label}
 
 -- ---- labels in the place of open leaves
 module _ (good : Label → Bool) (f : Label → Label) where
@@ -211,10 +212,6 @@ module _ (ls : List Label) (opens : AreOpen ls) where
   each-listed : (kind : OpenKinds) (t : Trees) → ((l : Label) → StandsIn kind t l → is_among l ls ≡ true) → EachLabel (λ l. is_some (kind l) ≡ true → is_among l ls ≡ true) t
   each-listed kind none h = tt
   each-listed kind (tree l c o) h = (λ i. h l (inl (refl, i)), each-listed kind c (λ m s. h m (inr (inl s))), each-listed kind o (λ m s. h m (inr (inr s))))
-
-  each-label : (P Q : Label → Type 0) → ((l : Label) → P l → Q l) → (t : Trees) → EachLabel P t → EachLabel Q t
-  each-label P Q f none h = tt
-  each-label P Q f (tree l c o) h = (f l h.0, each-label P Q f c h.1, each-label P Q f o h.2)
 
   -- so numbered terms are made over the kinds of the leaves
   pub made-numbered : (m : Standing) (t : Trees) → is_made is_unnumbered m t ≡ true → ((l : Label) → StandsIn kind_of_leaf t l → is_among l ls ≡ true) → is_made over m (relabeled kind_of_leaf (canonical_label ls) t) ≡ true

@@ -1,5 +1,5 @@
 -- Terms that give a rule's unknowns these values, whatever stands for the placeholders of the goal.
-use Rattle.std.proofs.Common.{◌≡◌, ℕ, zero, suc, ◌+◌, arith, true, List, [], ◌∷◌, ◌++◌, map, length, refl, sym, ◌∙◌, ap, subst, Some, None}
+use Rattle.std.proofs.Common.{◌≡◌, ℕ, suc, ◌+◌, true, List, [], ◌∷◌, ◌++◌, map, length, refl, sym, ◌∙◌, ap, Some, None}
 use Rattle.type_terms.specs.Label.{Label, Sort, of_type, of_const, of_lifetime, infer}
 use Rattle.type_terms.specs.Trees.{Trees, leaf, sort_of}
 use Rattle.type_terms.specs.Made.{terms, is_made}
@@ -7,12 +7,11 @@ use Rattle.infer_table.specs.Solutions.{resolved, HasValues}
 use Rattle.infer_table.specs.Unification.{TableTrees}
 use Rattle.infer_table.specs.declared.canonical.CanonicalVarKind.{CanonicalVarKind}
 use Rattle.infer_table.specs.declared.canonical.CanonicalVarKind.TheVariants.{Ty, PlaceholderTy, Const, PlaceholderConst, Region}
-use Rattle.infer_table.specs.Raw.{sort_of_kind}
 use Rattle.infer_table.specs.Applying.{table_after}
 use Rattle.evaluation.specs.Lists.{Every}
 use Rattle.evaluation.specs.Instances.{read_with, of_sort, term_at}
 use Rattle.evaluation.specs.Content.{Values, ChosenTerms, standing, reading_of}
-use Rattle.evaluation.specs.FrameTables.{kind_at, FrameTable, IsMadeFrame, Allows, types_in, consts_in, labels_from, first_content, unknown, labels_for}
+use Rattle.evaluation.specs.FrameTables.{FrameTable, IsMadeFrame, Allows, types_in, consts_in, labels_from, first_content, unknown, labels_for}
 use Rattle.evaluation.proofs.Applying.{for-bindings}
 use Rattle.evaluation.proofs.TableBeginning.{begin-made}
 use Rattle.evaluation.proofs.Fresh.{fresh-made}
@@ -22,25 +21,15 @@ use Rattle.goal_frames.specs.Rules.{IsUnknown}
 use Rattle.evaluation.specs.Variables.{is_variable_over}
 use Rattle.evaluation.proofs.Readings.{AgreeIn}
 use Rattle.goal_frames.proofs.Behind.{dropped}
-use Rattle.evaluation.proofs.Slots.{kind-of, own_slot, slot-is, of-sort-twice}
+use Rattle.evaluation.proofs.Slots.{kind-of, own_slot, slot-is}
 use Rattle.solver_exactness.specs.ClosedTables.{AreClosed}
 use Rattle.solver_exactness.proofs.FreeTables.{low, whole, whole-allowed, whole-reads}
+use Rattle.type_terms.proofs.ListBasics.{cons}
+use Rattle.type_terms.proofs.NumberBasics.{plus-one}
+use Rattle.goal_frames.proofs.Filled.{unknown-agrees}
+use Rattle.goal_frames.proofs.TypeBasics.{unknown-kind}
 
 -- ---- labels
-cons : {A : Type 0} (x y : A) (xs ys : List A) → x ≡ y → xs ≡ ys → x ∷ xs ≡ y ∷ ys
-cons x y xs ys e f = cc
-
-pub plus-one : (n : ℕ) → n + 1 ≡ suc n
-plus-one n = omega arith
-
--- the labels of unknowns don't depend on lifetimes and places
-other-labels : (a b c d i j : ℕ) (ks : List CanonicalVarKind) → Every IsUnknown ks → labels_from a b c i ks ≡ labels_from a b d j ks
-other-labels a b c d i j [] h = refl
-other-labels a b c d i j (Ty ∷ ks) h = ap (λ z. infer of_type a ∷ z) (other-labels (suc a) b c d (suc i) (suc j) ks h.1)
-other-labels a b c d i j (Const ∷ ks) h = ap (λ z. infer of_const b ∷ z) (other-labels a (suc b) c d (suc i) (suc j) ks h.1)
-other-labels a b c d i j (PlaceholderTy ∷ ks) h = absurd h.0
-other-labels a b c d i j (PlaceholderConst ∷ ks) h = absurd h.0
-other-labels a b c d i j (Region ∷ ks) h = absurd h.0
 
 from-types : (a b c i n : ℕ) (ks : List CanonicalVarKind) → a ≡ n → labels_from a b c i ks ≡ labels_from n b c i ks
 from-types a b c i n ks e = ap (λ z. labels_from z b c i ks) e
@@ -93,21 +82,6 @@ same-on f g e a b c i (PlaceholderTy ∷ ks) h = absurd h.0
 same-on f g e a b c i (PlaceholderConst ∷ ks) h = absurd h.0
 same-on f g e a b c i (Region ∷ ks) h = absurd h.0
 
-unknown-kind : (ks : List CanonicalVarKind) → Every IsUnknown ks → (i : ℕ) (k : CanonicalVarKind) → kind_at ks i ≡ Some k → IsUnknown k
-unknown-kind [] h i k e = absurd (cc)
-unknown-kind (j ∷ ks) h zero k e = subst IsUnknown (same e) h.0
-  where
-    same : Some j ≡ Some k → j ≡ k
-    same e = cc
-unknown-kind (j ∷ ks) h (suc i) k e = unknown-kind ks h.1 i k e
-
-unknown-agrees : (j : CanonicalVarKind) (k : Sort) (x : Trees) → IsUnknown j → sort_of_kind j ≡ k → of_sort k (own_slot j x) ≡ of_sort k x
-unknown-agrees Ty k x u e = subst (λ z. of_sort z (of_sort of_type x) ≡ of_sort z x) e (of-sort-twice of_type x)
-unknown-agrees Const k x u e = subst (λ z. of_sort z (of_sort of_const x) ≡ of_sort z x) e (of-sort-twice of_const x)
-unknown-agrees PlaceholderTy k x u e = absurd u
-unknown-agrees PlaceholderConst k x u e = absurd u
-unknown-agrees Region k x u e = absurd u
-
 -- ---- the terms
 module _ (ks js : List CanonicalVarKind) (c : AreClosed (map Some ks)) (g : Every IsUnknown js) (v : Values) (xs : List Trees) where
   abbrev pub table : FrameTable
@@ -137,9 +111,6 @@ module _ (ks js : List CanonicalVarKind) (c : AreClosed (map Some ks)) (g : Ever
 
   pub filled-allowed : Allows table filled
   filled-allowed = whole-allowed table table-made c v alone.unknowns alone-sorted
-
-  pub filled-own : filled.own ≡ v
-  filled-own = refl
 
   leaf-reads : (k : Sort) (n : ℕ) → HasValues k → reading_of filled (infer k n) ≡ reading_of alone (infer k n)
   leaf-reads k n h =

@@ -8,7 +8,7 @@ use Rattle.type_terms.proofs.Matching.{same-sound}
 use Rattle.infer_table.proofs.CanonicalLaws.{same_label-self}
 use Rattle.type_terms.specs.Made.{terms, is_made}
 use Rattle.infer_table.specs.Canonical.{GoalTrees, CanonicalForm, canonical_form}
-use Rattle.infer_table.specs.Solutions.{Binding, replace, resolved}
+use Rattle.infer_table.specs.Solutions.{resolved}
 use Rattle.infer_table.specs.declared.canonical.CanonicalVarKind.{CanonicalVarKind}
 use Rattle.infer_table.specs.declared.certainty.Certainty.TheVariants.{Yes}
 use Rattle.infer_table.specs.declared.certainty.TypingMode.{TypingMode}
@@ -50,29 +50,17 @@ use Rattle.solver_exactness.proofs.ClosedLaws.{closed_tables_are_lawful}
 use Rattle.solver_exactness.proofs.Listed.{listed-exact}
 use Rattle.solver_exactness.proofs.RuleMatching.{matched-agree}
 use Rattle.solver_exactness.proofs.RuleFilling.{filled, filled-allowed, filled-agrees}
+use Rattle.infer_table.proofs.SolutionLaws.{resolved-none}
+use Rattle.type_terms.proofs.TermBasics.{predicate-parts as one-parts}
+use Rattle.infer_table.proofs.Basics.{resolved-trait, same-goal}
+use Rattle.type_terms.proofs.BooleanBasics.{both-true as both}
 
 -- ---- equal trees
-both : (a b : Bool) → a ≡ true → b ≡ true → (a && b) ≡ true
-both a b e f = ap (λ x. x && b) e ∙ f
-
 same-self : (t : Trees) → same t t ≡ true
 same-self none = refl
 same-self (tree l c o) = both (same_label l l) _ (same_label-self l) (both (same c c) (same o o) (same-self c) (same-self o))
 
-one-parts : (i j : ℕ) (x y : Trees) → tree (predicate (of_trait i)) x none ≡ tree (predicate (of_trait j)) y none → (i ≡ j) × (x ≡ y)
-one-parts i j x y e = (cc, cc)
-
 -- ---- nested goals are asked
-resolved-none : (bs : List Binding) → resolved bs none ≡ none
-resolved-none [] = refl
-resolved-none (b ∷ older) = ap (replace b.sort b.var (resolved older b.value)) (resolved-none older)
-
-resolved-trait : (bs : List Binding) (i : ℕ) (c : Trees) → resolved bs (tree (predicate (of_trait i)) c none) ≡ tree (predicate (of_trait i)) (resolved bs c) none
-resolved-trait [] i c = refl
-resolved-trait (b ∷ older) i c = ap (replace b.sort b.var (resolved older b.value)) (resolved-trait older i c)
-
-same-goal : (e d p q : Trees) → e ≡ d → p ≡ q → ◌≡◌ {A = GoalTrees} (record { environment = e; predicate = p }) (record { environment = d; predicate = q })
-same-goal e d p q x y = cc
 
 module _ (T : FrameTable) (made : IsMadeFrame T) (kind : Bool) (n : ℕ) (kinds : List CanonicalVarKind) (b : TraitBound) (over : BoundIsOver kinds b) where
   abbrev inside : TraitBound

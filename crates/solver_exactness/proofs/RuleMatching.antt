@@ -11,12 +11,13 @@ use Rattle.evaluation.specs.Instances.{read_with, of_sort, term_at}
 use Rattle.evaluation.specs.Content.{given}
 use Rattle.evaluation.specs.FrameTables.{kind_at}
 use Rattle.type_terms.proofs.Made.{false-true, left, right}
-use Rattle.infer_table.proofs.SolutionLaws.{is_sort-equal, is_sort-self}
+use Rattle.infer_table.proofs.SolutionLaws.{is_sort-equal}
 use Rattle.evaluation.proofs.TableBeginning.{node_of, node-is}
 use Rattle.evaluation.specs.Variables.{LabelStandsIn}
 use Rattle.evaluation.proofs.Readings.{HasLeaves, AgreeIn}
 use Rattle.evaluation.proofs.Slots.{HasKind, of-sort-twice}
 use Rattle.solver_exactness.specs.RuleWays.{value_at, or_none, matched}
+use Rattle.type_terms.proofs.TermBasics.{is_sort-self}
 
 module _ (ys : List Trees) (k : Sort) (i : ℕ) (g : HasValues k) where
   abbrev read : Trees → Trees

@@ -14,10 +14,10 @@ use Rattle.solver_exactness.specs.Ways.{AtMostOneHolds, IsSelection}
 use Rattle.assembly_laws.specs.DeclaredWell.{are_distinct}
 use Rattle.assembly_laws.specs.Facts.{beside}
 use Rattle.assembly_laws.proofs.ByView.{some-left, some-right}
-use Rattle.assembly_laws.proofs.CandidateKinds.{every-append}
 use Rattle.solver_exactness.specs.SolverWays.{facts_beside, premises_of}
 use Rattle.solver_exactness.specs.RowWays.{equal_ways}
 use Rattle.solver_exactness.proofs.Equating.{number-swap, same-swap}
+use Rattle.evaluation.proofs.Basics.{every-append}
 
 -- ---- lists one after the other
 module _ {A : Type 0} (Q : A → Type 0) where
@@ -142,7 +142,7 @@ hits-like : {A : Type 0} (p q : A → Bool) → ((x : A) → p x ≡ q x) → (x
 hits-like p q e [] = refl
 hits-like p q e (x ∷ xs) = ap (λ (b : Bool). if b then suc (hits p xs) else hits p xs) (e x) ∙ ap (λ n. if q x then suc n else n) (hits-like p q e xs)
 
-hits-map : {A B : Type 0} (p : B → Bool) (f : A → B) (xs : List A) → hits p (map f xs) ≡ hits (λ x. p (f x)) xs
+pub hits-map : {A B : Type 0} (p : B → Bool) (f : A → B) (xs : List A) → hits p (map f xs) ≡ hits (λ x. p (f x)) xs
 hits-map p f [] = refl
 hits-map p f (x ∷ xs) = ap (λ n. if p (f x) then suc n else n) (hits-map p f xs)
 

@@ -20,12 +20,14 @@ use Rattle.evaluation.specs.Lists.{Every}
 use Rattle.evaluation.specs.FrameTables.{FrameTable, IsMadeFrame, AreOwn, good_in}
 use Rattle.evaluation.specs.TableAnswers.{is_variable_itself, are_variables, has_values, own_labels, joined, answer_leaves, value_numbered, respond}
 use Rattle.type_terms.proofs.Made.{false-true}
-use Rattle.infer_table.proofs.SolutionLaws.{is_sort-self}
 use Rattle.evaluation.proofs.Assignments.{all-valued}
 use Rattle.evaluation.proofs.Labels.{every-end}
 use Rattle.evaluation.proofs.Answering.{overflow_is_bare}
-use Rattle.evaluation.proofs.FirstAnswers.{append-list, length-more, place-is, number-self, value_by}
+use Rattle.evaluation.proofs.FirstAnswers.{append-list, length-more, place-is, value_by}
 use Rattle.solver_exactness.specs.ClosedTables.{AreClosed}
+use Rattle.type_terms.proofs.TermBasics.{is_sort-self}
+use Rattle.type_terms.proofs.ListBasics.{cons}
+use Rattle.type_terms.proofs.NumberBasics.{last-less, not-less, number-self}
 
 -- ---- leaves are added at the end
 append-all : (xs ys zs : List Label) → (xs ++ ys) ++ zs ≡ xs ++ (ys ++ zs)
@@ -98,12 +100,6 @@ not-among P l (m ∷ ms) h n = by (same_label m l) refl (not-among P l ms h.1 n)
     by : (b : Bool) → same_label m l ≡ b → is_among l ms ≡ false → (b || is_among l ms) ≡ false
     by true e f = absurd (n (subst P (same-label-sound m l e) h.0))
     by false e f = f
-
-not-less : (n : ℕ) → n < n → ⊥
-not-less n h = omega (arith, h)
-
-last-less : (n : ℕ) → n < suc n
-last-less n = omega arith
 
 lifetime-before : (place : ℕ) (l : Label) → sort_of l ≡ of_lifetime → IsBefore place l
 lifetime-before place (placeholder of_type j) e = absurd (no-sort e)
@@ -228,9 +224,6 @@ module _ (t : FrameTable) (m : IsMadeFrame t) where
   own-leaf at Region ks l ls c o = lifetime-leaf l o.0
   own-leaf at PlaceholderTy ks l ls c o = subst (λ m. resolved t.content.bindings (leaf m) ≡ leaf m) (sym o.0) (rigid-leaf (placeholder of_type at) refl)
   own-leaf at PlaceholderConst ks l ls c o = subst (λ m. resolved t.content.bindings (leaf m) ≡ leaf m) (sym o.0) (rigid-leaf (placeholder of_const at) refl)
-
-  cons : {A : Type 0} (x y : A) (xs ys : List A) → x ≡ y → xs ≡ ys → x ∷ xs ≡ y ∷ ys
-  cons x y xs ys e f = cc
 
   own-leaves : (at : ℕ) (ks : List CanonicalVarKind) (ls : List Label) → AreClosed (map Some ks) → AreOwn at ks ls
       → map (λ l. resolved t.content.bindings (leaf l)) (own_labels ks ls) ≡ map (λ l. leaf l) (own_labels ks ls)

@@ -1,5 +1,5 @@
 -- The solver's candidates determine their nested goals, are not too many, and are sure outside coherence.
-use Rattle.std.proofs.Common.{◌≡◌, ℕ, suc, ◌≤◌, arith, Bool, true, false, not, ◌&&◌, ◌||◌, ◌==◌, if◌then◌else◌, List, [], ◌∷◌, ◌++◌, length, refl, sym, ap, subst, Some}
+use Rattle.std.proofs.Common.{◌≡◌, ℕ, suc, ◌≤◌, arith, Bool, true, false, not, ◌&&◌, ◌||◌, ◌==◌, if◌then◌else◌, List, [], ◌∷◌, ◌++◌, length, refl, sym, subst, Some}
 use Rattle.std.specs.List.{flat_map}
 use Rattle.type_terms.specs.Label.{dynamic, array, slice, adt, fn_ptr}
 use Rattle.type_terms.specs.Trees.{Trees, none, tree}
@@ -31,16 +31,13 @@ use Rattle.assembly_laws.proofs.Cover.{asked-by, known-kinds}
 use Rattle.assembly_laws.proofs.Determined.{facts-same}
 use Rattle.assembly_laws.proofs.LawfulCandidates.{determines}
 use Rattle.assembly_laws.proofs.Recording.{every-recorded}
-use Rattle.assembly_laws.proofs.Rowwise.{both-lists}
 use Rattle.declarations.specs.Elaboration.{elaborate, supertraits}
 use Rattle.solver_exactness.specs.SolverPlans.{specs_in_coherence, specs_outside}
 use Rattle.solver_exactness.specs.SolverSpecs.{AreDetermined, AreFew, SpecsAreDetermined, SpecsAreFew, SpecsAreSure}
 use Rattle.assembly_laws.proofs.SoundCandidates.{kinds-whole}
 use Rattle.solver_exactness.proofs.SolverPlans.{begins-known}
-
-append-assoc : (xs ys zs : List Candidate) → xs ++ (ys ++ zs) ≡ (xs ++ ys) ++ zs
-append-assoc [] ys zs = refl
-append-assoc (x ∷ xs) ys zs = ap (λ l. x ∷ l) (append-assoc xs ys zs)
+use Rattle.assembly_laws.proofs.Basics.{append-assoc}
+use Rattle.evaluation.proofs.Basics.{both-lists}
 
 pub outside-is : (m : ViewMeaning) (a : GoalOverKinds) → all_candidates m.view a ≡ specs_outside m a
 outside-is m a = append-assoc (by_clauses m.view a (clauses a)) (built_in m.view a) (by_impls m.view a m.view.impls ++ by_objects m.view a)

@@ -26,12 +26,12 @@ use Rattle.assembly_laws.specs.Asking.{GoalOverKinds, clauses, self_of, next_of,
 use Rattle.assembly_laws.specs.Candidates.{Candidate, premise, first_value, all_equal, clause_source, by_rule, moved, rules_behind, by_the_impl, unsure, unknowable, by_clauses, as_written, if_so, misc, by_sized, by_copy, by_auto, by_tuple, by_fn_ptr, call_of, by_call, unsize_array_of, upcast_source, upcasts_from, upcasts_to, upcasts_of, unsize_by_struct, unsize_struct_of, unsize_known, unsizing_outlives, unsize_recording, built_in, by_impls, can_match, bounds_from, object_source, written_source, objects_of}
 use Rattle.assembly_laws.specs.Cover.{all_candidates}
 use Rattle.assembly_laws.proofs.Instances.{is_bound, Unbound}
-use Rattle.assembly_laws.proofs.CandidateKinds.{every-append}
 use Rattle.assembly_laws.proofs.PlainRules.{every-flat}
 use Rattle.assembly_laws.proofs.Recording.{every-recorded}
 use Rattle.assembly_laws.proofs.Rows.{fields-declared}
 use Rattle.assembly_laws.proofs.Stack.{supertraits-only}
 use Rattle.solver_exactness.proofs.UnboundTerms.{unbound-node, made-unbound, instance-unbound, IsUnboundEquation}
+use Rattle.evaluation.proofs.Basics.{every-append}
 
 abbrev Shut : Reference → Type 0
 Shut r = Unbound r.args

@@ -1,5 +1,5 @@
 -- Terms in which no bound variable stands: what is made of them, and what stands for the unknowns of a frame's table.
-use Rattle.std.proofs.Common.{◌≡◌, ℕ, zero, suc, ◌+◌, Bool, true, false, not, ◌&&◌, ◌||◌, List, [], ◌∷◌, ◌++◌, refl, sym, ◌∙◌, ap, subst, Option, Some, None, if◌then◌else◌, is_some}
+use Rattle.std.proofs.Common.{◌≡◌, ℕ, zero, suc, ◌+◌, Bool, true, false, not, ◌&&◌, List, [], ◌∷◌, ◌++◌, refl, sym, ◌∙◌, ap, subst, Option, Some, None, if◌then◌else◌, is_some}
 use Rattle.std.specs.Prelude.{option_map, option_and_then}
 use Rattle.type_terms.specs.Label.{Label, Sort, of_type, of_const, of_lifetime, infer, param, placeholder, canonical, bound, static, dynamic, principal, auto_trait, predicate, inside}
 use Rattle.type_terms.specs.Trees.{Trees, none, tree, ◌+++◌, nth, shift, instantiate, is_no_tree, is_sort, sort_of, some_node}
@@ -31,11 +31,10 @@ use Rattle.evaluation.proofs.Applying.{for-bindings}
 use Rattle.evaluation.proofs.Equating.{with-content-is, pairs-terms, in-turn-narrows}
 use Rattle.evaluation.specs.Tables.{frame_tables}
 use Rattle.solver_exactness.specs.Closed.{TableReaches, here, answered}
-use Rattle.assembly_laws.proofs.Instances.{is_bound, Unbound, shift-unbound}
+use Rattle.assembly_laws.proofs.Instances.{is_bound, Unbound, shift-unbound, nth-unbound}
 use Rattle.solver_exactness.proofs.QuestionTerms.{is_unknown}
-
-none-of : (a b c : Bool) → a ≡ false → b ≡ false → c ≡ false → (a || b || c) ≡ false
-none-of a b c e f g = rw (e, f, g) refl
+use Rattle.type_terms.proofs.TypeBasics.{some-is as some-same}
+use Rattle.type_terms.proofs.BooleanBasics.{none-of}
 
 pub unbound-node : (l : Label) (c o : Trees) → is_bound l ≡ false → Unbound c → Unbound o → Unbound (tree l c o)
 unbound-node l c o e f g = none-of (is_bound l) (some_node is_bound c) (some_node is_bound o) e f g
@@ -106,11 +105,6 @@ module _ (good : Label → Bool) where
   made-free traits (tree l c o) h u = last-free l c o (last-trait good l c o refl h) u
 
 -- ---- instances
-nth-unbound : (t : Trees) (i : ℕ) → Unbound t → Unbound (nth t i)
-nth-unbound none i h = refl
-nth-unbound (tree l c o) zero h = head-shut is_bound l c o h
-nth-unbound (tree l c o) (suc i) h = nth-unbound o i (next-shut is_bound l c o h)
-
 pub instance-unbound : (d : ℕ) (A t : Trees) → Unbound A → Unbound t → Unbound (instantiate d A t)
 instance-unbound d A none h g = refl
 instance-unbound d A (tree (param s i) c o) h g =
@@ -198,9 +192,6 @@ Adds t u = (news : List Binding) × (u.bindings ≡ news ++ t.bindings)
 
 adds-on : (t u w : TableTrees) → Adds t u → Adds u w → Adds t w
 adds-on t u w x y = (y.0 ++ x.0, y.1 ∙ ap (λ z. y.0 ++ z) x.1 ∙ append-three y.0 x.0 t.bindings)
-
-some-same : {A : Type 0} (x y : A) → Some x ≡ Some y → x ≡ y
-some-same x y e = cc
 
 solved-adds : (a b : Trees) (t u : TableTrees) → solved_in_turn t a b ≡ Some u → Adds t u
 solved-adds none none t u e = ([], ap (λ (z : TableTrees). z.bindings) (sym (some-same t u e)))

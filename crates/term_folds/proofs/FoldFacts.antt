@@ -94,23 +94,6 @@ pub ok-map : {T E : Type 0} {P Q : T → Type 0} (r : Result T E) → IfOk r P �
 ok-map (Ok x) h f = f x h
 ok-map (Err e) h f = h
 
--- a fold has one value
-pub folds-once : {f : List ℕ → Trees → Does} {bs : List ℕ} {t u v : Trees} → Folds f bs t u → Folds f bs t v → u ≡ v
-folds-once nothing nothing = refl
-folds-once (entered e a o) (entered e' a' o') = let p = folds-once a a' in let q = folds-once o o' in cc
-folds-once (put {r = r} e o) (put {r = s} e' o') = let q = folds-once o o' in let p : r ≡ s = cc in cc
-folds-once {f = f} {bs = bs} (in_turn {s = s} e a o) (in_turn {s = s'} {r = r'} e' a' o') =
-    let q = folds-once o o' in
-    let p : s' ≡ s = cc in
-    let inner = folds-once a (subst (λ z. Folds f bs z r') p a') in
-    cc
-folds-once (entered e a o) (put e' o') = cc
-folds-once (entered e a o) (in_turn e' a' o') = cc
-folds-once (put e o) (entered e' a' o') = cc
-folds-once (put e o) (in_turn e' a' o') = cc
-folds-once (in_turn e a o) (entered e' a' o') = cc
-folds-once (in_turn e a o) (put e' o') = cc
-
 pub enter-later : (f g : List ℕ → Trees → Does) (bs : List ℕ) (t s : Trees) (es : List Entry) (kind i : ℕ) → f ≡ g → t ≡ s → g bs s ≡ enters
     → IsFoldBelow f bs t es kind i → IsFold g bs s es kind i
 enter-later f g bs t s es kind i p q e h =

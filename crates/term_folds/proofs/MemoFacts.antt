@@ -45,10 +45,6 @@ remembers-later f g old new m k e h p = go (get place_eq m.found p) (h p)
     go None x = tt
     go (Some t) x = known-later f g old new k e _ _ _ x
 
--- a fold that is known is the fold
-pub known-fold : (f : List ℕ → Trees → Does) (bs : List ℕ) (es : List Entry) (i j : ℕ) → IsMemo f es i (length bs) j → IsFold f bs (trees_at es i) es types j
-known-fold f bs es i j h = record { has = h.has; folded = h.folded bs refl }
-
 pub under-limit : (n most d : ℕ) → d ≡ min n most → (d ≡ most → ⊥) → n ≡ d
 under-limit n most d e ne = omega (arith, e, ne)
 

@@ -4,12 +4,6 @@ use Rattle.type_terms.specs.Trees.{Trees}
 use Rattle.term_folds.specs.Folds.{Does, Folds, FoldsEach}
 use Rattle.type_terms.specs.Pieces.{Piece, under}
 
-pub folds-both : (f : List ℕ → Trees → Does) (bs : List ℕ) (ps qs ps' qs' : List Piece) → FoldsEach f bs ps qs → FoldsEach f bs ps' qs' → FoldsEach f bs (ps ++ ps') (qs ++ qs')
-folds-both f bs [] [] ps' qs' a b = b
-folds-both f bs [] (q ∷ qs) ps' qs' a b = absurd a
-folds-both f bs (p ∷ ps) [] ps' qs' a b = absurd a
-folds-both f bs (p ∷ ps) (q ∷ qs) ps' qs' a b = (a.0, a.1, folds-both f bs ps qs ps' qs' a.2 b)
-
 pub folds-under : (f : List ℕ → Trees → Does) (bs : List ℕ) (n : ℕ) (ps qs : List Piece) → FoldsEach f (n ∷ bs) ps qs → FoldsEach f bs (under n ps) (under n qs)
 folds-under f bs n [] [] a = tt
 folds-under f bs n [] (q ∷ qs) a = absurd a

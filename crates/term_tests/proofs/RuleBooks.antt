@@ -1,5 +1,5 @@
 -- The handler of a list of rules is lawful.
-use Rattle.std.proofs.Common.{◌≡◌, ℕ, suc, ◌+◌, Bool, true, false, ◌==◌, if◌then◌else◌, List, [], ◌∷◌, ◌++◌, ◌⊎◌, map, length, inl, inr, refl, sym, ◌∙◌, ap, subst, Option, Some, None, arith}
+use Rattle.std.proofs.Common.{◌≡◌, ℕ, suc, ◌+◌, Bool, true, false, ◌==◌, if◌then◌else◌, List, [], ◌∷◌, ◌⊎◌, map, length, inl, inr, refl, sym, ◌∙◌, ap, subst, Option, Some, None, arith}
 use Rattle.std.proofs.lemmas.Bool.{eqb-true, eq-eqb}
 use Rattle.infer_table.specs.declared.certainty.Certainty.{Certainty}
 use Rattle.infer_table.specs.declared.certainty.Certainty.TheVariants.{Yes, Maybe}
@@ -11,10 +11,12 @@ use Rattle.evaluation.specs.Law.{IsYes, AgreesTo, Realizes}
 use Rattle.evaluation.specs.Handler.{nested_of, AnswerWithin, IsHandler}
 use Rattle.evaluation.specs.Merge.{if_there, responses, is_always_applicable, merge_or_flounder, same_certainty, IsMergeOfResponses}
 use Rattle.term_tests.specs.Atoms.{Argument, atom, unknown, value_at, Goal, Response, atoms, AtomRule, AtomRuleBook, AtomIsBy, put_in, goal_put_in, spec_of, specs_for, candidates_for, nested_in, rest_of, remaining, same_value, same_response, if_refused, refused_numbers, next_of, AtomFollowsByRule, AtomHasProofByBook, handled_by}
-use Rattle.evaluation.proofs.ListLaws.{Every-mono, SomeOf-mono, SomeOf-found, SomeOf-at, Every-at, among-all, both-left, both-right}
+use Rattle.evaluation.proofs.ListLaws.{Every-mono, SomeOf-mono, SomeOf-found, SomeOf-at, Every-at, among-all, both-right}
 use Rattle.term_tests.proofs.AtomTables.{atoms_are_lawful}
 use Rattle.evaluation.proofs.LastRules.{last_rule}
 use Rattle.evaluation.proofs.Merges.{always_is_test, merge_is}
+use Rattle.type_terms.proofs.BooleanBasics.{both-left}
+use Rattle.evaluation.proofs.Basics.{some-append as some_append, some-parts as some_parts, every-unit as all_within}
 
 value-put_in : (argument a : Argument) (x : ℕ) → value_at (put_in argument a) x ≡ value_at a (value_at argument x)
 value-put_in argument (atom b) x = refl
@@ -78,21 +80,6 @@ same_response_is r s e =
     ap (λ (d : Certainty). record { certainty = d; value = r.value }) c ∙ ap (λ (w : Option ℕ). record { certainty = s.certainty; value = w }) v
 
 -- ---- responses of what was considered
-some_append : {A : Type 0} (P : A → Type 0) (xs ys : List A) → SomeOf P xs ⊎ SomeOf P ys → SomeOf P (xs ++ ys)
-some_append P [] ys (inl s) = absurd s
-some_append P [] ys (inr s) = s
-some_append P (x ∷ xs) ys (inl (inl p)) = inl p
-some_append P (x ∷ xs) ys (inl (inr s)) = inr (some_append P xs ys (inl s))
-some_append P (x ∷ xs) ys (inr s) = inr (some_append P xs ys (inr s))
-
-some_parts : {A : Type 0} (P : A → Type 0) (xs ys : List A) → SomeOf P (xs ++ ys) → SomeOf P xs ⊎ SomeOf P ys
-some_parts P [] ys s = inr s
-some_parts P (x ∷ xs) ys (inl p) = inl (inl p)
-some_parts P (x ∷ xs) ys (inr s) = elim (some_parts P xs ys s) [ inl a ↦ inl (inr a) | inr b ↦ inr b ]
-
-every_append : {A : Type 0} (P : A → Type 0) (xs ys : List A) → Every P xs → Every P ys → Every P (xs ++ ys)
-every_append P [] ys a b = b
-every_append P (x ∷ xs) ys a b = (a.0, every_append P xs ys a.1 b)
 
 agrees_there : (a : Option Response) (x : ℕ) → AgreesTo atoms a x → SomeOf (λ r. atoms.Agrees r x) (if_there a)
 agrees_there None x h = absurd h
@@ -259,10 +246,6 @@ module _ (book : AtomRuleBook) (g : Goal) where
   all_same : (x y : ℕ) → x ≡ y → (ns : List Goal) → Every (λ n. instance_at x n ≡ instance_at y n) ns
   all_same x y e [] = tt
   all_same x y e (n ∷ ns) = (ap (λ z. instance_at z n) e, all_same x y e ns)
-
-  all_within : {A : Type 0} (xs : List A) → Every (λ x. Unit {0}) xs
-  all_within [] = tt
-  all_within (x ∷ xs) = (tt, all_within xs)
 
   small : (a : Option Response) → AnswerWithin atoms (nested_in specs) a
   small None = tt

@@ -1,11 +1,9 @@
 -- What the tables add is what the line that was read adds.
 use Rattle.std.proofs.Common.{◌≡◌, ℕ, Bool, List, map, Some, None, sym, ap, ◌∙◌}
-use Rattle.text_definitions.specs.Syntax.{crate_line, later_line, supers_line}
 use Rattle.text_definitions.specs.Declarations.{Declarations, known}
-use Rattle.text_definitions.specs.Adding.{added}
 use Rattle.line_reader.proofs.NoFault.{declares-new}
 use Rattle.line_reader.specs.Says.{name_said}
-use Rattle.line_reader.specs.Statement.{Param, Statement, crate_statement, struct_statement, trait_statement, impl_statement, later_statement, supers_statement}
+use Rattle.line_reader.specs.Statement.{Param, Statement, struct_statement, trait_statement, impl_statement}
 use Rattle.line_reader.specs.Views.{statement_of}
 use Rattle.line_reader.specs.declared.statement.ClauseSpans.{ClauseSpans}
 use Rattle.line_reader.specs.declared.statement.LineRead.{LineRead}
@@ -23,22 +21,13 @@ use Rattle.workspace.specs.declared.declared.QuestionEntry.{QuestionEntry}
 use Rattle.workspace.specs.declared.declared.ReferenceCells.{ReferenceCells}
 use Rattle.text_reader.specs.BareLines.{sort_of_param, sorted_param}
 use Rattle.text_reader.specs.Entries.{OfRead, AreFields, AreBoundsOfLine, IsMain, AreClauses, SaysStruct, SaysTrait, SaysImpl, IsStruct, IsTrait, IsImpl, IsAsking, IsQuestionEntry}
-use Rattle.text_reader.proofs.WhatIsAdded.{crate-line, later-line, supers-line, struct-line, trait-line, impl-line, question-line, Says, firsts, firsts-kept, variables-kept}
+use Rattle.text_reader.proofs.WhatIsAdded.{struct-line, trait-line, impl-line, question-line, Says, firsts, firsts-kept, variables-kept}
 
 -- the name that it declares is new
 pub new-name : (d : Declarations) (read : LineRead) (s : Statement) (n : List ℕ) → IsFaultless d read → statement_of read.statement ≡ s → name_said s ≡ Some n → known d n ≡ None
 new-name d read s n f e h =
     let (l, r) = f.0 in
     declares-new d l n (f.1 l r) (sym (name-is-said l) ∙ ap name_said (sym r.0 ∙ e) ∙ h)
-
-pub crate-adds : (d e : Declarations) (read : LineRead) (n : List ℕ) (us : List (List ℕ)) → statement_of read.statement ≡ crate_statement n us → e ≡ added d (crate_line n us) → AddsLine d read e
-crate-adds d e read n us line is = λ l r. is ∙ ap (added d) (crate-line n us l (sym line ∙ r.0))
-
-pub later-adds : (d e : Declarations) (read : LineRead) (n : List ℕ) → statement_of read.statement ≡ later_statement n → e ≡ added d (later_line n) → AddsLine d read e
-later-adds d e read n line is = λ l r. is ∙ ap (added d) (later-line n l (sym line ∙ r.0))
-
-pub supers-adds : (d e : Declarations) (read : LineRead) (n : List ℕ) → statement_of read.statement ≡ supers_statement n → e ≡ added d (supers_line n) → AddsLine d read e
-supers-adds d e read n line is = λ l r. is ∙ ap (added d) (supers-line n l (sym line ∙ r.0))
 
 -- what is left of a statement is its types
 pub struct-said : (s : Statement) (f : Bool) (n : List ℕ) (ps : List Param) → SaysStruct s f n ps → (ss : List Span) × (s ≡ struct_statement f n ps ss)

@@ -9,6 +9,7 @@ use Rattle.workspace.specs.Numbered.{IsFew}
 use Rattle.text_reader.specs.Behind.{IsOneLine, behind, FitsBehind}
 use Rattle.text_reader.specs.Lines.{lines_behind}
 use Rattle.text_reader.proofs.Taking.{given-few, few-weaken}
+use Rattle.text_definitions.proofs.TypeBasics.{text-short}
 
 -- ---- the lines of both
 -- a text has a line, if an empty one
@@ -115,9 +116,6 @@ lines-few d e k j (l ∷ ls) (goes_on _ c _ _ _ _ first rest) few =
 
 nothing-few : IsFew nothing_declared 50
 nothing-few = record { few_crates = search rules; few_structs = search rules; few_traits = search rules; few_impls = search rules; few_questions = search rules; few_sections = search rules; few_later = search rules }
-
-text-short : (bytes : List ℕ) (d : Declarations) → TextGives bytes (Ok d) → length bytes ≤ text_limit
-text-short bytes d (fits _ h g) = h
 
 pub texts-few : (bytes : List ℕ) (d : Declarations) → TextGives bytes (Ok d) → IsFew d 1048640
 texts-few bytes d t =

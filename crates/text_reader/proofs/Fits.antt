@@ -115,10 +115,6 @@ pub faultless-parts : (d : Declarations) (l : Line) → fault_of d l ≡ None �
 faultless-parts d l e = parts-fit d l (faultless-uses d l e)
 
 -- ---- small numbers
-if-known : (b : Bool) (x y : Option Known) → KnownFits x → KnownFits y → KnownFits (if b then x else y)
-if-known true x y h g = h
-if-known false x y h g = g
-
 or-known : (x y : Option Known) → KnownFits x → KnownFits y → KnownFits (option_or x y)
 or-known None y h g = g
 or-known (Some x) y h g = h

@@ -316,12 +316,6 @@ two-first (a ∷ b ∷ r) x y d e h p q =
     let n : length r ≤ suc (suc (length r)) - 2 = omega arith in
     ap (λ z. z ∷ b ∷ r) (sym p) ∙ ap (λ z. x ∷ z ∷ r) (sym q) ∙ ap (λ z. x ∷ y ∷ z) (sym (take_all (suc (suc (length r)) - 2) r n))
 
-pub two-alone : {A : Type 0} (xs : List A) (x y d e : A) → length xs ≡ 2 → x ≡ get_or xs 0 d → y ≡ get_or xs 1 e → xs ≡ x ∷ y ∷ []
-two-alone [] x y d e h p q = absurd (omega (arith, h))
-two-alone (a ∷ []) x y d e h p q = absurd (omega (arith, h))
-two-alone (a ∷ b ∷ []) x y d e h p q = ap (λ z. z ∷ b ∷ []) (sym p) ∙ ap (λ z. x ∷ z ∷ []) (sym q)
-two-alone (a ∷ b ∷ c ∷ r) x y d e h p q = absurd (omega (arith, h))
-
 -- bounds, one part each
 pub bounds-read : (v : Sight) (bs : List Bound) (rs : List ResolvedPart) → EachOf (IsReadAs v) (map line.bound_part bs) rs → EachOf (λ b r. IsReadAs v (line.bound_part b) r) bs rs
 bounds-read v [] [] h = tt

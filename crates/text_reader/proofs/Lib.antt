@@ -15,7 +15,6 @@ mod Taking
 pub mod Ordering
 pub mod WhatIsAdded
 pub mod OwnKnown
-pub mod Looking
 pub mod Sections
 pub mod Sighted
 pub mod Meaning

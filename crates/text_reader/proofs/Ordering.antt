@@ -110,13 +110,3 @@ kinds-of-bare (prove_statement c ps k ks) e = from-said ps e
 kinds-of-bare (refute_statement c ps k) e = from-said ps e
 kinds-of-bare (later_statement n) e = refl
 kinds-of-bare (supers_statement n) e = refl
-
-pub params-of-bare : (s : Statement) → params_of (bare_line s) ≡ params_from (params_said s)
-params-of-bare (crate_statement n us) = refl
-params-of-bare (struct_statement f n ps ss) = refl
-params-of-bare (trait_statement f a n ps ss) = refl
-params-of-bare (impl_statement ps h ks) = refl
-params-of-bare (prove_statement c ps k ks) = refl
-params-of-bare (refute_statement c ps k) = refl
-params-of-bare (later_statement n) = refl
-params-of-bare (supers_statement n) = refl

@@ -1,10 +1,10 @@
 -- What a line is that is asked behind the lines of a text.
-use Rattle.std.proofs.Common.{◌≡◌, ℕ, List, Bool, true, false, if◌then◌else◌, length, ◌-◌, ◌++◌, ◌∷◌, [], None, Some, Ok, Err, IfOk, Result, refl, sym, ap, subst}
-use Rattle.text_definitions.specs.Syntax.{Line, crate_line, struct_line, trait_line, impl_line, prove_line, refute_line, later_line, supers_line}
-use Rattle.text_definitions.specs.Declarations.{Declarations, NamedImpl, Question}
-use Rattle.text_definitions.specs.Adding.{added, with_impl, impl_of, item_meanings}
+use Rattle.std.proofs.Common.{◌≡◌, ℕ, List, None, Some, Ok, Err, IfOk, Result, refl, sym, ap, subst}
+use Rattle.text_definitions.specs.Syntax.{Line, prove_line, refute_line}
+use Rattle.text_definitions.specs.Declarations.{Declarations, Question}
+use Rattle.text_definitions.specs.Adding.{added}
 use Rattle.text_definitions.specs.Text.{adds}
-use Rattle.line_reader.specs.Statement.{Statement, Param, prove_statement, refute_statement, line_statement}
+use Rattle.line_reader.specs.Statement.{Param}
 use Rattle.line_reader.specs.Views.{statement_of}
 use Rattle.line_reader.specs.declared.statement.LineRead.{LineRead}
 use Rattle.workspace.specs.Tables.{with_question}
@@ -13,7 +13,7 @@ use Rattle.workspace.specs.declared.declared.Asked.{Asked}
 use Rattle.workspace.specs.declared.declared.QuestionEntry.{QuestionEntry}
 use Rattle.workspace.specs.Parts.{IsWrittenQuestion}
 use Rattle.text_reader.specs.Declaring.{FindsFault, AddsLine, IsFaultless}
-use Rattle.text_reader.specs.Entries.{OfRead, IsAsking, IsQuestionEntry}
+use Rattle.text_reader.specs.Entries.{IsAsking, IsQuestionEntry}
 use Rattle.text_reader.specs.Forms.{IsForm}
 use Rattle.text_reader.specs.Queries.{IsQueryLine, IsQueryRead}
 use Rattle.text_reader.specs.declared.form.LineForm.{LineForm}
@@ -38,31 +38,6 @@ asks-this d read how ps q asking same entry =
     question-adds d (with_question d (question_of q)) read how ps q asking same entry (λ l h. question-added d (question_of q) l h)
 
 -- ---- no question
-abbrev pub IsNoQuestion : Statement → Type 0
-IsNoQuestion (prove_statement c ps k ks) = ⊥
-IsNoQuestion (refute_statement c ps k) = ⊥
-IsNoQuestion _ = Unit {0}
-
-impl-asks-nothing : (d : Declarations) (i : NamedImpl) → (with_impl d i).questions ≡ d.questions
-impl-asks-nothing d i = by d.in_section
-  where
-    by : (b : Bool)
-        → (if b then record d { later_impls = d.later_impls ++ record { section = length d.sections - 1; added = i } ∷ [] } else record d { impls = d.impls ++ i ∷ [] }).questions ≡ d.questions
-    by true = refl
-    by false = refl
-
-pub asks-nothing : (d : Declarations) (l : Line) → IsNoQuestion (line_statement l) → (added d l).questions ≡ d.questions
-asks-nothing d (crate_line n us) h = refl
-asks-nothing d (struct_line f n ps fs) h = refl
-asks-nothing d (trait_line f a n ps bs) h = refl
-asks-nothing d (impl_line ps h ks) _ = impl-asks-nothing d (impl_of d (item_meanings d (impl_line ps h ks) 0) ps h ks)
-asks-nothing d (prove_line c ps a ks) h = absurd h
-asks-nothing d (refute_line c ps a) h = absurd h
-asks-nothing d (later_line n) h = refl
-asks-nothing d (supers_line n) h = refl
-
-pub nothing-asked : (d : Declarations) (read : LineRead) → IsNoQuestion (statement_of read.statement) → OfRead read (λ l. (added d l).questions ≡ d.questions)
-nothing-asked d read h = λ l r. asks-nothing d l (subst IsNoQuestion r.0 h)
 
 -- ---- by the line's form
 pub query-given : (d : Declarations) (line : List ℕ) (form : LineForm) (read : LineRead) (q : QueryLine)

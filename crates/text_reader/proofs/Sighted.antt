@@ -1,5 +1,5 @@
 -- What the names of a line are looked up in is what the line knows.
-use Rattle.std.proofs.Common.{◌≡◌, Result, Ok, Err, IfOk, sym, ap, ◌∙◌, subst}
+use Rattle.std.proofs.Common.{◌≡◌, sym, ap, ◌∙◌, subst}
 use Rattle.text_definitions.specs.Syntax.{Line}
 use Rattle.text_definitions.specs.Declarations.{Declarations}
 use Rattle.text_definitions.specs.Faults.{with_own}
@@ -31,8 +31,3 @@ pub same-sight : (d : Declarations) (read : LineRead) (v : Sight) → IsSightOfR
 same-sight d read v s =
     let at : Declarations → Line → Sight = λ x l. record { before = x; line = l } in
     ap (λ x. at x v.line) s.before ∙ ap (at d) s.line
-
--- two things of one result
-pub both-ok : {T E : Type 0} (P Q R : T → Type 0) (r : Result T E) → ((x : T) → P x → Q x → R x) → IfOk r P → IfOk r Q → IfOk r R
-both-ok P Q R (Ok x) f p q = f x p q
-both-ok P Q R (Err e) f p q = tt

@@ -1,6 +1,6 @@
 -- The trees that kept cells stand for.
 use Rattle.std.proofs.Common.{◌≡◌, ℕ, zero, suc, ◌+◌, true, List, [], ◌∷◌, ◌++◌, map, refl, sym, ap, ◌∙◌, append_assoc, append-nil}
-use Rattle.std.proofs.lemmas.List.{reverse-append, reverse-reverse}
+use Rattle.std.proofs.lemmas.List.{reverse-reverse}
 use Rattle.std.specs.Prelude.{reverse}
 use Rattle.type_terms.specs.Label.{Sort}
 use Rattle.type_terms.specs.Trees.{Trees, none, tree, leaf, ◌+++◌}
@@ -18,6 +18,7 @@ use Rattle.text_reader.specs.Making.{term_of}
 use Rattle.text_reader.specs.Keeping.{pushed}
 use Rattle.text_reader.proofs.Each.{Every}
 use Rattle.text_reader.proofs.Stacks.{arg_part, args_parts, arg-is}
+use Rattle.type_terms.proofs.ListBasics.{rev-cons}
 
 -- ---- the same stack in both machines
 gathered-same : (k : ℕ) (S : List Trees) (o : Trees) → term.gathered k S o ≡ standing.gathered k S o
@@ -84,9 +85,6 @@ kinds-args ks (and_arg a args) = (arg-is (next_kind ks) a, kinds-args (other_kin
 pub pushed-append : {A : Type 0} (xs ys S : List A) → pushed (xs ++ ys) S ≡ pushed ys (pushed xs S)
 pushed-append [] ys S = refl
 pushed-append (x ∷ xs) ys S = pushed-append xs ys (x ∷ S)
-
-rev-cons : {A : Type 0} (x : A) (ys : List A) → reverse (x ∷ ys) ≡ reverse ys ++ x ∷ []
-rev-cons x ys = reverse-append (x ∷ []) ys
 
 pushed-on : {A : Type 0} (xs S : List A) → pushed xs S ≡ reverse xs ++ S
 pushed-on [] S = refl

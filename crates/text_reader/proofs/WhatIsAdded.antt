@@ -7,7 +7,7 @@ use Rattle.text_definitions.specs.Syntax.{Params, Line, crate_line, struct_line,
 use Rattle.text_definitions.specs.Declarations.{Declarations, Question, Variable, known, names_of, with_sort, sorted_names}
 use Rattle.text_definitions.specs.Lowering.{crate_number}
 use Rattle.text_definitions.specs.Adding.{question_meanings, question_of}
-use Rattle.line_reader.specs.Statement.{Param, lifetime_param, type_param, const_param, param_list, Statement, crate_statement, struct_statement, trait_statement, impl_statement, later_statement, supers_statement, line_statement}
+use Rattle.line_reader.specs.Statement.{Param, lifetime_param, type_param, const_param, param_list, Statement, struct_statement, trait_statement, impl_statement, line_statement}
 use Rattle.line_reader.specs.declared.statement.Span.{Span}
 use Rattle.line_reader.specs.declared.statement.ClauseSpans.{ClauseSpans}
 use Rattle.workspace.specs.declared.declared.Param as kept
@@ -18,35 +18,6 @@ use Rattle.text_reader.specs.Entries.{AreFields, AreBoundsOfLine, IsMain, AreCla
 use Rattle.text_reader.proofs.Ordering.{kinds-said}
 
 -- ---- a line with the statement of a struct is the line of a struct, and so on
-pub crate-line : (n : List ℕ) (us : List (List ℕ)) (l : Line) → crate_statement n us ≡ line_statement l → crate_line n us ≡ l
-crate-line n us (crate_line m vs) e = let a : n ≡ m = cc in let b : us ≡ vs = cc in ap (λ x. crate_line x us) a ∙ ap (crate_line m) b
-crate-line n us (struct_line f m ps fs) e = absurd cc
-crate-line n us (trait_line f a m ps bs) e = absurd cc
-crate-line n us (impl_line ps h ks) e = absurd cc
-crate-line n us (prove_line c ps a ks) e = absurd cc
-crate-line n us (refute_line c ps a) e = absurd cc
-crate-line n us (later_line c) e = absurd cc
-crate-line n us (supers_line c) e = absurd cc
-
-pub later-line : (n : List ℕ) (l : Line) → later_statement n ≡ line_statement l → later_line n ≡ l
-later-line n (later_line m) e = let a : n ≡ m = cc in ap later_line a
-later-line n (crate_line m us) e = absurd cc
-later-line n (struct_line f m ps fs) e = absurd cc
-later-line n (trait_line f a m ps bs) e = absurd cc
-later-line n (impl_line ps h ks) e = absurd cc
-later-line n (prove_line c ps a ks) e = absurd cc
-later-line n (refute_line c ps a) e = absurd cc
-later-line n (supers_line m) e = absurd cc
-
-pub supers-line : (n : List ℕ) (l : Line) → supers_statement n ≡ line_statement l → supers_line n ≡ l
-supers-line n (supers_line m) e = let a : n ≡ m = cc in ap supers_line a
-supers-line n (crate_line m us) e = absurd cc
-supers-line n (struct_line f m ps fs) e = absurd cc
-supers-line n (trait_line f a m ps bs) e = absurd cc
-supers-line n (impl_line ps h ks) e = absurd cc
-supers-line n (prove_line c ps a ks) e = absurd cc
-supers-line n (refute_line c ps a) e = absurd cc
-supers-line n (later_line m) e = absurd cc
 
 pub struct-line : (d : Declarations) (f : Bool) (n : List ℕ) (ps : List Param) (ss : List Span) (kinds : List Sort) (fields : List Trees) (l : Line)
     → struct_statement f n ps ss ≡ line_statement l → kinds ≡ map sort_of_param ps → AreFields d l fields → IsStructLine d n f kinds fields l

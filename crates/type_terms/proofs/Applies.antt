@@ -1,5 +1,5 @@
 -- An impl applies to each closed instance of its header: reading its arguments off the instance finds them.
-use Rattle.std.proofs.Common.{zero-add, ◌≡◌, ℕ, zero, ◌<◌, max, pred, Bool, true, false, List, [], ◌∷◌, ◌++◌, refl, ap, sym, ◌∙◌, ◌&&◌, ◌||◌, ◌==◌, if◌then◌else◌, subst, map}
+use Rattle.std.proofs.Common.{zero-add, ◌≡◌, ℕ, zero, ◌<◌, max, Bool, true, false, List, [], ◌∷◌, ◌++◌, refl, ap, sym, ◌∙◌, ◌&&◌, ◌||◌, ◌==◌, if◌then◌else◌, subst, map}
 use Rattle.std.specs.List.{flat_map}
 use Rattle.type_terms.specs.Label.{Label, Sort, of_type, of_const, of_lifetime, never, param, placeholder, infer, canonical, bound, fn_ptr, principal}
 use Rattle.type_terms.specs.Codes.{same, same_label, numbers, same_numbers}
@@ -12,9 +12,10 @@ use Rattle.type_terms.specs.Answers.{is_closed, is_open}
 use Rattle.type_terms.proofs.Members.{here, there, in-left, in-map, flat-in, self-number}
 use Rattle.type_terms.proofs.Walking.{both, or-left, or-right}
 use Rattle.type_terms.proofs.TreeLaws.{erase-nth, erase-instantiate}
-use Rattle.type_terms.proofs.Matching.{Occurs, present-found, nth-arguments, same-where-asked, first-left, nth-there}
-use Rattle.type_terms.proofs.Fitting.{not-true, child-shut, next-shut, no-left}
+use Rattle.type_terms.proofs.Matching.{Occurs, present-found, nth-arguments, same-where-asked, first-left, nth-there, or-false-left as no-left}
+use Rattle.type_terms.proofs.Fitting.{not-true, child-shut, next-shut}
 use Rattle.type_terms.proofs.ProofLists.{by-rule}
+use Rattle.type_terms.proofs.TermBasics.{outside-zero}
 
 -- equal trees pass the test
 pub same-label-itself : (l : Label) → same_label l l ≡ true
@@ -37,11 +38,6 @@ same-reference-complete r s e = subst (λ z. same_reference r z ≡ true) e (bot
 own-zero : (l : Label) → is_open l ≡ false → own_binder l ≡ 0
 own-zero (bound s k i) h = cc
 own-zero l h = refl
-
-outside-zero : (l : Label) (n : ℕ) → n ≡ 0 → outside l n ≡ 0
-outside-zero (fn_ptr k) n e = ap pred e
-outside-zero (principal k t) n e = ap pred e
-outside-zero l n e = e
 
 pub closed-outer : (t : Trees) → some_node is_open t ≡ false → outer_binder t ≡ 0
 closed-outer none h = refl

@@ -1,6 +1,6 @@
 -- Checks of supertraits, each by a text with its own order of auto traits.
 use Rattle.std.proofs.Common.{◌≡◌, ℕ, true, List, [], ◌∷◌, refl, ap, sym, ◌∙◌, subst, ◌⊎◌, inl, inr, map, length}
-use Rattle.type_terms.specs.Label.{Label, dynamic, auto_trait, param}
+use Rattle.type_terms.specs.Label.{dynamic, auto_trait, param}
 use Rattle.type_terms.specs.Trees.{Trees, none, tree}
 use Rattle.type_terms.specs.Worlds.{World, Reference, ImplDecl, sees}
 use Rattle.type_terms.specs.Rules.{strict_supertraits}
@@ -20,9 +20,7 @@ use Rattle.type_terms.proofs.ArrangedTrees.{reference-at}
 use Rattle.type_terms.proofs.ArrangedRules.{over-supers}
 use Rattle.type_terms.proofs.ArrangedProofs.{bound-world, proof-unarranged}
 use Rattle.type_terms.proofs.ArrangedSets.{sees-same, arranged-joined}
-
-node : {l l' : Label} {c c' o o' : Trees} → l ≡ l' → c ≡ c' → o ≡ o' → tree l c o ≡ tree l' c' o'
-node p q r = cc
+use Rattle.type_terms.proofs.TermBasics.{node}
 
 autos-opaque : (t : Trees) → autos_in (opaque t) ≡ autos_in t
 autos-opaque none = refl

@@ -3,7 +3,7 @@ use Rattle.std.proofs.Common.{◌≡◌, Bool, true, false, List, [], ◌∷◌,
 use Rattle.std.specs.List.{list_all}
 use Rattle.type_terms.specs.Worlds.{World, CrateDecl, Reference, StructDecl, TraitDecl, ImplDecl}
 use Rattle.type_terms.specs.Rules.{is_coinductive}
-use Rattle.type_terms.specs.Proofs.{ProofEntry, In, Every, Stands, Follows, HasProof}
+use Rattle.type_terms.specs.Proofs.{ProofEntry, In, Stands, Follows, HasProof}
 use Rattle.type_terms.specs.Supers.{dyns_of_bounds}
 use Rattle.type_terms.specs.LinkedSet.{all_args, all_written}
 use Rattle.type_terms.specs.Arranging.{Arrangement, turned_back, arranged, arranged_reference, arranged_struct, arranged_trait, arranged_impl, arranged_world}
@@ -16,6 +16,7 @@ use Rattle.type_terms.proofs.RenumberedRules.{map-append}
 use Rattle.type_terms.proofs.ArrangedTrees.{back-to, reference-back, dyns-stay}
 use Rattle.type_terms.proofs.ArrangedTwice.{written-over}
 use Rattle.type_terms.proofs.ArrangedRules.{BoundWorld, rules-arranged, coinductive-same}
+use Rattle.type_terms.proofs.TermRules.{every-of as each-of}
 
 pub bound-world : (W : World) → all_written dyns_of_bounds W ≡ true → BoundWorld W
 bound-world W h = record {
@@ -73,10 +74,6 @@ module _ (α : Arrangement) (V : World) (w : BoundWorld V) where
   pub entries : (E : List Reference) (all earlier rest : List ProofEntry) → Follows V E all earlier rest → List ProofEntry
   entries E all earlier [] f = []
   entries E all earlier (e ∷ rest) f = record { of = Q e.of; rule = (rules-arranged α V w E e.of e.rule f.0).0 } ∷ entries E all (earlier ++ e ∷ []) rest f.2
-
-  each-of : (P : Reference → Type 0) (ps : List Reference) → ((p : Reference) → In p ps → P p) → Every P ps
-  each-of P [] f = tt
-  each-of P (p ∷ ps) f = (f p (here p ps), each-of P ps (λ q h. f q (there q p ps h)))
 
   nothing-over : (qs : List ProofEntry) → Over [] qs
   unfolding Over entries

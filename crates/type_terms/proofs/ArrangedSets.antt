@@ -10,9 +10,9 @@ use Rattle.type_terms.specs.Proofs.{In, Every, HasProof}
 use Rattle.type_terms.specs.Walks.{struct_is, trait_is, until_decisive, ends_local, keeps_orphan_rule}
 use Rattle.type_terms.specs.Answers.{is_closed}
 use Rattle.type_terms.specs.Core.{core_world}
-use Rattle.type_terms.specs.Supers.{mentions_as, dyns_of_bounds}
+use Rattle.type_terms.specs.Supers.{mentions_as}
 use Rattle.type_terms.specs.Versions.{begins_with_bound, label_allowed, label_shaped, well_written, sees_struct, sees_trait, in_scope, is_open_place, is_addable, Added, with_impls, HasLaterImpls}
-use Rattle.type_terms.specs.LinkedSet.{JoinedSet, LinkedSet, AutoAtHome, is_stray, all_written}
+use Rattle.type_terms.specs.LinkedSet.{JoinedSet, LinkedSet, AutoAtHome, is_stray}
 use Rattle.type_terms.specs.Renumbering.{View}
 use Rattle.type_terms.specs.Arranging.{Arrangement, turned_back, autos_in, next_auto, autos_left, with_autos, children_in_order, arranged, arranged_reference, arranged_struct, arranged_trait, arranged_impl, arranged_world}
 use Rattle.type_terms.proofs.Members.{here, there, in-cases, in-nothing, in-map}
@@ -27,9 +27,7 @@ use Rattle.type_terms.proofs.ArrangedRules.{BoundWorld, filter-map, structs-ther
 use Rattle.type_terms.proofs.ArrangedProofs.{bound-world, written-stays, proof-arranged, proof-unarranged}
 use Rattle.type_terms.proofs.ArrangedTwice.{order-stays}
 use Rattle.type_terms.proofs.ArrangedAnswers.{some-same, over-closed, over-visited}
-
-node : {l l' : Label} {c c' o o' : Trees} → l ≡ l' → c ≡ c' → o ≡ o' → tree l c o ≡ tree l' c' o'
-node p q r = cc
+use Rattle.type_terms.proofs.TermBasics.{node}
 
 filter-same : {A : Type 0} (p q : A → Bool) → ((x : A) → p x ≡ q x) → (xs : List A) → filter p xs ≡ filter q xs
 filter-same p q h [] = refl
@@ -83,14 +81,14 @@ term-there α (tree l c o) h =
     inner l e = e
 
 -- Which parameters are mentioned
-mentions-filled : (s : Sort) (i : ℕ) (ns : List ℕ) (t : Trees) → mentions_as s i (with_autos ns t) ≡ mentions_as s i t
+pub mentions-filled : (s : Sort) (i : ℕ) (ns : List ℕ) (t : Trees) → mentions_as s i (with_autos ns t) ≡ mentions_as s i t
 mentions-filled s i ns none = refl
 mentions-filled s i [] (tree (auto_trait t) c o) = or-same refl (mentions-filled s i [] o)
 mentions-filled s i (n ∷ ns) (tree (auto_trait t) c o) = or-same refl (mentions-filled s i ns o)
 mentions-filled s i ns (tree (param r j) c o) = or-same refl (mentions-filled s i ns o)
 mentions-filled s i ns (tree l c o) = or-same refl (mentions-filled s i ns o)
 
-mentions-stay : (α : Arrangement) (s : Sort) (i : ℕ) (t : Trees) → mentions_as s i (arranged α t) ≡ mentions_as s i t
+pub mentions-stay : (α : Arrangement) (s : Sort) (i : ℕ) (t : Trees) → mentions_as s i (arranged α t) ≡ mentions_as s i t
 mentions-stay α s i none = refl
 mentions-stay α s i (tree (param r j) c o) = or-same refl (mentions-stay α s i o)
 mentions-stay α s i (tree dynamic c o) = or-same (mentions-filled s i (α.to (autos_in c)) (arranged α c) ∙ mentions-stay α s i c) (mentions-stay α s i o)
@@ -221,9 +219,6 @@ module _ (α : Arrangement) (W : World) (vs : List View) (rank : ℕ → ℕ) (l
   abbrev Z : World
   Z = arranged_world α W
 
-  pub bounds-hold : all_written dyns_of_bounds W ≡ true
-  bounds-hold = l.dyns_hold_bounds
-
   w : BoundWorld W
   w = bound-world W l.dyns_hold_bounds
 
@@ -291,9 +286,6 @@ module _ (α : Arrangement) (W : World) (vs : List View) (rank : ℕ → ℕ) (l
       join : (ss ss' : List StructDecl) (ts ts' : List TraitDecl) (is is' : List ImplDecl) → ss ≡ ss' → ts ≡ ts' → is ≡ is'
           → (let V : World = record { crates = W.crates; structs = ss; traits = ts; impls = is } in V) ≡ record { crates = W.crates; structs = ss'; traits = ts'; impls = is' }
       join ss ss' ts ts' is is' p q r = cc
-
-  core-stays : arranged_world α core_world ≡ core_world
-  core-stays = refl
 
   core-impl-stays : (i : ImplDecl) → In i core_world.impls → arranged_impl α i ≡ i
   core-impl-stays i m = stays core_world.impls refl i m

@@ -12,9 +12,7 @@ use Rattle.type_terms.proofs.TreeLaws.{single-nth, single-shift}
 use Rattle.type_terms.proofs.Matching.{same-sound}
 use Rattle.type_terms.proofs.Applies.{same-complete}
 use Rattle.type_terms.proofs.RenumberedTrees.{and-same, bool-same}
-
-node : {l l' : Label} {c c' o o' : Trees} → l ≡ l' → c ≡ c' → o ≡ o' → tree l c o ≡ tree l' c' o'
-node p q r = cc
+use Rattle.type_terms.proofs.TermBasics.{node}
 
 pub reference-at : (t : ℕ) {a b : Trees} → a ≡ b → (let x : Reference = record { trait = t; args = a } in x) ≡ record { trait = t; args = b }
 reference-at t p = cc

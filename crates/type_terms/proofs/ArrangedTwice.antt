@@ -1,7 +1,7 @@
 -- Orders of auto traits, one after the other: a world that lists them in one order does so too where they stand in another.
 use Rattle.std.proofs.Common.{◌≡◌, ℕ, Bool, true, List, refl, ap, sym, ◌∙◌, ◌&&◌, map}
 use Rattle.std.specs.List.{list_all}
-use Rattle.type_terms.specs.Label.{Label, dynamic}
+use Rattle.type_terms.specs.Label.{dynamic}
 use Rattle.type_terms.specs.Trees.{Trees, none, tree}
 use Rattle.type_terms.specs.Worlds.{World, Reference, StructDecl, TraitDecl, ImplDecl}
 use Rattle.type_terms.specs.LinkedSet.{all_args, all_written, dyns_rise, DynsInOneOrder}
@@ -9,9 +9,7 @@ use Rattle.type_terms.specs.Arranging.{Arrangement, autos_in, with_autos, arrang
 use Rattle.type_terms.proofs.RenumberedTrees.{and-same}
 use Rattle.type_terms.proofs.RenumberedRules.{all-over}
 use Rattle.type_terms.proofs.ArrangedTrees.{fill-own, fill-fill, over-fill, autos-now, as-many}
-
-node : {l l' : Label} {c c' o o' : Trees} → l ≡ l' → c ≡ c' → o ≡ o' → tree l c o ≡ tree l' c' o'
-node p q r = cc
+use Rattle.type_terms.proofs.TermBasics.{node}
 
 -- As they are listed
 abbrev as-listed : Arrangement

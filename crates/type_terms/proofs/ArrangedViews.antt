@@ -65,10 +65,6 @@ module _ (α : Arrangement) (W : World) (h : all_written dyns_of_bounds W ≡ tr
   each-there [] p = tt
   each-there (k ∷ ks) p = (proof-arranged α W w [] k p.0, each-there ks p.1)
 
-  each-of : (P : Reference → Type 0) (ps : List Reference) → ((p : Reference) → In p ps → P p) → Every P ps
-  each-of P [] f = tt
-  each-of P (p ∷ ps) f = (f p (0, refl), each-of P ps (λ q m. f q (suc m.0, m.1)))
-
   -- a reference of the other order
   forth : (x : Reference) → arranged_reference α (arranged_reference (turned_back α) x) ≡ x
   forth x = reference-back (turned_back α) x

@@ -3,6 +3,7 @@ use Rattle.std.proofs.Common.{◌≡◌, ℕ, suc, ◌<◌, ◌≤◌, Bool, tru
 use Rattle.std.proofs.lemmas.Bool.Decides.{nat_tests}
 use Rattle.type_terms.specs.Proofs.{In}
 use Rattle.type_terms.proofs.Members.{in-cases, in-nothing}
+use Rattle.type_terms.proofs.NumberBasics.{less-kept}
 
 -- How many of a list stand below a rank
 abbrev pub below : {A : Type 0} → (A → ℕ) → ℕ → List A → ℕ
@@ -16,9 +17,6 @@ below-length key r (x ∷ xs) = by (ltb (key x) r) (below-length key r xs)
     by : (b : Bool) → below key r xs ≤ length xs → cond b (suc (below key r xs)) (below key r xs) ≤ suc (length xs)
     by true h = omega arith
     by false h = omega arith
-
-less-kept : (n a b : ℕ) → a ≤ b → ltb n a ≡ true → ltb n b ≡ true
-less-kept n a b h e = grind (arith, nat_tests)
 
 -- one more, or as many, at a greater rank
 step-up : (p q : Bool) (m n : ℕ) → (p ≡ true → q ≡ true) → m ≤ n → cond p (suc m) m ≤ cond q (suc n) n

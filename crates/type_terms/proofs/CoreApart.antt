@@ -1,8 +1,8 @@
 -- No two impls of core overlap: their headers differ at the trait or at the first label.
-use Rattle.std.proofs.Common.{◌≡◌, ℕ, zero, Bool, true, false, not, refl, ap, sym, ◌∙◌, ◌&&◌, ◌||◌, ◌==◌, ◌⊎◌, inl, inr, subst}
+use Rattle.std.proofs.Common.{◌≡◌, zero, Bool, true, false, not, refl, ap, sym, ◌∙◌, ◌&&◌, ◌||◌, ◌==◌, ◌⊎◌, inl, inr, subst}
 use Rattle.std.specs.List.{list_all}
 use Rattle.type_terms.specs.Label.{Label, never, param}
-use Rattle.type_terms.specs.Codes.{numbers, same_label, same_numbers}
+use Rattle.type_terms.specs.Codes.{same_label}
 use Rattle.type_terms.specs.Trees.{Trees, none, tree, instantiate}
 use Rattle.type_terms.specs.Worlds.{ImplDecl, Reference}
 use Rattle.type_terms.specs.Proofs.{In}
@@ -10,9 +10,10 @@ use Rattle.type_terms.specs.Answers.{Overlaps}
 use Rattle.type_terms.specs.Core.{core_world}
 use Rattle.type_terms.specs.Laws.{CoreIsCoherent}
 use Rattle.type_terms.proofs.Members.{same-number, self-number, not-both}
-use Rattle.type_terms.proofs.Walking.{left, right, both, or-cases}
+use Rattle.type_terms.proofs.Walking.{left, right, or-cases}
 use Rattle.type_terms.proofs.Fitting.{not-true}
 use Rattle.type_terms.proofs.NoHolds.{member-each}
+use Rattle.type_terms.proofs.Applies.{same-label-itself as same-itself}
 
 -- the first label
 abbrev head : Trees → Label
@@ -29,12 +30,6 @@ head-kept : (A t : Trees) → rigid t ≡ true → head (instantiate zero A t) �
 head-kept A none h = cc
 head-kept A (tree (param s i) c o) h = cc
 head-kept A (tree l c o) h = refl
-
-same-itself : (l : Label) → same_label l l ≡ true
-same-itself l = by (numbers l)
-  where
-    by : (x : ℕ × (ℕ × (ℕ × ℕ))) → same_numbers x x ≡ true
-    by (a, (b, (c, d))) = both (a == a) _ (self-number a) (both (b == b) _ (self-number b) (both (c == c) (d == d) (self-number c) (self-number d)))
 
 differ : ImplDecl → ImplDecl → Bool
 differ i j = (i.name == j.name) || (not (i.header.trait == j.header.trait) || not (same_label (head i.header.args) (head j.header.args)))

@@ -18,8 +18,8 @@ use Rattle.type_terms.specs.LinkedSet.{LinkedSet, in_scope, is_stray, dyns_rise,
 use Rattle.type_terms.proofs.Members.{here, there, in-cases, in-nothing, in-append, in-left, in-filter, flat-in, some-member, member-some, same-number, self-number, not-both}
 use Rattle.type_terms.proofs.Walking.{left, right, both, or-cases}
 use Rattle.type_terms.proofs.TreeLaws.{shift-zero}
-use Rattle.type_terms.proofs.Matching.{Occurs, same-sound}
-use Rattle.type_terms.proofs.Fitting.{is-sort-sound, ByImpl, impl-rule, same-reference-sound, not-true, no-left, no-right}
+use Rattle.type_terms.proofs.Matching.{Occurs, same-sound, or-false-left as no-left, or-false-right as no-right}
+use Rattle.type_terms.proofs.Fitting.{is-sort-sound, ByImpl, impl-rule, same-reference-sound, not-true}
 use Rattle.type_terms.proofs.NoHolds.{member-each}
 use Rattle.type_terms.proofs.OpenWorld.{Bare, bare-within}
 use Rattle.type_terms.proofs.ProofLists.{by-rule}

@@ -14,6 +14,7 @@ use Rattle.type_terms.proofs.OpenWorld.{was-true}
 use Rattle.type_terms.proofs.ProofLists.{stands-after, joined}
 use Rattle.type_terms.proofs.FilledTrees.{Filling, new_label}
 use Rattle.type_terms.proofs.FilledRules.{PlainWorld, filled_reference, filled_rule, NoDynAsSized, into-built-in, into-impls}
+use Rattle.type_terms.proofs.ListBasics.{append-empty as append-nothing-right}
 
 -- What a where-clause gives: itself and its supertraits
 pub data Given (W : World) (E : List Reference) (r : Reference) : Type 0 where
@@ -82,10 +83,6 @@ clause-not-own W r k (s ∷ ss) u h =
         → (In u (clause_rules W r (suc k) ss) → is_own u.way ≡ false) → is_own u.way ≡ false
     by (inl g) f = one (in-cases u (record { way = by_clause k; premises = [] }) [] (was-true (same_reference s r) (record { way = by_clause k; premises = [] } ∷ []) u g).1)
     by (inr g) f = rest (in-append u (super_rules r k 0 (strict_supertraits W s)) (clause_rules W r (suc k) ss) g) f
-
-append-nothing-right : {A : Type 0} (xs : List A) → xs ++ [] ≡ xs
-append-nothing-right [] = refl
-append-nothing-right (x ∷ xs) = ap (λ z. x ∷ z) (append-nothing-right xs)
 
 module _ (W : World) (w : PlainWorld W) (σ : Filling) (E : List Reference)
     (never-sized : (c : Trees) → HasProof W [] (asked sized (tree dynamic c none)) → ⊥)

@@ -1,5 +1,5 @@
 -- The derived `==` of nodes says whether they are the same.
-use Rattle.std.proofs.Common.{rules, ◌≡◌, ℕ, Bool, true, false, nat_eq, refl, ap, Option, Some, None, ◌&&◌}
+use Rattle.std.proofs.Common.{rules, ◌≡◌, ℕ, Bool, true, false, refl, ap, Option, Some, None, ◌&&◌}
 use Rattle.std.specs.Bool.{Decides}
 use Rattle.std.specs.Option.{option_eq}
 use Rattle.std.proofs.lemmas.Slice.Eq.{slice_eq-Decides}
@@ -59,6 +59,8 @@ use Rattle.type_terms.specs.contracts.kinds.GenericArgKindPartialEq.TheImpl.{gho
 use Rattle.type_terms.specs.contracts.kinds.PrincipalPartialEq.TheImpl.{ghosts as principal}
 use Rattle.type_terms.specs.contracts.kinds.BoundsDataPartialEq.TheImpl.{ghosts as bounds}
 use Rattle.type_terms.proofs.Labels.{adt-back, trait-back, binder-back, variable-back, ty-vid-back, const-vid-back, region-vid-back}
+use Rattle.type_terms.proofs.TypeBasics.{args-eq}
+use Rattle.type_terms.proofs.NumberBasics.{number-eq}
 
 -- ---- tests of parts
 pub both : (a b : Bool) (P Q : Type 0) → Decides a P → Decides b Q → Decides (a && b) (P × Q)
@@ -69,20 +71,17 @@ both false b P Q p q = (λ e. cc, λ h. p.1 h.0)
 pub through : (a : Bool) (P Q : Type 0) → Decides a P → (P → Q) → (Q → P) → Decides a Q
 through a P Q d f g = (λ e. f (d.0 e), λ h. d.1 (g h))
 
-number-eq : (a b : ℕ) → Decides (nat_eq a b) (a ≡ b)
-number-eq a b = search rules
-
 -- ---- numbers
 adt-eq : (a b : AdtId) → Decides (adt-id.eq a b) (a ≡ b)
 adt-eq a b = search (rules, adt-back)
 
-trait-eq : (a b : TraitId) → Decides (trait-id.eq a b) (a ≡ b)
+pub trait-eq : (a b : TraitId) → Decides (trait-id.eq a b) (a ≡ b)
 trait-eq a b = search (rules, trait-back)
 
-debruijn-eq : (a b : DebruijnIndex) → Decides (debruijn.eq a b) (a ≡ b)
+pub debruijn-eq : (a b : DebruijnIndex) → Decides (debruijn.eq a b) (a ≡ b)
 debruijn-eq a b = search (rules, binder-back)
 
-variable-eq : (a b : BoundVar) → Decides (variable.eq a b) (a ≡ b)
+pub variable-eq : (a b : BoundVar) → Decides (variable.eq a b) (a ≡ b)
 variable-eq a b = search (rules, variable-back)
 
 ty-vid-eq : (a b : TyVid) → Decides (ty-vid.eq a b) (a ≡ b)
@@ -91,10 +90,10 @@ ty-vid-eq a b = search (rules, ty-vid-back)
 const-vid-eq : (a b : ConstVid) → Decides (const-vid.eq a b) (a ≡ b)
 const-vid-eq a b = search (rules, const-vid-back)
 
-region-vid-eq : (a b : RegionVid) → Decides (region-vid.eq a b) (a ≡ b)
+pub region-vid-eq : (a b : RegionVid) → Decides (region-vid.eq a b) (a ≡ b)
 region-vid-eq a b = search (rules, region-vid-back)
 
-binder-eq : (a b : BoundVarIndexKind) → Decides (binder.eq a b) (a ≡ b)
+pub binder-eq : (a b : BoundVarIndexKind) → Decides (binder.eq a b) (a ≡ b)
 binder-eq (KBinder j) (KBinder k) = through _ _ _ (debruijn-eq j k) (λ p. ap KBinder p) (λ e. cc)
 binder-eq KCanonical KCanonical = (λ e. refl, λ e. refl)
 binder-eq _ _ = (λ e. cc, λ e. cc)
@@ -105,9 +104,6 @@ ty-eq a b = search rules
 
 const-eq : (a b : const-module.Const) → Decides (const.eq a b) (a ≡ b)
 const-eq a b = search rules
-
-args-eq : (a b : GenericArgs) → Decides (args.eq a b) (a ≡ b)
-args-eq a b = search rules
 
 tys-eq : (a b : tys-module.Tys) → Decides (tys.eq a b) (a ≡ b)
 tys-eq a b = search rules
@@ -124,7 +120,7 @@ uint-eq a b = search rules
 mutability-eq : (a b : Mutability) → Decides (mutability.eq a b) (a ≡ b)
 mutability-eq a b = search rules
 
-region-kind-eq : (a b : RegionKind) → Decides (region-kind.eq a b) (a ≡ b)
+pub region-kind-eq : (a b : RegionKind) → Decides (region-kind.eq a b) (a ≡ b)
 region-kind-eq ReStatic ReStatic = (λ e. refl, λ e. refl)
 region-kind-eq (ReEarlyParam i) (ReEarlyParam j) = through _ _ _ (number-eq i j) (λ p. ap ReEarlyParam p) (λ e. cc)
 region-kind-eq (RePlaceholder i) (RePlaceholder j) = through _ _ _ (number-eq i j) (λ p. ap RePlaceholder p) (λ e. cc)

@@ -11,10 +11,11 @@ use Rattle.type_terms.proofs.Members.{here, there, in-cases, in-nothing, in-appe
 use Rattle.type_terms.proofs.Walking.{left, right, both}
 use Rattle.type_terms.proofs.RenumberedTrees.{and-same}
 use Rattle.type_terms.proofs.RenumberedRules.{map-append, append-same, cons-same, any-over, all-over}
-use Rattle.type_terms.proofs.Fitting.{ByImpl, impl-rule, same-reference-sound}
+use Rattle.type_terms.proofs.Fitting.{ByImpl, impl-rule, same-reference-sound, not-true as not-is}
 use Rattle.type_terms.proofs.Applies.{fits-complete, same-reference-complete}
 use Rattle.type_terms.proofs.OpenWorld.{was-true}
-use Rattle.type_terms.proofs.FilledTrees.{Filling, new_label, new_inner, put, Written, reference-with, over-append, over-instantiate, over-arguments, fits-filled, same-filled}
+use Rattle.type_terms.proofs.FilledTrees.{Filling, new_label, new_inner, put, Written, over-append, over-instantiate, over-arguments, fits-filled, same-filled}
+use Rattle.type_terms.proofs.ArrangedTrees.{reference-at as reference-with}
 
 -- The world's declarations may be put into
 pub record PlainWorld (W : World) : Type 0 where
@@ -332,10 +333,6 @@ module _ (W : World) (w : PlainWorld W) (σ : Filling) where
   -- where no `dyn` is put in for a Self that is asked to be `Sized`
   abbrev pub NoDynAsSized : Trees → Rule → Type 0
   NoDynAsSized a u = (l : Label) (c o : Trees) → a ≡ tree l c o → is_dyn l ≡ false → is_dyn (new_label σ l true) ≡ true → In (asked sized (tree l c none)) u.premises → ⊥
-
-  not-is : (b : Bool) → not b ≡ true → b ≡ false
-  not-is true h = cc
-  not-is false h = refl
 
   is-not : (b : Bool) → (b ≡ true → ⊥) → not b ≡ true
   is-not true h = absurd (h refl)

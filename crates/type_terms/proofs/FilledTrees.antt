@@ -3,7 +3,6 @@ use Rattle.std.proofs.Common.{◌≡◌, ℕ, zero, suc, Bool, true, false, refl
 use Rattle.type_terms.specs.Label.{Label, Sort, of_type, of_const, of_lifetime, never, dynamic, bound, param, placeholder, inside, shift_label}
 use Rattle.type_terms.specs.Codes.{same}
 use Rattle.type_terms.specs.Trees.{Trees, none, tree, ◌+++◌, leaf, nth, shift, instantiate, first_of, standing_at, arguments_from, arguments, sort_of, some_node, Single, IsA, Fits}
-use Rattle.type_terms.specs.Worlds.{Reference, with_args}
 use Rattle.type_terms.specs.LinkedSet.{is_stray}
 use Rattle.type_terms.specs.Supers.{no_param, dyns_of_bounds}
 use Rattle.type_terms.proofs.Walking.{left, right}
@@ -11,6 +10,7 @@ use Rattle.type_terms.proofs.TreeLaws.{single-nth, single-shift}
 use Rattle.type_terms.proofs.Matching.{same-sound}
 use Rattle.type_terms.proofs.Fitting.{child-shut, next-shut}
 use Rattle.type_terms.proofs.Applies.{same-complete}
+use Rattle.type_terms.proofs.TermBasics.{joined as append-same, node}
 
 -- A tree for each placeholder, of its sort and with no binder number that leads out of it
 pub record Filling : Type 0 where
@@ -36,12 +36,6 @@ new_inner σ l b x y = x
 abbrev pub put : Filling → Bool → Trees → Trees
 put σ b none = none
 put σ b (tree l c o) = tree (new_label σ l b) (new_inner σ l b (put σ true c) (put σ false c)) (put σ b o)
-
-node : {l l' : Label} {c c' o o' : Trees} → l ≡ l' → c ≡ c' → o ≡ o' → tree l c o ≡ tree l' c' o'
-node p q r = cc
-
-pub reference-with : (t : ℕ) {a b : Trees} → a ≡ b → (let x : Reference = record { trait = t; args = a } in x) ≡ record { trait = t; args = b }
-reference-with t p = cc
 
 -- What is written in declarations, and may be put into: no open place but parameters, and none as a bound of a `dyn`
 abbrev pub Written : Trees → Type 0
@@ -98,9 +92,6 @@ module _ (σ : Filling) where
   pub over-instantiate : (B t : Trees) → Written t → P (instantiate zero B t) ≡ instantiate zero (P B) t
   over-instantiate B t w = over-instantiate-at true zero B t w.0 w.1 refl
 
-  pub over-with-args : (B : Trees) (r : Reference) → Written r.args → (let x : Reference = record { trait = r.trait; args = P (instantiate zero B r.args) } in x) ≡ with_args (P B) r
-  over-with-args B r w = reference-with r.trait (over-instantiate B r.args w)
-
   -- what stands in an instance at the first place of a parameter
   over-first : (x y : Trees) → P (first_of x y) ≡ first_of (P x) (P y)
   over-first none y = refl
@@ -108,9 +99,6 @@ module _ (σ : Filling) where
 
   first-same : {a b c d : Trees} → a ≡ b → c ≡ d → first_of a c ≡ first_of b d
   first-same p q = cc
-
-  append-same : {a b c d : Trees} → a ≡ b → c ≡ d → a +++ c ≡ b +++ d
-  append-same p q = cc
 
   at-param : (i : ℕ) (s : Sort) (j : ℕ) (pc po x y : Trees) → Single x → P (standing_at i po y) ≡ standing_at i po (P y)
       → P (standing_at i (tree (param s j) pc po) (x +++ y)) ≡ standing_at i (tree (param s j) pc po) (P (x +++ y))

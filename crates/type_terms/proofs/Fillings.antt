@@ -9,8 +9,10 @@ use Rattle.type_terms.proofs.Members.{same-number, self-number}
 use Rattle.type_terms.proofs.Walking.{left, right, both, or-left, or-right, or-cases}
 use Rattle.type_terms.proofs.TreeLaws.{shift-closed}
 use Rattle.type_terms.proofs.Applies.{closed-outer}
-use Rattle.type_terms.proofs.Fitting.{is-sort-sound, no-left, head-shut, child-shut, next-shut}
+use Rattle.type_terms.proofs.Fitting.{is-sort-sound, head-shut, child-shut, next-shut}
 use Rattle.type_terms.proofs.FilledTrees.{Filling, put, Written, top, top-next}
+use Rattle.type_terms.proofs.Matching.{or-false-left as no-left}
+use Rattle.type_terms.proofs.TermBasics.{node, sort-self as sort-itself}
 
 abbrev chosen : Bool → Label → Label → Label
 chosen true l m = l
@@ -121,11 +123,6 @@ fits-mentioned A (tree l c o) f s i m = by (or-cases (mentions_as s i c) (mentio
     by (inl e) g k = g e
     by (inr e) g k = k e
 
-sort-itself : (s : Sort) → is_sort s s ≡ true
-sort-itself of_type = refl
-sort-itself of_const = refl
-sort-itself of_lifetime = refl
-
 pub meets-mentioned : (A t : Trees) → ((s : Sort) (i : ℕ) → mentions_as s i t ≡ true → IsA s (nth A i)) → Meets A t
 meets-mentioned A none f = tt
 meets-mentioned A (tree (param r j) c o) f = (
@@ -134,9 +131,6 @@ meets-mentioned A (tree (param r j) c o) f = (
 )
 meets-mentioned A (tree l c o) f =
     (meets-mentioned A c (λ s i m. f s i (or-left (mentions_as s i c) _ m)), meets-mentioned A o (λ s i m. f s i (or-right (mentions_as s i c) (mentions_as s i o) m)))
-
-node : {l l' : Label} {c c' o o' : Trees} → l ≡ l' → c ≡ c' → o ≡ o' → tree l c o ≡ tree l' c' o'
-node p q r = cc
 
 abbrev children-of : Trees → Trees
 children-of none = none

@@ -6,13 +6,10 @@ use Rattle.type_terms.specs.Worlds.{Reference, ImplDecl, with_args, all_with_arg
 use Rattle.type_terms.specs.Rules.{Rule, by_impl, impl_rules, same_reference}
 use Rattle.type_terms.specs.Proofs.{In}
 use Rattle.type_terms.specs.Answers.{is_closed, is_open}
-use Rattle.type_terms.proofs.Matching.{same-sound}
+use Rattle.type_terms.proofs.Matching.{same-sound, or-false-left as no-left, or-false-right as no-right}
 use Rattle.type_terms.proofs.Members.{in-cases, in-nothing, same-number}
 use Rattle.type_terms.proofs.Walking.{left, right}
-
-is-none-sound : (t : Trees) → is_no_tree t ≡ true → t ≡ none
-is-none-sound none h = refl
-is-none-sound (tree l c o) h = cc
+use Rattle.type_terms.proofs.TermBasics.{none-sound as is-none-sound}
 
 pub is-sort-sound : (s r : Sort) → is_sort s r ≡ true → s ≡ r
 is-sort-sound of_type of_type h = refl
@@ -84,14 +81,6 @@ not-true false h = refl
 pub or-no : (a b : Bool) → a ≡ false → b ≡ false → a || b ≡ false
 or-no true b h g = cc
 or-no false b h g = g
-
-pub no-left : (a b : Bool) → a || b ≡ false → a ≡ false
-no-left true b h = cc
-no-left false b h = refl
-
-pub no-right : (a b : Bool) → a || b ≡ false → b ≡ false
-no-right true b h = cc
-no-right false b h = h
 
 pub append-shut : (p : Label → Bool) (x y : Trees) → some_node p x ≡ false → some_node p y ≡ false → some_node p (x +++ y) ≡ false
 append-shut p none y h g = g

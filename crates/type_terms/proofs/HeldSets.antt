@@ -27,9 +27,9 @@ use Rattle.type_terms.proofs.CoreLinked.{core-impl, core-covered}
 use Rattle.type_terms.proofs.RenumberedTrees.{injective}
 use Rattle.type_terms.proofs.RenumberedRules.{over-supers}
 use Rattle.type_terms.proofs.RenumberedAnswers.{proof-there}
-use Rattle.type_terms.proofs.FilledTrees.{reference-with}
 use Rattle.type_terms.proofs.FilledRules.{PlainWorld}
 use Rattle.type_terms.proofs.SupersFromChecks.{Judged, checked-instance, checked-rule}
+use Rattle.type_terms.proofs.ArrangedTrees.{reference-at as reference-with}
 
 -- Other numbers leave parameters and placeholders as they are
 over-opaque-numbers : (ρ : Renumbering) (t : Trees) → renumbered ρ (opaque t) ≡ opaque (renumbered ρ t)

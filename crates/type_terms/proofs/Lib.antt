@@ -1,3 +1,8 @@
+pub mod NumberBasics
+pub mod BooleanBasics
+pub mod TermBasics
+pub mod TypeBasics
+pub mod ListBasics
 pub mod Grown
 pub mod WalkLists
 pub mod TreeLaws

@@ -1,34 +1,25 @@
 -- What a rule of an impl says: its header, with the rule's arguments, is the reference.
-use Rattle.std.proofs.Common.{◌≡◌, ℕ, zero, suc, ◌+◌, Bool, true, false, refl, ap, sym, ◌∙◌, ◌&&◌, ◌||◌, ◌==◌, arith, subst, ◌⊎◌, inl, inr, ◌<◌, add-zero, zero-add}
+use Rattle.std.proofs.Common.{◌≡◌, ℕ, zero, suc, ◌+◌, Bool, true, false, refl, ap, sym, ◌∙◌, ◌||◌, ◌==◌, arith, subst, ◌⊎◌, inl, inr, ◌<◌, add-zero}
 use Rattle.type_terms.specs.Label.{Label, Sort, never, param, fn_ptr, principal}
 use Rattle.type_terms.specs.Erased.{mentions}
-use Rattle.type_terms.specs.Trees.{Trees, none, tree, ◌+++◌, leaf, instantiate, standing_at, arguments_from, arguments, nth, first_of, shift, Single, outer_binder}
+use Rattle.type_terms.specs.Trees.{Trees, none, tree, ◌+++◌, leaf, instantiate, standing_at, arguments_from, nth, first_of, shift, Single, outer_binder}
 use Rattle.type_terms.specs.Codes.{same, same_label, same_numbers, numbers, label_at, label_back}
 use Rattle.type_terms.proofs.TreeLaws.{single-nth, single-shift, shift-closed, nth-binder, nth-single-zero, nth-single-suc}
 use Rattle.std.proofs.lemmas.Bool.Decides.{nat_tests}
+use Rattle.type_terms.proofs.Walking.{left as and-left, right as and-right}
+use Rattle.type_terms.proofs.Members.{same-number as equal-numbers}
 
-and-left : (a b : Bool) → a && b ≡ true → a ≡ true
-and-left true b h = refl
-and-left false b h = h
-
-and-right : (a b : Bool) → a && b ≡ true → b ≡ true
-and-right true b h = h
-and-right false b h = cc
-
-or-false-left : (a b : Bool) → a || b ≡ false → a ≡ false
+pub or-false-left : (a b : Bool) → a || b ≡ false → a ≡ false
 or-false-left true b h = cc
 or-false-left false b h = refl
 
-or-false-right : (a b : Bool) → a || b ≡ false → b ≡ false
+pub or-false-right : (a b : Bool) → a || b ≡ false → b ≡ false
 or-false-right true b h = cc
 or-false-right false b h = h
 
 or-right : (a b : Bool) → a || b ≡ true → a ≡ false → b ≡ true
 or-right true b h e = cc
 or-right false b h e = h
-
-equal-numbers : (x y : ℕ) → (x == y) ≡ true → x ≡ y
-equal-numbers x y h = grind (arith, nat_tests)
 
 same-numbers-sound : (x y : ℕ × (ℕ × (ℕ × ℕ))) → same_numbers x y ≡ true → x ≡ y
 same-numbers-sound (a, (b, (c, d))) (e, (f, (g, h))) t =
@@ -56,22 +47,12 @@ same-sound (tree l c o) (tree m d p) h =
     let e3 : o ≡ p = same-sound o p (and-right (same c d) _ r) in
     cc
 
--- Reading off is complete: whatever closed arguments make a header the reference, those that are read off do too
--- where parameter i stands in the header, its argument stands in the reference
-abbrev pub ParamsBare : Trees → Type 0
-ParamsBare none = Unit {0}
-ParamsBare (tree (param s i) c o) = (c ≡ none) × ParamsBare o
-ParamsBare (tree l c o) = ParamsBare c × ParamsBare o
-
 abbrev pub Occurs : ℕ → Trees → Bool
 Occurs i t = mentions i t
 
 pub first-left : (x y : Trees) → (x ≡ none → ⊥) → first_of x y ≡ x
 first-left none y h = absurd (h refl)
 first-left (tree l c o) y h = refl
-
-first-right : (y : Trees) → first_of none y ≡ y
-first-right y = refl
 
 still : (B : Trees) (d i : ℕ) → outer_binder B ≡ 0 → shift 0 d (nth B i) ≡ nth B i
 still B d i h = shift-closed 0 d (nth B i) (omega (arith, nth-binder B i h))
@@ -140,11 +121,6 @@ present-found B i d (tree (principal n j) c o) z h =
 present-found B i d (tree l c o) z h =
     either (Occurs i c) (Occurs i o) _ _ (nth B i) h (nth-there B i) (present-found B i d c z) (absent-nothing B i d c) (present-found B i d o z)
 
--- the arguments that are read off
-single-first-of : (x : Trees) → Single x → Single (first_of x (leaf never))
-single-first-of none h = absurd h
-single-first-of (tree l c o) h = h
-
 standing-single : (i : ℕ) (p t : Trees) → (standing_at i p t ≡ none) ⊎ Single (standing_at i p t)
 standing-single i none t = inl refl
 standing-single i (tree l c o) none = inl refl
@@ -203,17 +179,3 @@ same-where-asked A B d (tree (principal n k) c o) h =
     two (same-where-asked A B (suc d) c (λ j g. h j (or-l (Occurs j c) (Occurs j o) g))) (same-where-asked A B d o (λ j g. h j (or-r (Occurs j c) (Occurs j o) g)))
 same-where-asked A B d (tree l c o) h =
     two (same-where-asked A B d c (λ j g. h j (or-l (Occurs j c) (Occurs j o) g))) (same-where-asked A B d o (λ j g. h j (or-r (Occurs j c) (Occurs j o) g)))
-
--- COMPLETE: whatever closed arguments make the header t, those that are read off make it t
-pub reading-off : (B : Trees) (n : ℕ) (p t : Trees) → outer_binder B ≡ 0 → ((i : ℕ) → Occurs i p ≡ true → i < n)
-    → instantiate 0 B p ≡ t → instantiate 0 (arguments n p t) p ≡ t
-reading-off B n p t z bound e =
-    same-where-asked (arguments n p t) B 0 p (λ i g. at i g) ∙ e
-  where
-    at : (i : ℕ) → Occurs i p ≡ true → nth (arguments n p t) i ≡ nth B i
-    at i g =
-        let found : standing_at i p t ≡ nth B i = subst (λ x. standing_at i p x ≡ nth B i) e (present-found B i 0 p z g) in
-        nth-arguments 0 n i p t (bound i g)
-        ∙ ap (λ k. first_of (standing_at k p t) (leaf never)) (zero-add i)
-        ∙ first-left (standing_at i p t) (leaf never) (λ q. nth-there B i (sym found ∙ q))
-        ∙ found

@@ -2,7 +2,7 @@
 use Rattle.std.proofs.Common.{◌≡◌, ℕ, zero, suc, ◌≤◌, Bool, true, false, not, List, [], ◌∷◌, ◌++◌, refl, ap, sym, ◌∙◌, ◌&&◌, ◌||◌, ◌==◌, if◌then◌else◌, cond, subst, ◌⊎◌, inl, inr, map, filter, length, arith}
 use Rattle.std.specs.List.{flat_map, list_all, list_any}
 use Rattle.type_terms.specs.Codes.{same}
-use Rattle.type_terms.specs.Label.{Label, param, placeholder, infer, canonical, bound, inside, shift_label, array, slice, tuple, adt, raw_pointer, ref, fn_ptr, dynamic, principal, auto_trait}
+use Rattle.type_terms.specs.Label.{Label, param, placeholder, infer, canonical, bound, inside, array, slice, tuple, adt, raw_pointer, ref, fn_ptr, dynamic, principal, auto_trait}
 use Rattle.type_terms.specs.Trees.{Trees, none, tree, ◌+++◌, instantiate, shift, nth, some_node, arguments}
 use Rattle.type_terms.specs.Worlds.{World, Reference, StructDecl, TraitDecl, ImplDecl, structs_named, traits_named, sees, view_of, with_args, all_with_args}
 use Rattle.type_terms.specs.Walks.{is_known, is_known_in}
@@ -16,6 +16,8 @@ use Rattle.type_terms.proofs.Walking.{left, right, both, or-left, or-right}
 use Rattle.type_terms.proofs.Fitting.{impl-rule, closed-arguments, not-true, or-no, append-shut, head-shut, child-shut, next-shut}
 use Rattle.type_terms.proofs.ProofEntries.{map-in, entry-proved}
 use Rattle.type_terms.proofs.RuleLists.{equal-all}
+use Rattle.type_terms.proofs.TermBasics.{label-kept}
+use Rattle.type_terms.proofs.BooleanBasics.{or-cong}
 
 pub member-each : {A : Type 0} (p : A → Bool) (xs : List A) (x : A) → list_all p xs ≡ true → In x xs → p x ≡ true
 member-each p [] x h g = absurd (in-nothing x g)
@@ -148,13 +150,6 @@ module _ (W : World) (c : ℕ) (V : World)
 -- Children of closed references are closed
 abbrev Shuts : Trees → Type 0
 Shuts t = some_node is_open t ≡ false
-
-label-kept : (d a : ℕ) (l : Label) → is_open (shift_label d a l) ≡ is_open l
-label-kept d a (bound s k v) = refl
-label-kept d a l = refl
-
-or-cong : (a b c a' b' c' : Bool) → a ≡ a' → b ≡ b' → c ≡ c' → a || b || c ≡ a' || b' || c'
-or-cong a b c a' b' c' p q r = cc
 
 shift-keeps : (d a : ℕ) (t : Trees) → some_node is_open (shift d a t) ≡ some_node is_open t
 shift-keeps d a none = refl

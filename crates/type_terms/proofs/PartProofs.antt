@@ -15,22 +15,9 @@ use Rattle.type_terms.proofs.Walking.{left, right, both, or-left, or-right, or-c
 use Rattle.type_terms.proofs.NoHolds.{every-member, member-each, each-member}
 use Rattle.type_terms.proofs.OpenWorld.{was-true}
 use Rattle.type_terms.proofs.Fitting.{same-reference-sound}
-use Rattle.type_terms.proofs.WiderProofs.{every-in}
-
-stands-cases : (p : Reference) (e : ProofEntry) (es : List ProofEntry) → Stands p (e ∷ es) → (e.of ≡ p) ⊎ Stands p es
-stands-cases p e es h = in-cases p e.of _ h
-
-stands-later : (p : Reference) (e : ProofEntry) (es : List ProofEntry) → Stands p es → Stands p (e ∷ es)
-stands-later p e es h = (suc h.0, h.1)
-
-stands-last : (e : ProofEntry) (es : List ProofEntry) → Stands e.of (es ++ e ∷ [])
-stands-last e es = stands-after e.of es (e ∷ []) (here e.of [])
-
--- two tests that pass together are one
-pub one-truth : (a b : Bool) → (a ≡ true → b ≡ true) → (b ≡ true → a ≡ true) → a ≡ b
-one-truth true b f g = sym (f refl)
-one-truth false true f g = g refl
-one-truth false false f g = refl
+use Rattle.type_terms.proofs.WiderProofs.{every-in, stands-cases}
+use Rattle.type_terms.proofs.RenumberedTrees.{bool-same as one-truth}
+use Rattle.type_terms.proofs.TermBasics.{stands-later}
 
 -- where-clauses ask for nothing
 supers-ask-nothing : (r : Reference) (k n : ℕ) (ss : List Reference) (u : Rule) → In u (super_rules r k n ss) → u.premises ≡ []

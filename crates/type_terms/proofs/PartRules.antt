@@ -11,21 +11,19 @@ use Rattle.type_terms.specs.Proofs.{In, Every}
 use Rattle.type_terms.specs.Answers.{is_undeclared}
 use Rattle.type_terms.specs.Parts.{KeptNames, is_left_out, IsPartFor, Agrees}
 use Rattle.type_terms.proofs.Members.{here, in-flat, flat-in, in-filter, in-append, in-left, in-right, some-member, member-some, same-number}
-use Rattle.type_terms.proofs.Fitting.{no-left, child-shut, next-shut}
+use Rattle.type_terms.proofs.Fitting.{child-shut, next-shut}
 use Rattle.type_terms.proofs.ProofEntries.{map-in}
 use Rattle.type_terms.proofs.Below.{below, below-length, below-up, below-strict}
 use Rattle.type_terms.proofs.Supertraits.{flat-same}
-use Rattle.type_terms.proofs.PartProofs.{one-truth}
+use Rattle.type_terms.proofs.Matching.{or-false-left as no-left}
+use Rattle.type_terms.proofs.BooleanBasics.{not_false as is-kept}
+use Rattle.type_terms.proofs.RenumberedTrees.{bool-same as one-truth}
 
 two : {A B C : Type 0} (f : A → B → C) {a a' : A} {b b' : B} → a ≡ a' → b ≡ b' → f a b ≡ f a' b'
 two f {a} {a'} {b} {b'} p q = ap (λ x. f x b) p ∙ ap (f a') q
 
 three : {A B C D : Type 0} (f : A → B → C → D) {a a' : A} {b b' : B} {c c' : C} → a ≡ a' → b ≡ b' → c ≡ c' → f a b c ≡ f a' b' c'
 three f {a} {a'} {b} {b'} {c} {c'} p q r = ap (λ x. f x b c) p ∙ two (f a') q r
-
-is-kept : (b : Bool) → not b ≡ false → b ≡ true
-is-kept true h = refl
-is-kept false h = cc
 
 if-same : (b d : Bool) (us vs : List Rule) → b ≡ d → (d ≡ true → us ≡ vs) → (if b then us else []) ≡ (if d then vs else [])
 if-same true true us vs e h = h refl

@@ -38,9 +38,6 @@ around-append l cs bs = refl
 
 module _ {V B : Type 0} (sees : List ℕ → Trees → V → V → Seen B → Type 0) (bs : List ℕ) where
   -- ---- visits of pieces, the first of which is changed
-  pub visits-nothing : (cs : List ℕ) (ps : List Piece) (v x : V) (q : Option B) → VisitsEach sees bs ps v x q → VisitsEach sees bs (piece cs none ∷ ps) v x q
-  visits-nothing cs ps v x q h = next_each ended h
-
   pub visits-joined : (cs : List ℕ) (a b : Trees) (ps : List Piece) (v x : V) (q : Option B) → VisitsEach sees bs (piece cs a ∷ piece cs b ∷ ps) v x q → VisitsEach sees bs (piece cs (a +++ b) ∷ ps) v x q
   visits-joined cs a b ps v x q (next_each first (next_each second rest)) = next_each (visits-append first refl second) rest
   visits-joined cs a b ps v x q (next_each first (broken_each second)) = broken_each (visits-append first refl second)

@@ -5,10 +5,10 @@ use Rattle.type_terms.specs.Label.{array, slice, raw_pointer, ref, adt, tuple, f
 use Rattle.type_terms.specs.Codes.{same}
 use Rattle.type_terms.specs.Trees.{Trees, none, tree}
 use Rattle.type_terms.specs.Worlds.{World, Reference, ImplDecl, structs_named}
-use Rattle.type_terms.specs.Rules.{BuiltIn, sized_struct, auto_struct, fn_ptr_call, unsize_array, unsize_to_dyn, unsize_dyn, unsize_upcast, unsize_struct, object_auto, object_principal, equal_rows, upcasts_principal, upcasts_autos, are_declared, principal_with, autos_with, Rule, Way, by_impl, by_clause, by_super, built_in, rules, impl_rules, built_in_rules, plain_rules, sized_rules, copy_rules, tuple_rules, fn_ptr_rules, call_rules, but_last, auto_rules, auto_rules_plain, unsize_rules, unsize_array_rules, unsize_to_dyn_rules, unsize_upcast_rules, unsize_struct_rules, last_unsizes, object_rules, object_bound_rules, is_declared, are_dyn_compatible, same_reference, elaborated, strict_supertraits, is_auto, is_written, is_fn_trait, sized, copy, clone, tuple_trait, fn_ptr_trait, unsize, row, last_asked, each_asked, fields_of, is_coinductive}
+use Rattle.type_terms.specs.Rules.{sized_struct, auto_struct, fn_ptr_call, unsize_array, unsize_to_dyn, unsize_dyn, unsize_upcast, unsize_struct, object_auto, object_principal, equal_rows, upcasts_principal, upcasts_autos, are_declared, principal_with, autos_with, Rule, Way, by_impl, by_clause, by_super, built_in, rules, impl_rules, built_in_rules, plain_rules, sized_rules, copy_rules, tuple_rules, fn_ptr_rules, call_rules, but_last, auto_rules, auto_rules_plain, unsize_rules, unsize_array_rules, unsize_to_dyn_rules, unsize_upcast_rules, unsize_struct_rules, last_unsizes, object_rules, object_bound_rules, is_declared, are_dyn_compatible, same_reference, elaborated, strict_supertraits, is_auto, is_written, is_fn_trait, sized, copy, clone, tuple_trait, fn_ptr_trait, unsize, row, last_asked, each_asked, fields_of, is_coinductive}
 use Rattle.type_terms.specs.Proofs.{ProofEntry, In, Every, Stands, Follows, IsProof, HasProof}
 use Rattle.type_terms.proofs.Members.{here, there, in-cases, in-nothing, in-append, in-left, in-map, in-flat}
-use Rattle.type_terms.proofs.RuleLists.{append-all, if-all, unless-all, row-all, equal-all, flat-all, member-all}
+use Rattle.type_terms.proofs.RuleLists.{append-all, if-all, unless-all, equal-all, flat-all, member-all}
 
 pub map-in : {A B : Type 0} (f : A → B) (xs : List A) (y : B) → In y (map f xs) → (x : A) × In x xs × (f x ≡ y)
 map-in f [] y h = absurd (in-nothing y h)
@@ -61,9 +61,6 @@ is-built-in u = way-built-in u.way
 
 abbrev Built : List Rule → Type 0
 Built us = list_all is-built-in us ≡ true
-
-built-row : (n : BuiltIn) (ps : List Reference) → Built (row n ps)
-built-row n ps = row-all is-built-in n ps refl
 
 sized-built : (W : World) (a : Trees) → Built (sized_rules W a)
 sized-built W none = refl

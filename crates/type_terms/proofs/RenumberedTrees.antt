@@ -11,6 +11,7 @@ use Rattle.type_terms.proofs.Members.{same-number, self-number}
 use Rattle.type_terms.proofs.Matching.{same-sound}
 use Rattle.type_terms.proofs.Fitting.{fits-sound}
 use Rattle.type_terms.proofs.Applies.{same-complete, fits-complete}
+use Rattle.type_terms.proofs.TermBasics.{node}
 
 -- The way back
 abbrev pub turned : Permutation → Permutation
@@ -21,9 +22,6 @@ inverse ρ = record { crates = turned ρ.crates; structs = turned ρ.structs; tr
 
 pub and-same : {a a' b b' : Bool} → a ≡ a' → b ≡ b' → a && b ≡ a' && b'
 and-same p q = cc
-
-node : {l l' : Label} {c c' o o' : Trees} → l ≡ l' → c ≡ c' → o ≡ o' → tree l c o ≡ tree l' c' o'
-node p q r = cc
 
 pub reference-same : (t u : ℕ) (a b : Trees) → t ≡ u → a ≡ b → (let x : Reference = record { trait = t; args = a } in x) ≡ record { trait = u; args = b }
 reference-same t u a b p q = cc

@@ -15,11 +15,6 @@ pub if-all : (p : Rule → Bool) (b : Bool) (us : List Rule) → list_all p us �
 if-all p true us h = h
 if-all p false us h = refl
 
--- where the list is there only if b is true
-pub when-all : (p : Rule → Bool) (b : Bool) (us : List Rule) → (b ≡ true → list_all p us ≡ true) → list_all p (if b then us else []) ≡ true
-when-all p true us h = h refl
-when-all p false us h = refl
-
 pub unless-all : (p : Rule → Bool) (b : Bool) (us : List Rule) → list_all p us ≡ true → list_all p (if b then [] else us) ≡ true
 unless-all p true us h = refl
 unless-all p false us h = h

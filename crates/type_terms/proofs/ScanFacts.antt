@@ -8,6 +8,7 @@ use Rattle.type_terms.specs.Label.{Label, of_type, of_const, of_lifetime, param,
 use Rattle.type_terms.specs.Trees.{Trees, none, tree, flags, outer_binder, own_binder, outside, label_flags, some_node}
 use Rattle.type_terms.specs.Pieces.{Piece, piece_flags, piece_binder}
 use Rattle.type_terms.specs.Scans.{some_node_of, has_flag, is_param, is_infer, is_bound_from, some_bound_from, some_bound_of}
+use Rattle.type_terms.proofs.BooleanBasics.{join-tests}
 
 pub or_none : (n : ℕ) → bit_or n 0 ≡ n
 or_none n = or_comm n 0
@@ -36,9 +37,6 @@ either a b f =
     let l = le_or_l (bit_and a f) (bit_and b f) in
     let r = le_or_r (bit_and a f) (bit_and b f) in
     grind (arith, nat_tests, e, l, r)
-
-join-tests : (p q r p' q' r' : Bool) → p ≡ p' → q ≡ q' → r ≡ r' → (p || q || r) ≡ (p' || q' || r')
-join-tests p q r p' q' r' x y z = cc
 
 pub scan-tree : (f : ℕ) (t : Trees) → some_node (has_flag f) t ≡ not (bit_and (flags t) f == 0)
 scan-tree f none = refl

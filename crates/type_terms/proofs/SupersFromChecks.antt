@@ -16,10 +16,11 @@ use Rattle.type_terms.proofs.OpenWorld.{was-true}
 use Rattle.type_terms.proofs.NoHolds.{every-member}
 use Rattle.type_terms.proofs.ProofLists.{all-stand}
 use Rattle.type_terms.proofs.SupersProved.{Supers}
-use Rattle.type_terms.proofs.FilledTrees.{Filling, reference-with}
+use Rattle.type_terms.proofs.FilledTrees.{Filling}
 use Rattle.type_terms.proofs.FilledRules.{PlainWorld, filled_reference, over-supers}
 use Rattle.type_terms.proofs.Discharged.{Given, given, discharged}
 use Rattle.type_terms.proofs.Fillings.{filling, fits-meets, fits-mentioned, meets-mentioned, over-opaque}
+use Rattle.type_terms.proofs.ArrangedTrees.{reference-at as reference-with}
 
 -- what the step needs of the world's impls
 pub record Judged (W : World) : Type 0 where

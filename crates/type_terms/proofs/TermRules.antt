@@ -10,10 +10,12 @@ use Rattle.type_terms.specs.Rules.{BuiltIn, sized_tuple, sized_struct, copy_tupl
 use Rattle.type_terms.specs.Proofs.{In, Every}
 use Rattle.type_terms.proofs.Members.{here, there, in-cases, in-nothing, in-filter, in-append, in-flat}
 use Rattle.type_terms.proofs.Walking.{left, right, both}
-use Rattle.type_terms.proofs.Fitting.{impl-rule, not-true, or-no, no-left, append-shut, first-shut, head-shut, child-shut, next-shut, standing-shut}
+use Rattle.type_terms.proofs.Fitting.{impl-rule, not-true, or-no, append-shut, first-shut, head-shut, child-shut, next-shut, standing-shut}
 use Rattle.type_terms.proofs.ProofEntries.{map-in}
 use Rattle.type_terms.proofs.RuleLists.{equal-all}
 use Rattle.type_terms.proofs.NoHolds.{member-each, each-member}
+use Rattle.type_terms.proofs.Matching.{or-false-left as no-left}
+use Rattle.type_terms.proofs.BooleanBasics.{or-cong}
 
 -- the label is a lifetime other than `'static`, or counts its binder's lifetimes
 abbrev lifetimes : Label → Bool
@@ -90,9 +92,6 @@ label-kept d a (bound of_type k v) = refl
 label-kept d a (bound of_const k v) = refl
 label-kept d a (bound of_lifetime k v) = refl
 label-kept d a l = refl
-
-or-cong : (a b c a' b' c' : Bool) → a ≡ a' → b ≡ b' → c ≡ c' → a || b || c ≡ a' || b' || c'
-or-cong a b c a' b' c' p q r = cc
 
 shift-keeps : (d a : ℕ) (t : Trees) → some_node lifetimes (shift d a t) ≡ some_node lifetimes t
 shift-keeps d a none = refl
@@ -447,7 +446,7 @@ module _ (W : World) (t : IsTerms W) where
           (subst (λ (v : Rule). In p v.premises) (sym b.is-rule) g))
       by (inr m) = rest (in-append u (built_in_rules W r) (clause_rules W r 0 E) m)
 
-every-of : (P : Reference → Type 0) (ps : List Reference) → ((p : Reference) → In p ps → P p) → Every P ps
+pub every-of : (P : Reference → Type 0) (ps : List Reference) → ((p : Reference) → In p ps → P p) → Every P ps
 every-of P [] f = tt
 every-of P (p ∷ ps) f = (f p (here p ps), every-of P ps (λ q h. f q (there q p ps h)))
 

@@ -1,13 +1,11 @@
-use Rattle.std.proofs.Common.{◌≡◌, ℕ, zero, suc, ◌+◌, ◌≤◌, refl, ap, sym, ◌∙◌, arith, zero-add, Option, pred}
+use Rattle.std.proofs.Common.{◌≡◌, ℕ, zero, suc, ◌+◌, ◌≤◌, refl, ap, sym, ◌∙◌, arith, zero-add}
 use Rattle.std.proofs.lemmas.Bool.Decides.{nat_tests}
 use Rattle.type_terms.specs.Label.{Label, of_type, of_const, of_lifetime, param, placeholder, infer, canonical, bound, fn_ptr, principal, value, inside, raise, shift_label, static}
-use Rattle.type_terms.specs.Trees.{Trees, none, tree, ◌+++◌, shift, nth, instantiate, erase_label, erase, sort_of, IsA, Fits, Single, folded, placed, outer_binder, own_binder, outside}
+use Rattle.type_terms.specs.Trees.{Trees, none, tree, ◌+++◌, shift, nth, instantiate, erase_label, erase, sort_of, IsA, Fits, Single, outer_binder, own_binder}
+use Rattle.type_terms.proofs.TermBasics.{erase-append, tree-cong as ap3, two as append-cong, inside-binder}
 
 pub raise-merge : (q e c d k : ℕ) → q ≤ c → c ≤ q + e → raise c d (raise q e k) ≡ raise q (e + d) k
 raise-merge q e c d k h g = grind (arith, nat_tests)
-
-ap3 : (l m : Label) (c c' o o' : Trees) → l ≡ m → c ≡ c' → o ≡ o' → tree l c o ≡ tree m c' o'
-ap3 l m c c' o o' p q r = cc
 
 pub shift-label-merge : (q e c d : ℕ) (l : Label) → q ≤ c → c ≤ q + e → shift_label c d (shift_label q e l) ≡ shift_label q (e + d) l
 shift-label-merge q e c d (bound s k v) h g = ap (λ n. bound s n v) (raise-merge q e c d k h g)
@@ -40,9 +38,6 @@ instantiate-append d A none y = refl
 instantiate-append d A (tree (param s i) c o) y =
     rw (instantiate-append d A o y) (sym (append-assoc (shift zero d (nth A i)) (instantiate d A o) (instantiate d A y)))
 instantiate-append d A (tree l c o) y = ap (λ z. tree l (instantiate (inside l d) A c) z) (instantiate-append d A o y)
-
-append-cong : (a a' b b' : Trees) → a ≡ a' → b ≡ b' → a +++ b ≡ a' +++ b'
-append-cong a a' b b' p q = cc
 
 -- putting terms in, under binders that are raised
 pub instantiate-shift : (c d e : ℕ) (B t : Trees) → c ≤ e → instantiate (e + d) B (shift c d t) ≡ shift c d (instantiate e B t)
@@ -126,10 +121,6 @@ erase-label-shift d a (canonical of_lifetime k) = refl
 erase-label-shift d a (param s k) = refl
 erase-label-shift d a l = refl
 
-erase-append : (x y : Trees) → erase (x +++ y) ≡ erase x +++ erase y
-erase-append none y = refl
-erase-append (tree l c o) y = ap (λ z. tree (erase_label l) (erase c) z) (erase-append o y)
-
 inside-erase : (l : Label) (d : ℕ) → inside (erase_label l) d ≡ inside l d
 inside-erase (param of_lifetime _) d = refl
 inside-erase (placeholder of_lifetime _) d = refl
@@ -211,24 +202,9 @@ erase-instantiate d A (tree (bound of_const k i) c o) f = tree-cong _ _ _ _ _ (e
 erase-instantiate d A (tree (bound of_lifetime k i) c o) f = tree-cong _ _ _ _ _ (erase-instantiate d A c f.0) (erase-instantiate d A o f.1)
 erase-instantiate d A (tree l c o) f = tree-cong _ _ _ _ _ (erase-instantiate d A c f.0) (erase-instantiate d A o f.1)
 
-pub folded-append : (f : ℕ → Trees → Option Trees) (d : ℕ) (x y : Trees) → folded f d (x +++ y) ≡ folded f d x +++ folded f d y
-folded-append f d none y = refl
-folded-append f d (tree l c o) y =
-    let at = placed (f d (tree l c none)) (tree l (folded f (inside l d) c) none) in
-    ap (λ z. at +++ z) (folded-append f d o y) ∙ sym (append-assoc at (folded f d o) (folded f d y))
-
 label-stays : (d a : ℕ) (l : Label) → own_binder l ≤ d → shift_label d a l ≡ l
 label-stays d a (bound s k v) h = ap (λ n. bound s n v) (grind (arith, nat_tests))
 label-stays d a l h = refl
-
-pred-le : (n d : ℕ) → pred n ≤ d → n ≤ suc d
-pred-le zero d h = omega arith
-pred-le (suc n) d h = omega arith
-
-inside-binder : (l : Label) (n d : ℕ) → outside l n ≤ d → n ≤ inside l d
-inside-binder (fn_ptr k) n d h = pred-le n d h
-inside-binder (principal k t) n d h = pred-le n d h
-inside-binder l n d h = h
 
 -- a tree that no binder number leads out of is not changed by a shift
 pub shift-closed : (d a : ℕ) (t : Trees) → outer_binder t ≤ d → shift d a t ≡ t

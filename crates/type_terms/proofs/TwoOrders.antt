@@ -5,9 +5,7 @@ use Rattle.type_terms.specs.Proofs.{In, Every}
 use Rattle.type_terms.specs.Arranging.{Arrangement, RisesBy, AnyTwoOrdersAreArranged}
 use Rattle.type_terms.proofs.Members.{here, there, in-cases, in-nothing}
 use Rattle.type_terms.proofs.NoHolds.{every-member}
-
-less : (a b : ℕ) → ltb a b ≡ true → a < b
-less a b h = grind (arith, nat_tests)
+use Rattle.type_terms.proofs.CoreLinked.{less}
 
 above : (a b : ℕ) → ltb a b ≡ false → (a ≡ b → ⊥) → b < a
 above a b h g = by (ltb b a) refl

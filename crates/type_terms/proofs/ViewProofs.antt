@@ -102,7 +102,7 @@ auto-rules-up W one home c t au (tree l k o) u h = by (is_written (view_of W c) 
     by false true e f g = absurd (not-both (is_written W t l) f (off W one home c t au l k o u g e))
     by false false e f g = plain-up W c t (tree l k o) u g
 
-ups : (us vs us' vs' : List Rule) (u : Rule) → (In u us → In u us') → (In u vs → In u vs') → In u (us ++ vs) → In u (us' ++ vs')
+pub ups : (us vs us' vs' : List Rule) (u : Rule) → (In u us → In u us') → (In u vs → In u vs') → In u (us ++ vs) → In u (us' ++ vs')
 ups us vs us' vs' u f g h = by (in-append u us vs h)
   where
     by : In u us ⊎ In u vs → In u (us' ++ vs')

@@ -50,13 +50,6 @@ module _ {V B : Type 0} (sees : List ℕ → Trees → V → V → Seen B → Ty
   enter-below t u v w None h (below a) = entered h a ended
   enter-below t u v w (Some b) h (below a) = broken_below h a
 
-  -- two lists, where the first visit broke or not
-  pub break-first : (x y : Trees) (u v : V) (b : B) → Visits sees bs x u v (Some b) → Visits sees bs (x +++ y) u v (Some b)
-  break-first x y u v b h = visits-broken h refl y
-
-  pub next-second : (x y : Trees) (u v w : V) (r : Option B) → Visits sees bs x u v None → Visits sees bs y v w r → Visits sees bs (x +++ y) u w r
-  next-second x y u v w r a b = visits-append a refl b
-
   -- auto traits are entered, and have nothing below
   pub autos-visited : (v : V) → ((t : Trees) → IsBound t → sees bs t v v Enter) → (xs : List TraitId) → Visits sees bs (autos_trees xs) v v None
   autos-visited v law [] = ended

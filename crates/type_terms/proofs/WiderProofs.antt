@@ -12,15 +12,13 @@ use Rattle.type_terms.proofs.ProofLists.{stands-split}
 use Rattle.type_terms.proofs.NoHolds.{every-member}
 use Rattle.type_terms.proofs.OtherImpls.{supers-same}
 use Rattle.type_terms.proofs.WiderRules.{rules-above, as-changed}
+use Rattle.type_terms.proofs.TermBasics.{stands-later}
 
 stands-here : (e : ProofEntry) (es : List ProofEntry) → Stands e.of (e ∷ es)
 stands-here e es = here e.of _
 
-stands-cases : (p : Reference) (e : ProofEntry) (es : List ProofEntry) → Stands p (e ∷ es) → (e.of ≡ p) ⊎ Stands p es
+pub stands-cases : (p : Reference) (e : ProofEntry) (es : List ProofEntry) → Stands p (e ∷ es) → (e.of ≡ p) ⊎ Stands p es
 stands-cases p e es h = in-cases p e.of _ h
-
-stands-later : (p : Reference) (e : ProofEntry) (es : List ProofEntry) → Stands p es → Stands p (e ∷ es)
-stands-later p e es h = (suc h.0, h.1)
 
 pub every-in : {A : Type 0} (P : A → Type 0) (xs : List A) → ((x : A) → In x xs → P x) → Every P xs
 every-in P [] f = tt

@@ -9,6 +9,7 @@ use Rattle.type_terms.specs.Proofs.{In, Every}
 use Rattle.type_terms.specs.Wider.{AsksNoMore, IsBelow}
 use Rattle.type_terms.proofs.Members.{in-nothing, in-append, in-left, in-right, in-flat, flat-in, not-both}
 use Rattle.type_terms.proofs.OtherImpls.{supers-same, sized-same, plain-same, unsize-same, object-same}
+use Rattle.type_terms.proofs.ViewProofs.{ups as parts}
 
 -- V with other crates and impls
 module _ (V : World) (cs : List CrateDecl) (is : List ImplDecl) where
@@ -31,13 +32,6 @@ module _ (V : World) (cs : List CrateDecl) (is : List ImplDecl) where
       by true d f g = absurd (in-nothing u g)
       by false true f g = absurd (not-both true refl (sym (f refl)))
       by false false f g = subst (In u) (sym (plain-same V cs is t (tree l k o))) g
-
-  parts : (us vs us' vs' : List Rule) (u : Rule) → (In u us → In u us') → (In u vs → In u vs') → In u (us ++ vs) → In u (us' ++ vs')
-  parts us vs us' vs' u f g h = by (in-append u us vs h)
-    where
-      by : In u us ⊎ In u vs → In u (us' ++ vs')
-      by (inl e) = in-left u us' vs' (f e)
-      by (inr e) = in-right u us' vs' (g e)
 
   built-in-there : (r : Reference) → ((l : Label) → is_auto V r.trait ≡ true → is_written U r.trait l ≡ true → is_written V r.trait l ≡ true)
       → (u : Rule) → In u (built_in_rules V r) → In u (built_in_rules U r)

@@ -1,6 +1,6 @@
 -- The worked cases that computing alone does not show: proofs, their absence, and common instances.
-use Rattle.std.proofs.Common.{◌≡◌, ℕ, zero, suc, true, false, List, [], ◌∷◌, refl, ◌⊎◌, inl, inr, IsTrue, Some, ap, sym, subst, ◌∙◌, arith}
-use Rattle.std.specs.List.{slice_get, list_any}
+use Rattle.std.proofs.Common.{◌≡◌, ℕ, zero, suc, true, false, List, [], ◌∷◌, refl, ◌⊎◌, inl, inr, IsTrue, ap, sym, subst, ◌∙◌, arith}
+use Rattle.std.specs.List.{list_any}
 use Rattle.type_terms.specs.Label.{of_type, bool, adt, uint, tuple, ref, static, placeholder, dynamic, principal}
 use Rattle.type_terms.specs.Codes.{same}
 use Rattle.type_terms.specs.Trees.{Trees, none, tree, leaf, erase}
@@ -13,6 +13,7 @@ use Rattle.type_terms.specs.Worked.{AnImpossibleClause, AClauseThatMayHoldSomeDa
 use Rattle.type_terms.proofs.Members.{in-cases, in-nothing}
 use Rattle.type_terms.proofs.Fitting.{fits-sound}
 use Rattle.type_terms.proofs.ProofEntries.{map-in, entry-proved}
+use Rattle.type_terms.proofs.TypeBasics.{none-at, only}
 
 -- what has a proof has a rule whose premises have proofs
 pub needs-rule : (W : World) (E : List Reference) (r : Reference) → HasProof W E r → (u : Rule) × In u (rules W E r) × Every (HasProof W E) u.premises
@@ -33,13 +34,6 @@ one-rule W E r v e p = by (in-cases u.0 v [] (subst (λ us. In u.0 us) e u.1))
     by : (v ≡ u.0) ⊎ In u.0 [] → Every (HasProof W E) v.premises
     by (inl q) = subst (λ (w : Rule). Every (HasProof W E) w.premises) (sym q) u.2
     by (inr q) = absurd (in-nothing u.0 q)
-
-none-at : (n : ℕ) (k : Reference) → slice_get [] n ≡ Some k → ⊥
-none-at n k e = cc
-
-only : (x k : Reference) (n : ℕ) → slice_get (x ∷ []) n ≡ Some k → x ≡ k
-only x k zero e = cc
-only x k (suc n) e = cc
 
 -- Pairs of impls
 pub an-impossible-clause : AnImpossibleClause

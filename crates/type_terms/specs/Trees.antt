@@ -186,9 +186,3 @@ Single (tree l c o) = o ≡ none
 abbrev pub placed : Option Trees → Trees → Trees
 placed None t = t
 placed (Some r) t = r
-
--- A fold: f sees each node with the number of binders around it, and the trees that it answers stand in the node's place
--- (`TypeFolder`).
-abbrev pub folded : (ℕ → Trees → Option Trees) → ℕ → Trees → Trees
-folded f d none = none
-folded f d (tree l c o) = placed (f d (tree l c none)) (tree l (folded f (inside l d) c) none) +++ folded f d o

@@ -24,6 +24,7 @@ use Rattle.view_lowering.proofs.ScalarTokens.{ScalarBounds}
 use Rattle.view_lowering.proofs.Params.{turned}
 use Rattle.view_lowering.proofs.Spoken.{sorts-append}
 use Rattle.view_lowering.proofs.DeclaredItems.{TraitsNumbered, known-at}
+use Rattle.declarations.proofs.Growth.{each-kept as each-map}
 
 -- ---- what is kept of bounds: the trait is there, and the arguments are as it takes them
 abbrev pub BoundFits : List NamedTrait → Reference → Type 0
@@ -33,10 +34,6 @@ abbrev pub BoundsFit : List NamedTrait → NamedTrait → Type 0
 BoundsFit ts x = Each (BoundFits ts) x.item.bounds
 
 -- ---- lists
-pub each-map : {A : Type 0} (P Q : A → Type 0) → ((x : A) → P x → Q x) → (xs : List A) → Each P xs → Each Q xs
-each-map P Q f [] h = tt
-each-map P Q f (x ∷ xs) h = (f x h.0, each-map P Q f xs h.1)
-
 pub each-more : {A : Type 0} (P : A → Type 0) (xs : List A) (x : A) → Each P xs → P x → Each P (xs ++ x ∷ [])
 each-more P [] x h g = (g, tt)
 each-more P (y ∷ ys) x h g = (h.0, each-more P ys x h.1 g)

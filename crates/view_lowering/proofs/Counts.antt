@@ -23,15 +23,6 @@ all-parts-plain k (t ∷ ts) =
 pub plain-terms : (k : ℕ → Bool) (r : Reference) → reference_terms (plain_reference k r) ≡ reference_terms r
 plain-terms k r = let p = parts-plain k r.args in omega (arith, p)
 
-pub all-plain-terms : (k : ℕ → Bool) (rs : List Reference) → sum_by reference_terms (map (plain_reference k) rs) ≡ sum_by reference_terms rs
-all-plain-terms k [] = refl
-all-plain-terms k (r ∷ rs) =
-    let p = plain-terms k r in
-    let q = all-plain-terms k rs in
-    let c = sum_by-cons reference_terms (plain_reference k r) (map (plain_reference k) rs) in
-    let d = sum_by-cons reference_terms r rs in
-    omega (arith, p, q, c, d)
-
 -- ---- of what the elements of a list are, up to one of them
 sum-mapped : {A B : Type 0} (f : B → ℕ) (g : A → B) (xs : List A) → sum_by (λ x. f (g x)) xs ≡ sum_by f (map g xs)
 sum-mapped f g [] = refl

@@ -26,8 +26,10 @@ use Rattle.view_lowering.proofs.Types.{AllFit, first-fit, rest-fit, good-type, g
 use Rattle.view_lowering.proofs.Scalars.{ScalarTypes}
 use Rattle.view_lowering.proofs.ScalarTokens.{ScalarBounds, ScalarClause, ScalarClauses}
 use Rattle.view_lowering.proofs.Standing.{AutosAreBare, is_use_as, this, that, any-split, some-append, type-stands, args-stand, number_as, IsNamed}
-use Rattle.view_lowering.proofs.Params.{same-names, turned, params-stand, types-used, consts-used, among-first, among-second}
+use Rattle.view_lowering.proofs.Params.{turned, params-stand, types-used, consts-used, among-second}
 use Rattle.view_lowering.proofs.Lines.{kinds-numbered, trait-numbered, good-test, fields-good}
+use Rattle.type_terms.proofs.ListBasics.{same-name as same-names}
+use Rattle.text_definitions.proofs.Basics.{among-first}
 
 -- ---- all uses fit, and none is a variable
 pub all-fit : (d : Declarations) (l : Line) (us : List Use) → UsesFit d l us → is_any (variables_in us) ≡ false → AllFit d l us

@@ -1,5 +1,5 @@
 -- Headers of impls: what stands in where-clauses stands there with its sort, and each parameter has one.
-use Rattle.std.proofs.Common.{◌≡◌, ℕ, ◌+◌, ◌<◌, Bool, true, false, ◌&&◌, ◌||◌, List, length, Some, refl, sym, ap, ◌∙◌, subst, arith}
+use Rattle.std.proofs.Common.{◌≡◌, ℕ, ◌<◌, Bool, true, false, ◌&&◌, ◌||◌, List, length, Some, refl, sym, ap, ◌∙◌, subst}
 use Rattle.std.proofs.lemmas.Bool.{eqb-true}
 use Rattle.std.proofs.lemmas.Bool.Decides.{Decides-ltb}
 use Rattle.std.proofs.lemmas.Option.{same_Some, slice_get_within}
@@ -18,6 +18,8 @@ use Rattle.view_lowering.proofs.Sorts.{is_bad}
 use Rattle.view_lowering.proofs.Tests.{is_good, is_good_impl, all_stand}
 use Rattle.view_lowering.proofs.Trees.{and-left, and-right, or, or-left, or-right}
 use Rattle.view_lowering.proofs.SeenViews.{sort-there, stands-by, not-true, good-fits, all-mapped}
+use Rattle.type_terms.proofs.NumberBasics.{zero-first}
+use Rattle.type_terms.proofs.BooleanBasics.{not-true as not-loose}
 
 -- ---- a parameter stands in the plain header as in the header
 label-kept : (s : Sort) (i : ℕ) (l : Label) → is_param s i l ≡ true → is_param s i (plain_label all_kept l) ≡ true
@@ -62,15 +64,8 @@ lifetime-param i (tree l c o) h = by (is_lifetime i l) (some_node (is_lifetime i
     by false false false {x = false} {y = false} {z = false} f g k q = q
 
 module _ (header : Trees) (sorts : List Sort) (stand : all_stand header 0 sorts ≡ true) where
-  zero-first : (i : ℕ) → 0 + i ≡ i
-  zero-first i = omega arith
-
   in-header : (s : Sort) (i : ℕ) → (s ≡ of_lifetime → ⊥) → is_bad sorts (param s i) ≡ false → some_node (is_param s i) (plain all_kept header) ≡ true
   in-header s i n h = still s i header (subst (λ k. some_node (is_param s k) header ≡ true) (zero-first i) (stands-by header 0 sorts s i stand (sort-there sorts s i h) n))
-
-  not-loose : (b : Bool) → b ≡ true → not b ≡ false
-  not-loose true h = refl
-  not-loose false h = absurd cc
 
   label-tight : (l : Label) → is_bad sorts (plain_label (stands_in header) l) ≡ false → is_loose (plain all_kept header) (plain_label (stands_in header) l) ≡ false
   label-tight (param of_type i) h = not-loose _ (in-header of_type i (λ e. absurd cc) h)

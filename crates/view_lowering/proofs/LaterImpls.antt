@@ -1,9 +1,8 @@
 -- The impls of a section, lowered one after the other.
 use Rattle.std.proofs.Common.{◌≡◌, ℕ, zero, suc, ◌+◌, Bool, true, false, cond, List, [], ◌∷◌, ◌++◌, length, map, take, Some, refl, sym, ap, ◌∙◌, subst}
 use Rattle.std.specs.Prelude.{◌==◌, filter, slice_get}
-use Rattle.std.proofs.lemmas.List.{length-map, map_push}
+use Rattle.std.proofs.lemmas.List.{map_push}
 use Rattle.std.proofs.lemmas.Option.{same_Some}
-use Rattle.type_terms.specs.Erased.{erased_impl, erased_reference}
 use Rattle.type_terms.specs.Worlds.{ImplDecl, Reference}
 use Rattle.text_definitions.specs.Declarations.{Declarations, NamedImpl, LaterImpl, section_impls}
 use Rattle.type_terms.specs.Terms.{Entry, Keeps}
@@ -14,14 +13,13 @@ use Rattle.declarations.specs.Held.{ImplHeld}
 use Rattle.declarations.specs.Items.{reference_in, impl_in}
 use Rattle.declarations.specs.Merges.{Each}
 use Rattle.declarations.proofs.Bounded.{all-same}
-use Rattle.declarations.proofs.Growth.{args-same, reference-kept, reference-same, references-kept}
+use Rattle.declarations.proofs.Growth.{args-same, reference-kept, reference-same, references-kept, each-kept as each-map}
 use Rattle.workspace.specs.Numbered as AtEach
 use Rattle.view_lowering.specs.Later.{unnumbered, added_impls, added_in, added_sorts, sorts_of_added}
-use Rattle.view_lowering.specs.Plain.{all_kept, plain_impl}
+use Rattle.view_lowering.specs.Plain.{plain_impl}
 use Rattle.view_lowering.specs.Seen.{param_sorts}
-use Rattle.view_lowering.proofs.Applied.{each-map, each-more}
+use Rattle.view_lowering.proofs.Applied.{each-more}
 use Rattle.view_lowering.proofs.Going.{all-taken, one-more-taken}
-use Rattle.view_lowering.proofs.Plainly.{reference-erased}
 
 -- ---- as the interner grows
 module _ (old new : List Entry) (k : Keeps old new) where
@@ -73,9 +71,6 @@ pub record LaterAdded (d : Declarations) (k : ℕ) (old : List Entry) (limit : �
   pub held : Each (ImplHeld es) defs
 
 module _ (d : Declarations) (k : ℕ) (old : List Entry) (limit : ℕ) where
-  pub later-first : LaterAdded d k old limit 0 old limit []
-  later-first = record { keeps = λ j e h. h; limited = refl; impls = refl; sorts = refl; held = tt }
-
   pub later-taken : (i : ℕ) (es : List Entry) (now_limit : ℕ) (defs : List ImplDef) (s : LaterImpl) (new : List Entry) (new_limit : ℕ) (id : ImplId) (def : ImplDef) → slice_get (of_section d k) i ≡ Some s
       → Keeps es new → new_limit ≡ now_limit → impl_in new id def ≡ plain_impl s.added.item → sorts_of_added def ≡ param_sorts s.added → ImplHeld new def
       → LaterAdded d k old limit i es now_limit defs → LaterAdded d k old limit (i + 1) new new_limit (defs ++ def ∷ [])
@@ -106,30 +101,3 @@ module _ (d : Declarations) (k : ℕ) (old : List Entry) (limit : ℕ) where
   later-sorted i es now_limit defs e a = a.sorts ∙ ap (map param_sorts) (all-gone i e)
 
 -- ---- one of them
--- where lists that are read are one, so are those of each place
-at-place : {A B D : Type 0} (f : A → D) (g : B → D) (xs : List A) (ys : List B) → map f xs ≡ map g ys → (n : ℕ) (x : A) → slice_get xs n ≡ Some x → (y : B) × (slice_get ys n ≡ Some y) × (f x ≡ g y)
-at-place f g [] ys e n x h = absurd cc
-at-place f g (z ∷ zs) [] e n x h = absurd cc
-at-place f g (z ∷ zs) (y ∷ ys) e zero x h = (y, refl, ap f (sym (same_Some z x h)) ∙ head)
-  where
-    head : f z ≡ g y
-    head = cc
-at-place f g (z ∷ zs) (y ∷ ys) e (suc n) x h = at-place f g zs ys tail n x h
-  where
-    tail : map f zs ≡ map g ys
-    tail = cc
-
-as-long : {A B D : Type 0} (f : A → D) (g : B → D) (xs : List A) (ys : List B) → map f xs ≡ map g ys → length xs ≡ length ys
-as-long f g xs ys e = sym (length-map xs f) ∙ ap length e ∙ length-map ys g
-
--- what stands at a place of them stands at that place of the section
-pub added-at : (es : List Entry) (defs : List ImplDef) (d : Declarations) (k : ℕ) → map (added_in es) defs ≡ added_impls d k → (n : ℕ) (def : ImplDef) → slice_get defs n ≡ Some def
-    → (x : NamedImpl) × (slice_get (section_impls d k) n ≡ Some x) × (added_in es def ≡ unnumbered (plain_impl x.item))
-added-at es defs d k e n def h = at-place (added_in es) (λ (x : NamedImpl). unnumbered (plain_impl x.item)) defs (section_impls d k) e n def h
-
-pub as-many : (es : List Entry) (defs : List ImplDef) (d : Declarations) (k : ℕ) → map (added_in es) defs ≡ added_impls d k → length defs ≡ length (section_impls d k)
-as-many es defs d k e = as-long (added_in es) (λ (x : NamedImpl). unnumbered (plain_impl x.item)) defs (section_impls d k) e
-
--- and its header is that of the text, up to lifetimes
-pub header-erased : (es : List Entry) (def : ImplDef) (x : ImplDecl) → added_in es def ≡ unnumbered (plain_impl x) → erased_reference (reference_in es def.header) ≡ (erased_impl x).header
-header-erased es def x e = ap (λ (i : ImplDecl). erased_reference i.header) e ∙ reference-erased all_kept x.header

@@ -1,3 +1,4 @@
+pub mod Basics
 mod Going
 mod Rows
 mod References
@@ -6,7 +7,7 @@ mod Views
 mod BehindViews
 mod Unknowns
 pub mod Begins
-mod Plainly
+pub mod Plainly
 mod Named
 mod PlainLists
 pub mod Sorts

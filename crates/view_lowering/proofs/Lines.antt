@@ -19,6 +19,7 @@ use Rattle.view_lowering.proofs.Tests.{is_good}
 use Rattle.view_lowering.proofs.Scalars.{ScalarTypes}
 use Rattle.view_lowering.proofs.Trees.{Good, and}
 use Rattle.view_lowering.proofs.Types.{AllFit, first-fit, rest-fit, NumberedBy, Numbered, good-type}
+use Rattle.type_terms.proofs.TermBasics.{sort-self}
 
 -- ---- the sorts of a line's parameters, by number
 place-found : (n : List ℕ) (ns : List (List ℕ)) → is_among n ns ≡ true → place_among n ns < length ns
@@ -45,11 +46,6 @@ behind s (n ∷ ns) rest i = ap (slice_get (s ∷ (of-sort s ns ++ rest))) (more
     more : (k : ℕ) → suc k + i ≡ suc (k + i)
     more k = omega arith
 
-pub sort-self : (s : Sort) → is_sort s s ≡ true
-sort-self of_type = refl
-sort-self of_const = refl
-sort-self of_lifetime = refl
-
 sorted : (sorts : List Sort) (s : Sort) (i : ℕ) → slice_get sorts i ≡ Some s → has_sort sorts (param s i) ≡ true
 sorted sorts s i e = ap (λ o. option_map_or (is_sort s) o false) e ∙ sort-self s
 
@@ -57,9 +53,6 @@ last-of : (s : Sort) (ns : List (List ℕ)) (i : ℕ) → i < length ns → slic
 last-of s [] i h = absurd (omega (arith, h))
 last-of s (n ∷ ns) zero h = refl
 last-of s (n ∷ ns) (suc i) h = last-of s ns i (omega (arith, h))
-
-plus-assoc : (a b c : ℕ) → a + b + c ≡ a + (b + c)
-plus-assoc a b c = omega arith
 
 moved-sort : (sorts : List Sort) (s : Sort) (i j : ℕ) → i ≡ j → slice_get sorts j ≡ Some s → has_sort sorts (param s i) ≡ true
 moved-sort sorts s i j e h = subst (λ k. has_sort sorts (param s k) ≡ true) (sym e) (sorted sorts s j h)

@@ -16,10 +16,6 @@ pub each-true : {A : Type 0} (q : A → Bool) (xs : List A) → list_all q xs �
 each-true q [] h = tt
 each-true q (x ∷ xs) h = (and-left (q x) _ h, each-true q xs (and-right (q x) _ h))
 
-pub each-both : {A : Type 0} (P Q : A → Type 0) (xs : List A) → Each P xs → Each Q xs → Each (λ x. P x × Q x) xs
-each-both P Q [] h g = tt
-each-both P Q (x ∷ xs) h g = ((h.0, g.0), each-both P Q xs h.1 g.1)
-
 pub each-placed : {A : Type 0} (P : A → Type 0) (xs : List A) → ((k : ℕ) (x : A) → slice_get xs k ≡ Some x → P x) → Each P xs
 each-placed P [] f = tt
 each-placed P (x ∷ xs) f = (f zero x refl, each-placed P xs (λ k y e. f (suc k) y e))

@@ -18,11 +18,10 @@ use Rattle.view_lowering.proofs.Tests.{all_stand}
 use Rattle.view_lowering.proofs.Trees.{and, and-left, or-left, or-right}
 use Rattle.view_lowering.proofs.Types.{AllFit}
 use Rattle.view_lowering.proofs.Standing.{is_use_as}
+use Rattle.type_terms.proofs.ListBasics.{same-name as same-names}
+use Rattle.text_definitions.proofs.Basics.{among-first}
 
 -- ---- names
-pub same-names : (m n : List ℕ) → bytes_eq m n ≡ true → m ≡ n
-same-names m n h = (bytes_eq-Decides m n).0 h
-
 pub name-self : (n : List ℕ) → bytes_eq n n ≡ true
 name-self n = (bytes_eq-Decides n n).1 refl
 
@@ -129,14 +128,6 @@ params-stand t p r h g =
   where
     no-more : (k : ℕ) → k + 0 ≡ k
     no-more k = omega arith
-
-pub among-first : (n : List ℕ) (xs ys : List (List ℕ)) → is_among n xs ≡ true → is_among n (xs ++ ys) ≡ true
-among-first n [] ys h = absurd cc
-among-first n (x ∷ xs) ys h = by (bytes_eq x n) h (among-first n xs ys)
-  where
-    by : (b : Bool) → b || is_among n xs ≡ true → (is_among n xs ≡ true → is_among n (xs ++ ys) ≡ true) → b || is_among n (xs ++ ys) ≡ true
-    by true g r = refl
-    by false g r = r g
 
 pub among-second : (n : List ℕ) (xs ys : List (List ℕ)) → is_among n ys ≡ true → is_among n (xs ++ ys) ≡ true
 among-second n [] ys h = h

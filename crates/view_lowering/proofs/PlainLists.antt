@@ -1,15 +1,15 @@
 -- Cells, made plain one after the other, and cells that are plain as they are.
-use Rattle.std.proofs.Common.{◌≡◌, ℕ, ◌+◌, Bool, true, false, ◌&&◌, List, [], ◌∷◌, ◌++◌, map, take, Option, Some, None, refl, sym, ap, ◌∙◌, subst}
+use Rattle.std.proofs.Common.{◌≡◌, ℕ, ◌+◌, Bool, true, false, List, [], ◌∷◌, ◌++◌, map, take, Option, Some, None, refl, sym, ap, ◌∙◌, subst}
 use Rattle.std.proofs.lemmas.List.{map_push, take_more}
 use Rattle.std.proofs.lemmas.Option.{slice_get_within, get_or_from_slice_get}
 use Rattle.std.specs.Prelude.{slice_get}
 use Rattle.std.specs.List.{list_all}
-use Rattle.std.specs.Option.{option_map, option_and_then}
+use Rattle.std.specs.Option.{option_and_then}
 use Rattle.type_terms.specs.Kinds.{const_label}
 use Rattle.type_terms.specs.declared.kinds.ConstKind.{ConstKind}
 use Rattle.type_terms.specs.declared.kinds.ConstKind.TheVariants as consts
 use Rattle.type_terms.specs.declared.number.BoundVarIndexKind.TheVariants as binders
-use Rattle.workspace.specs.Made.{StackPart, parts_behind, parts_of, CellHeld, CellsHeld, AreMade}
+use Rattle.workspace.specs.Made.{StackPart, parts_behind, parts_of, CellHeld, CellsHeld}
 use Rattle.workspace.specs.TermCells.{TermCell as Cell, node_cell, trees_of, joined}
 use Rattle.workspace.specs.Views.{cell_of, cells_of, reference_of}
 use Rattle.workspace.specs.declared.declared.ReferenceCells.{ReferenceCells}
@@ -19,15 +19,13 @@ use Rattle.workspace.specs.declared.cell.TermCell.TheVariants as cells
 use Rattle.view_lowering.specs.Plain.{plain_label, plain_reference}
 use Rattle.view_lowering.specs.PlainCells.{is_without_lifetimes, plain_cell}
 use Rattle.view_lowering.proofs.Plainly.{trees-plain, joined-plain}
+use Rattle.type_terms.proofs.BooleanBasics.{and-both as first-of-both}
 
 -- these cells are those, made plain
 pub record ArePlain (k : ℕ → Bool) (cs out : List TermCell) : Type 0 where
   pub are : cells_of out ≡ map (plain_cell k) (cells_of cs)
   pub parts : (S : List StackPart) → parts_of out S ≡ parts_of cs S
   pub held : CellsHeld cs → CellsHeld out
-
-pub none-plain : (k : ℕ → Bool) → ArePlain k [] []
-none-plain k = record { are = refl; parts = λ S. refl; held = λ h. h }
 
 parts-append : (xs ys : List TermCell) (S : List StackPart) → parts_of (xs ++ ys) S ≡ option_and_then (parts_of ys) (parts_of xs S)
 parts-append [] ys S = refl
@@ -66,10 +64,6 @@ one-more-plain k all out i c x there a is parts held =
     subst (λ l. ArePlain k l (out ++ x ∷ [])) (sym (take_more all i c (slice_get_within all i c there) ∙ ap (λ y. take i all ++ y ∷ []) (get_or_from_slice_get all i c c there)))
     (push-plain k (take i all) out c x a is parts held)
 
--- what was made stays made
-pub plain-made : (k : ℕ → Bool) (cs out : List TermCell) → ArePlain k cs out → (p : StackPart → Bool) → AreMade p cs → AreMade p out
-plain-made k cs out a p m = record { held = a.held m.held; parts = ap (option_map (list_all p)) (a.parts []) ∙ m.parts }
-
 -- ---- cells without lifetimes are plain as they are
 const-stays : (k : ℕ → Bool) (n : ConstKind) → plain_label k (const_label n) ≡ const_label n
 const-stays k (consts.Bound (binders.Bound b) i) = refl
@@ -85,10 +79,6 @@ cell-stays k (cells.Const n) h = ap (λ l. node_cell l 0) (const-stays k n)
 cell-stays k (cells.Dynamic true n) h = refl
 cell-stays k (cells.Dynamic false n) h = refl
 cell-stays k c h = refl
-
-first-of-both : (a b : Bool) → (a && b) ≡ true → (a ≡ true) × (b ≡ true)
-first-of-both true b h = (refl, h)
-first-of-both false b h = absurd cc
 
 cells-stay : (k : ℕ → Bool) (cs : List TermCell) → list_all is_without_lifetimes cs ≡ true → map (plain_cell k) (cells_of cs) ≡ cells_of cs
 cells-stay k [] h = refl

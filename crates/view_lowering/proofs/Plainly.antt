@@ -2,20 +2,17 @@
 use Rattle.std.proofs.Common.{◌≡◌, ℕ, zero, suc, Bool, true, false, List, [], ◌∷◌, ◌++◌, map, refl, sym, ap, ◌∙◌}
 use Rattle.std.proofs.lemmas.List.{map_push, reverse-append}
 use Rattle.std.specs.Prelude.{reverse, if◌then◌else◌}
-use Rattle.type_terms.specs.Label.{Label, of_lifetime, of_type, of_const, static, fn_ptr, principal, param, placeholder, infer, canonical, bound}
-use Rattle.type_terms.specs.Trees.{Trees, none, tree, erase, erase_label, ◌+++◌}
+use Rattle.type_terms.specs.Label.{Label, of_lifetime, of_type, of_const, static, param, placeholder, infer, canonical, bound}
+use Rattle.type_terms.specs.Trees.{Trees, none, tree, erase, ◌+++◌}
 use Rattle.type_terms.specs.Erased.{erased_reference, erased_struct, erased_trait, erased_impl, erased_world}
 use Rattle.type_terms.specs.Worlds.{World, Reference, StructDecl, TraitDecl, ImplDecl}
 use Rattle.declarations.specs.Heads.{begins_declared}
 use Rattle.workspace.specs.TermCells.{TermCell, node_cell, reference_cell, gathered, below, behind_cell, behind_cells, trees_of, joined}
 use Rattle.view_lowering.specs.Plain.{plain_label, plain, plain_reference, plain_struct, plain_trait, plain_impl, plain_world, all_kept, none_kept, stands_in}
 use Rattle.view_lowering.specs.PlainCells.{plain_cell}
-
-node : {l l' : Label} {c c' o o' : Trees} → l ≡ l' → c ≡ c' → o ≡ o' → tree l c o ≡ tree l' c' o'
-node p q r = cc
-
-two : {A : Type 0} {a b : A} {c d : List A} → a ≡ b → c ≡ d → a ∷ c ≡ b ∷ d
-two p q = cc
+use Rattle.type_terms.proofs.TermBasics.{node}
+use Rattle.type_terms.proofs.RenumberedRules.{cons-same as two}
+use Rattle.view_lowering.proofs.Basics.{label-erased}
 
 -- ---- which lifetimes are kept
 label-same : (k j : ℕ → Bool) → ((i : ℕ) → k i ≡ j i) → (l : Label) → plain_label k l ≡ plain_label j l
@@ -34,17 +31,6 @@ references-same k j e [] = refl
 references-same k j e (r ∷ rs) = two (reference-same k j e r) (references-same k j e rs)
 
 -- ---- up to lifetimes nothing changes
-label-erased : (k : ℕ → Bool) (l : Label) → erase_label (plain_label k l) ≡ erase_label l
-label-erased k (param of_lifetime i) = by (k i)
-  where
-    by : (b : Bool) → erase_label (if b then param of_lifetime i else static) ≡ static
-    by true = refl
-    by false = refl
-label-erased k (bound of_lifetime _ _) = refl
-label-erased k (fn_ptr _) = refl
-label-erased k (principal _ i) = refl
-label-erased k l = refl
-
 pub plain-erased : (k : ℕ → Bool) (t : Trees) → erase (plain k t) ≡ erase t
 plain-erased k none = refl
 plain-erased k (tree l c o) = node (label-erased k l) (plain-erased k c) (plain-erased k o)

@@ -29,10 +29,12 @@ use Rattle.view_lowering.proofs.Tests.{is_good, is_good_struct, is_good_trait, i
 use Rattle.view_lowering.proofs.Trees.{and-left, and-right}
 use Rattle.view_lowering.proofs.SeenViews.{good-fits}
 use Rattle.view_lowering.proofs.Spoken.{speaks, closed, plain-sorts}
-use Rattle.view_lowering.proofs.Applied.{BoundFits, BoundsFit, each-map}
-use Rattle.view_lowering.proofs.Matched.{IsItem, each-true, each-both, each-placed, parts-matched, items-matched}
+use Rattle.view_lowering.proofs.Applied.{BoundFits, BoundsFit}
+use Rattle.view_lowering.proofs.Matched.{IsItem, each-true, each-placed, parts-matched, items-matched}
 use Rattle.view_lowering.proofs.Told.{kinds-told}
 use Rattle.view_lowering.proofs.Texts.{Well, texts-are-well}
+use Rattle.declarations.proofs.Growth.{each-kept as each-map}
+use Rattle.declarations.proofs.Basics.{both as each-both}
 
 -- trees that are good once they are plain
 good-speaks : (kept : ℕ → Bool) (sorts ss : List Sort) (t u : Trees) → is_good kept sorts t ≡ true → u ≡ plain kept t → ss ≡ sorts → SpeaksOf ss u

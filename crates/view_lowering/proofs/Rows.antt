@@ -9,6 +9,7 @@ use Rattle.declarations.specs.Merges.{Each}
 use Rattle.workspace.specs.Numbered.{EachNumbered}
 use Rattle.view_lowering.specs.Behind.{Continues, AreBefore, IsNextRow, IsOutOfTurn}
 use Rattle.view_lowering.proofs.Going.{one-more-taken, all-taken}
+use Rattle.type_terms.proofs.ListBasics.{first-same as heads, rest-same as tails}
 
 abbrev pub behind : {A : Type 0} → (A → Bool) → (A → Bool) → A → Bool
 behind p q x = p x && not (q x)
@@ -32,11 +33,6 @@ pub all-behind : {A B : Type 0} (f : A → B) (p q : A → Bool) (xs : List A) (
 all-behind f p q xs old h e = ap (λ l. l ++ map f (filter (behind p q) xs)) e ∙ sym (map-append f (filter q xs) (filter (behind p q) xs)) ∙ sym (ap (map f) h)
 
 -- ---- numbers
-heads : {A : Type 0} (x y : A) (xs ys : List A) → x ∷ xs ≡ y ∷ ys → x ≡ y
-heads x y xs ys e = cc
-
-tails : {A : Type 0} (x y : A) (xs ys : List A) → x ∷ xs ≡ y ∷ ys → xs ≡ ys
-tails x y xs ys e = cc
 
 none-is-some : {A : Type 0} {P : Type 0} (x : A) (xs : List A) → [] ≡ x ∷ xs → P
 none-is-some x xs e = absurd cc

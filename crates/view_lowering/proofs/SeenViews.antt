@@ -17,6 +17,8 @@ use Rattle.view_lowering.specs.Seen.{param_sorts}
 use Rattle.view_lowering.proofs.Sorts.{is_bad}
 use Rattle.view_lowering.proofs.Tests.{is_good, is_good_struct, is_good_trait, is_good_impl, all_stand}
 use Rattle.view_lowering.proofs.Trees.{and, and-left, and-right, or, or-left, or-right}
+use Rattle.type_terms.proofs.BooleanBasics.{not-false}
+use Rattle.type_terms.proofs.TermBasics.{sort-equal as sort-same}
 
 -- ---- what passes of a list that is seen in part
 pub seen-all : {N D : Type 0} (item : N → D) (plain : D → D) (sees : D → Bool) (p : D → Bool) (q : N → Bool) → ((n : N) → q n ≡ true → p (plain (item n)) ≡ true) → (ns : List N) → list_all q ns ≡ true
@@ -35,10 +37,6 @@ all-mapped f p q h (x ∷ xs) g = and _ _ (h x (and-left (q x) _ g)) (all-mapped
 pub not-true : (b : Bool) → b ≡ false → not b ≡ true
 not-true false h = refl
 not-true true h = absurd cc
-
-not-false : (b : Bool) → not b ≡ true → b ≡ false
-not-false false h = refl
-not-false true h = absurd cc
 
 -- a test that is false of each label of the tree by another
 pub some-weaker : (p q : Label → Bool) → ((l : Label) → p l ≡ false → q l ≡ false) → (t : Trees) → some_node p t ≡ false → some_node q t ≡ false
@@ -99,17 +97,6 @@ trait-erased x h =
     all-mapped (plain_reference none_kept) (λ (b : Reference). not (some_node is_lifetime_parameter b.args)) (λ (b : Reference). is_good none_kept (of_type ∷ x.kinds) b.args && nat_lt b.trait x.item.name) (λ b g. not-true _ (none-left b.args)) x.item.bounds h
 
 -- ---- parameters of clauses stand in the header
-pub sort-same : (s r : Sort) → is_sort s r ≡ true → s ≡ r
-sort-same of_type of_type h = refl
-sort-same of_const of_const h = refl
-sort-same of_lifetime of_lifetime h = refl
-sort-same of_type of_const h = absurd cc
-sort-same of_type of_lifetime h = absurd cc
-sort-same of_const of_type h = absurd cc
-sort-same of_const of_lifetime h = absurd cc
-sort-same of_lifetime of_type h = absurd cc
-sort-same of_lifetime of_const h = absurd cc
-
 -- the parameter of a good label is one of its sort
 pub sort-there : (sorts : List Sort) (s : Sort) (i : ℕ) → is_bad sorts (param s i) ≡ false → slice_get sorts i ≡ Some s
 sort-there sorts s i h = by (slice_get sorts i) refl (drop h)

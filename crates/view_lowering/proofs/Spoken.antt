@@ -10,8 +10,8 @@ use Rattle.declarations.specs.Applied.{sorts_of, SpeaksOf}
 use Rattle.view_lowering.specs.Plain.{plain_label, plain}
 use Rattle.view_lowering.proofs.Sorts.{is_bad}
 use Rattle.view_lowering.proofs.Trees.{or-left, or-right}
-use Rattle.view_lowering.proofs.Lines.{sort-self}
 use Rattle.view_lowering.proofs.SeenViews.{sort-there}
+use Rattle.type_terms.proofs.TermBasics.{sort-self}
 
 -- ---- parts of good trees
 module _ (sorts : List Sort) (l : Label) (c o : Trees) (h : some_node (is_bad sorts) (tree l c o) ≡ false) where

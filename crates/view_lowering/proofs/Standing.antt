@@ -19,14 +19,6 @@ use Rattle.view_lowering.proofs.Trees.{or-left, or-right}
 use Rattle.view_lowering.proofs.Types.{AllFit, first-fit, rest-fit}
 
 -- ---- tests of lists and of trees
-any-first : {A : Type 0} (q : A → Bool) (xs ys : List A) → list_any q xs ≡ true → list_any q (xs ++ ys) ≡ true
-any-first q [] ys h = absurd cc
-any-first q (x ∷ xs) ys h = by (q x) h (any-first q xs ys)
-  where
-    by : (b : Bool) → b || list_any q xs ≡ true → (list_any q xs ≡ true → list_any q (xs ++ ys) ≡ true) → b || list_any q (xs ++ ys) ≡ true
-    by true g r = refl
-    by false g r = r g
-
 pub data Either (a b : Bool) : Type 0 where
   this : a ≡ true → Either a b
   that : b ≡ true → Either a b
@@ -100,11 +92,6 @@ module _ (d : Declarations) (l : Line) (first : ℕ) (bare : AutosAreBare (with_
 
   abbrev used : List Use → Bool
   used us = list_any (is_use_as p n) us
-
-  sort-self : (s : Sort) → is_sort s s ≡ true
-  sort-self of_type = refl
-  sort-self of_const = refl
-  sort-self of_lifetime = refl
 
   -- a name used as a type
   type-named : (m : List ℕ) (k : ℕ) (c : Trees) → is_use_as p n (name_use of_type m k) ≡ true → some_node q (tree (type_label means m) c none) ≡ true

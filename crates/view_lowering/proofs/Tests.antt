@@ -5,7 +5,7 @@ use Rattle.type_terms.specs.Label.{Sort, of_type, of_const, of_lifetime}
 use Rattle.type_terms.specs.Trees.{Trees, some_node}
 use Rattle.type_terms.specs.Worlds.{Reference}
 use Rattle.type_terms.specs.Made.{terms, is_made}
-use Rattle.text_definitions.specs.Declarations.{Declarations, NamedStruct, NamedTrait, NamedImpl}
+use Rattle.text_definitions.specs.Declarations.{NamedStruct, NamedTrait, NamedImpl}
 use Rattle.assembly_laws.specs.Candidates.{is_param}
 use Rattle.assembly_laws.specs.Declared.{is_declared}
 use Rattle.assembly_laws.specs.DeclaredWell.{is_single}
@@ -36,6 +36,3 @@ is_good_impl x =
     is_good all_kept (param_sorts x) x.item.header.args
     && ((x.item.params == length (param_sorts x))
     && (all_stand x.item.header.args 0 (param_sorts x) && list_all (λ (c : Reference). is_good (stands_in x.item.header.args) (param_sorts x) c.args) x.item.clauses))
-
-abbrev pub are_good : Declarations → Bool
-are_good d = list_all is_good_struct d.structs && (list_all is_good_trait d.traits && list_all is_good_impl d.impls)

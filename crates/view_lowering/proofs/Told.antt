@@ -13,6 +13,7 @@ use Rattle.view_lowering.proofs.Sorts.{is_bad}
 use Rattle.view_lowering.proofs.Tests.{all_stand}
 use Rattle.view_lowering.proofs.SeenViews.{some-weaker, sort-there, stands-by}
 use Rattle.view_lowering.proofs.Headers.{still}
+use Rattle.type_terms.proofs.NumberBasics.{zero-first}
 
 not-both : (b : Bool) → b ≡ true → b ≡ false → ⊥
 not-both true p q = absurd cc
@@ -36,9 +37,6 @@ module _ (sorts : List Sort) (t : Trees) (good : some_node (is_bad sorts) t ≡ 
 module _ (header : Trees) (sorts : List Sort) (stand : all_stand header 0 sorts ≡ true) (good : some_node (is_bad sorts) (plain all_kept header) ≡ false) where
   abbrev H : Trees
   H = plain all_kept header
-
-  zero-first : (i : ℕ) → 0 + i ≡ i
-  zero-first i = omega arith
 
   stands : (s : Sort) (i : ℕ) → slice_get sorts i ≡ Some s → (s ≡ of_lifetime → ⊥) → some_node (is_param s i) H ≡ true
   stands s i e n = still s i header (subst (λ k. some_node (is_param s k) header ≡ true) (zero-first i) (stands-by header 0 sorts s i stand e n))

@@ -7,6 +7,7 @@ use Rattle.type_terms.specs.Made.{terms, bounds, traits, is_made}
 use Rattle.assembly_laws.specs.Declared.{is_declared}
 use Rattle.view_lowering.specs.Plain.{plain_label, plain}
 use Rattle.view_lowering.proofs.Sorts.{has_sort, is_bad}
+use Rattle.type_terms.proofs.BooleanBasics.{and-end}
 
 pub and : (a b : Bool) → a ≡ true → b ≡ true → a && b ≡ true
 and true b p q = q
@@ -102,10 +103,6 @@ module _ (kept : ℕ → Bool) (sorts : List Sort) where
   is_plain_node (ref n) = true
   is_plain_node (raw_pointer n) = true
   is_plain_node l = false
-
-  and-end : (b : Bool) → b ≡ true → b && true ≡ true
-  and-end true h = refl
-  and-end false h = absurd cc
 
   or-end : (b : Bool) → b ≡ false → b || false ≡ false
   or-end false h = refl

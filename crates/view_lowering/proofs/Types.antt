@@ -1,6 +1,5 @@
 -- The types of a line without a fault are made as declarations are to be, once they are plain.
-use Rattle.std.proofs.Common.{◌≡◌, ℕ, suc, ◌+◌, Bool, true, false, ◌&&◌, ◌||◌, List, [], ◌∷◌, ◌++◌, length, Option, Some, None, refl, sym, ap, ◌∙◌, subst, arith}
-use Rattle.std.proofs.lemmas.Bool.{eqb-true}
+use Rattle.std.proofs.Common.{◌≡◌, ℕ, suc, ◌+◌, Bool, true, false, ◌&&◌, ◌||◌, List, [], ◌∷◌, ◌++◌, length, Option, Some, None, refl, sym, ap, ◌∙◌, subst}
 use Rattle.std.specs.Prelude.{not, if◌then◌else◌, ◌==◌}
 use Rattle.std.specs.List.{list_any}
 use Rattle.std.specs.Option.{option_map_or}
@@ -18,6 +17,7 @@ use Rattle.view_lowering.proofs.Sorts.{has_sort}
 use Rattle.view_lowering.proofs.Begins.{is_scalar}
 use Rattle.view_lowering.proofs.Scalars.{Scalars, ScalarTypes, ScalarArgs, ScalarArg, ScalarItem}
 use Rattle.view_lowering.proofs.Trees.{Good, Ends, good-none, good-append, good-node, good-value, good-static, good-param, good-bound, ends-static, ends-bound, ends-param, ends-auto, good-dyn, good-bare-dyn, and-left, and-right, or-left, or-right}
+use Rattle.text_definitions.proofs.Basics.{among-first, no-count}
 
 -- ---- uses, each of which fits, and none a variable
 abbrev pub IsFixed : Use → Type 0
@@ -36,22 +36,6 @@ pub rest-fit : (d : Declarations) (l : Line) (us vs : List Use) → AllFit d l (
 rest-fit d l [] vs h = h
 rest-fit d l (u ∷ us) vs h = rest-fit d l us vs h.1
 
-same-or : (a b : Bool) → a ≡ true → a || b ≡ true
-same-or true b h = refl
-same-or false b h = absurd cc
-
-among-first : (n : List ℕ) (xs ys : List (List ℕ)) → is_among n xs ≡ true → is_among n (xs ++ ys) ≡ true
-among-first n [] ys h = absurd cc
-among-first n (x ∷ xs) ys h = by (bytes_eq x n) h (among-first n xs ys)
-  where
-    by : (b : Bool) → b || is_among n xs ≡ true → (is_among n xs ≡ true → is_among n (xs ++ ys) ≡ true) → b || is_among n (xs ++ ys) ≡ true
-    by true g r = refl
-    by false g r = r g
-
-no-count : (args : Args) → (args_count args == 0) ≡ true → args ≡ no_args
-no-count no_args h = refl
-no-count (and_arg a args) h = absurd (omega (arith, eqb-true (suc (args_count args)) 0 h))
-
 -- which sorts the parameters have, the first of which has this number
 pub record NumberedBy (p : Params) (first : ℕ) (sorts : List Sort) : Type 0 where
   pub lifetimes : (n : List ℕ) → is_among n p.lifetimes ≡ true → has_sort sorts (param of_lifetime (first + place_among n p.lifetimes)) ≡ true
@@ -66,10 +50,6 @@ module _ (kept : ℕ → Bool) (sorts : List Sort) (d : Declarations) (l : Line)
   means = item_meanings d l first
 
   -- ---- lifetimes
-  either-true : (a b : Bool) → a || b ≡ true → a ≡ false → b ≡ true
-  either-true false b h e = h
-  either-true true b h e = absurd cc
-
   under : (P : Trees → Type 0) → ((j i : ℕ) → P (leaf (bound of_lifetime j i))) → ((i : ℕ) → has_sort sorts (param of_lifetime i) ≡ true → P (leaf (param of_lifetime i))) → (j : ℕ) (s : List (List (List ℕ))) (n : List ℕ)
       → is_in_scope l s n ≡ true → P (leaf (lifetime_under means j s n))
   under P b p j [] n h = p _ (numbered.lifetimes n (drop-false (is_among n (params_of l).lifetimes) h))

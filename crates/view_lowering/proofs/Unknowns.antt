@@ -1,15 +1,16 @@
 -- The unknowns of a question, made one after the other, and the question's row.
-use Rattle.std.proofs.Common.{◌≡◌, ℕ, zero, suc, ◌+◌, ◌<◌, List, [], ◌∷◌, ◌++◌, length, map, drop, get_or, append_assoc, Option, Some, None, refl, sym, ap, ◌∙◌, arith}
+use Rattle.std.proofs.Common.{◌≡◌, ℕ, suc, ◌+◌, ◌<◌, List, [], ◌∷◌, ◌++◌, length, map, drop, get_or, append_assoc, Some, refl, sym, ap, ◌∙◌, arith}
 use Rattle.std.proofs.lemmas.List.{map_push}
-use Rattle.std.proofs.lemmas.Option.{slice_get-map, get_or_from_slice_get, same_Some}
+use Rattle.std.proofs.lemmas.Option.{slice_get-map, get_or_from_slice_get}
 use Rattle.std.specs.Prelude.{slice_get}
-use Rattle.std.specs.Option.{option_map}
 use Rattle.type_terms.specs.Trees.{Trees}
 use Rattle.type_terms.specs.Terms.{Entry, Keeps, types, consts}
 use Rattle.type_terms.specs.Kinds.{arg_trees, ArgHeld, ArgsHeld}
 use Rattle.type_terms.specs.declared.kinds.GenericArgKind.{GenericArgKind}
 use Rattle.type_terms.specs.declared.kinds.GenericArgKind.TheVariants as args
 use Rattle.type_terms.specs.Kept.{has-later, trees-later}
+use Rattle.type_terms.proofs.TypeBasics.{mapped-some as row-of}
+use Rattle.type_terms.proofs.ListBasics.{next-behind}
 
 -- ---- arguments, xs the interner grows
 module _ (old new : List Entry) (k : Keeps old new) where
@@ -38,12 +39,6 @@ module _ (old new : List Entry) (k : Keeps old new) where
       ap (λ ts. ts ++ rest) (map_push (arg_trees new) us u) ∙ append_assoc (map (arg_trees new) us) (arg_trees new u ∷ []) rest ∙ ap (λ ts. ts ++ arg_trees new u ∷ rest) (args-same us h)
       ∙ ap (λ ts. map (arg_trees old) us ++ ts) (sym is) ∙ e
 
--- what is at a place, and what is behind it
-next-behind : {A : Type 0} (xs : List A) (i : ℕ) (x : A) → i < length xs → x ≡ get_or xs i x → drop i xs ≡ x ∷ drop (suc i) xs
-next-behind [] i x h e = absurd (omega (arith, h))
-next-behind (y ∷ xs) zero x h e = ap (λ z. z ∷ xs) (sym e)
-next-behind (y ∷ xs) (suc i) x h e = next-behind xs i x (omega (arith, h)) e
-
 one-up : (i : ℕ) → suc i ≡ i + 1
 one-up i = omega arith
 
@@ -51,10 +46,6 @@ pub next-left : {A : Type 0} (xs : List A) (i : ℕ) (x : A) → i < length xs �
 next-left xs i x h e = next-behind xs i x h e ∙ ap (λ n. x ∷ drop n xs) (one-up i)
 
 -- ---- the row of a question
-row-of : {A B : Type 0} (f : A → B) (o : Option A) (y : B) → option_map f o ≡ Some y → (x : A) × (o ≡ Some x) × (f x ≡ y)
-row-of f None y e = absurd cc
-row-of f (Some x) y e = (x, refl, same_Some (f x) y e)
-
 -- the row that is read at the place of q
 pub row-read : {A B : Type 0} (f : A → B) (rows : List A) (qs : List B) (n : ℕ) (q : B) (r : A) → map f rows ≡ qs → slice_get qs n ≡ Some q → r ≡ get_or rows n r → (slice_get rows n ≡ Some r) × (f r ≡ q)
 row-read f rows qs n q r are there is =

@@ -6,10 +6,12 @@ use Rattle.std.specs.List.{list_any}
 use Rattle.std.specs.Str.{bytes_eq}
 use Rattle.type_terms.specs.Label.{Sort}
 use Rattle.type_terms.specs.Trees.{is_sort}
-use Rattle.infer_table.proofs.SolutionLaws.{is_sort-equal, is_sort-self}
+use Rattle.infer_table.proofs.SolutionLaws.{is_sort-equal}
 use Rattle.text_definitions.specs.Faults.{once, is_of_other_kind}
 use Rattle.text_definitions.specs.Lowering.{place_among}
 use Rattle.view_lowering.specs.QuestionVariables.{number_of}
+use Rattle.type_terms.proofs.TermBasics.{is_sort-self}
+use Rattle.type_terms.proofs.BooleanBasics.{true-apart as no-clash, implied as agrees}
 
 abbrev Variables : Type 0
 Variables = List (List ℕ × Sort)
@@ -56,9 +58,6 @@ OneKind n p (v ∷ vs) = (bytes_eq v.0 n ≡ true → is_sort v.1 p ≡ true) ×
 same-name : (a b n : List ℕ) → bytes_eq a n ≡ true → bytes_eq a b ≡ true → bytes_eq b n ≡ true
 same-name a b n h g = subst (λ z. bytes_eq z n ≡ true) ((bytes_eq-Decides a b).0 g) h
 
-no-clash : (b : Bool) → b ≡ true → b ≡ false → ⊥
-no-clash b p q = cc
-
 kept-there : (n m : List ℕ) (p : Sort) → bytes_eq m n ≡ false → (ws : Variables) → holds n p ws ≡ true → holds n p (filter (λ w. not (bytes_eq w.0 m)) ws) ≡ true
 kept-there n m p d [] h = absurd cc
 kept-there n m p d (w ∷ ws) h = by (bytes_eq w.0 m) refl (bytes_eq w.0 n) refl (is_sort w.1 p) refl h (kept-there n m p d ws)
@@ -89,11 +88,6 @@ place-below n p vs o h =
 either : (a b : Bool) → a || b ≡ false → (a ≡ false) × (b ≡ false)
 either false b h = (refl, h)
 either true b h = absurd cc
-
-agrees : (a b : Bool) → a && not b ≡ false → a ≡ true → b ≡ true
-agrees true true h e = refl
-agrees true false h e = absurd cc
-agrees false b h e = absurd cc
 
 -- the same seen from the other side
 flip-name : (a b : List ℕ) → bytes_eq a b ≡ true → bytes_eq b a ≡ true

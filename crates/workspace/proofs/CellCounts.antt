@@ -2,7 +2,7 @@
 use Rattle.std.proofs.Common.{◌≡◌, ℕ, zero, suc, ◌≤◌, ◌<◌, ◌+◌, ◌-◌, ◌*◌, Bool, true, false, List, [], ◌∷◌, ◌++◌, length, map, Option, Some, None, IsSome, refl, sym, ap, ◌∙◌, subst, arith}
 use Rattle.std.specs.Prelude.{reverse, if◌then◌else◌, sum_by}
 use Rattle.std.specs.List.{list_all}
-use Rattle.std.specs.Option.{option_map, option_and_then}
+use Rattle.std.specs.Option.{option_and_then}
 use Rattle.std.proofs.lemmas.List.Sums.{sum_by-cons, sum_by-append}
 use Rattle.std.proofs.lemmas.List.{reverse-append}
 use Rattle.std.proofs.lemmas.Option.{same_Some}
@@ -16,6 +16,7 @@ use Rattle.workspace.specs.declared.cell.TermCell.TheVariants as cells
 use Rattle.workspace.specs.Made.{StackPart, type_part, const_part, lifetime_part, principal_part, auto_part, off, off_autos, off_principal, putting, is_below, is_type, is_const, is_lifetime, is_principal, is_arg, parts_behind, parts_of, AreMade}
 use Rattle.workspace.specs.Views.{cell_of, cells_of}
 use Rattle.workspace.specs.TermCounts.{parts}
+use Rattle.type_terms.proofs.TypeBasics.{mapped-some as map-some}
 
 -- ---- trees
 pub parts-append : (t o : Trees) → parts (t +++ o) ≡ parts t + parts o
@@ -94,10 +95,6 @@ autos-long (suc n) u (auto_part t ∷ P) R e = by (is_below t u) (autos-long n (
 then-some : {A B : Type 0} (f : A → Option B) (o : Option A) (y : B) → option_and_then f o ≡ Some y → (x : A) × (o ≡ Some x) × (f x ≡ Some y)
 then-some f None y e = absurd cc
 then-some f (Some x) y e = (x, refl, e)
-
-map-some : {A B : Type 0} (f : A → B) (o : Option A) (y : B) → option_map f o ≡ Some y → (x : A) × (o ≡ Some x) × (f x ≡ y)
-map-some f None y e = absurd cc
-map-some f (Some x) y e = (x, refl, same_Some (f x) y e)
 
 array-long : (P R : List StackPart) → option_and_then (off is_type 1) (off is_const 1 P) ≡ Some R → length R + 2 ≡ length P
 array-long P R e =

@@ -1,6 +1,5 @@
 -- Lists of cells, lowered one after the other.
-use Rattle.std.proofs.Common.{◌≡◌, ℕ, zero, suc, ◌<◌, Bool, true, false, ◌&&◌, List, [], ◌∷◌, ◌++◌, length, map, drop, get_or, append-nil, append_assoc, Option, Some, None, IsSome, refl, sym, ap, ◌∙◌, subst, arith}
-use Rattle.std.proofs.lemmas.List.{reverse-append}
+use Rattle.std.proofs.Common.{◌≡◌, ℕ, zero, suc, ◌<◌, Bool, true, false, ◌&&◌, List, [], ◌∷◌, ◌++◌, length, map, drop, get_or, append-nil, append_assoc, Some, IsSome, refl, sym, ap, ◌∙◌, subst, arith}
 use Rattle.std.proofs.lemmas.Option.{same_Some}
 use Rattle.std.specs.Prelude.{reverse}
 use Rattle.std.specs.List.{list_all}
@@ -21,12 +20,7 @@ use Rattle.type_terms.specs.declared.region.Region.{Region}
 use Rattle.workspace.specs.Stack.{pushed, stack_of, part_of, parts_in, tree_of, trees_of_stack, StackHeld, AllParts, lowered_arg, lowered_type}
 use Rattle.workspace.specs.Lowers.{Lowers}
 use Rattle.workspace.proofs.Lowering.{first-made, trees_joined, args-joined, held-pushed}
-
--- the cell at a place, and those behind it
-pub drop-more : {A : Type 0} (xs : List A) (i : ℕ) (x : A) → i < length xs → x ≡ get_or xs i x → drop i xs ≡ x ∷ drop (suc i) xs
-drop-more [] i x h e = absurd (omega (arith, h))
-drop-more (y ∷ xs) zero x h e = ap (λ z. z ∷ xs) (sym e)
-drop-more (y ∷ xs) (suc i) x h e = drop-more xs i x (omega (arith, h)) e
+use Rattle.type_terms.proofs.ListBasics.{rev-cons}
 
 pub drop-all : {A : Type 0} (xs : List A) (i : ℕ) → length xs ≡ i → drop i xs ≡ []
 drop-all [] zero e = refl
@@ -51,9 +45,6 @@ pub trees-further : (c : TermCell) (cs : List TermCell) (old new : List Entry) (
 trees-further c cs old new S R x l = sym (ap (behind_cells (cells_of cs)) l.trees)
 
 -- ---- the stack from its bottom
-rev-cons : {A : Type 0} (x : A) (ys : List A) → reverse (x ∷ ys) ≡ reverse ys ++ x ∷ []
-rev-cons x ys = reverse-append (x ∷ []) ys
-
 bottom : {A : Type 0} (f : Lowered → A) (xs S : List Lowered) → reverse (map f (pushed xs S)) ≡ reverse (map f S) ++ map f xs
 bottom f [] S = sym (append-nil (reverse (map f S)))
 bottom f (x ∷ xs) S = bottom f xs (x ∷ S) ∙ ap (λ r. r ++ map f xs) (rev-cons (f x) (map f S)) ∙ append_assoc (reverse (map f S)) (f x ∷ []) (map f xs)
@@ -90,10 +81,6 @@ all-pushed p (x ∷ xs) S e =
     let r = all-pushed p xs (x ∷ S) e in
     let b = and-both (p (part_of x)) (list_all p (map part_of S)) r.1 in
     ((b.0, r.0), b.1)
-
-pub made-some : {A B : Type 0} (f : A → B) (o : Option A) (y : B) → option_map f o ≡ Some y → IsSome o
-made-some f None y e = absurd cc
-made-some f (Some x) y e = refl
 
 pub all-parts : (p : StackPart → Bool) (cs : List TermCell) (xs : List Lowered) → AreMade p cs → parts_of cs [] ≡ Some (parts_in xs) → AllParts p xs
 all-parts p cs xs made e =

@@ -195,12 +195,6 @@ trait-declared t traits s n behind text number home =
     ∙ ap (λ h. with_trait d (record { text = n; kinds = sorts_of s.params.items; item = record (trait_of s).item { name = length d.traits; home = h } })) home
 
 -- ---- a question
-pub question-declared : (t : Tables) (questions : List QuestionEntry) (q : QuestionEntry)
-    → questions ≡ t.questions.items ++ q ∷ [] → record (declared t) { questions = map question_of questions } ≡ with_question (declared t) (question_of q)
-question-declared t questions q behind =
-    let d = declared t in
-    ap (λ qs. record d { questions = qs }) (ap (map question_of) behind ∙ map_push question_of t.questions.items q)
-
 pub question-consistent : (t : Tables) (questions : Vec QuestionEntry Global) (asked : Vec Asked Global) (q : QuestionEntry) → IsConsistent t → ReferenceMade q.asked → ReferencesMade q.clauses.items
     → questions.items ≡ t.questions.items ++ q ∷ [] → asked.items ≡ t.asked.items ++ q.asked_how ∷ [] → asker_of q.asked_how < length t.crates.items
     → IsConsistent (record t { questions = questions; asked = asked })

@@ -12,23 +12,11 @@ use Rattle.workspace.specs.declared.cell.TermCell.{TermCell}
 use Rattle.workspace.specs.declared.cell.TermCell.TheVariants as cells
 use Rattle.type_terms.specs.declared.kinds.IntTy.TheVariants as ints
 use Rattle.type_terms.specs.declared.kinds.UintTy.TheVariants as uints
-use Rattle.workspace.specs.Numbered.{IsFew}
 use Rattle.workspace.specs.Tables.{with_impl}
 use Rattle.workspace.specs.Parts.{new_impl}
 use Rattle.workspace.specs.TermCells.{trees_of, joined}
 use Rattle.workspace.specs.Views.{cell_of}
 use Rattle.workspace.specs.CoreItems.{HasRoom, IsInCore, core_traits_to, core_cloned, core_boxed, impl_for, ref_impl, pointer_impl, array_impl, boxed_impl}
-
-pub few-of_room : (d : Declarations) → HasRoom d → IsFew d 1048640
-few-of_room d h = record {
-  few_crates = omega (arith, h.few_crates);
-  few_structs = omega (arith, h.few_structs);
-  few_traits = omega (arith, h.few_traits);
-  few_impls = omega (arith, h.few_impls);
-  few_questions = omega (arith, h.few_questions);
-  few_sections = omega (arith, h.few_sections);
-  few_later = omega (arith, h.few_later);
-}
 
 -- ---- impls
 -- an impl of `core` with this number
@@ -165,7 +153,3 @@ boxed d e before is = is ∙ ap (λ x. with_impl x (boxed_impl x)) before
 
 pub all_copied : (d e : Declarations) → d ≡ core_boxed → e ≡ record d { impls = d.impls ++ copied (length d.impls) 2 } → e ≡ nothing_declared
 all_copied d e before is = is ∙ ap {A = Declarations} (λ x. record x { impls = x.impls ++ copied (length x.impls) 2 }) before
-
--- ---- the traits
-pub trait-room : (n : ℕ) (d : Declarations) → d ≡ core_traits_to n → HasRoom (core_traits_to n) → HasRoom d
-trait-room n d e h = subst HasRoom (sym e) h

@@ -8,6 +8,7 @@ use Rattle.std.specs.List.{list_any}
 use Rattle.type_terms.specs.Worlds.{World, CrateDecl, core, crates_named, sees_within, sees}
 use Rattle.workspace.specs.Numbered.{EachNumbered}
 use Rattle.workspace.proofs.Each.{Every, Every-from_Each, filter-none, filter-push, self-number}
+use Rattle.type_terms.proofs.BooleanBasics.{or-false}
 
 -- a crate's number is its place, and it uses earlier crates
 abbrev pub IsOrdered : List CrateDecl → Type 0
@@ -56,10 +57,6 @@ named-none f c cs o h = named-agree f (λ u. false) c cs (earlier c cs o) h ∙ 
 -- ---- what is seen, itself and `core` apart
 abbrev base : ℕ → ℕ → Bool
 base c e = (c == e) || (e == core)
-
-or-false : (b : Bool) → (b || false) ≡ b
-or-false true = refl
-or-false false = refl
 
 -- a deeper look finds no more
 pub deeper : (n : ℕ) (W : World) (c e : ℕ) → IsOrdered W.crates → c ≤ n → sees_within (suc n) W c e ≡ sees_within n W c e

@@ -1,7 +1,7 @@
 -- Facts of each element of a list with its place, where an element is put behind the others.
-use Rattle.std.proofs.Common.{◌≡◌, ℕ, zero, suc, ◌+◌, ◌<◌, ◌≤◌, Bool, true, false, cond, ◌||◌, List, [], ◌∷◌, ◌++◌, length, take, get_or, Option, Some, None, refl, sym, ap, ◌∙◌, subst, arith, ◌⊎◌, inl, inr}
-use Rattle.std.proofs.lemmas.Option.{slice_get_within, same_Some, slice_get-map}
-use Rattle.std.proofs.lemmas.Bool.{cases_Bool, ne_eqb}
+use Rattle.std.proofs.Common.{◌≡◌, ℕ, zero, suc, ◌+◌, ◌<◌, ◌≤◌, Bool, true, false, cond, ◌||◌, List, [], ◌∷◌, ◌++◌, length, take, get_or, Some, None, refl, sym, ap, ◌∙◌, subst, arith, ◌⊎◌, inl, inr}
+use Rattle.std.proofs.lemmas.Option.{same_Some, slice_get-map}
+use Rattle.std.proofs.lemmas.Bool.{cases_Bool}
 use Rattle.std.proofs.lemmas.Bool.Decides.{nat_tests}
 use Rattle.std.proofs.lemmas.List.Sums.{sum_by-append, sum_by-cons}
 use Rattle.std.proofs.lemmas.List.Elements.{filter-append}
@@ -9,6 +9,7 @@ use Rattle.std.specs.Prelude.{◌==◌, slice_get, count_by, find, filter, map}
 use Rattle.std.specs.Option.{option_map}
 use Rattle.std.specs.List.{list_any}
 use Rattle.workspace.specs.Numbered.{EachNumbered}
+use Rattle.type_terms.proofs.TypeBasics.{mapped-some as mapped_some}
 
 pub Each-weaken : {A : Type 0} {P Q : ℕ → A → Type 0} (xs : List A) → ((k : ℕ) (x : A) → P k x → Q k x) → EachNumbered P xs → EachNumbered Q xs
 Each-weaken xs f h = λ k x e. f k x (h k x e)
@@ -25,10 +26,6 @@ slice_get-push (z ∷ xs) x (suc k) y e = elim (slice_get-push xs x k y e) [ inl
 
 pub Each-push : {A : Type 0} {P : ℕ → A → Type 0} (xs : List A) (x : A) → EachNumbered P xs → P (length xs) x → EachNumbered P (xs ++ x ∷ [])
 Each-push {P = P} xs x h p = λ k y e. elim (slice_get-push xs x k y e) [ inl g ↦ h k y g | inr g ↦ rw (g.0, ← g.1) p ]
-
-pub mapped_some : {A B : Type 0} (f : A → B) (o : Option A) (y : B) → option_map f o ≡ Some y → (x : A) × (o ≡ Some x) × (f x ≡ y)
-mapped_some f None y e = absurd cc
-mapped_some f (Some x) y e = (x, refl, same_Some (f x) y e)
 
 pub Each-of_map : {A B : Type 0} (P : ℕ → B → Type 0) (f : A → B) (xs : List A) → EachNumbered (λ k x. P k (f x)) xs → EachNumbered P (map f xs)
 Each-of_map P f xs h = λ k y e. let m = mapped_some f (slice_get xs k) y (sym (slice_get-map f xs k) ∙ e) in rw (← m.2) (h k m.0 m.1)
@@ -106,26 +103,6 @@ filter-push p xs x = filter-append p xs (x ∷ [])
 pub self-number : (n : ℕ) → (n == n) ≡ true
 self-number n = grind (arith, nat_tests)
 
--- in a numbered list one element has the number
-pub filter-numbered : {A : Type 0} (f : A → ℕ) (n : ℕ) (xs : List A) → EachNumbered (λ k x. f x ≡ k + n) xs → (k : ℕ) (x : A) → slice_get xs k ≡ Some x → filter (λ y. f y == k + n) xs ≡ x ∷ []
-filter-numbered f n [] h k x e = absurd cc
-filter-numbered {A = A} f n (y ∷ ys) h zero x e =
-    let same : y ≡ x = same_Some y x e in
-    let number : f y ≡ 0 + n = h 0 y refl in
-    let yes : (f y == 0 + n) ≡ true = ap (λ m. m == 0 + n) number ∙ self-number (0 + n) in
-    let others : Every (λ z. (f z == 0 + n) ≡ false) ys = Every-from_Each {P = λ k z. f z ≡ suc k + n} ys (λ k z p. ne_eqb (f z) (0 + n) (λ q. absurd (omega (arith, p, q)))) (λ k z g. h (suc k) z g) in
-    ap (λ t. cond t (y ∷ filter (λ z. f z == 0 + n) ys) (filter (λ z. f z == 0 + n) ys)) yes ∙ ap (λ r. y ∷ r) (filter-none (λ z. f z == 0 + n) ys others) ∙ ap (λ z. z ∷ []) same
-filter-numbered {A = A} f n (y ∷ ys) h (suc k) x e =
-    let number : f y ≡ 0 + n = h 0 y refl in
-    let no : (f y == suc k + n) ≡ false = ne_eqb (f y) (suc k + n) (λ q. absurd (omega (arith, number, q))) in
-    let shift : suc k + n ≡ k + suc n = omega arith in
-    let rest : filter (λ z. f z == k + suc n) ys ≡ x ∷ [] = filter-numbered f (suc n) ys (λ j z g. h (suc j) z g ∙ omega arith) k x e in
-    ap (λ t. cond t (y ∷ filter (λ z. f z == suc k + n) ys) (filter (λ z. f z == suc k + n) ys)) no ∙ ap (λ m. filter (λ z. f z == m) ys) shift ∙ rest
-
-pub filter-unnumbered : {A : Type 0} (f : A → ℕ) (n m : ℕ) (xs : List A) → EachNumbered (λ k x. f x ≡ k + n) xs → ((k : ℕ) → k < length xs → k + n ≡ m → ⊥) → filter (λ y. f y == m) xs ≡ []
-filter-unnumbered {A = A} f n m xs h g =
-    filter-none (λ y. f y == m) xs (Every-from_Each {P = λ k x. (f x ≡ k + n) × (k < length xs)} xs (λ k x p. ne_eqb (f x) m (λ q. absurd (g k p.1 (sym p.0 ∙ q)))) (λ k x e. (h k x e, slice_get_within xs k x e)))
-
 pub list_any-map : {A B : Type 0} (p : B → Bool) (f : A → B) (xs : List A) → list_any p (map f xs) ≡ list_any (λ x. p (f x)) xs
 list_any-map p f [] = refl
 list_any-map p f (x ∷ xs) = ap (λ b. p (f x) || b) (list_any-map p f xs)
@@ -138,10 +115,6 @@ pub take-map : {A B : Type 0} (f : A → B) (k : ℕ) (xs : List A) → take k (
 take-map f zero xs = refl
 take-map f (suc k) [] = refl
 take-map f (suc k) (x ∷ xs) = ap (λ r. f x ∷ r) (take-map f k xs)
-
-pub map-agree : {A B : Type 0} (f g : A → B) (xs : List A) → ((x : A) → f x ≡ g x) → map f xs ≡ map g xs
-map-agree f g [] h = refl
-map-agree f g (x ∷ xs) h = ap (λ y. y ∷ map f xs) (h x) ∙ ap (λ r. g x ∷ r) (map-agree f g xs h)
 
 pub slice_get-there : {A : Type 0} (xs : List A) (k : ℕ) → k < length xs → (x : A) × (slice_get xs k ≡ Some x)
 slice_get-there [] k h = absurd (omega (arith, h))

@@ -1,16 +1,16 @@
 -- What the parts of a line declare is what the line adds.
-use Rattle.std.proofs.Common.{◌≡◌, ℕ, ◌-◌, Bool, true, false, if◌then◌else◌, List, ◌++◌, length, sym, ap, ◌∙◌, arith, length-append}
+use Rattle.std.proofs.Common.{◌≡◌, ℕ, ◌-◌, Bool, false, if◌then◌else◌, List, ◌++◌, length, sym, ap, ◌∙◌, arith, length-append}
 use Rattle.std.proofs.lemmas.List.{length-map}
 use Rattle.std.specs.Prelude.{map}
 use Rattle.type_terms.specs.Label.{Sort, of_type, of_const, of_lifetime}
 use Rattle.type_terms.specs.Trees.{Trees}
 use Rattle.type_terms.specs.Worlds.{Reference}
-use Rattle.text_definitions.specs.Syntax.{Params, Clause, Line, struct_line, trait_line, impl_line, prove_line, refute_line}
-use Rattle.text_definitions.specs.Declarations.{Declarations, NamedImpl, Question, kinds_of, with_sort, sorted_names, last_crate, last_changed, last_later}
+use Rattle.text_definitions.specs.Syntax.{Params, Clause, Line, struct_line, trait_line, impl_line}
+use Rattle.text_definitions.specs.Declarations.{Declarations, NamedImpl, kinds_of, with_sort, sorted_names, last_crate, last_changed, last_later}
 use Rattle.text_definitions.specs.Adding.{added, item_meanings}
 use Rattle.text_definitions.specs.Lowering.{clause_reference}
-use Rattle.workspace.specs.Tables.{with_struct, with_trait, with_impl, with_later, with_question}
-use Rattle.workspace.specs.Parts.{IsStructLine, IsTraitLine, IsImplLine, IsWrittenQuestion, new_struct, new_trait, new_impl, new_later}
+use Rattle.workspace.specs.Tables.{with_struct, with_trait, with_impl, with_later}
+use Rattle.workspace.specs.Parts.{IsStructLine, IsTraitLine, IsImplLine, new_struct, new_trait, new_impl}
 
 pub struct-added : (d : Declarations) (n : List ℕ) (f : Bool) (kinds : List Sort) (fields : List Trees) (l : Line) → IsStructLine d n f kinds fields l → with_struct d (new_struct d n f kinds fields) ≡ added d l
 struct-added d n f kinds fields (struct_line g m ps fs) h =
@@ -85,26 +85,3 @@ impl-added d params header clauses (impl_line ps h ks) out e =
     (as_many ps)
     ∙ line-adds d ps h ks false out
 impl-added d params header clauses _ out e = absurd e
-
-pub later-added : (d : Declarations) (params : List (List ℕ × Sort)) (header : Reference) (clauses : List Reference) (l : Line) → d.in_section ≡ true → IsImplLine d params header clauses l → with_later d (new_later d params header clauses) ≡ added d l
-unfolding with_line line_impl
-later-added d params header clauses (impl_line ps h ks) inside e =
-    ap (λ x. with_later d (new_later d x header clauses)) e.0
-    ∙ ap (λ x. with_later d (new_later d (sorted_names ps) x clauses)) e.1
-    ∙ ap (λ x. with_later d (new_later d (sorted_names ps) (clause_reference (item_meanings d (impl_line ps h ks) 0) h) x)) e.2
-    ∙ ap
-    (λ k. with_later d (record {
-      section = length d.sections - 1;
-      added = record {
-        params = sorted_names ps;
-        item = record { name = last_later d; home = last_changed d; params = k; header = clause_reference (item_meanings d (impl_line ps h ks) 0) h; clauses = map (clause_reference (item_meanings d (impl_line ps h ks) 0)) ks };
-      };
-    }))
-    (as_many ps)
-    ∙ line-adds d ps h ks true inside
-later-added d params header clauses _ inside e = absurd e
-
-pub question-added : (d : Declarations) (q : Question) (l : Line) → IsWrittenQuestion d q l → with_question d q ≡ added d l
-question-added d q (prove_line c ps a ks) h = ap (with_question d) h
-question-added d q (refute_line c ps a) h = ap (with_question d) h
-question-added d q _ h = absurd h

@@ -6,7 +6,7 @@ use Rattle.std.specs.Option.{option_map, option_and_then}
 use Rattle.type_terms.specs.Label.{Label, of_type, bool, char, str, never, array, tuple, dynamic, int, uint, adt, fn_ptr, ref, auto_trait, principal, param, placeholder, infer}
 use Rattle.type_terms.specs.Trees.{Trees, none, tree, leaf, ◌+++◌, is_no_tree, IsA}
 use Rattle.type_terms.specs.Terms.{Entry, Is, Has, Keeps, types, consts, args_lists, type_lists, bounds_lists, trees_at, Lawful}
-use Rattle.type_terms.specs.Kinds.{kind_trees, const_label, args_trees, tys_trees, principal_trees, autos_trees, region_label, region_trees, is_mut, int_number, uint_number, KindHeld, RegionHeld, ArgHeld, ArgsHeld, TysHeld, PrincipalHeld}
+use Rattle.type_terms.specs.Kinds.{kind_trees, const_label, args_trees, tys_trees, principal_trees, autos_trees, region_trees, is_mut, int_number, uint_number, KindHeld, ArgHeld, ArgsHeld, TysHeld, PrincipalHeld}
 use Rattle.type_terms.specs.declared.AdtId.{AdtId}
 use Rattle.type_terms.specs.declared.TraitId.{TraitId}
 use Rattle.type_terms.specs.declared.region.Region.{Region}
@@ -22,13 +22,14 @@ use Rattle.workspace.specs.declared.cell.TermCell.{TermCell}
 use Rattle.workspace.specs.declared.cell.TermCell.TheVariants as cells
 use Rattle.workspace.specs.TermCells as cell
 use Rattle.workspace.specs.TermCells.{gathered, below, behind_cell}
-use Rattle.workspace.specs.Made.{StackPart, type_part, const_part, lifetime_part, principal_part, auto_part, off, off_autos, off_principal, is_below, is_type, is_lifetime, is_arg, parts_behind}
+use Rattle.workspace.specs.Made.{StackPart, type_part, const_part, lifetime_part, principal_part, auto_part, off, off_autos, off_principal, is_below, is_type, is_arg, parts_behind}
 use Rattle.workspace.specs.Views.{cell_of}
 use Rattle.workspace.specs.declared.stack.Lowered.{Lowered}
 use Rattle.workspace.specs.declared.stack.Lowered.TheVariants as lowered
 use Rattle.workspace.specs.Stack.{pushed, part_of, tree_of, trees_of_stack, LoweredHeld, StackHeld, lowered_arg, lowered_type, lowered_auto, PopsPrincipal}
 use Rattle.workspace.proofs.Stacks.{pushed-push}
 use Rattle.workspace.specs.Lowers.{Lowers, IsLeafOf}
+use Rattle.type_terms.proofs.TermBasics.{and-none, assoc}
 
 -- ---- handles
 pub is-tree : (es : List Entry) (kind i : ℕ) (t : Trees) → Is es kind i t → trees_at es i ≡ t
@@ -84,14 +85,6 @@ tys-held es (t ∷ ts) h = (h.0, tys-held es ts h.1)
 abbrev pub trees_joined : List Entry → List Lowered → Trees
 trees_joined es [] = none
 trees_joined es (x ∷ xs) = tree_of es x +++ trees_joined es xs
-
-assoc : (x y z : Trees) → (x +++ y) +++ z ≡ x +++ (y +++ z)
-assoc none y z = refl
-assoc (tree l c o) y z = ap (tree l c) (assoc o y z)
-
-pub and-none : (x : Trees) → x +++ none ≡ x
-and-none none = refl
-and-none (tree l c o) = ap (tree l c) (and-none o)
 
 gathered-pushed : (es : List Entry) (xs : List Lowered) (j : ℕ) (S : List Lowered) (o : Trees) → gathered (length xs + j) (trees_of_stack es (pushed xs S)) o ≡ gathered j (trees_of_stack es S) (trees_joined es xs +++ o)
 gathered-pushed es [] j S o = let e : 0 + j ≡ j = omega arith in ap (λ k. gathered k (trees_of_stack es S) o) e
@@ -310,11 +303,6 @@ bounds-joined es ts r = joined-append es (map lowered_auto ts) (lowered.Lifetime
 below-lifetime : (ts : List TraitId) (r : Region) (S T R : List Lowered) → S ≡ lowered.Lifetime r ∷ T → T ≡ pushed (map lowered_auto ts) R → S ≡ pushed (map lowered_auto ts ++ lowered.Lifetime r ∷ []) R
 below-lifetime ts r S T R top next = top ∙ ap (λ U. lowered.Lifetime r ∷ U) next ∙ sym (pushed-push (map lowered_auto ts) (lowered.Lifetime r) R)
 
-pub lifetime-made : (p : Bool) (n : ℕ) (P : List StackPart) → IsSome (parts_behind (cells.Dynamic p n) P) → IsSome (off is_lifetime 1 P)
-lifetime-made p n P some =
-    first-made (off_autos n None) (off is_lifetime 1 P)
-    (first-made (off_principal p) (option_and_then (off_autos n None) (off is_lifetime 1 P)) (inside-made (λ T. type_part ∷ T) (option_and_then (off_principal p) (option_and_then (off_autos n None) (off is_lifetime 1 P))) some))
-
 pub autos-made : (p : Bool) (n : ℕ) (r : Region) (S T : List Lowered) → IsSome (parts_behind (cells.Dynamic p n) (map part_of S)) → S ≡ lowered.Lifetime r ∷ T → IsSome (off_autos n None (map part_of T))
 autos-made p n r S T some top =
     let g : IsSome (parts_behind (cells.Dynamic p n) (lifetime_part ∷ map part_of T)) = subst (λ U. IsSome (parts_behind (cells.Dynamic p n) (map part_of U))) top some in
@@ -363,9 +351,3 @@ principal-held es true ts r (Some p) S T U R top next pops held =
     let two = held-pushed es (map lowered_auto ts) U (subst (StackHeld es) next one.1) in
     let three : StackHeld es (lowered.Principal p ∷ R) = subst (StackHeld es) pops two.1 in
     three.0
-
-pub lifetime-lowers : (r : Region) (es : List Entry) (S : List Lowered) → RegionHeld r.kind → StackHeld es S → Lowers (cells.Lifetime r) es es S (lowered.Lifetime r) S
-lifetime-lowers r es S range held = node-lowers (cells.Lifetime r) (region_label r.kind) 0 [] es es S S (lowered.Lifetime r) refl refl refl refl held (λ i e h. h) range refl
-
-pub auto-lowers : (t : TraitId) (es : List Entry) (S : List Lowered) → StackHeld es S → Lowers (cells.Auto t) es es S (lowered.Auto t) S
-auto-lowers t es S held = node-lowers (cells.Auto t) (auto_trait t.index) 0 [] es es S S (lowered.Auto t) refl refl refl refl held (λ i e h. h) tt refl

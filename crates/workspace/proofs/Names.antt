@@ -115,18 +115,6 @@ bytes-updated {Y = Y} {X = X} {S = S} bs m n w h cs =
     (cases_Bool (bytes_eq bs cs))
 
 -- ---- the item of a name is there
--- what is known of a name whose item is found
-pub crate-known : (d : Declarations) (n : List ℕ) (k : ℕ) → item_named d n ≡ Some (crate_item k) → known d n ≡ Some (a_crate k)
-crate-known d n k e = crate-first (find (λ c. bytes_eq c.text n) d.crates) (find (λ s. bytes_eq s.text n) d.structs) (find (λ t. bytes_eq t.text n) d.traits) k e
-  where
-    crate-first : (c : Option NamedCrate) (s : Option NamedStruct) (t : Option NamedTrait) (k : ℕ)
-        → option_or (option_map (λ x. crate_item x.item.name) c) (option_or (option_map (λ x. struct_item x.item.name) s) (option_map (λ x. trait_item x.item.name) t)) ≡ Some (crate_item k)
-        → option_or (option_map (λ x. a_crate x.item.name) c) (option_or (option_map (λ x. a_struct x.item.name x.item.home x.kinds) s) (option_map (λ x. a_trait x.item.name x.item.home x.item.is_auto x.kinds) t)) ≡ Some (a_crate k)
-    crate-first (Some c) s t k e = let same : c.item.name ≡ k = cc in ap (λ m. Some (a_crate m)) same
-    crate-first None (Some s) t k e = absurd cc
-    crate-first None None (Some t) k e = absurd cc
-    crate-first None None None k e = absurd cc
-
 pub struct-known : (d : Declarations) (n : List ℕ) (k : ℕ) → IsNumbered d → item_named d n ≡ Some (struct_item k)
     → (s : NamedStruct) × (slice_get d.structs k ≡ Some s) × (known d n ≡ Some (a_struct k s.item.home s.kinds))
 struct-known d n k i e =
@@ -160,17 +148,6 @@ trait-known d n k i e =
     trait-first None (Some s) t k e = absurd cc
     trait-first None None (Some t) k e = let same : t.item.name ≡ k = cc in (t, refl, same, ap (λ m. Some (a_trait m t.item.home t.item.is_auto t.kinds)) same)
     trait-first None None None k e = absurd cc
-
-pub nothing-known : (d : Declarations) (n : List ℕ) → item_named d n ≡ None → known d n ≡ None
-nothing-known d n e = all-none (find (λ c. bytes_eq c.text n) d.crates) (find (λ s. bytes_eq s.text n) d.structs) (find (λ t. bytes_eq t.text n) d.traits) e
-  where
-    all-none : (c : Option NamedCrate) (s : Option NamedStruct) (t : Option NamedTrait)
-        → option_or (option_map (λ x. crate_item x.item.name) c) (option_or (option_map (λ x. struct_item x.item.name) s) (option_map (λ x. trait_item x.item.name) t)) ≡ None
-        → option_or (option_map (λ x. a_crate x.item.name) c) (option_or (option_map (λ x. a_struct x.item.name x.item.home x.kinds) s) (option_map (λ x. a_trait x.item.name x.item.home x.item.is_auto x.kinds) t)) ≡ None
-    all-none (Some c) s t e = absurd cc
-    all-none None (Some s) t e = absurd cc
-    all-none None None (Some t) e = absurd cc
-    all-none None None None e = refl
 
 -- and the other way round: a name that isn't known has no item
 pub no-item : (d : Declarations) (n : List ℕ) → known d n ≡ None → item_named d n ≡ None

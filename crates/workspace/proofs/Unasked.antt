@@ -1,13 +1,12 @@
 -- The tables stay in agreement with what they declare where the last question is taken out again.
-use Rattle.std.proofs.Common.{◌≡◌, ℕ, zero, suc, ◌+◌, ◌-◌, ◌<◌, List, [], ◌∷◌, ◌++◌, length, take, Some, Result, Ok, Err, sym, ap, ◌∙◌, subst, arith, length-append, length-take, Vec, Global}
-use Rattle.std.specs.Prelude.{OnOk, OnErr, map, slice_get}
+use Rattle.std.proofs.Common.{◌≡◌, ℕ, zero, suc, ◌-◌, ◌<◌, List, [], ◌∷◌, ◌++◌, length, take, Some, sym, ap, ◌∙◌, subst, arith, length-append, Vec, Global}
+use Rattle.std.specs.Prelude.{map, slice_get}
 use Rattle.std.proofs.Math.Seq.{take-length, take-append_seam}
 use Rattle.std.proofs.lemmas.List.{length-map, take-map}
-use Rattle.text_definitions.specs.Declarations.{Declarations, Question}
+use Rattle.text_definitions.specs.Declarations.{Question}
 use Rattle.workspace.specs.Made.{ReferenceMade, ReferencesMade}
-use Rattle.workspace.specs.Numbered.{EachNumbered, IsFew}
+use Rattle.workspace.specs.Numbered.{EachNumbered}
 use Rattle.workspace.specs.Tables.{IsConsistent, declared}
-use Rattle.workspace.specs.Unasked.{without_last_question}
 use Rattle.workspace.specs.Views.{question_of}
 use Rattle.workspace.specs.declared.declared.Asked.{Asked}
 use Rattle.workspace.specs.declared.declared.QuestionEntry.{QuestionEntry}
@@ -73,14 +72,6 @@ pub last-removed : (t : Tables) (questions : Vec QuestionEntry Global) (asked : 
 last-removed t questions asked i first also =
     taken t (length t.questions.items - 1) questions asked i first (also ∙ ap (λ m. take (m - 1) t.asked.items) (as-many t i))
 
-pub without-last : (t : Tables) (questions : Vec QuestionEntry Global) → questions.items ≡ take (length t.questions.items - 1) t.questions.items
-    → record (declared t) { questions = map question_of questions.items } ≡ without_last_question (declared t)
-without-last t questions first =
-    let d = declared t in
-    let many : length t.questions.items ≡ length d.questions = sym (length-map t.questions.items question_of) in
-    ap (λ (qs : List Question). record d { questions = qs })
-    (ap (map question_of) first ∙ sym (take-map question_of (length t.questions.items - 1) t.questions.items) ∙ ap (λ m. take (m - 1) d.questions) many)
-
 -- what `Vec::pop` leaves
 pub all-but-last : {A : Type 0} (v : Vec A Global) (zs : List A) → zs ≡ take (v.len - 1) v.items → zs ≡ take (length v.items - 1) v.items
 all-but-last v zs e = e ∙ ap (λ n. take (n - 1) v.items) v.ok.0
@@ -97,32 +88,4 @@ refused t questions asked i same also =
     taken t (length t.questions.items) questions asked i (same ∙ sym (take-length t.questions.items))
     (also ∙ sym (ap (λ m. take m t.asked.items) (sym (as-many t i)) ∙ take-length t.asked.items))
 
-pub still-declared : (t : Tables) (questions : List QuestionEntry) → questions ≡ t.questions.items → record (declared t) { questions = map question_of questions } ≡ declared t
-still-declared t questions same = ap (λ (qs : List QuestionEntry). record (declared t) { questions = map question_of qs }) same
-
 -- ---- a workspace
-pub either : {T E P : Type 0} (r : Result T E) → OnOk r P → OnErr r P → P
-either (Ok x) a b = a
-either (Err e) a b = b
-
-pub few-asked : (d : Declarations) (q : Question) (k : ℕ) → length d.questions + 1 < k → IsFew d k → IsFew (record d { questions = d.questions ++ q ∷ [] }) k
-few-asked d q k room few = record {
-  few_crates = few.few_crates;
-  few_structs = few.few_structs;
-  few_traits = few.few_traits;
-  few_impls = few.few_impls;
-  few_questions = omega (arith, room, length-append d.questions (q ∷ []));
-  few_sections = few.few_sections;
-  few_later = few.few_later;
-}
-
-pub few-unasked : (d : Declarations) (k : ℕ) → IsFew d k → IsFew (without_last_question d) k
-few-unasked d k few = record {
-  few_crates = few.few_crates;
-  few_structs = few.few_structs;
-  few_traits = few.few_traits;
-  few_impls = few.few_impls;
-  few_questions = omega (arith, length-take (length d.questions - 1) d.questions, few.few_questions);
-  few_sections = few.few_sections;
-  few_later = few.few_later;
-}

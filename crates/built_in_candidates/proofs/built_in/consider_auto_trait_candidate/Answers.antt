@@ -7,13 +7,13 @@ use Rattle.declarations.specs.Items.{written}
 use Rattle.declarations.specs.Relevant.{next_above}
 use Rattle.assembly_laws.specs.Asking.{with_plain_head}
 use Rattle.assembly_laws.specs.Candidates.{as_written, misc}
-use Rattle.evaluation.proofs.Handed.{if-ok}
 use Rattle.built_in_candidates.specs.Goals.{asked_of}
 use Rattle.built_in_candidates.specs.Constituents.{AreConstituents}
 use Rattle.built_in_candidates.proofs.Asking.{asked-later}
 use Rattle.built_in_candidates.proofs.Relevant.{relevant-names}
 use Rattle.built_in_candidates.proofs.Autos.{auto-first, switched-off, switched-on}
 use Rattle.built_in_candidates.proofs.built_in.consider_auto_trait_candidate.Goals as goal
+use Rattle.type_terms.proofs.TypeBasics.{if-ok}
 
 pub returns-in-Some-clause-is : goal.returns-in-Some-clause-is
 returns-in-Some-clause-is c =

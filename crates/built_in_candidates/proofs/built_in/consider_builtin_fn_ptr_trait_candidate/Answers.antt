@@ -3,10 +3,10 @@ use Rattle.type_terms.specs.Rules.{fn_ptr_rules}
 use Rattle.type_terms.specs.Terms.{types, trees_at}
 use Rattle.type_terms.specs.Kept.{trees-is}
 use Rattle.assembly_laws.specs.Asking.{with_plain_head}
-use Rattle.evaluation.proofs.Handed.{if-ok}
 use Rattle.built_in_candidates.specs.Constituents.{AreConstituents}
 use Rattle.built_in_candidates.proofs.Heads.{fn-ptr-first}
 use Rattle.built_in_candidates.proofs.built_in.consider_builtin_fn_ptr_trait_candidate.Goals as goal
+use Rattle.type_terms.proofs.TypeBasics.{if-ok}
 
 pub returns-clause-is : goal.returns-clause-is
 returns-clause-is c =

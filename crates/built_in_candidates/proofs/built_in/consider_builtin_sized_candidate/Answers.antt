@@ -8,11 +8,11 @@ use Rattle.evaluation.specs.declared.candidate.BuiltinImplSource.TheVariants.{Tr
 use Rattle.declarations.specs.Items.{written}
 use Rattle.assembly_laws.specs.Asking.{with_plain_head}
 use Rattle.assembly_laws.specs.Candidates.{as_written}
-use Rattle.evaluation.proofs.Handed.{if-ok}
 use Rattle.built_in_candidates.specs.Constituents.{AreConstituents}
 use Rattle.built_in_candidates.proofs.Asking.{asked-later}
 use Rattle.built_in_candidates.proofs.Heads.{sized-first}
 use Rattle.built_in_candidates.proofs.built_in.consider_builtin_sized_candidate.Goals as goal
+use Rattle.type_terms.proofs.TypeBasics.{if-ok}
 
 pub for_constituent_tys-requires-clause-goal : goal.for_constituent_tys-requires-clause-goal
 for_constituent_tys-requires-clause-goal c =

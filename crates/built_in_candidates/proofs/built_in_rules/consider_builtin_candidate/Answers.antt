@@ -2,14 +2,14 @@ use Rattle.std.proofs.Common.{◌++◌, ap, sym, ◌∙◌}
 use Rattle.std.specs.List.{slice_get}
 use Rattle.declarations.specs.Items.{written}
 use Rattle.declarations.proofs.Elaborating.{have-bounds-later}
-use Rattle.evaluation.proofs.Handed.{if-ok}
 use Rattle.type_terms.proofs.Grown.{grew-on}
 use Rattle.built_in_candidates.specs.Goals.{asked_of}
 use Rattle.built_in_candidates.specs.BuiltInRules.{by_rules}
 use Rattle.built_in_candidates.proofs.Later.{considered-later, plain-later, object-later, unsizing-later}
 use Rattle.built_in_candidates.proofs.RuleAfterRule.{rule-read, unsize-read}
-use Rattle.built_in_candidates.proofs.Lists.{empty-is}
 use Rattle.built_in_candidates.proofs.built_in_rules.consider_builtin_candidate.Goals as goal
+use Rattle.type_terms.proofs.TypeBasics.{if-ok}
+use Rattle.type_terms.proofs.ListBasics.{empty-is}
 
 pub consider_rule-requires-clause-considered : goal.consider_rule-requires-clause-considered
 consider_rule-requires-clause-considered c =

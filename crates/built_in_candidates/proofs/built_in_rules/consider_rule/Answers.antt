@@ -1,10 +1,10 @@
 use Rattle.std.proofs.Common.{ap, sym, ◌∙◌}
 use Rattle.declarations.specs.Items.{written}
 use Rattle.assembly_laws.specs.Candidates.{if_so}
-use Rattle.evaluation.proofs.Handed.{if-ok}
 use Rattle.built_in_candidates.specs.Goals.{asked_of}
 use Rattle.built_in_candidates.specs.BuiltInRules.{of_rule}
 use Rattle.built_in_candidates.proofs.built_in_rules.consider_rule.Goals as goal
+use Rattle.type_terms.proofs.TypeBasics.{if-ok}
 
 pub returns-then-speaks_of-clause-is : goal.returns-then-speaks_of-clause-is
 returns-then-speaks_of-clause-is c =

@@ -1,9 +1,9 @@
 use Rattle.std.proofs.Common.{ap, sym, ◌∙◌}
 use Rattle.declarations.specs.Items.{written}
-use Rattle.evaluation.proofs.Handed.{if-ok}
 use Rattle.built_in_candidates.specs.Goals.{asked_of}
 use Rattle.built_in_candidates.specs.BuiltInRules.{of_rule}
 use Rattle.built_in_candidates.proofs.built_in_rules.consider_rule_for.Goals as goal
+use Rattle.type_terms.proofs.TypeBasics.{if-ok}
 
 pub returns-in-CopyClone-clause-is : goal.returns-in-CopyClone-clause-is
 returns-in-CopyClone-clause-is c =

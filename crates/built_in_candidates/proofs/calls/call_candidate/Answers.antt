@@ -12,12 +12,12 @@ use Rattle.evaluation.specs.Readings.{EquationHeld}
 use Rattle.evaluation.specs.StepReadings.{equation_read}
 use Rattle.declarations.specs.Applied.{references_in, TraitRefsHeld}
 use Rattle.assembly_laws.specs.Candidates.{by_rule, misc, all_equal}
-use Rattle.evaluation.proofs.Handed.{if-ok}
 use Rattle.built_in_candidates.specs.Goals.{asked_of}
 use Rattle.built_in_candidates.proofs.Asking.{asked-later}
 use Rattle.built_in_candidates.proofs.Pairs.{arg-tree}
 use Rattle.built_in_candidates.proofs.FnPointers.{equation-made}
 use Rattle.built_in_candidates.proofs.calls.call_candidate.Goals as goal
+use Rattle.type_terms.proofs.TypeBasics.{if-ok}
 
 pub output_is_sized-requires : goal.output_is_sized-requires
 output_is_sized-requires c = has-later c.args.cx.now.entries c.tupled_inputs.new.cx.entries c.tupled_inputs.ensures.terms.grew.keeps type_lists c.args.inputs_and_output.0 c.requires.signature

@@ -1,9 +1,9 @@
 use Rattle.std.proofs.Common.{ap, sym, ◌∙◌, subst}
 use Rattle.type_terms.specs.Rules.{but_last}
 use Rattle.type_terms.specs.Kinds.{TysHeld, tys_trees}
-use Rattle.built_in_candidates.proofs.Lists.{empty-is}
 use Rattle.built_in_candidates.proofs.FnPointers.{inputs-are, inputs-held}
 use Rattle.built_in_candidates.proofs.calls.inputs.Goals as goal
+use Rattle.type_terms.proofs.ListBasics.{empty-is}
 
 pub returns-in-Some-clause-is : goal.returns-in-Some-clause-is
 returns-in-Some-clause-is c = λ es law h.

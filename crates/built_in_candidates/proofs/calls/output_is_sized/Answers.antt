@@ -2,10 +2,10 @@ use Rattle.std.proofs.Common.{ap, sym, ◌∙◌, subst}
 use Rattle.type_terms.specs.Rules.{last_asked, sized}
 use Rattle.type_terms.specs.Terms.{type_lists}
 use Rattle.type_terms.specs.Kept.{trees-is}
-use Rattle.evaluation.proofs.Handed.{if-ok}
 use Rattle.built_in_candidates.specs.Constituents.{types_asked, TypesHeld}
 use Rattle.built_in_candidates.proofs.Trees.{tys-last, held-last}
 use Rattle.built_in_candidates.proofs.calls.output_is_sized.Goals as goal
+use Rattle.type_terms.proofs.TypeBasics.{if-ok}
 
 pub types_asked-requires : goal.types_asked-requires
 types_asked-requires c =

@@ -8,12 +8,12 @@ use Rattle.evaluation.specs.StepReadings.{equation_read}
 use Rattle.declarations.specs.Items.{written}
 use Rattle.declarations.specs.Applied.{references_in, TraitRefsHeld}
 use Rattle.assembly_laws.specs.Candidates.{by_rule, all_equal}
-use Rattle.evaluation.proofs.Handed.{if-ok}
 use Rattle.built_in_candidates.specs.Goals.{asked_of}
 use Rattle.built_in_candidates.proofs.Asking.{asked-later}
 use Rattle.declarations.proofs.Bounded.{all-same}
 use Rattle.declarations.proofs.Growth.{references-kept}
 use Rattle.built_in_candidates.proofs.object.bound_candidate.Goals as goal
+use Rattle.type_terms.proofs.TypeBasics.{if-ok}
 
 pub returns-clause-held : goal.returns-clause-held
 returns-clause-held c =

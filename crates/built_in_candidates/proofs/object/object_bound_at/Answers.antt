@@ -8,9 +8,9 @@ use Rattle.declarations.specs.Items.{written}
 use Rattle.declarations.specs.Applied.{references_in}
 use Rattle.declarations.specs.Elaboration.{elaborate}
 use Rattle.assembly_laws.specs.Candidates.{if_so}
-use Rattle.evaluation.proofs.Handed.{if-ok}
 use Rattle.built_in_candidates.specs.Objects.{written_and_elaborated}
 use Rattle.built_in_candidates.proofs.object.object_bound_at.Goals as goal
+use Rattle.type_terms.proofs.TypeBasics.{if-ok}
 
 pub returns-then-is_dyn_compatible-clause-is : goal.returns-then-is_dyn_compatible-clause-is
 returns-then-is_dyn_compatible-clause-is c =

@@ -4,7 +4,6 @@ use Rattle.type_terms.specs.Trees.{Trees, leaf}
 use Rattle.type_terms.specs.Terms.{types, trees_at}
 use Rattle.type_terms.specs.Kept.{trees-is, has-later}
 use Rattle.type_terms.proofs.FailFacts.{refused-term, at-limit}
-use Rattle.infer_table.specs.Values.{Value}
 use Rattle.evaluation.specs.FrameTables.{Equation}
 use Rattle.type_terms.proofs.Grown.{grew-on}
 use Rattle.built_in_candidates.proofs.relate.never_met.Goals as goal
@@ -29,9 +28,6 @@ returns-in_err-char_ty-clause-terms c = record {
 pub returns-clause-held : goal.returns-clause-held
 returns-clause-held c =
     (has-later c.mk_ty.new.self.entries c.mk_ty-2.new.self.entries c.mk_ty-2.ensures.grew.keeps types c.in_ok-bool_ty.bool_ty.0 (_, c.in_ok-bool_ty.ensures.is), (_, c.in_ok-char_ty.ensures.is))
-
-typed : Trees → Value
-typed t = record { sort = of_type; trees = t }
 
 equated : (s t u v : Trees) → s ≡ u → t ≡ v
     → ◌≡◌ {A = Equation} (record { left = record { sort = of_type; trees = s }; right = record { sort = of_type; trees = t } }) (record { left = record { sort = of_type; trees = u }; right = record { sort = of_type; trees = v } })

@@ -1,7 +1,7 @@
 use Rattle.std.proofs.Common.{subst, ◌∷◌}
-use Rattle.built_in_candidates.proofs.Lists.{empty-is}
 use Rattle.built_in_candidates.proofs.Pairs.{Pairs, pairs-first, pairs-next, pairs-both, pairs-left, pairs-right}
 use Rattle.built_in_candidates.proofs.relate.paired_args.Goals as goal
+use Rattle.type_terms.proofs.ListBasics.{empty-is}
 
 pub pairs-init : goal.pairs-init
 pairs-init c = pairs-first c.args.first.now c.args.second.now c.new-found.result.items c.new-found.ensures.items

@@ -8,9 +8,10 @@ use Rattle.evaluation.specs.StepReadings.{equation_read}
 use Rattle.assembly_laws.specs.Candidates.{all_equal}
 use Rattle.evaluation.proofs.Contexts.{every-more}
 use Rattle.built_in_candidates.specs.Equations.{never_if}
-use Rattle.built_in_candidates.proofs.Lists.{map-push, append-none}
+use Rattle.built_in_candidates.proofs.Lists.{map-push}
 use Rattle.built_in_candidates.proofs.Pairs.{equations-later, equations-held-later}
 use Rattle.built_in_candidates.proofs.relate.relate_args.Goals as goal
+use Rattle.type_terms.proofs.ListBasics.{append-none}
 
 pub returns-then-is_longer-clause-held : goal.returns-then-is_longer-clause-held
 returns-then-is_longer-clause-held c =

@@ -4,12 +4,12 @@ use Rattle.type_terms.specs.Terms.{types, type_lists, trees_at}
 use Rattle.type_terms.specs.Kept.{trees-is}
 use Rattle.declarations.specs.Items.{written}
 use Rattle.assembly_laws.specs.Asking.{with_plain_head}
-use Rattle.evaluation.proofs.Handed.{if-ok}
 use Rattle.infer_table.proofs.BindFacts.{type-is}
 use Rattle.built_in_candidates.specs.Constituents.{AreConstituents, premises_of, types_asked, TypesHeld}
 use Rattle.built_in_candidates.proofs.Trees.{tys-asked, held-types}
 use Rattle.built_in_candidates.proofs.Autos.{pointee-rule, referent-rule, item-asked, element-asked}
 use Rattle.built_in_candidates.proofs.structural.instantiate_constituent_tys_for_auto_trait.Goals as goal
+use Rattle.type_terms.proofs.TypeBasics.{if-ok}
 
 pub returns-in_ok-tys-in-Str-clause-are : goal.returns-in_ok-tys-in-Str-clause-are
 returns-in_ok-tys-in-Str-clause-are c = λ t.

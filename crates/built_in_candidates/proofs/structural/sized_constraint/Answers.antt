@@ -9,8 +9,9 @@ use Rattle.declarations.specs.Merges.{Each}
 use Rattle.infer_table.proofs.BindFacts.{type-is}
 use Rattle.built_in_candidates.specs.Constituents.{premises_of, types_asked}
 use Rattle.built_in_candidates.proofs.Trees.{fields-last}
-use Rattle.built_in_candidates.proofs.Structs.{each-end, fields-fit}
+use Rattle.built_in_candidates.proofs.Structs.{fields-fit}
 use Rattle.built_in_candidates.proofs.structural.sized_constraint.Goals as goal
+use Rattle.declarations.proofs.Basics.{each-end}
 
 pub field_with-requires-clause-field : goal.field_with-requires-clause-field
 field_with-requires-clause-field c =

@@ -8,7 +8,6 @@ use Rattle.term_folds.specs.Signatures.{StartsWithType}
 use Rattle.declarations.specs.Items.{written}
 use Rattle.assembly_laws.specs.Asking.{begins_unknown, self_of}
 use Rattle.assembly_laws.specs.Candidates.{recording, lifetime_of, outlives, unsizing_outlives, unsize_known}
-use Rattle.evaluation.proofs.Handed.{if-ok}
 use Rattle.infer_table.proofs.BindFacts.{type-is}
 use Rattle.built_in_candidates.specs.Goals.{asked_of, candidate_of}
 use Rattle.built_in_candidates.proofs.Heads.{applied-first}
@@ -16,6 +15,7 @@ use Rattle.built_in_candidates.proofs.Lifetimes.{goal-outlives, recorded-at}
 use Rattle.built_in_candidates.proofs.Objects.{object-first}
 use Rattle.built_in_candidates.proofs.UnsizeRows.{known-goal, target-unknown, target-applied, next-plain, of-other-trait, of-unknown, of-known}
 use Rattle.built_in_candidates.proofs.unsize.consider_builtin_unsize_candidate.Goals as goal
+use Rattle.type_terms.proofs.TypeBasics.{if-ok}
 
 pub unsizing_target-target-requires-clause-first : goal.unsizing_target-target-requires-clause-first
 unsizing_target-target-requires-clause-first c =

@@ -2,11 +2,11 @@ use Rattle.std.proofs.Common.{ap, ◌∙◌}
 use Rattle.std.specs.List.{slice_get}
 use Rattle.type_terms.specs.Terms.{trees_at}
 use Rattle.declarations.specs.Items.{written}
-use Rattle.evaluation.proofs.Handed.{if-ok}
 use Rattle.infer_table.proofs.BindFacts.{type-is}
 use Rattle.built_in_candidates.specs.Goals.{asked_of}
 use Rattle.built_in_candidates.proofs.UnsizeRows.{known-upcasts, known-to-dyn, target-struct}
 use Rattle.built_in_candidates.proofs.unsize.unsize_to.Goals as goal
+use Rattle.type_terms.proofs.TypeBasics.{if-ok}
 
 pub returns-in-Some-Some-clause-is : goal.returns-in-Some-Some-clause-is
 returns-in-Some-Some-clause-is c =

@@ -1,12 +1,12 @@
 use Rattle.std.proofs.Common.{sym, ◌∙◌, subst}
 use Rattle.type_terms.specs.Terms.{trees_at}
 use Rattle.declarations.specs.Items.{written}
-use Rattle.evaluation.proofs.Handed.{if-ok}
 use Rattle.infer_table.proofs.BindFacts.{type-is}
 use Rattle.built_in_candidates.specs.Constituents.{AreArguments, StructIsApplied}
 use Rattle.built_in_candidates.specs.Goals.{asked_of}
 use Rattle.built_in_candidates.proofs.StructRows.{two-structs, other-structs, first-no-struct, second-no-struct}
 use Rattle.built_in_candidates.proofs.unsize_struct.consider_builtin_struct_unsize_candidate.Goals as goal
+use Rattle.type_terms.proofs.TypeBasics.{if-ok}
 
 pub unsize_adt-requires-clause-applied : goal.unsize_adt-requires-clause-applied
 unsize_adt-requires-clause-applied c = subst (StructIsApplied c.args.declarations.now) c.in-Some-Some.ensures.1 c.requires.applied

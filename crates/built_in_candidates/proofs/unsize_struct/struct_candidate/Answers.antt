@@ -9,12 +9,12 @@ use Rattle.evaluation.specs.StepReadings.{equation_read}
 use Rattle.declarations.specs.Applied.{references_in}
 use Rattle.declarations.specs.Unsizing.{field_trees}
 use Rattle.assembly_laws.specs.Candidates.{by_rule, misc, all_equal}
-use Rattle.evaluation.proofs.Handed.{if-ok}
 use Rattle.built_in_candidates.specs.Goals.{asked_of}
 use Rattle.built_in_candidates.specs.Unsizing.{tail_asked}
 use Rattle.built_in_candidates.proofs.Asking.{asked-later}
 use Rattle.built_in_candidates.proofs.Pairs.{equations-later, equations-held-later}
 use Rattle.built_in_candidates.proofs.unsize_struct.struct_candidate.Goals as goal
+use Rattle.type_terms.proofs.TypeBasics.{if-ok}
 
 pub tail_unsizes-requires-clause-tail : goal.tail_unsizes-requires-clause-tail
 tail_unsizes-requires-clause-tail c = has-later c.args.cx.now.entries c.unsizing_equations.new.cx.entries c.unsizing_equations.ensures.terms.grew.keeps types c.args.tail.0 c.requires.tail

@@ -5,8 +5,8 @@ use Rattle.type_terms.specs.Rules.{unsize}
 use Rattle.type_terms.specs.Terms.{types, args_lists, trees_at}
 use Rattle.term_folds.specs.Arguments.{first_misfit}
 use Rattle.type_terms.specs.Kept.{has-later, trees-later}
-use Rattle.evaluation.proofs.Handed.{if-ok}
 use Rattle.built_in_candidates.proofs.unsize_struct.tail_unsizes.Goals as goal
+use Rattle.type_terms.proofs.TypeBasics.{if-ok}
 
 pub field_with-requires-2-clause-field : goal.field_with-requires-2-clause-field
 field_with-requires-2-clause-field c = has-later c.args.cx.now.entries c.field_with.new.cx.entries c.field_with.ensures.terms.grew.keeps types c.args.tail.0 c.requires.tail

@@ -3,11 +3,11 @@ use Rattle.std.specs.List.{flat_map}
 use Rattle.type_terms.specs.Terms.{trees_at}
 use Rattle.declarations.specs.Items.{struct_in, written}
 use Rattle.assembly_laws.specs.Candidates.{unsize_by_struct}
-use Rattle.evaluation.proofs.Handed.{if-ok}
 use Rattle.built_in_candidates.specs.Goals.{asked_of}
 use Rattle.built_in_candidates.proofs.Structs.{fields-fit}
 use Rattle.built_in_candidates.proofs.StructRows.{fits-struct, one-struct}
 use Rattle.built_in_candidates.proofs.unsize_struct.unsize_adt.Goals as goal
+use Rattle.type_terms.proofs.TypeBasics.{if-ok}
 
 pub unsize_struct-requires-clause-def : goal.unsize_struct-requires-clause-def
 unsize_struct-requires-clause-def c = c.in-Some.ensures.held c.args.cx.now.entries c.requires.declared

@@ -9,10 +9,10 @@ use Rattle.declarations.specs.Merges.{Each}
 use Rattle.declarations.specs.Unsizing.{field_trees}
 use Rattle.built_in_candidates.specs.Goals.{asked_of}
 use Rattle.built_in_candidates.specs.Unsizing.{tail_asked}
-use Rattle.built_in_candidates.proofs.Lists.{empty-is}
-use Rattle.built_in_candidates.proofs.Structs.{each-end}
 use Rattle.built_in_candidates.proofs.StructRows.{some-told, tail-unsizes, none-unsizing, no-candidate, one-candidate, fields-end}
 use Rattle.built_in_candidates.proofs.unsize_struct.unsize_struct.Goals as goal
+use Rattle.declarations.proofs.Basics.{each-end}
+use Rattle.type_terms.proofs.ListBasics.{empty-is}
 
 pub struct_candidate-requires-clause-tail : goal.struct_candidate-requires-clause-tail
 struct_candidate-requires-clause-tail c =

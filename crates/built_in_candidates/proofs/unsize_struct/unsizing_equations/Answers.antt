@@ -8,9 +8,9 @@ use Rattle.type_terms.proofs.FailFacts.{refused-term, at-limit}
 use Rattle.declarations.specs.Applied.{sort_of_param}
 use Rattle.declarations.specs.Unsizing.{field_trees}
 use Rattle.assembly_laws.specs.Candidates.{all_equal}
-use Rattle.evaluation.proofs.Handed.{if-ok}
 use Rattle.built_in_candidates.proofs.StructRows.{replaced-are, replaced-held}
 use Rattle.built_in_candidates.proofs.unsize_struct.unsizing_equations.Goals as goal
+use Rattle.type_terms.proofs.TypeBasics.{if-ok}
 
 pub mk_args-requires : goal.mk_args-requires
 mk_args-requires c =

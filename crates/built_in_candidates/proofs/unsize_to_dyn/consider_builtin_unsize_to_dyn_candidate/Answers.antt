@@ -9,7 +9,6 @@ use Rattle.declarations.specs.Merges.{Each}
 use Rattle.declarations.proofs.Growth.{all-held, all-written}
 use Rattle.declarations.proofs.Elaborating.{have-bounds-later}
 use Rattle.assembly_laws.specs.Asking.{with_plain_head}
-use Rattle.evaluation.proofs.Handed.{if-ok}
 use Rattle.infer_table.proofs.BindFacts.{type-is}
 use Rattle.built_in_candidates.specs.Goals.{asked_of}
 use Rattle.built_in_candidates.specs.Constituents.{candidates_of}
@@ -18,6 +17,7 @@ use Rattle.built_in_candidates.specs.Unsizing.{to_dyn}
 use Rattle.built_in_candidates.proofs.Asking.{asked-later}
 use Rattle.built_in_candidates.proofs.ToDyn.{principal-applied, row-to-dyn, row-from-dyn, row-to-other}
 use Rattle.built_in_candidates.proofs.unsize_to_dyn.consider_builtin_unsize_to_dyn_candidate.Goals as goal
+use Rattle.type_terms.proofs.TypeBasics.{if-ok}
 
 pub to_dyn_candidate-requires-clause-goal : goal.to_dyn_candidate-requires-clause-goal
 to_dyn_candidate-requires-clause-goal c = goal-held-later c.args.cx.now.entries c.with_plain_head.new.cx.entries c.with_plain_head.ensures.terms.grew.keeps c.args.goal.now.goal c.requires.goal

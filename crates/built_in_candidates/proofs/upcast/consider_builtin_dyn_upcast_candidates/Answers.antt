@@ -4,11 +4,11 @@ use Rattle.type_terms.specs.Trees.{leaf, ◌+++◌}
 use Rattle.type_terms.specs.Terms.{trees_at}
 use Rattle.declarations.specs.Items.{written}
 use Rattle.declarations.specs.Merges.{Each}
-use Rattle.evaluation.proofs.Handed.{if-ok}
 use Rattle.built_in_candidates.specs.Goals.{asked_of}
 use Rattle.built_in_candidates.specs.Objects.{AreArgumentsOf}
 use Rattle.built_in_candidates.proofs.Objects.{principal-any, object-applied, between-read}
 use Rattle.built_in_candidates.proofs.upcast.consider_builtin_dyn_upcast_candidates.Goals as goal
+use Rattle.type_terms.proofs.TypeBasics.{if-ok}
 
 pub consider_upcast-requires-clause-applied : goal.consider_upcast-requires-clause-applied
 consider_upcast-requires-clause-applied c = λ l h.

@@ -11,10 +11,10 @@ use Rattle.declarations.specs.Items.{written}
 use Rattle.declarations.specs.Applied.{references_in}
 use Rattle.declarations.specs.Elaboration.{elaborate}
 use Rattle.assembly_laws.specs.Candidates.{if_so, upcasts_to}
-use Rattle.evaluation.proofs.Handed.{if-ok}
 use Rattle.built_in_candidates.specs.Goals.{asked_of}
 use Rattle.built_in_candidates.proofs.Asking.{asked-later}
 use Rattle.built_in_candidates.proofs.upcast.consider_upcast.Goals as goal
+use Rattle.type_terms.proofs.TypeBasics.{if-ok}
 
 pub upcast_candidate-requires-clause-goal : goal.upcast_candidate-requires-clause-goal
 upcast_candidate-requires-clause-goal c = goal-held-later c.args.cx.now.entries c.upcast_ends.new.cx.entries c.upcast_ends.ensures.terms.grew.keeps c.args.goal.now.goal c.requires.goal

@@ -3,10 +3,10 @@ use Rattle.infer_table.proofs.Numbers.{goal-held-later}
 use Rattle.evaluation.specs.declared.candidate.CandidateSource.TheVariants.{BuiltinImpl}
 use Rattle.evaluation.specs.StepReadings.{equation_read}
 use Rattle.assembly_laws.specs.Candidates.{by_rule}
-use Rattle.evaluation.proofs.Handed.{if-ok}
 use Rattle.built_in_candidates.specs.Goals.{asked_of}
 use Rattle.built_in_candidates.proofs.Asking.{asked-later}
 use Rattle.built_in_candidates.proofs.upcast.equated_candidate.Goals as goal
+use Rattle.type_terms.proofs.TypeBasics.{if-ok}
 
 pub returns-clause-held : goal.returns-clause-held
 returns-clause-held c =

@@ -5,10 +5,10 @@ use Rattle.evaluation.specs.Merge.{if_there}
 use Rattle.declarations.specs.Items.{reference_in}
 use Rattle.declarations.specs.Applied.{references_in}
 use Rattle.assembly_laws.specs.Candidates.{upcasts_to}
-use Rattle.evaluation.proofs.Handed.{if-ok}
 use Rattle.built_in_candidates.specs.Goals.{asked_of}
 use Rattle.built_in_candidates.proofs.Objects.{by_upcast, upcast-at}
 use Rattle.built_in_candidates.proofs.upcast.upcast_candidate.Goals as goal
+use Rattle.type_terms.proofs.TypeBasics.{if-ok}
 
 pub returns-in_ok-candidate-in-Some-upcast_bound-clause-is : goal.returns-in_ok-candidate-in-Some-upcast_bound-clause-is
 returns-in_ok-candidate-in-Some-upcast_bound-clause-is c = λ V e.

@@ -2,12 +2,13 @@ use Rattle.std.proofs.Common.{refl, ap, Err}
 use Rattle.type_terms.specs.Kept.{args-held-later}
 use Rattle.infer_table.specs.declared.canonical.CanonicalVarKind.TheVariants.{Ty}
 use Rattle.infer_table.specs.Values.{values_of, values-later}
-use Rattle.infer_table.proofs.Values.{args-held-push, values-push}
+use Rattle.infer_table.proofs.Values.{values-push}
 use Rattle.type_terms.proofs.FailFacts.{at-limit}
 use Rattle.evaluation.proofs.Shortages.{some-kind}
 use Rattle.type_terms.proofs.Grown.{grew-on}
 use Rattle.candidate_assembly.proofs.Variables.{one-more-behind}
 use Rattle.candidate_assembly.proofs.instances.variables_behind.Goals as goal
+use Rattle.type_terms.proofs.Items.{args-held-push}
 
 pub loop-place-preserved : goal.loop-place-preserved
 loop-place-preserved c =

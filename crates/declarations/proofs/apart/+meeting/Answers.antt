@@ -3,8 +3,9 @@ use Rattle.type_terms.specs.Terms.{trees_at}
 use Rattle.type_terms.specs.Kinds.{ArgsHeld, TysHeld, args_trees, tys_trees}
 use Rattle.declarations.specs.Apart.{may_meet}
 use Rattle.declarations.specs.Tops.{PartsHeld, left_parts, right_parts}
-use Rattle.declarations.proofs.Meeting.{no-items, no-more-args, args-ended, args-differ, args-go-on, no-more-tys, tys-ended, tys-differ, tys-go-on, arrays-meet, and-true, and-false}
+use Rattle.declarations.proofs.Meeting.{no-items, no-more-args, args-ended, args-differ, args-go-on, no-more-tys, tys-ended, tys-differ, tys-go-on, arrays-meet}
 use Rattle.declarations.proofs.apart.+meeting.Goals as goal
+use Rattle.type_terms.proofs.BooleanBasics.{and-false, and-true}
 
 pub args_may_meet-returns-in_default-split_first : goal.args_may_meet-returns-in_default-split_first
 args_may_meet-returns-in_default-split_first t c =

@@ -16,12 +16,13 @@ use Rattle.infer_table.proofs.Covers.{same-unknowns}
 use Rattle.infer_table.proofs.InTurn.{row-of, same-trees, applied-leaves, applied-refused}
 use Rattle.infer_table.proofs.Recording.{all-inserted, constraints-recorded}
 use Rattle.infer_table.proofs.ConstraintLists.{constraints-later}
-use Rattle.infer_table.proofs.Values.{equates-at, never-at, take-drop}
+use Rattle.infer_table.proofs.Values.{equates-at, never-at}
 use Rattle.evaluation.proofs.Shortages.{never-full}
 use Rattle.evaluation.proofs.Refused.{not-ok, no-refusal}
 use Rattle.type_terms.proofs.Grown.{grew-on}
 use Rattle.infer_table.proofs.FullFacts.{out-at-limit}
 use Rattle.evaluation.proofs.apply.apply.Goals as goal
+use Rattle.type_terms.proofs.ListBasics.{take-drop}
 
 pub fill_response-requires-clause-response : goal.fill_response-requires-clause-response
 fill_response-requires-clause-response c =

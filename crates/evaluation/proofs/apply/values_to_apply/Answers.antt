@@ -10,8 +10,9 @@ use Rattle.infer_table.specs.Responses.{answer_trees}
 use Rattle.infer_table.specs.Applying.{known_value, next_unknown, table_after}
 use Rattle.infer_table.specs.Growth.{grows-trans}
 use Rattle.infer_table.proofs.KnownUnknowns.{one-more-table}
-use Rattle.infer_table.proofs.Values.{own_of, args-held-push, values-push, one-more-value, found-later, same-slot, original-held-later}
+use Rattle.infer_table.proofs.Values.{own_of, values-push, one-more-value, found-later, same-slot, original-held-later}
 use Rattle.evaluation.proofs.apply.values_to_apply.Goals as goal
+use Rattle.type_terms.proofs.Items.{args-held-push}
 
 pub value_or_unknown-requires-clause-known : goal.value_or_unknown-requires-clause-known
 value_or_unknown-requires-clause-known c =

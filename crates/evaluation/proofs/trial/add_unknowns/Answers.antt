@@ -5,9 +5,10 @@ use Rattle.infer_table.specs.declared.canonical.CanonicalVarKind.TheVariants.{Ty
 use Rattle.infer_table.proofs.PairFacts.{table-kept}
 use Rattle.infer_table.specs.Values.{value_of, values_of, values-later}
 use Rattle.infer_table.specs.Applying.{with_unknown}
-use Rattle.infer_table.proofs.Values.{args-held-push, values-push, past-end}
+use Rattle.infer_table.proofs.Values.{values-push, past-end}
 use Rattle.evaluation.proofs.Beginning.{one-more-unknown, one-more-table, all-unknowns, all-tables}
 use Rattle.evaluation.proofs.trial.add_unknowns.Goals as goal
+use Rattle.type_terms.proofs.Items.{args-held-push}
 
 pub loop-kind-preserved : goal.loop-kind-preserved
 loop-kind-preserved c =

@@ -4,9 +4,9 @@ use Rattle.term_folds.specs.Folds.{FoldsEach}
 use Rattle.type_terms.specs.Pieces.{one_piece}
 use Rattle.infer_table.specs.Values.{values_of, filled, filling}
 use Rattle.infer_table.proofs.Fillings.{filled-fold}
-use Rattle.evaluation.proofs.Handed.{if-ok}
 use Rattle.type_terms.proofs.FailFacts.{fold-at-limit}
 use Rattle.evaluation.proofs.trial.fill.Goals as goal
+use Rattle.type_terms.proofs.TypeBasics.{if-ok}
 
 pub returns-clause-filled : goal.returns-clause-filled
 returns-clause-filled c =

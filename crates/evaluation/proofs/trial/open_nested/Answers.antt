@@ -11,12 +11,12 @@ use Rattle.evaluation.specs.TrialEnds.{trial_trees}
 use Rattle.evaluation.specs.OpenCandidates.{StandsAt, AsksAtMost}
 use Rattle.evaluation.specs.declared.goal.GoalSource.{GoalSource}
 use Rattle.evaluation.specs.declared.resuming.Evaluation.{Evaluation}
-use Rattle.evaluation.proofs.ListLaws.{length-map}
 use Rattle.evaluation.proofs.OpenQuestions.{premises-length}
 use Rattle.evaluation.proofs.OpenBeginnings.{nested-begin}
 use Rattle.type_terms.proofs.Grown.{grew-on}
 use Rattle.evaluation.proofs.Shortages.{eval-at-limit}
 use Rattle.evaluation.proofs.trial.open_nested.Goals as goal
+use Rattle.type_terms.proofs.ListBasics.{map-length as length-map}
 
 pub fill_goals-requires-clause-values : goal.fill_goals-requires-clause-values
 fill_goals-requires-clause-values c = rw c.deref-2.ensures.value c.requires.values

@@ -2,8 +2,8 @@ use Rattle.std.proofs.Common.{◌∙◌, ap, Err}
 use Rattle.infer_table.specs.Content.{IsHeldConstraint}
 use Rattle.infer_table.specs.Kept.{constraint-kept, constraints-kept}
 use Rattle.infer_table.proofs.ConstraintLists.{constraint-held-at, constraints-held-push, one-more-fold}
-use Rattle.infer_table.proofs.Refusals.{handed-on}
 use Rattle.infer_table.proofs.constraints.fold_constraints.Goals as goal
+use Rattle.type_terms.proofs.TypeBasics.{handed-on}
 
 pub fold_with-requires-clause-ready : goal.fold_with-requires-clause-ready
 fold_with-requires-clause-ready g c = c.loop-constraint.invariant.ready

@@ -1,8 +1,8 @@
 use Rattle.std.proofs.Common.{◌∙◌, ap, Err}
 use Rattle.term_folds.specs.Clauses.{ClauseHeld, clause-held-later}
 use Rattle.infer_table.proofs.Numbers.{clause-held-at, clauses-held-later, clauses-held-push, one-more-fold}
-use Rattle.infer_table.proofs.Refusals.{handed-on}
 use Rattle.infer_table.proofs.goal.fold_clauses.Goals as goal
+use Rattle.type_terms.proofs.TypeBasics.{handed-on}
 
 pub fold_with-requires-clause-ready : goal.fold_with-requires-clause-ready
 fold_with-requires-clause-ready g c = c.loop-clause.invariant.ready

@@ -1,4 +1,4 @@
-use Rattle.std.proofs.Common.{◌≡◌, [], ◌∷◌, ℕ, false, true, ap, sym, ◌∙◌}
+use Rattle.std.proofs.Common.{◌≡◌, false, true, ap, sym, ◌∙◌}
 use Rattle.std.specs.Prelude.{Result, Ok, Err, IfOk}
 use Rattle.type_terms.specs.Terms.{trees_at}
 use Rattle.type_terms.specs.declared.Fault.{Fault}
@@ -9,9 +9,7 @@ use Rattle.infer_table.proofs.ClosedFacts.{closed-stays}
 use Rattle.infer_table.proofs.Numbers.{predicate-numbered}
 use Rattle.type_terms.proofs.FailFacts.{fold-at-limit}
 use Rattle.infer_table.proofs.input.number_predicate.Goals as goal
-
-head : (i j : ℕ) → (j ∷ []) ≡ (i ∷ []) → j ≡ i
-head i j e = cc
+use Rattle.type_terms.proofs.ListBasics.{head}
 
 from-both : {T : Type 0} {P Q R : T → Type 0} (r : Result T Fault) → IfOk r P → IfOk r Q → ((x : T) → P x → Q x → R x) → IfOk r R
 from-both (Ok x) h g f = f x h g

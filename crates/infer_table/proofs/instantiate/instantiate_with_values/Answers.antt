@@ -1,13 +1,10 @@
-use Rattle.std.proofs.Common.{◌≡◌, Result, Ok, Err, IfOk}
+use Rattle.std.proofs.Common.{◌≡◌}
 use Rattle.infer_table.specs.Goals.{goal_trees, GoalFolds}
 use Rattle.infer_table.specs.Values.{values_of, filling, goal_filled}
 use Rattle.infer_table.proofs.Fillings.{goal-filled}
 use Rattle.type_terms.proofs.FailFacts.{fold-at-limit}
 use Rattle.infer_table.proofs.instantiate.instantiate_with_values.Goals as goal
-
-if-ok : {T E : Type 0} (P Q : T → Type 0) (r : Result T E) → ((x : T) → P x → Q x) → IfOk r P → IfOk r Q
-if-ok P Q (Ok x) f h = f x h
-if-ok P Q (Err e) f h = tt
+use Rattle.type_terms.proofs.TypeBasics.{if-ok}
 
 pub returns-clause-filled : goal.returns-clause-filled
 returns-clause-filled c =

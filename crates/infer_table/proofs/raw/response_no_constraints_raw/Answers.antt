@@ -2,9 +2,10 @@ use Rattle.std.proofs.Common.{◌<◌, ◌≤◌, length, get_or, ap, ◌∙◌,
 use Rattle.type_terms.specs.Kept.{args-held-later}
 use Rattle.infer_table.specs.declared.canonical.CanonicalVarKind.TheVariants.{Ty}
 use Rattle.infer_table.specs.Values.{values_of, values-later}
-use Rattle.infer_table.proofs.Values.{args-held-push, values-push, one-more-variable, all-variables}
+use Rattle.infer_table.proofs.Values.{values-push, one-more-variable, all-variables}
 use Rattle.infer_table.proofs.Identities.{identity-numbered, identity-agrees}
 use Rattle.infer_table.proofs.raw.response_no_constraints_raw.Goals as goal
+use Rattle.type_terms.proofs.Items.{args-held-push}
 
 pub loop-place-preserved : goal.loop-place-preserved
 loop-place-preserved c =

@@ -1,4 +1,4 @@
-use Rattle.std.proofs.Common.{◌≡◌, ℕ, [], ◌∷◌, ap, ◌∙◌}
+use Rattle.std.proofs.Common.{◌≡◌, ap, ◌∙◌}
 use Rattle.type_terms.specs.Terms.{trees_at, args_lists}
 use Rattle.type_terms.specs.Kept.{has-later, trees-later}
 use Rattle.type_terms.specs.Pieces.{each_piece, one_piece}
@@ -9,6 +9,7 @@ use Rattle.infer_table.specs.Goals.{environment_trees}
 use Rattle.infer_table.proofs.Numbers.{clauses-held-later, environment-later, goal-same}
 use Rattle.infer_table.proofs.Resolutions.{predicate-resolved}
 use Rattle.infer_table.proofs.resolving.resolve_goal.Goals as goal
+use Rattle.type_terms.proofs.ListBasics.{head}
 
 pub resolve_clauses-requires-clause-held : goal.resolve_clauses-requires-clause-held
 resolve_clauses-requires-clause-held c = rw c.deref.ensures.value c.requires.held.environment
@@ -21,9 +22,6 @@ returns-clause-held c = record {
   environment = clauses-held-later c.resolve_clauses.new.cx.entries c.eager_resolve_vars.new.cx.entries c.eager_resolve_vars.ensures.terms.grew.keeps c.in_ok-param_env.param_env.items c.in_ok-param_env.ensures.held;
   predicate = c.in_ok-predicate.ensures.held;
 }
-
-head : (i j : ℕ) → (j ∷ []) ≡ (i ∷ []) → j ≡ i
-head i j e = cc
 
 pub returns-clause-resolved : goal.returns-clause-resolved
 returns-clause-resolved c =

@@ -9,8 +9,8 @@ use Rattle.orphan_check.specs.Decisive.{decisive_in}
 use Rattle.orphan_check.specs.Steps.{home_in}
 use Rattle.orphan_check.specs.declared.look.Taken.TheVariants as taken
 use Rattle.orphan_check.proofs.OpenWalk.{taken-decides, args-go-on, args-stop, arg-below, no-arg, not-some}
-use Rattle.orphan_check.proofs.Stepping.{type-is}
 use Rattle.orphan_check.proofs.open_walk.+written.Goals as goal
+use Rattle.type_terms.proofs.TermBasics.{type-is}
 
 pub decisive_in_arg-returns-in-Lifetime : goal.decisive_in_arg-returns-in-Lifetime
 decisive_in_arg-returns-in-Lifetime t c =

@@ -1,5 +1,5 @@
-use Rattle.std.proofs.Common.{◌≡◌, ℕ, List, ◌∷◌, ◌++◌, [], map, length, refl, ap, sym, ◌∙◌, subst, Ok, Err, arith}
-use Rattle.std.specs.Prelude.{Result, IfOk, IfErr, OnErr}
+use Rattle.std.proofs.Common.{◌≡◌, ℕ, List, ◌∷◌, ◌++◌, [], map, ap, sym, ◌∙◌, subst, Ok, Err, arith}
+use Rattle.std.specs.Prelude.{Result, IfErr, OnErr}
 use Rattle.type_terms.specs.Trees.{◌+++◌}
 use Rattle.type_terms.proofs.TreeLaws.{append-none}
 use Rattle.type_terms.specs.Terms.{Entry, Is, args_lists, held, trees_at}
@@ -12,11 +12,13 @@ use Rattle.type_terms.specs.declared.kinds.GenericArgs.{GenericArgs}
 use Rattle.type_terms.specs.Kept.{args-held-later, trees-is}
 use Rattle.type_terms.proofs.Grown.{grew-on}
 use Rattle.infer_table.specs.Kept.{ready-later}
-use Rattle.infer_table.proofs.Values.{args-held-push}
 use Rattle.declarations.specs.Applied.{sort_of_param}
 use Rattle.overlap_check.specs.Fresh.{with_unknown, with_unknowns, fresh_unknowns}
 use Rattle.overlap_check.proofs.Unknowns.{one-more-arg}
 use Rattle.overlap_check.proofs.fresh.fresh_args_for_item.Goals as goal
+use Rattle.type_terms.proofs.Items.{args-held-push}
+use Rattle.type_terms.proofs.TypeBasics.{ok-after as if-ok}
+use Rattle.type_terms.proofs.ListBasics.{nothing}
 
 pub params-preserved : goal.params-preserved
 params-preserved c =
@@ -46,14 +48,6 @@ params-preserved c =
           (subst (λ l. args_trees now xs +++ fresh_unknowns t (map sort_of_param l) ≡ fresh_unknowns start all) back inv.are)));
       made = ap (λ w. with_unknowns w ks) made ∙ subst (λ l. with_unknowns t (map sort_of_param l) ≡ with_unknowns start all) back inv.made;
     }
-
-nothing : {A : Type 0} (xs : List A) → length xs ≡ 0 → xs ≡ []
-nothing [] e = refl
-nothing (x ∷ xs) e = absurd (omega arith)
-
-if-ok : {A E : Type 0} (P Q : A → Type 0) (r : Result A E) → ((x : A) → P x → Q x) → IfOk r P → IfOk r Q
-if-ok P Q (Ok x) f h = f x h
-if-ok P Q (Err e) f h = tt
 
 pub returns-clause-ready : goal.returns-clause-ready
 returns-clause-ready c = ready-later c.params.cx.entries c.mk_args.new.self.entries c.params.table c.mk_args.ensures.grew.keeps c.params.invariant.ready

@@ -5,12 +5,12 @@ use Rattle.declarations.specs.Merges.{Each}
 use Rattle.declarations.proofs.Growth.{reference-kept}
 use Rattle.proof_checker.specs.Steps.{term_of, terms_of, steps_say, StepHeld}
 use Rattle.proof_checker.proofs.Results.{mapped, not-ok, never}
-use Rattle.proof_checker.proofs.Above.{each-end}
 use Rattle.proof_checker.proofs.Later.{term-same}
 use Rattle.proof_checker.proofs.Moved.{concludes, last-said}
 use Rattle.type_terms.proofs.Grown.{grew-on}
 use Rattle.type_terms.proofs.FailFacts.{at-limit}
 use Rattle.proof_checker.proofs.checker.is_proof_of.Goals as goal
+use Rattle.declarations.proofs.Basics.{each-end}
 
 pub are_one-requires-clause-one : goal.are_one-requires-clause-one
 are_one-requires-clause-one c =

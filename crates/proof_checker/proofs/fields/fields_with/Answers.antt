@@ -12,8 +12,9 @@ use Rattle.declarations.specs.Unsizing.{field_trees}
 use Rattle.proof_checker.proofs.PartRows.{types-more, one-more-type}
 use Rattle.proof_checker.proofs.Results.{not-ok, none-each, memory-at-limit}
 use Rattle.type_terms.proofs.FailFacts.{at-limit}
-use Rattle.proof_checker.proofs.Places.{shorter, none-left}
+use Rattle.proof_checker.proofs.Places.{shorter}
 use Rattle.proof_checker.proofs.fields.fields_with.Goals as goal
+use Rattle.type_terms.proofs.ListBasics.{empty as none-left}
 
 pub fields-preserved : goal.fields-preserved
 fields-preserved c =

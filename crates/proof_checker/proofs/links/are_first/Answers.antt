@@ -6,8 +6,8 @@ use Rattle.declarations.proofs.Growth.{reference-same}
 use Rattle.type_terms.specs.Erased.{erased_reference}
 use Rattle.proof_checker.specs.Checked.{AreFirstOf}
 use Rattle.proof_checker.specs.Steps.{term_of, terms_of}
-use Rattle.proof_checker.proofs.Places.{none-left}
 use Rattle.proof_checker.proofs.links.are_first.Goals as goal
+use Rattle.type_terms.proofs.ListBasics.{empty as none-left}
 
 begins-more : (x y : Reference) (xs ys : List Reference) → x ≡ y → AreFirstOf xs ys → AreFirstOf (x ∷ xs) (y ∷ ys)
 begins-more x y xs ys e h = (h.0, ap (λ l. x ∷ l) h.1 ∙ ap (λ z. z ∷ (ys ++ h.0)) e)

@@ -12,8 +12,9 @@ use Rattle.proof_checker.specs.Rows.{each_asked_of}
 use Rattle.proof_checker.specs.Steps.{terms_of}
 use Rattle.proof_checker.proofs.TypeRows.{one-more-term}
 use Rattle.proof_checker.proofs.Results.{not-ok, none-each, memory-at-limit}
-use Rattle.proof_checker.proofs.Places.{shorter, none-left}
+use Rattle.proof_checker.proofs.Places.{shorter}
 use Rattle.proof_checker.proofs.rows.all_asked.Goals as goal
+use Rattle.type_terms.proofs.ListBasics.{empty as none-left}
 
 pub tys-preserved : goal.tys-preserved
 tys-preserved c =

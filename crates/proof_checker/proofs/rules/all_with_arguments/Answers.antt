@@ -15,8 +15,9 @@ use Rattle.declarations.proofs.Growth.{reference-same, reference-kept}
 use Rattle.declarations.proofs.Bounded.{held-more, one-more}
 use Rattle.proof_checker.proofs.Results.{not-ok, none-each, memory-at-limit}
 use Rattle.type_terms.specs.Trees.{outer_binder}
-use Rattle.proof_checker.proofs.Places.{shorter, none-left}
+use Rattle.proof_checker.proofs.Places.{shorter}
 use Rattle.proof_checker.proofs.rules.all_with_arguments.Goals as goal
+use Rattle.type_terms.proofs.ListBasics.{empty as none-left}
 
 pub references-preserved : goal.references-preserved
 references-preserved c =

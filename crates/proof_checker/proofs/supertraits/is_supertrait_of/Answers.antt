@@ -9,11 +9,12 @@ use Rattle.declarations.specs.Merges.{Each}
 use Rattle.declarations.proofs.Growth.{reference-kept}
 use Rattle.proof_checker.specs.Steps.{term_of}
 use Rattle.proof_checker.proofs.Later.{term-same}
-use Rattle.proof_checker.proofs.Above.{IsAbove, first-above, next-above, above-later, each-append, each-front, each-end}
+use Rattle.proof_checker.proofs.Above.{IsAbove, first-above, next-above, above-later}
 use Rattle.proof_checker.proofs.Results.{not-ok, never, memory-at-limit}
 use Rattle.type_terms.proofs.FailFacts.{at-limit}
 use borrow.Author.Count.{falls}
 use Rattle.proof_checker.proofs.supertraits.is_supertrait_of.Goals as goal
+use Rattle.declarations.proofs.Basics.{each-append, each-end, each-front}
 
 pub looked-init : goal.looked-init
 looked-init c =

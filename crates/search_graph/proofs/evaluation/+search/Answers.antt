@@ -22,13 +22,14 @@ use Rattle.search_graph.proofs.Refusals.{IfOk-err, OnOk-err, IfOk-or}
 use Rattle.search_graph.proofs.Orders.{from_zero, within_more, less_within, none_started, one_started, none_counted, one_counted, counted_later, not_less}
 use Rattle.search_graph.proofs.HeadFacts.{indices-none, both_kept, both_below, below_more, below_last, root_alone}
 use Rattle.search_graph.proofs.Graphs.{IsStack-now, steps-now, IsEntry-now, run_ended, next_entry, IsAnswer-then, answer_of_run, running_next_counted, running_begun, running_other, running_done, asked_now, hears_other, hears_next, misstep_now, due_next, due_other, Keeps-refl, Keeps-trans, IsStack-push, steps_pushed, length-steps_of, AreCached-later, provisional_alone, overflow_answers, overflow_stands}
-use Rattle.search_graph.proofs.Faithfuls.{or_first, or_second, asked_descends, true_not_false, not_plain_at_zero, all_heads_descend, run_heads_descend, ends_not_plain, conflict_up, plain_first, plain_next_at, plain_done, untouched_first, untouched_not_plain, faithful_not_plain, faithful_taken, faithful_at_zero, kept_of_faithful, IsFaithful-less, reach_within}
+use Rattle.search_graph.proofs.Faithfuls.{or_first, or_second, asked_descends, not_plain_at_zero, all_heads_descend, run_heads_descend, ends_not_plain, conflict_up, plain_first, plain_next_at, plain_done, untouched_first, untouched_not_plain, faithful_not_plain, faithful_taken, faithful_at_zero, kept_of_faithful, IsFaithful-less, reach_within}
 use Rattle.search_graph.proofs.Limits.{unnoted, either_noted, not_both, told_within, AreLastWithin-now, AreLastWithin-push, AreCachedWithin-keeps}
 use Rattle.search_graph.proofs.Bounds.{frame_bound_runs, nested_within, one_more_run, runs_within, done_within, asked_within, asked_more}
 use Rattle.search_graph.proofs.Ends.{depth_after, held_after, answer_after, faithful_after, within_after}
 use Rattle.search_graph.proofs.Turns.{asked_in_turn, ended_in_turn, in_order_in_turn, told_in_turn, plain_in_turn}
 use Rattle.search_graph.proofs.Entries.{runs_begin, runs_leave, runs_left, entries_met, entries_keep, entries_same, entries_within_keep, entries_within_begin, entries_within_leave}
 use Rattle.search_graph.proofs.evaluation.+search.Goals as goal
+use Rattle.type_terms.proofs.BooleanBasics.{true-false as true_not_false}
 
 pub ask-returns-then-depth-eq0 : goal.ask-returns-then-depth-eq0
 ask-returns-then-depth-eq0 g t c =

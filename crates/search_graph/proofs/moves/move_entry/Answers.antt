@@ -2,10 +2,10 @@ use Rattle.std.proofs.Common.{◌∙◌, ◌+◌, ◌↔◌, ◌⊎◌, ap, refl
 use Rattle.search_graph.specs.Path.{HasPath, IsExtended}
 use Rattle.search_graph.specs.Heads.{paths_to, first_paths}
 use Rattle.search_graph.specs.Stack.{kind_after}
-use Rattle.search_graph.proofs.Faithfuls.{true_not_false}
 use Rattle.search_graph.proofs.ReadHeads.{first_read}
 use Rattle.search_graph.proofs.MovedEntries.{moved_rests, moved_below, moved_there}
 use Rattle.search_graph.proofs.moves.move_entry.Goals as goal
+use Rattle.type_terms.proofs.BooleanBasics.{true-false as true_not_false}
 
 pub kind_of_path-kind-requires : goal.kind_of_path-kind-requires
 kind_of_path-kind-requires g c =

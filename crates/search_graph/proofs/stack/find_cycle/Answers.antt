@@ -1,8 +1,8 @@
 use Rattle.std.specs.Option.{option_copied}
 use Rattle.std.proofs.Common.{◌≡◌, ◌<◌, ◌≤◌, ◌∙◌, ℕ, List, Option, Some, None, IfNone, Bool, true, false, length, get_or, slice_get, sym, ap, refl, arith}
 use Rattle.std.proofs.lemmas.Option.{slice_get_read, slice_get_within, same_Some, get_or_from_slice_get, none-some}
-use Rattle.search_graph.proofs.Faithfuls.{true_not_false}
 use Rattle.search_graph.proofs.stack.find_cycle.Goals as goal
+use Rattle.type_terms.proofs.BooleanBasics.{true-false as true_not_false}
 
 -- no goal is found at a place past the end
 past_end : {X : Type 0} (xs : List X) (found : Option ℕ) (index place : ℕ) (e : X) → Some index ≡ found → length xs ≤ index → found ≡ Some place → slice_get xs place ≡ Some e → ⊥

@@ -7,7 +7,6 @@ use Rattle.search_graph.specs.declared.cache.Asked.{Asked}
 use Rattle.search_graph.specs.Stack.{steps_of}
 use Rattle.search_graph.specs.Question.{IsFaithfulOver}
 use Rattle.search_graph.proofs.Errors.{fault_passed}
-use Rattle.search_graph.proofs.Faithfuls.{true_not_false}
 use Rattle.search_graph.proofs.HeadFacts.{below_head}
 use Rattle.search_graph.proofs.Graphs.{Keeps-refl, length-steps_of}
 use Rattle.search_graph.proofs.Ranges.{at_end}
@@ -15,6 +14,7 @@ use Rattle.search_graph.proofs.Entries.{entries_keep, entries_within_leave}
 use Rattle.search_graph.proofs.MovedEntries.{entries_moved, entries_within_moved}
 use Rattle.search_graph.proofs.steps.conclude.Goals as goal
 use Rattle.search_graph.proofs.steps.conclude.Goals.{then-found, else-found}
+use Rattle.type_terms.proofs.BooleanBasics.{true-false as true_not_false}
 
 pub returns-in_err-finish-clause-no_conflict : goal.returns-in_err-finish-clause-no_conflict
 returns-in_err-finish-clause-no_conflict g c =

@@ -1,10 +1,11 @@
 use Rattle.std.proofs.Common.{◌+◌, [], sym, ◌∙◌, refl, inl, inr}
 use Rattle.search_graph.specs.KeptPaths.{indices}
 use Rattle.search_graph.proofs.Ends.{held_after, faithful_after}
-use Rattle.search_graph.proofs.Faithfuls.{true_not_false, faithful_not_plain}
+use Rattle.search_graph.proofs.Faithfuls.{faithful_not_plain}
 use Rattle.search_graph.proofs.Graphs.{AreCached-later}
 use Rattle.search_graph.proofs.Orders.{from_zero}
 use Rattle.search_graph.proofs.steps.give_up.Goals as goal
+use Rattle.type_terms.proofs.BooleanBasics.{true-false as true_not_false}
 
 pub returns-in_err-overflow-clause-cache : goal.returns-in_err-overflow-clause-cache
 returns-in_err-overflow-clause-cache g c =

@@ -1,8 +1,8 @@
 use Rattle.std.proofs.Common.{sym, ap, ◌∙◌}
 use Rattle.proof_checker.specs.Steps.{assumed_in}
-use Rattle.built_in_candidates.proofs.Lists.{empty-is}
 use Rattle.session_walks.proofs.HeldGoals.{one-less}
 use Rattle.session_walks.proofs.holding.assumes_nothing.Goals as goal
+use Rattle.type_terms.proofs.ListBasics.{empty-is}
 
 pub steps-preserved : goal.steps-preserved
 steps-preserved c = λ es.

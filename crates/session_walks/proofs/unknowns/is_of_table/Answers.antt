@@ -5,8 +5,9 @@ use Rattle.candidate_assembly.specs.Finding.{at_root}
 use Rattle.candidate_assembly.proofs.FindingOnce.{once-finds}
 use Rattle.session_walks.specs.Unknowns.{is_other_place, known_to, speaks_of_known}
 use Rattle.session_walks.specs.declared.unknowns.FindsOther.{FindsOther}
-use Rattle.session_walks.proofs.OwnTerms.{some-at-root, visitor_at, same-counts}
+use Rattle.session_walks.proofs.OwnTerms.{visitor_at, same-counts}
 use Rattle.session_walks.proofs.unknowns.is_of_table.Goals as goal
+use Rattle.candidate_assembly.proofs.Finding.{some-at-root}
 
 pub returns-in-Break : goal.returns-in-Break
 returns-in-Break c =

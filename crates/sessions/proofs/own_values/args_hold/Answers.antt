@@ -6,8 +6,8 @@ use Rattle.candidate_assembly.proofs.FindingOnce.{once-finds}
 use Rattle.sessions.specs.Foreign.{label_of}
 use Rattle.sessions.specs.OwnValues.{is_same_param}
 use Rattle.sessions.specs.declared.own_values.FindsParam.{FindsParam}
-use Rattle.sessions.proofs.Foreign.{found-at-root}
 use Rattle.sessions.proofs.own_values.args_hold.Goals as goal
+use Rattle.candidate_assembly.proofs.Finding.{some-at-root as found-at-root}
 
 pub returns-in-Break : goal.returns-in-Break
 returns-in-Break c =

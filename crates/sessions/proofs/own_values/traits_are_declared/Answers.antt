@@ -1,9 +1,9 @@
 use Rattle.std.proofs.Common.{sym, ◌∙◌}
 use Rattle.type_terms.specs.Kinds.{autos_trees}
 use Rattle.declarations.specs.Items.{written}
-use Rattle.sessions.proofs.Foreign.{empty-is}
 use Rattle.candidate_assembly.proofs.Finding.{among, stray-next, stray-found, stray-none}
 use Rattle.sessions.proofs.own_values.traits_are_declared.Goals as goal
+use Rattle.type_terms.proofs.ListBasics.{empty-is}
 
 pub returns-then-not-trait_is_declared : goal.returns-then-not-trait_is_declared
 returns-then-not-trait_is_declared c = λ es.

@@ -5,8 +5,8 @@ use Rattle.candidate_assembly.specs.Finding.{at_root}
 use Rattle.candidate_assembly.proofs.FindingOnce.{once-finds}
 use Rattle.sessions.specs.Foreign.{question_in, strays}
 use Rattle.sessions.specs.declared.own_values.FindsStray.{FindsStray}
-use Rattle.sessions.proofs.Foreign.{found-at-root}
 use Rattle.sessions.proofs.own_values.ty_strays.Goals as goal
+use Rattle.candidate_assembly.proofs.Finding.{some-at-root as found-at-root}
 
 pub returns-in-Break : goal.returns-in-Break
 returns-in-Break c =

@@ -2,8 +2,9 @@ use Rattle.std.proofs.Common.{sym, ◌∙◌, map}
 use Rattle.type_terms.specs.Kinds.{arg_trees}
 use Rattle.declarations.specs.Items.{written}
 use Rattle.sessions.specs.Foreign.{are_own_terms, question_in}
-use Rattle.sessions.proofs.Foreign.{empty-is, held-value, foreign-found, own-next, own-all}
+use Rattle.sessions.proofs.Foreign.{held-value, foreign-found, own-next, own-all}
 use Rattle.sessions.proofs.own_values.values_are_own.Goals as goal
+use Rattle.type_terms.proofs.ListBasics.{empty-is}
 
 pub value_is_own-requires-clause-value : goal.value_is_own-requires-clause-value
 value_is_own-requires-clause-value c =

@@ -1,12 +1,10 @@
-use Rattle.std.proofs.Common.{◌≡◌, List, ◌∷◌, [], map, length, refl, sym, ◌∙◌, subst, arith, Ok, Err, ap}
-use Rattle.std.specs.Prelude.{Result, IfOk}
+use Rattle.std.proofs.Common.{◌≡◌, map, sym, ◌∙◌, subst, arith, Err, ap}
 use Rattle.type_terms.specs.Trees.{◌+++◌}
 use Rattle.type_terms.proofs.TreeLaws.{append-none}
 use Rattle.type_terms.specs.Terms.{Is, args_lists, trees_at}
 use Rattle.type_terms.specs.Kinds.{ArgsHeld, args_trees}
 use Rattle.type_terms.specs.declared.kinds.GenericArgs.{GenericArgs}
 use Rattle.type_terms.specs.Kept.{args-held-later, trees-is}
-use Rattle.infer_table.proofs.Values.{args-held-push}
 use Rattle.declarations.specs.Applied.{sort_of_param}
 use Rattle.type_terms.proofs.Grown.{grew-on}
 use Rattle.sessions.specs.Placeholders.{placeholders_from}
@@ -16,6 +14,9 @@ use Rattle.type_terms.proofs.FailFacts.{refused-term}
 use Rattle.solver_context.proofs.Shortages.{at-error}
 use Rattle.sessions.proofs.ShortCalls.{when-err}
 use Rattle.sessions.proofs.placeholders.placeholders_for_item.Goals as goal
+use Rattle.type_terms.proofs.Items.{args-held-push}
+use Rattle.type_terms.proofs.TypeBasics.{ok-after as if-ok}
+use Rattle.type_terms.proofs.ListBasics.{nothing}
 
 pub params-preserved : goal.params-preserved
 params-preserved c =
@@ -37,14 +38,6 @@ params-preserved c =
           (one-more-placeholder now next k xs a c.params.place c.in_ok-place.place (sort_of_param kind) (map sort_of_param rest) all inv.held c.in_ok-arg.ensures.is c.in_ok-place.ensures.next
           (subst (λ l. args_trees now xs +++ placeholders_from c.params.place (map sort_of_param l) ≡ all) back inv.are));
     }
-
-nothing : {A : Type 0} (xs : List A) → length xs ≡ 0 → xs ≡ []
-nothing [] e = refl
-nothing (x ∷ xs) e = absurd (omega arith)
-
-if-ok : {A E : Type 0} (P Q : A → Type 0) (r : Result A E) → ((x : A) → P x → Q x) → IfOk r P → IfOk r Q
-if-ok P Q (Ok x) f h = f x h
-if-ok P Q (Err e) f h = tt
 
 pub returns-clause-are : goal.returns-clause-are
 returns-clause-are c =

@@ -6,9 +6,9 @@ use Rattle.type_terms.specs.Pieces.{Piece}
 use Rattle.infer_table.specs.Content.{content}
 use Rattle.infer_table.specs.Kept.{content-kept}
 use Rattle.infer_table.specs.Solutions.{Binding, resolved}
-use Rattle.infer_table.proofs.Values.{args-held-push}
 use Rattle.sessions.proofs.Resolved.{held-at, one-more-value}
 use Rattle.sessions.proofs.values.values_of.Goals as goal
+use Rattle.type_terms.proofs.Items.{args-held-push}
 
 abbrev first_trees : List Piece → Trees
 first_trees [] = none

@@ -1,5 +1,4 @@
 use Rattle.std.proofs.Common.{◌≡◌, ◌∙◌, Some, Err, refl, sym, ap, subst}
-use Rattle.infer_table.proofs.FullFacts.{handed-on}
 use Rattle.evaluation.proofs.Shortages.{some-kind}
 use Rattle.evaluation.specs.TableAnswers.{IsWellFormed}
 use Rattle.goal_frames.specs.HandlerPrograms.{silent}
@@ -12,6 +11,7 @@ use Rattle.solver_context.proofs.Growing.{later}
 use Rattle.solver_context.specs.Shortages.{interner}
 use Rattle.solver_context.proofs.Silences.{one-ok, silent-to, silent-fits}
 use Rattle.solver_context.proofs.silent.silent_answer.Goals as goal
+use Rattle.type_terms.proofs.TypeBasics.{handed-on}
 
 pub returns-in_err-response-clause-advances : goal.returns-in_err-response-clause-advances
 returns-in_err-response-clause-advances g c =

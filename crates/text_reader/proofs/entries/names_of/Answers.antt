@@ -3,9 +3,10 @@ use Rattle.line_reader.specs.Views.{statement_of}
 use Rattle.text_reader.specs.BareLines.{bare_line}
 use Rattle.text_reader.specs.Sights.{sight_of}
 use Rattle.text_reader.proofs.Ordering.{Ordered, line-ordered}
-use Rattle.text_reader.proofs.Sighted.{sighted, both-ok}
+use Rattle.text_reader.proofs.Sighted.{sighted}
 use Rattle.workspace.specs.Tables.{declared}
 use Rattle.text_reader.proofs.entries.names_of.Goals as goal
+use Rattle.type_terms.proofs.TypeBasics.{both-ok}
 
 pub new-requires-2 : goal.new-requires-2
 new-requires-2 c = record { ordered = subst Ordered (sym c.requires.read.1.0) (line-ordered c.requires.read.0) }

@@ -5,8 +5,9 @@ use Rattle.workspace.specs.Made.{parts_of}
 use Rattle.workspace.specs.TermCells.{behind_cells}
 use Rattle.workspace.specs.Views.{cells_of}
 use Rattle.workspace.specs.Stack.{part_of, stack_of, parts_in, trees_of_stack, StackHeld}
-use Rattle.workspace.proofs.CellLists.{drop-more, drop-all, next-made, cell-held, parts-further, trees-further}
+use Rattle.workspace.proofs.CellLists.{drop-all, next-made, cell-held, parts-further, trees-further}
 use Rattle.workspace.proofs.lists.lower_cells.Goals as goal
+use Rattle.type_terms.proofs.ListBasics.{next-behind as drop-more}
 
 pub lower_cell-requires : goal.lower_cell-requires
 lower_cell-requires c =

@@ -5,8 +5,9 @@ use Rattle.type_terms.specs.declared.kinds.TyKind.TheVariants.{Dynamic}
 use Rattle.type_terms.specs.Kept.{trees-is}
 use Rattle.declarations.specs.Items.{written}
 use Rattle.candidate_assembly.specs.Finding.{BreaksAt, names_undeclared}
-use Rattle.candidate_assembly.proofs.Finding.{bounds-alone, not-not, among}
+use Rattle.candidate_assembly.proofs.Finding.{bounds-alone, among}
 use Rattle.candidate_assembly.proofs.visitors.FindsUndeclaredTypeVisitor.visit_ty.Goals as goal
+use Rattle.type_terms.proofs.BooleanBasics.{twice as not-not}
 
 pub returns-in-Dynamic-clause-sees : goal.returns-in-Dynamic-clause-sees
 returns-in-Dynamic-clause-sees c =

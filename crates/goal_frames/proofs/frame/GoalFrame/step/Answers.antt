@@ -1,4 +1,4 @@
-use Rattle.std.proofs.Common.{◌≡◌, ◌∙◌, ◌∷◌, ◌+◌, suc, ℕ, map, drop, ap, sym, subst, arith}
+use Rattle.std.proofs.Common.{◌∙◌, ◌∷◌, map, drop, ap, sym, subst}
 use Rattle.infer_table.specs.Inputs.{form_of}
 use Rattle.evaluation.specs.History.{begin, entered, ignored, evaluated, finished, position, request, CameInOrder}
 use Rattle.evaluation.specs.Promises.{frame_of_goal, Anything}
@@ -11,16 +11,14 @@ use Rattle.goal_frames.specs.Steps.{AsksFewer}
 use Rattle.goal_frames.specs.declared.frame.Place.{Place}
 use Rattle.goal_frames.specs.declared.frame.Place.TheVariants as InCode
 use Rattle.goal_frames.proofs.Held.{answers-stand}
-use Rattle.goal_frames.proofs.Stepping.{both-ok, shown-more, steps-to, begun-there, inside-there, hears-there, finishes-there, ignores-there, begun-waits, entering-waits, inside-waits, finishing-waits, ignoring-waits, over-waits}
+use Rattle.goal_frames.proofs.Stepping.{shown-more, steps-to, begun-there, inside-there, hears-there, finishes-there, ignores-there, begun-waits, entering-waits, inside-waits, finishing-waits, ignoring-waits, over-waits}
 use Rattle.goal_frames.proofs.Opened.{goes-at, begun-comes, resumed-comes, open-held, open-steps, entered-fewer, resumed-fewer, closed-fewer, candidate-fault}
 use Rattle.goal_frames.proofs.Running.{result-fits}
 use Rattle.std.specs.Prelude.{IfOk}
 use Rattle.goal_frames.proofs.frame.GoalFrame.step.Goals as goal
 use Rattle.goal_frames.proofs.frame.GoalFrame.step.Goals.{in_default-via-in-Begun+in_default, in_default-via-in-Entering+in_default, in_default-via-in-Inside+in_default, in_default-via-in-Finishing+in_default, in_default-via-in-Ignoring+in_default, in_default-via-in_default}
-
--- the place behind one
-next-place : (n : ℕ) → suc n ≡ n + 1
-next-place n = omega arith
+use Rattle.type_terms.proofs.NumberBasics.{next-number as next-place}
+use Rattle.type_terms.proofs.TypeBasics.{both-ok}
 
 pub unreachable-requires : goal.unreachable-requires
 unreachable-requires g c =

@@ -5,8 +5,9 @@ use Rattle.infer_table.specs.declared.input.CanonicalInput.{CanonicalInput}
 use Rattle.infer_table.specs.Goals.{GoalHeld}
 use Rattle.goal_frames.specs.Stores.{asked_goal}
 use Rattle.goal_frames.proofs.Numbers.{same-goals, asks-renamed}
-use Rattle.goal_frames.proofs.Keeping.{on-err, handed-on, handed-error, ok-not-err, stands-input, new-input, no-input, same-input, added-input, input-stays, input-is, asks-the-same}
+use Rattle.goal_frames.proofs.Keeping.{handed-on, handed-error, ok-not-err, stands-input, new-input, no-input, same-input, added-input, input-stays, input-is, asks-the-same}
 use Rattle.goal_frames.proofs.store.GoalStore.keep_input.Goals as goal
+use Rattle.type_terms.proofs.TypeBasics.{on-err}
 
 -- ---- where it is kept
 pub returns-clause-is : goal.returns-clause-is

@@ -4,8 +4,9 @@ use Rattle.type_terms.specs.declared.Fault.TheVariants.{Memory, Full}
 use Rattle.infer_table.specs.declared.response.CanonicalResponse.{CanonicalResponse}
 use Rattle.infer_table.specs.Responses.{ResponseHeld, answer_trees}
 use Rattle.goal_frames.proofs.Answers.{same-answers}
-use Rattle.goal_frames.proofs.Keeping.{on-err, handed-on, handed-error, ok-not-err, stands-response, new-response, no-response, same-response, added-response, response-stays, response-is, says-the-same}
+use Rattle.goal_frames.proofs.Keeping.{handed-on, handed-error, ok-not-err, stands-response, new-response, no-response, same-response, added-response, response-stays, response-is, says-the-same}
 use Rattle.goal_frames.proofs.store.GoalStore.keep_response.Goals as goal
+use Rattle.type_terms.proofs.TypeBasics.{on-err}
 
 -- ---- where it is kept
 pub returns-clause-is : goal.returns-clause-is

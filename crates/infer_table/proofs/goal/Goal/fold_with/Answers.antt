@@ -1,13 +1,14 @@
-use Rattle.std.proofs.Common.{◌≡◌, ℕ, [], ◌∷◌, List, ap, subst, Err}
+use Rattle.std.proofs.Common.{ℕ, [], List, ap, subst, Err}
 use Rattle.type_terms.specs.Trees.{Trees}
 use Rattle.type_terms.specs.Terms.{trees_at, args_lists}
 use Rattle.term_folds.specs.Folds.{Does, FoldsEach}
 use Rattle.type_terms.specs.Kept.{has-later, trees-later}
 use Rattle.type_terms.specs.Pieces.{one_piece}
-use Rattle.infer_table.proofs.Refusals.{handed-on}
 use Rattle.infer_table.specs.Goals.{ClausesFold}
 use Rattle.infer_table.proofs.Numbers.{clauses-held-later, clauses-fold-later}
 use Rattle.infer_table.proofs.goal.Goal.fold_with.Goals as goal
+use Rattle.type_terms.proofs.TypeBasics.{handed-on}
+use Rattle.type_terms.proofs.ListBasics.{head}
 
 pub fold_clauses-requires-clause-held : goal.fold_clauses-requires-clause-held
 fold_clauses-requires-clause-held g c = rw c.deref.ensures.value c.requires.held.environment
@@ -23,9 +24,6 @@ returns-clause-held g c = record {
   environment = clauses-held-later c.fold_clauses.new.cx.entries c.fold_with.new.cx.entries c.fold_with.ensures.grew.keeps c.in_ok-param_env.param_env.items c.in_ok-param_env.ensures.held;
   predicate = c.in_ok-predicate.ensures.held;
 }
-
-head : (i j : ℕ) → (j ∷ []) ≡ (i ∷ []) → j ≡ i
-head i j e = cc
 
 pub returns-clause-folded : goal.returns-clause-folded
 returns-clause-folded g c =

@@ -7,8 +7,9 @@ use Rattle.name_resolution.specs.Views.{region_in}
 use Rattle.name_resolution.specs.Resolved as resolved
 use Rattle.name_resolution.specs.Machine.{Found, visiting, keeping, deepening, deeper, using, sort_misfits, type_place}
 use Rattle.name_resolution.specs.WalkViews.{frames_in}
-use Rattle.name_resolution.proofs.Walking.{noted, together, no-variables-with, optional-variables}
+use Rattle.name_resolution.proofs.Walking.{noted, together, no-variables-with}
 use Rattle.name_resolution.proofs.walk.Walk.reference.Goals as goal
+use Rattle.text_definitions.proofs.TypeBasics.{optional-variables}
 
 pub returns : goal.returns
 returns g c =

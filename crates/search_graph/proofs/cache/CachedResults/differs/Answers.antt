@@ -1,16 +1,10 @@
-use Rattle.std.proofs.Common.{◌≡◌, sym, ◌∙◌, Bool, true, false, not, refl}
+use Rattle.std.proofs.Common.{◌≡◌, sym, ◌∙◌}
 use Rattle.std.proofs.lemmas.Option.{get_or_from_slice_get}
 use Rattle.search_graph.proofs.Caches.{same_as_alike}
 use Rattle.search_graph.proofs.Numbers.{one_number}
 use Rattle.search_graph.proofs.cache.CachedResults.differs.Goals as goal
-
-not_true : (b : Bool) → not b ≡ true → b ≡ false
-not_true true h = cc
-not_true false h = refl
-
-not_false : (b : Bool) → not b ≡ false → b ≡ true
-not_false true h = refl
-not_false false h = cc
+use Rattle.type_terms.proofs.BooleanBasics.{not_false}
+use Rattle.type_terms.proofs.Fitting.{not-true as not_true}
 
 pub returns-in-Some-clause-other : goal.returns-in-Some-clause-other
 returns-in-Some-clause-other g c = λ h.

@@ -1,14 +1,11 @@
-use Rattle.std.proofs.Common.{◌≡◌, ◌<◌, ◌∙◌, length, sym, ap, refl, arith, nat_eq, slice_get, Some, Bool, true}
+use Rattle.std.proofs.Common.{◌≡◌, ◌<◌, ◌∙◌, length, sym, ap, refl, arith, nat_eq, slice_get, Some, true}
 use Rattle.std.proofs.lemmas.Option.{slice_get_read, slice_get_within, same_Some}
 use Rattle.indexmap.specs.IndexMap.{ContainsKey}
 use Rattle.search_graph.specs.Chain.{IsUsable}
-use Rattle.search_graph.proofs.Faithfuls.{true_not_false}
 use Rattle.search_graph.proofs.Chains.{ahead_start, ahead_none, ahead_at, ahead_step, ahead_end}
 use Rattle.search_graph.proofs.cache.CachedResults.find.Goals as goal
 use Rattle.search_graph.proofs.cache.CachedResults.find.Goals.{else-eq-via-then-eq+then-is_usable+in_ok-is_clear_of+else-branch, else-eq-via-then-eq+else-is_usable, else-eq-via-else-eq}
-
-equal : {X : Type 0} (eq : X → X → Bool) (a b : X) → ((x : X) → eq x x ≡ true) → a ≡ b → eq a b ≡ true
-equal eq a b own same = ap (eq a) (sym same) ∙ own a
+use Rattle.type_terms.proofs.BooleanBasics.{true-false as true_not_false, equal}
 
 pub loop-init : goal.loop-init
 loop-init g c = ahead_start c.args.self.now.entries.items c.args.number (λ place. IsUsable c.args.self.now.asked.items (ContainsKey nat_eq c.args.positions.now) c.args.number c.args.input.now c.args.depth) c.newest_of-next.result c.newest_of-next.ensures (λ place e fits. fits.numbered)

@@ -1,14 +1,11 @@
-use Rattle.std.proofs.Common.{◌≡◌, ◌<◌, ◌∙◌, length, sym, ap, refl, arith, Bool, true, false, slice_get, Some}
+use Rattle.std.proofs.Common.{◌≡◌, ◌<◌, ◌∙◌, length, sym, refl, arith, Bool, true, false, slice_get, Some}
 use mathlib.Core.Bool.{beq}
 use Rattle.std.proofs.lemmas.Option.{slice_get_read, slice_get_within}
 use Rattle.search_graph.specs.Cache.{IsAlike, known_result}
 use Rattle.search_graph.proofs.Chains.{ahead_start, ahead_none, ahead_at, ahead_step, ahead_end}
-use Rattle.search_graph.proofs.Faithfuls.{true_not_false}
 use Rattle.search_graph.proofs.cache.CachedResults.find_alike.Goals as goal
 use Rattle.search_graph.proofs.cache.CachedResults.find_alike.Goals.{else-eq-via-then-eq+then-entry-encountered_overflow+else-is_alike, else-eq-via-then-eq+else-entry-encountered_overflow, else-eq-via-else-eq}
-
-equal : {X : Type 0} (eq : X → X → Bool) (a b : X) → ((x : X) → eq x x ≡ true) → a ≡ b → eq a b ≡ true
-equal eq a b own same = ap (eq a) (sym same) ∙ own a
+use Rattle.type_terms.proofs.BooleanBasics.{true-false as true_not_false, equal}
 
 beq_true : (a b : Bool) → beq a b ≡ true → a ≡ b
 beq_true true true h = refl

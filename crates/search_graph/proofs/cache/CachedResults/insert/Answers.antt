@@ -3,10 +3,10 @@ use Rattle.search_graph.proofs.Caches.{HasConflict-at, KeepsResults-push, AreCon
 use Rattle.search_graph.proofs.Chains.{AreLinked-push, listed_push}
 use Rattle.search_graph.proofs.Graphs.{Keeps-refl, cached_insert, IsCached-at}
 use Rattle.search_graph.proofs.Limits.{AreCachedWithin-push}
-use Rattle.search_graph.proofs.Faithfuls.{true_not_false}
 use Rattle.search_graph.proofs.Noted.{noted_push, noted_keeps}
 use Rattle.search_graph.proofs.Ranges.{covered_push, recorded_later, recorded_push}
 use Rattle.search_graph.proofs.cache.CachedResults.insert.Goals as goal
+use Rattle.type_terms.proofs.BooleanBasics.{true-false as true_not_false}
 
 pub returns-clause-cache : goal.returns-clause-cache
 returns-clause-cache g c = rw c.in_ok-push-2.ensures.items

@@ -3,12 +3,12 @@ use Rattle.std.proofs.lemmas.Bool.{ltb-false}
 use Rattle.std.proofs.lemmas.Option.{slice_get_read, slice_get_within, slice_get_past}
 use Rattle.indexmap.specs.IndexMap.{ContainsKey}
 use Rattle.std.proofs.Common.{nat_eq}
-use Rattle.search_graph.proofs.Faithfuls.{true_not_false}
 use Rattle.search_graph.proofs.Chains.{reached_asked, reached_goal}
 use Rattle.search_graph.proofs.Ranges.{absent_clear, apart_clear, apart_of, reached_inside, reached_count, reached_more, seen_next, seen_clear}
 use Rattle.search_graph.proofs.Noted.{noted_clear}
 use Rattle.search_graph.proofs.cache.CachedResults.is_clear_of.Goals as goal
 use Rattle.search_graph.proofs.cache.CachedResults.is_clear_of.Goals.{else-round-gt0-via-then-round-gt0+else-contains_key, else-round-gt0-via-else-round-gt0}
+use Rattle.type_terms.proofs.BooleanBasics.{true-false as true_not_false}
 
 pub returns-in_default-clause-clear : goal.returns-in_default-clause-clear
 returns-in_default-clause-clear g c = λ yes asked under on.

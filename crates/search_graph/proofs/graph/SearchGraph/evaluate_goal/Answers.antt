@@ -7,10 +7,10 @@ use Rattle.search_graph.specs.Proof.{IsAmong}
 use Rattle.search_graph.proofs.Limits.{AreCachedWithin-among}
 use Rattle.search_graph.proofs.Proofs.{sound_answer}
 use Rattle.search_graph.proofs.Caches.{AreCached-known, AreJustified-known, known_at, entry_at}
-use Rattle.search_graph.proofs.Faithfuls.{true_not_false}
 use Rattle.search_graph.proofs.Errors.{err_passed, ok_not_err, empty_of_length}
 use Rattle.search_graph.proofs.graph.SearchGraph.evaluate_goal.Goals as goal
 use Rattle.search_graph.proofs.graph.SearchGraph.evaluate_goal.Goals.{in-Ok, in-Err}
+use Rattle.type_terms.proofs.BooleanBasics.{true-false as true_not_false}
 
 pub evaluate_root-requires-clause-cache : goal.evaluate_root-requires-clause-cache
 evaluate_root-requires-clause-cache g c =

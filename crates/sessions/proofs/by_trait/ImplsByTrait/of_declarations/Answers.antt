@@ -1,7 +1,7 @@
 use Rattle.declarations.specs.Items.{declared}
 use Rattle.sessions.specs.ByTrait.{ListsImpls}
-use Rattle.sessions.proofs.ByTrait.{ok-after}
 use Rattle.sessions.proofs.by_trait.ImplsByTrait.of_declarations.Goals as goal
+use Rattle.type_terms.proofs.TypeBasics.{ok-after}
 
 pub returns-then-not-has_own_blanket : goal.returns-then-not-has_own_blanket
 returns-then-not-has_own_blanket c = λ x i b. absurd (c.has_own_blanket.ensures c.if-not-has_own_blanket.true x i b)

@@ -7,9 +7,10 @@ use Rattle.declarations.specs.Items.{declared, reference_in}
 use Rattle.declarations.specs.Relevant.{matches_in}
 use Rattle.declarations.proofs.Pushed.{head-of-first}
 use Rattle.sessions.specs.ByTrait.{HaveNumbers, HavePartners}
-use Rattle.sessions.proofs.ByTrait.{ok-after, none-partners, foreign-partners, blanket-partners}
+use Rattle.sessions.proofs.ByTrait.{none-partners, foreign-partners, blanket-partners}
 use Rattle.sessions.proofs.Matching.{rigid-partners}
 use Rattle.sessions.proofs.by_trait.ImplsByTrait.partners_of.Goals as goal
+use Rattle.type_terms.proofs.TypeBasics.{ok-after}
 
 pub returns-in_default : goal.returns-in_default
 returns-in_default c = none-partners c.args.cx.now.entries c.args.declarations.now c.args.later c.new.result.items (c.in_default.ensures.found c.args.cx.now.entries)

@@ -1,12 +1,12 @@
 use Rattle.std.proofs.Common.{◌∙◌, ap, sym, subst, inr, length, Err}
 use Rattle.evaluation.specs.Readings.{ResultHeld}
-use Rattle.infer_table.proofs.FullFacts.{handed-on}
 use Rattle.goal_frames.specs.Fitting.{ResultFits}
 use Rattle.evaluation.specs.StepReadings.{result_read}
 use Rattle.solver_context.specs.declared.context.SolverCx.{SolverCx}
 use Rattle.solver_context.specs.Contexts.{IsReady}
 use Rattle.solver_context.proofs.Growing.{answer-kept}
 use Rattle.solver_context.proofs.context.SolverCx.keep_answer.Goals as goal
+use Rattle.type_terms.proofs.TypeBasics.{handed-on}
 
 pub returns-in_ok-id-in-Some-clause-is : goal.returns-in_ok-id-in-Some-clause-is
 returns-in_ok-id-in-Some-clause-is g c =

@@ -1,15 +1,14 @@
 use Rattle.std.proofs.Common.{◌≡◌, ◌<◌, ◌∙◌, ◌∷◌, refl, sym, subst}
 use Rattle.search_graph.specs.Meaning as Search
-use Rattle.goal_frames.proofs.Stepping.{both-ok}
 use Rattle.solver_context.specs.declared.context.SolverCx.{SolverCx}
 use Rattle.solver_context.specs.Answers.{request_read}
 use Rattle.solver_context.specs.Searching.{FrameHasHeard, solver_meaning, steps_left}
 use Rattle.solver_context.proofs.Growing.{later, further, keeps, same-world}
 use Rattle.solver_context.proofs.Silences.{always-ok}
-use Rattle.infer_table.proofs.FullFacts.{handed-on}
 use Rattle.solver_context.specs.Shortages.{interner}
 use Rattle.solver_context.proofs.Stepping.{is-due, hears-more, requests, has-fewer, told-kept}
 use Rattle.solver_context.proofs.graph.SolverGraphDelegate.step.Goals as goal
+use Rattle.type_terms.proofs.TypeBasics.{handed-on, both-ok}
 
 pub step-asked-requires-clause-due : goal.step-asked-requires-clause-due
 step-asked-requires-clause-due g c =

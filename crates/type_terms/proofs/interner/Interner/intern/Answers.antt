@@ -1,4 +1,4 @@
-use Rattle.std.proofs.Common.{◌≡◌, ◌∷◌, [], ◌++◌, sym, ◌∙◌, ap, refl, Option, None, Some, is_some, false, subst, Result, Ok, Err, OnErr, inr}
+use Rattle.std.proofs.Common.{◌≡◌, ◌∷◌, [], ◌++◌, sym, ◌∙◌, ap, refl, Option, None, Some, is_some, false, subst, inr}
 use Rattle.indexmap.specs.IndexMap.{keys}
 use Rattle.indexmap.proofs.CallerLemmas.{insert_entry-new}
 use Rattle.type_terms.specs.Terms.{Absent, held, Terms}
@@ -13,6 +13,7 @@ use Rattle.type_terms.specs.declared.interner.Interner.TheInside.{Inside}
 use Rattle.indexmap.specs.IndexMap.{get}
 use Rattle.type_terms.proofs.interner.Interner.intern.Goals as goal
 use Rattle.type_terms.proofs.interner.Interner.intern.Goals.{In_default, After-of}
+use Rattle.type_terms.proofs.TypeBasics.{on-err as on_err}
 
 not_some : {A : Type 0} (o : Option A) → is_some o ≡ false → o ≡ None
 not_some None h = refl
@@ -54,10 +55,6 @@ pub returns-clause-grew : goal.returns-clause-grew
 returns-clause-grew c =
     let after : Inside = record { nodes = c.insert.new.self; counts = c.raised-self-inside.result; limit = c.self.inside.limit } in
     rw (← c.self.view_is) (record { keeps = keeps-added c.self.inside after c.args.node c.args.info (added c); limit = refl })
-
-on_err : {T E : Type 0} (P : Type 0) (r : Result T E) → P → OnErr r P
-on_err P (Ok x) p = tt
-on_err P (Err e) p = p
 
 absent-in : (c : In_default) → Absent (node_entry c.args.self.now.entries c.args.node) c.args.self.now.entries
 absent-in c =

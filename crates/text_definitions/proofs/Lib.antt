@@ -1,0 +1,2 @@
+pub mod TypeBasics
+pub mod Basics
